@@ -32,17 +32,18 @@ try: kit ## compile a program without its proofs, as out/try/PROGRAM: make try P
 
 # The programs that are tested are those that `rt ci` has just proved and built, where it left them. It is noted beside them that
 # they are proved, so that `make install` proves nothing again.
-test: kit ## the gate: each proof from nothing, then the built programs from outside, to the byte; it ends with the minutes of each
+test: kit ## the gate: each proof from nothing, each wrong body that has to be refused, then the built programs from outside; it ends with the minutes of each
 	rm -rf $(SERVER) $(CLIENT) $(SIMULATOR) out/build
 	python3 tests/promises.py
 	python3 tests/homes.py
 	python3 tests/examples.py
+	python3 tests/test_further.py
 	sum=$$(python3 tests/build.py --sum $(PROGRAMS)) && python3 tests/gate.py --minutes $(MINUTES) && python3 tests/build.py --proved $$sum $(PROGRAMS)
 	test -x $(SERVER) -a -x $(CLIENT) -a -x $(SIMULATOR) || $(MAKE) build
 	python3 tests/outside.py --minutes $(MINUTES) $(SERVER) $(CLIENT) $(SIMULATOR)
 	@cat $(MINUTES)
 
-edits: kit ## try the further edits, wrong bodies that the gate does not try: make edits, or make edits CRATE=tape
+edits: kit ## try the further edits, wrong bodies that the prover has to refuse, many at once, as the gate does: make edits, or make edits CRATE=tape
 	@python3 tests/further.py $(CRATE)
 
 bench: build ## long streams, reels in folders, dumps beside a floor, a long dumpdates file, long schedules, and bytes in pieces; it ends with a table of ratios

@@ -133,9 +133,9 @@ def reason(log: str) -> str:
 
 
 def verdicts(log: str) -> dict[str, str]:
-    """The functions that a log names, and whether each is proved, is refused, or waits for others: it calls some that are refused."""
+    """The functions that a log names, and whether each is proved, is refused, or waits for others: it calls some that are refused, or passes them on."""
     found: dict[str, str] = {}
-    for name, verdict, calls in re.findall(r"^fn (\S+): (proved|no holes|not proved|no proof)\b(: it calls )?", log, re.M):
+    for name, verdict, calls in re.findall(r"^fn (\S+): (proved|no holes|not proved|no proof)\b([:;] it (?:calls|passes) )?", log, re.M):
         said = PROVED if verdict in ("proved", "no holes") else WAITS if calls else REFUSED
         found[name] = said if found.get(name, PROVED) == PROVED else found[name]
     return found
@@ -147,15 +147,32 @@ def module_of(crate: str, file: str) -> str:
     return "::".join((crate, *(it for it in parts if it not in ("lib", "main", "mod"))))
 
 
-def function_at(text: str, old: str) -> str:
-    """The name of the function in whose body a piece of a file lies, and nothing where it lies in none."""
-    end = text.index(old) + len(old)
+def function_around(text: str, start: int, end: int, has_head: bool = False) -> re.Match[str] | None:
+    """The name of the function in whose body a piece of a file lies, where it stands, or in whose head; None where it lies in none."""
     heads = [*re.finditer(r"\bfn (\w+)", text[:end])]
     if not heads:
-        return ""
-    between = text[heads[-1].end() : text.index(old)]
-    is_inside = heads[-1].start() >= text.index(old) or between.count("{") > between.count("}")
-    return heads[-1][1] if is_inside else ""
+        return None
+    between = text[heads[-1].end() : start]
+    is_inside = heads[-1].start() >= start or between.count("{") > between.count("}")
+    is_in_head = has_head and not re.search(r"^\s*(?:\{|\})$|\{$|;$", between, re.M)
+    return heads[-1] if is_inside or is_in_head else None
+
+
+def functions_naming(text: str, constant: str) -> list[re.Match[str]]:
+    """The functions of a file in whose bodies a constant is named."""
+    named = [function_around(text, it.start(), it.end()) for it in re.finditer(rf"\b{constant}\b", text)]
+    return [*{it.start(): it for it in named if it}.values()]
+
+
+def changed_at(text: str, change: Pair) -> list[re.Match[str] | None]:
+    """The names, where they stand in a file, of the functions whose bodies a change changes; None for what is none of one. Outside functions, a comment
+    or a `use` line changes none, and a constant that no other file sees those that name it. What is added to the head of a function is another body."""
+    start = text.index(change.old)
+    found = function_around(text, start, start + len(change.old), change.new.startswith(change.old))
+    if not found and re.fullmatch(r"\s*//.*|use .*", change.old):
+        return []
+    constant = None if found else re.match(r"(?:static|const) (\w+):", change.old)
+    return functions_naming(text, constant[1]) or [None] if constant else [found]
 
 
 def is_of(name: str, function: str) -> bool:
@@ -178,7 +195,8 @@ def places_of(crate: str, folder: Path, changes: list[Pair]) -> list[tuple[str, 
     texts: dict[str, str] = {}
     for it in changes:
         text = texts.get(it.file) or (folder / it.file).read_text(encoding="utf-8")
-        named = [function_at(text, it.old), *re.findall(r"\bfn (\w+)", it.new)] if it.old != it.new else []
+        changed = [at[1] if at else "" for at in changed_at(text, it)]
+        named = [*changed, *re.findall(r"\bfn (\w+)", it.new)] if it.old != it.new else []
         found += [(module_of(crate, it.file), name) for name in dict.fromkeys(named)]
         texts[it.file] = text.replace(it.old, it.new)
     return found

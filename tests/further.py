@@ -1,21 +1,25 @@
 #!/usr/bin/env python3
-"""Tries the further edits: wrong bodies that the prover has to refuse, and that the gate does not try.
+"""Tries the further edits: wrong bodies that the prover has to refuse, many in one check.
 
     further.py [CRATE..]
 
-A crate's edits that the gate tries are crates/CRATE/must-fail/NAME.edit, and each costs it a check. The others are
-crates/CRATE/further/NAME.edit, written alike, with controls beside them too. This tries many at once, since functions are proved one by one: those
-of a crate in as few lots as there is need for, where no two of a lot change functions of one name. The log of a lot names each function that is
-refused. An edit none of whose functions is refused there, as where each calls one that is, is tried once more, and at last alone. One that changes
-what many functions are proved by, as a constant, is tried alone at once. So a crate takes a check as it stands, and one for each lot, over what its last check kept: a
-minute or two. As many crates are tried at once as there are processors and memory for. It prints for each edit
+The edits that `rt ci` tries are crates/CRATE/must-fail/NAME.edit, and each costs it a check. All others are crates/CRATE/further/NAME.edit, written
+alike, with controls beside them too. `make test` tries these when `rt ci` has passed. Functions are proved one by one, so many edits are tried at once:
+no two of a lot change functions of one name. The log names each function that is refused. An edit is refused where a function that it changes is, for
+itself: where one only calls another that is refused, the edit is tried again in a later lot. A lot that shows none is halved.
+
+A crate's lots run one after the other, over what `rt ci` proved of the crates below, and each over what those before it proved of this crate: so each
+function that a lot needs is proved once. Only the functions that a lot changes and those that they call are checked. As many crates are tried at once
+as there are processors and memory for. What was refused over the same texts is kept on this machine, and not tried again (refusals.py). It prints for
+each edit
 
     refused         and why: the goals of a function that it changes which are not proved, or what is wrong with its proof
-    NOT REFUSED     the crate is proved with it
+    NOT REFUSED     the functions that it changes are proved with it
     ELSEWHERE       it is refused, but no function that it changes is
     BAD EDIT        it can't be applied, or the prover can't read it
+    NOT TRIED       its crate is not proved as it stands, or its check was killed
 
-and fails where one is not refused, or a crate is not proved as it stands.
+and for each crate how many checks that took. It fails where an edit is not refused.
 """
 
 from __future__ import annotations
@@ -28,13 +32,15 @@ from itertools import takewhile
 from pathlib import Path
 from typing import NamedTuple
 
-from controls import REFUSED, TOP, Pair, applied, checked, copy_of, names_of, pairs, places_of, verdicts
+import refusals
+from controls import REFUSED, TOP, WAITS, Pair, applied, changed_at, module_of, names_of, pairs, places_of, verdicts
 from gate import checks_at_once
+from proved import Checked, Room, Work
 
 # A function of a crate: its module, as a log writes it, and its name.
 Place = tuple[str, str]
-# What the prover says at last of a crate that it read, and did not prove.
-UNPROVED = re.compile(r"^logic=not-proved", re.M)
+# What the prover says at last of what it read, and did not prove.
+UNPROVED = re.compile(r"^(?:logic=not-proved|only=\d+ proved=\d+)", re.M)
 # What it says where it met a limit of its own, and could not tell.
 LIMIT = re.compile(r"antt ran out of (?:stack|the (?:steps|memory))|(?:outgrew the memory limit|stopped at the step limit) \(")
 # A text of src/ or specs/ that it can't read: what is wrong there is not about a goal, or is about a name.
@@ -42,14 +48,19 @@ OF_NAMES = "is not in scope|has no field|is no name|operand is missing|expected 
 UNREAD = re.compile(rf"^(?:\./)?(?:src|specs)/\S+: error: (?:(?!`)|.*(?:{OF_NAMES})).*", re.M)
 # What it says of a proof file that names what the edit took away.
 NAMES = re.compile(r"has no field|is not in scope|has no `|was not admitted")
+# A line that begins what functions stand in, or a function that stands in nothing.
+OWNER = re.compile(r"^(?:pub(?:\([^)]*\))? )?(?:unsafe )?(?:(impl)\b([^{]*)|trait (\w+)|(?:const )?fn )", re.M)
+# The status of a `rattle` that was called wrongly, as with a name that fits no function.
+CALLED_WRONGLY = 2
 
 
 class Edit(NamedTuple):
-    """A further edit: its name, what it changes, and in which functions."""
+    """A further edit: its name, what it changes, in which functions, and how a check is told to look at these alone."""
 
     name: str
     changes: list[Pair]
     places: list[Place]
+    only: list[str]
 
     def is_local(self) -> bool:
         """Whether it changes the bodies of functions alone."""
@@ -77,33 +88,62 @@ class Lot:
         self.edits.append(edit)
         return True
 
-    def changes(self) -> list[Pair]:
-        return [it for edit in self.edits for it in edit.changes]
 
-
-def lots_of(folder: Path, edits: list[Edit]) -> list[Lot]:
-    """The edits that can be applied, in as few lots as there is need for."""
-    lots: list[Lot] = []
+def lot_of(folder: Path, edits: list[Edit]) -> list[Edit]:
+    """As many of these edits as can be tried at once; none where none can be applied."""
+    lot = Lot(folder)
     for edit in edits:
-        if any(it.takes(edit) for it in lots):
-            continue
-        lot = Lot(folder)
-        if lot.takes(edit):
-            lots.append(lot)
-    return lots
+        lot.takes(edit)
+    return lot.edits
+
+
+def owner_of(text: str) -> str:
+    """The type, or the type with the trait, whose functions the end of a text is among, as a log writes it; nothing where it is among none."""
+    found = [*OWNER.finditer(text)]
+    if not found or not (found[-1][1] or found[-1][3]):
+        return ""
+    if found[-1][3]:
+        return found[-1][3]
+    # What is written in capitals is the names of types: `impl<R: Read> From<Fault> for Source<R>` has SourceFromFault.
+    head = re.sub(r"^<(?:[^<>]|<[^<>]*>)*>", "", found[-1][2]).split(" where ")[0]
+    trait, is_of_trait, kind = head.rpartition(" for ")
+    return re.search(r"[A-Z]\w*|$", kind)[0] + "".join(re.findall(r"\b[A-Z]\w*", trait) if is_of_trait else [])
+
+
+def only_of(crate: str, folder: Path, changes: list[Pair]) -> list[str]:
+    """How a check is told to look at the functions that changes change."""
+    found: list[str] = []
+    texts: dict[str, str] = {}
+    for it in changes:
+        text = texts.get(it.file) or (folder / it.file).read_text(encoding="utf-8")
+        for at in changed_at(text, it) if it.old != it.new else []:
+            owner = owner_of(text[: at.end()]) if at else ""
+            found += [f"{owner or module_of(crate, it.file)}::{at[1]}"] if at else []
+        texts[it.file] = text.replace(it.old, it.new)
+    return [*dict.fromkeys(found)]
+
+
+def own_errors(name: str, log: str) -> list[str]:
+    """What a log says is wrong in the proof files of a function."""
+    folder = "/".join(("proofs", *name.split("::")[1:], ""))
+    return re.findall(rf"^(?:\./)?({re.escape(folder)}\S+: error: .*)", log, re.M)
+
+
+def is_refused(name: str, verdict: str, log: str) -> bool:
+    """Whether a function is refused for itself: its line names no other, or an answer in its proof files is none."""
+    return verdict == REFUSED or verdict == WAITS and any(not NAMES.search(it) for it in own_errors(name, log))
 
 
 def refused_in(edit: Edit, log: str) -> list[str]:
     """Those functions that an edit changes which a log names as refused themselves, and not only since they call one that is."""
     found = verdicts(log)
-    return sorted(name for place in edit.places for name in names_of(found, *place) if found[name] == REFUSED)
+    return sorted(name for place in edit.places for name in names_of(found, *place) if is_refused(name, found[name], log))
 
 
 def why_not(name: str, log: str) -> str:
     """Why a function is not proved: the first goal of its proof file that is refused; or those that have no answer, of which the log tells above the
     line of the function, and in it; or what else is wrong with the proof file, as a name in it that the edit took away."""
-    folder = "/".join(("proofs", *name.split("::")[1:], ""))
-    errors = re.findall(rf"^(?:\./)?({re.escape(folder)}\S+: error: .*)", log, re.M)
+    errors = own_errors(name, log)
     line = re.search(rf"^fn {re.escape(name)}: (?!proved).*", log, re.M)
     above = log[: line.start() if line else 0].splitlines()
     notes = [*takewhile(lambda it: not re.match(r"(?:fn|struct|enum|impl) ", it), reversed(above))]
@@ -113,62 +153,141 @@ def why_not(name: str, log: str) -> str:
     return (told or [f"{name} is not proved"])[0][:200]
 
 
-def alone(folder: Path, edit: Edit) -> str:
+def reason(log: str) -> str:
+    """The first line of a log that says what is wrong."""
+    said = [it for it in log.splitlines() if re.match(r"\S+:\d+:\d+: error|fn \S+: (?:not proved|no proof)|rattle: ", it)]
+    return (said or log.splitlines()[-1:] or ["it said nothing"])[0][:200]
+
+
+def tried(work: Work, edits: list[Edit]) -> Checked:
+    """Checks the crate with these edits: only the functions that they change, and what these call, where all are local."""
+    changes = [it for edit in edits for it in edit.changes]
+    only = sorted({it for edit in edits for it in edit.only}) if all(it.is_local() for it in edits) else []
+    ran = work.check(changes, only)
+    return work.check(changes) if only and ran.status == CALLED_WRONGLY else ran
+
+
+def alone(work: Work, edit: Edit) -> str:
     """What comes of an edit that is tried alone."""
-    ran = checked(folder, edit.changes)
-    if not ran.why:
+    ran = tried(work, [edit])
+    if ran.status == 0:
         return "NOT REFUSED"
+    if ran.status < 0:
+        return f"NOT TRIED: its check was killed by signal {-ran.status}"
     if UNREAD.search(ran.log):
         return f"BAD EDIT: {UNREAD.search(ran.log)[0][:200]}"
-    if not UNPROVED.search(ran.log):
-        return f"refused, at a limit: {ran.why[:200]}" if LIMIT.search(ran.log) else f"BAD EDIT: {ran.why[:200]}"
     names = refused_in(edit, ran.log)
-    if names or not edit.is_local():
-        return f"refused: {why_not(names[0], ran.log) if names else ran.why[:200]}"
-    return f"ELSEWHERE: {ran.why[:200]}"
+    if names:
+        return f"refused: {why_not(names[0], ran.log)}"
+    if LIMIT.search(ran.log):
+        return f"refused, at a limit: {reason(ran.log)}"
+    if not UNPROVED.search(ran.log):
+        return f"BAD EDIT: {reason(ran.log)}"
+    return f"ELSEWHERE: {reason(ran.log)}" if edit.is_local() else f"refused: {reason(ran.log)}"
 
 
-def together(lot: Lot) -> dict[str, str]:
+def together(work: Work, edits: list[Edit]) -> dict[str, str]:
     """Those edits of a lot that a check of all shows as refused, with what is said of each."""
-    log = checked(lot.folder, lot.changes()).log if len(lot.edits) > 1 else ""
+    log = tried(work, edits).log
     if not UNPROVED.search(log) or UNREAD.search(log):
         return {}
-    names = {it.name: refused_in(it, log) for it in lot.edits}
+    names = {it.name: refused_in(it, log) for it in edits}
     return {name: f"refused: {why_not(refused[0], log)}" for name, refused in names.items() if refused}
 
 
-def outcomes(folder: Path, edits: list[Edit]) -> dict[str, str]:
-    """What comes of each edit. Those that a lot does not show are tried in lots again, and alone where a lot shows none."""
-    found, left = dict.fromkeys((it.name for it in edits), "BAD EDIT: it can't be applied"), edits
-    while left:
-        again: list[Edit] = []
-        for lot in lots_of(folder, left):
-            shown = together(lot)
-            rest = [it for it in lot.edits if it.name not in shown]
-            again += rest if shown else []
-            found |= shown or {it.name: alone(folder, it) for it in rest}
-        left = again
-    return found
+def shown(work: Work, edits: list[Edit]) -> dict[str, str]:
+    """What comes of those edits of a lot that a check shows: one at least. Where a check of all shows none, as where one can't be read, each half is
+    tried."""
+    if len(edits) == 1:
+        return {edits[0].name: alone(work, edits[0])}
+    half = len(edits) // 2
+    return together(work, edits) or shown(work, edits[:half]) | shown(work, edits[half:])
+
+
+def outcomes(work: Work, edits: list[Edit]) -> dict[str, str]:
+    """What comes of each edit. Those that a lot does not show are tried in a later one."""
+    found: dict[str, str] = {}
+    left = sorted(edits, key=lambda it: not it.is_local())
+    while lot := lot_of(work.folder, left):
+        found |= shown(work, lot)
+        left = [it for it in left if it.name not in found]
+    return found | dict.fromkeys((it.name for it in left), "BAD EDIT: it can't be applied")
 
 
 def edit_of(crate: str, file: Path) -> Edit:
     """A further edit. One that can't be applied changes no function."""
-    changes = pairs(file.read_text(encoding="utf-8"))
+    changes, folder = pairs(file.read_text(encoding="utf-8")), TOP / "crates" / crate
     try:
-        return Edit(file.stem, changes, places_of(crate, TOP / "crates" / crate, changes))
+        return Edit(file.stem, changes, places_of(crate, folder, changes), only_of(crate, folder, changes))
     except (OSError, ValueError):
-        return Edit(file.stem, changes, [])
+        return Edit(file.stem, changes, [], [])
 
 
-def try_crate(crate: str) -> int:
-    """Tries the further edits of a crate, tells of each, and returns how many were not refused."""
-    edits = [edit_of(crate, it) for it in sorted(TOP.glob(f"crates/{crate}/further/*.edit"))]
-    with tempfile.TemporaryDirectory(prefix="further-") as room:
-        folder = copy_of(crate, Path(room))
-        why = checked(folder, []).why
-        found = dict.fromkeys((it.name for it in edits), f"NOT TRIED: the crate is not proved as it stands: {why}") if why else outcomes(folder, edits)
-    print("".join(f"{crate}/{name}: {outcome}\n" for name, outcome in found.items()), end="", flush=True)
-    return sum(not it.startswith("refused") for it in found.values())
+class Trial:
+    """The further edits of a crate, and what comes of each: first of those whose refusal is kept."""
+
+    def __init__(self, crate: str) -> None:
+        self.crate = crate
+        self.files = sorted(TOP.glob(f"crates/{crate}/further/*.edit"))
+        crate_sum = refusals.sum_of_crate(crate)
+        self.keys = {it.stem: refusals.key_of(crate_sum, it) for it in self.files}
+        self.found = {name: said for name, key in self.keys.items() if (said := refusals.kept(key))}
+        self.kept = frozenset(self.found)
+
+    def left(self) -> list[Edit]:
+        """The edits that are to be tried."""
+        return [edit_of(self.crate, it) for it in self.files if it.stem not in self.found]
+
+    def size(self) -> int:
+        """About how long it takes, beside other crates."""
+        return sum(it.stat().st_size for it in TOP.glob(f"crates/{self.crate}/src/**/*.rt")) * (1 + len(self.files) - len(self.kept))
+
+    def run(self, room: Room) -> str:
+        """Tries what is left, keeps what is refused, and answers how many checks that took."""
+        work = Work(room, self.crate)
+        found = outcomes(work, self.left())
+        work.remove()
+        for name, said in found.items():
+            refusals.keep(self.keys[name], said)
+        self.found |= found
+        return f"{work.checks} checks, {work.seconds:.0f} seconds"
+
+    def give_up(self, why: str) -> None:
+        """Says of each edit that is left why it was not tried."""
+        self.found |= {it: f"NOT TRIED: {why}" for it in self.keys if it not in self.found}
+
+    def told(self, how: str) -> str:
+        """What is printed."""
+        lines = [f"{self.crate}/{it}: {self.found[it]}{' (kept)' if it in self.kept else ''}" for it in sorted(self.found)]
+        tried = f", {len(self.kept)} of them kept" if self.kept else ""
+        return "\n".join([*lines, f"{self.crate}: {len(self.found)} further edits{tried}; {how}"])
+
+    def failed(self) -> int:
+        return sum(not it.startswith(refusals.REFUSED) for it in self.found.values())
+
+
+def try_all(trials: list[Trial]) -> None:
+    """Tries what is left of these crates, and prints what comes of each edit as soon as its crate is done."""
+    left = sorted((it for it in trials if it.left()), key=lambda it: -it.size())
+    for it in trials:
+        if it not in left:
+            print(it.told("no checks"), flush=True)
+    if not left:
+        return
+    with tempfile.TemporaryDirectory(prefix="further-") as folder:
+        room = Room(Path(folder), [it.crate for it in left])
+        said = room.prove()
+        if said:
+            print(said, end="")
+
+        def try_one(trial: Trial) -> None:
+            if said:
+                trial.give_up("the crates are not proved as they stand: run rt ci")
+            how = "no checks" if said else trial.run(room)
+            print(trial.told(how), flush=True)
+
+        with ThreadPoolExecutor(checks_at_once()) as pool:
+            list(pool.map(try_one, left))
 
 
 def main() -> int:
@@ -178,9 +297,11 @@ def main() -> int:
     if wrong:
         print(f"no further edits: {' '.join(wrong)}")
         return 2
-    with ThreadPoolExecutor(checks_at_once()) as pool:
-        failed = sum(pool.map(try_crate, sys.argv[1:] or known))
-    print("ok" if not failed else f"{failed} not refused")
+    trials = [Trial(it) for it in sys.argv[1:] or known]
+    try_all(trials)
+    refusals.forget_old()
+    count, failed = sum(len(it.found) for it in trials), sum(it.failed() for it in trials)
+    print(f"further edits: {count - failed} refused, {failed} not")
     return 1 if failed else 0
 
 

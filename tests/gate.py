@@ -1,11 +1,13 @@
 #!/usr/bin/env python3
-"""Runs the gate, `rt ci`, and writes how long each crate's proof, tests and edits (those of must-fail/) took.
+"""Runs the gate, `rt ci` and then further.py, and writes how long each crate's proof, tests and edits took.
 
     gate.py [--minutes FILE]
 
-It passes on what `rt ci` prints, and ends with its status. `rt ci` tells no times, so every five seconds it is looked up which
-checks run, by the command lines of the processes below this one: a check of a crate (which `rt ci` builds in the same run), of its tests, or of an
-edit that must fail. The minutes are those in which at least one such check of the crate ran, written as a table to FILE, or else printed.
+`rt ci` proves each crate and its tests, and tries the few edits of must-fail/ one by one; where it passes, further.py tries all the others, many in a
+check. This passes on what both print, and ends with the status of the one that fails, if any. `rt ci` tells no times, so every five seconds it is
+looked up which checks run, by the command lines of the processes below this one: a check of a crate (which `rt ci` builds in the same run), of its
+tests, or of edits that must fail, one or many. The minutes are those in which at least one such check of the crate ran, written as a table to FILE, or
+else printed.
 
 One check runs a processor, where memory holds as many. RT_JOBS=N has N run.
 """
@@ -22,6 +24,8 @@ from collections import defaultdict
 from pathlib import Path
 
 KINDS = ("proof", "tests", "edits")
+
+FURTHER = Path(__file__).resolve().parent / "further.py"
 
 # How many bytes of memory are wanted for a check: the largest took 3.4 GB. `rt ci` by itself reckons with up to 7.7, and leaves processors idle.
 CHECK = 4_000_000_000
@@ -44,7 +48,8 @@ def free_memory() -> int:
 
 def checks_at_once() -> int:
     """How many checks run side by side."""
-    return max(1, min(len(os.sched_getaffinity(0)), free_memory() // CHECK))
+    asked = os.environ.get("RT_JOBS", "")
+    return int(asked) if asked.isdigit() and int(asked) else max(1, min(len(os.sched_getaffinity(0)), free_memory() // CHECK))
 
 
 def words_of(process: Path) -> list[str]:
@@ -115,13 +120,14 @@ def table(seconds: dict[tuple[str, str], float], whole: float) -> str:
 
 
 def main() -> int:
-    parser = argparse.ArgumentParser(description="Runs rt ci, and tells the minutes of each crate.")
+    parser = argparse.ArgumentParser(description="Runs rt ci and further.py, and tells the minutes of each crate.")
     parser.add_argument("--minutes", type=Path, help="the file that the table is written to")
     asked = parser.parse_args()
     watch = Watch()
     watch.start()
     began = time.monotonic()
     status = subprocess.run(["rt", "ci"], env={"RT_JOBS": str(checks_at_once()), **os.environ}).returncode
+    status = status or subprocess.run([sys.executable, str(FURTHER)]).returncode
     whole = time.monotonic() - began
     watch.done.set()
     watch.join()

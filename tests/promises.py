@@ -1,7 +1,8 @@
 #!/usr/bin/env python3
 """Checks docs/PROMISES.md against the crates. Each line with a name in bold tells of a call or a law of the crate of its section, it or a line
 below it of clauses of its contract, and each `refused` of an edit that is there. Each public call with a contract, each of its clauses, and each
-edit is named, whether the gate tries it (must-fail/) or further.py (further/). Each call with a contract of its own that answers or changes something
+edit is named, whether `rt ci` tries it (must-fail/) or further.py (further/). At most 25 edits are in must-fail/, since `rt ci` tries each in a check
+of its own. Each call with a contract of its own that answers or changes something
 has an edit below its name, which the calls of a trait have in common, or its line says that no other body has its type. The section "Edits without a control" names just the edits beside
 which no NAME.control.md stands. Each edit and control can be applied: what it takes away stands in its file once; and a control changes the same
 places as its edit. No line has more than 120 characters.
@@ -36,6 +37,8 @@ CLAUSES = re.compile(r"  - ((?:`\w+`, )*`\w+`):")
 REFUSED = re.compile(r" +- refused: ")
 UNCONTROLLED = "## Edits without a control"
 NO_OTHER = "No other body has its type."
+# How many edits `rt ci` tries at most.
+MOST_ALONE = 25
 # A contract, with the head of its function, has fewer characters.
 MOST_OF_A_CONTRACT = 20_000
 
@@ -72,9 +75,12 @@ def faults_of_edits() -> list[str]:
     """What is wrong with edits and controls: a file is neither, two edits of a crate have one name, one can't be applied to its file, or a control
     stands elsewhere than its edit."""
     known = edits()
+    alone = [it for it in files(".edit") if it.parent.name == FOLDERS[0]]
     others = {*files("")} - {*files(".edit"), *(it.with_suffix(".control.md") for it in files(".edit"))}
     wrong = [f"{it.relative_to(TOP)} is no edit, and no control beside one" for it in sorted(others)]
     wrong += [f"{it.parent.parent.name} has two edits {it.stem}" for it in files(".edit") if it not in known.values()]
+    if len(alone) > MOST_ALONE:
+        wrong.append(f"{len(alone)} edits are in must-fail/, and not {MOST_ALONE} at most: move the others to further/, with their controls")
     for it in files(".edit") + files(".control.md"):
         try:
             applied(it.parent.parent, pairs(it.read_text()))

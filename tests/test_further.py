@@ -1,0 +1,288 @@
+#!/usr/bin/env python3
+"""Checks how further.py forms lots, reads logs and keeps refusals, with a made repository and a made prover. It takes a second."""
+
+from __future__ import annotations
+
+import os
+import sys
+import tempfile
+from pathlib import Path
+from typing import Iterable
+
+import controls
+import further
+import gate
+import proved
+import refusals
+from checks import check, ended
+from controls import Pair
+from further import Edit
+
+CRATE = """//! Words.
+use other::Word;
+
+/// The longest word.
+const LONGEST: usize = 7;
+pub(crate) const WIDEST: usize = 7;
+
+/// Whether a word is long.
+pub fn is_long(word: &[u8]) -> bool
+    ensures { result ≡ (length word.now > 7) }
+{
+    word.len() > LONGEST
+}
+
+impl<'a, R: Read> Words<'a, R> {
+    /// How many words came.
+    pub fn count(&self) -> u64
+        ensures { result ≡ self.now.count }
+    {
+        self.came
+    }
+
+    pub fn clear(&mut self) {
+        self.count = 0;
+    }
+}
+
+impl From<AllocError> for WordFault {
+    fn from(_: AllocError) -> WordFault {
+        WordFault::OutOfMemory
+    }
+}
+"""
+
+
+def edit(name: str, old: str, new: str) -> Edit:
+    """An edit of the made crate."""
+    changes = [Pair("src/lib.rt", old, new)]
+    folder = controls.TOP / "crates/words"
+    return Edit(name, changes, controls.places_of("words", folder, changes), further.only_of("words", folder, changes))
+
+
+def make_repository(top: Path) -> None:
+    """A repository of two crates, one on the other, with an edit."""
+    for name in ("words", "other"):
+        (top / "crates" / name / "src").mkdir(parents=True)
+        (top / "crates" / name / "specs").mkdir()
+        (top / "crates" / name / "specs/Words.antt").write_text("-- words\n")
+    (top / "crates/words/src/lib.rt").write_text(CRATE)
+    (top / "crates/other/src/lib.rt").write_text("//! Others.\n")
+    (top / "crates/words/further").mkdir()
+    (top / "crates/words/further/counts_one_less.edit").write_text("file: src/lib.rt\nold:         self.came\nnew:         self.came - 1\n")
+    (top / "crates.txt").write_text("# Two.\nother:\nwords: other itoa\nabove: words\n")
+    (top / "HANDLES").write_text("Handles allowed: none.\n")
+
+
+# Where changes are.
+
+
+def check_places() -> None:
+    long, less = edit("long", "word.len() > LONGEST", "word.len() >= LONGEST"), edit("less", "self.came", "self.came - 1")
+    check("a free function", (long.places, long.only) == ([("words", "is_long")], ["words::is_long"]), long)
+    check("a method", (less.places, less.only) == ([("words", "count")], ["Words::count"]), less)
+    out = edit("out", "WordFault::OutOfMemory", "WordFault::Other")
+    check("a method of a trait", (out.places, out.only) == ([("words", "from")], ["WordFaultFromAllocError::from"]), out)
+    check("a use line is none of a function", edit("use", "use other::Word;", "use other::{Other, Word};").places == [])
+    of_all = edit("const", "const LONGEST: usize = 7;", "const LONGEST: usize = 8;")
+    check("a constant changes who names it", of_all.places == [("words", "is_long")] and of_all.is_local(), of_all)
+    check("one that other files see is not local", not edit("wide", "pub(crate) const WIDEST: usize = 7;", "pub(crate) const WIDEST: usize = 8;").is_local())
+    head = edit("head", "        ensures { result ≡ self.now.count }", "        ensures { result ≡ self.now.count } { 0 } fn whole(&self) -> u64")
+    check("what is added to a head is a body", head.places == [("words", "count"), ("words", "whole")] and head.only == ["Words::count"], head)
+    check("the same text changes nothing", edit("same", "self.count = 0;", "self.count = 0;").places == [])
+
+
+def check_lots() -> None:
+    folder = controls.TOP / "crates/words"
+    long, longer = edit("long", "word.len() > LONGEST", "word.len() >= LONGEST"), edit("longer", "word.len() > LONGEST", "true")
+    clear, wide = edit("clear", "self.count = 0;", "self.count = 1;"), edit("wide", "pub(crate) const WIDEST: usize = 7;", "pub(crate) const WIDEST: usize = 8;")
+    lost = Edit("lost", [Pair("src/lib.rt", "no such text", "")], [("words", "lost")], [])
+    names = lambda edits: [it.name for it in further.lot_of(folder, edits)]
+    check("edits of two functions are one lot", names([long, clear]) == ["long", "clear"])
+    check("two of one function are none", names([long, longer, clear]) == ["long", "clear"])
+    check("one that changes more than bodies is alone", names([long, wide]) == ["long"] and names([wide, long]) == ["wide"])
+    check("one that can't be applied is in no lot", names([lost, clear]) == ["clear"] and names([lost]) == [])
+
+
+# What comes of a check.
+
+
+class Prover:
+    """A crate whose functions are right in this text alone, and two of which call others."""
+
+    calls = {"first": "second", "second": "third"}
+
+    def __init__(self, crate: Path, wrong: set[str], unread: set[str] = frozenset()) -> None:
+        self.folder, self.wrong, self.unread = crate, wrong, unread
+        self.asked: list[list[str]] = []
+
+    def check(self, changes: list[Pair], only: Iterable[str] = ()) -> proved.Checked:
+        names = [it.new for it in changes]
+        self.asked.append(names)
+        if self.unread & {*names}:
+            return proved.Checked(1, "src/lib.rt:1:1: error: unexpected word\nlogic=not-proved")
+        lines, bad = [], {it for it in names if it in self.wrong}
+        for name in sorted(names):
+            callee = self.calls.get(name, "")
+            waits = f"no proof: it calls `words::{callee}`, which is not proved" if callee in bad else "proved"
+            lines.append(f"fn words::{name}: {'not proved' if name in bad and callee not in bad else waits}")
+        return proved.Checked(1 if bad else 0, "\n".join([*lines, f"only={len(names)} proved={len(names) - len(bad)}"]))
+
+
+def made(*names: str) -> list[Edit]:
+    """Edits of functions of these names, in a crate that has a line for each."""
+    return [Edit(it, [Pair("src/lib.rt", f"[{it}]", it)], [("words", it)], [f"words::{it}"]) for it in names]
+
+
+def check_outcomes(folder: Path) -> None:
+    (folder / "src").mkdir(parents=True)
+    every = ["first", "second", "third", "fourth", "fifth"]
+    (folder / "src/lib.rt").write_text(" ".join(f"[{it}]" for it in every))
+    prover = Prover(folder, {*every})
+    found = further.outcomes(prover, made(*every))
+    check("each is refused", all(it.startswith("refused") for it in found.values()) and len(found) == 5, found)
+    check("those that wait are tried again", prover.asked == [every, ["first", "second"], ["first"]], prover.asked)
+    prover = Prover(folder, {"first", "second", "fourth", "fifth"})
+    found = further.outcomes(prover, made(*every))
+    check("one that is proved is told", found["third"] == "NOT REFUSED" and sum(it.startswith("refused") for it in found.values()) == 4, found)
+    prover = Prover(folder, {*every}, {"fourth"})
+    found = further.outcomes(prover, made(*every))
+    check("one that can't be read is found", found["fourth"].startswith("BAD EDIT") and sum(it.startswith("refused") for it in found.values()) == 4, found)
+    lost = Edit("lost", [Pair("src/lib.rt", "no such text", "")], [("words", "lost")], [])
+    check("one that can't be applied is told", further.outcomes(Prover(folder, {"first"}), [*made("first"), lost])["lost"].startswith("BAD EDIT"))
+
+
+def check_logs() -> None:
+    enter = Edit("enter", [], [("words::list", "enter")], [])
+    line = "fn words::list::List::enter: not proved; it calls `words::from`, which is not proved\n"
+    own = "./proofs/list/List/enter/Answers.antt:8:4: error: `returns`: `search`: no proof of `a ≡ b`\n"
+    names = "./proofs/list/List/enter/Answers.antt:8:4: error: `returns`: module `Goals` has no `returns-in` that can be named\n"
+    check("a function that waits is not refused", further.refused_in(enter, line) == [])
+    check("one whose own answer is none is", further.refused_in(enter, own + line) == ["words::list::List::enter"])
+    check("one whose proof names what is gone is not, while it waits", further.refused_in(enter, names + line) == [])
+    check("one that waits for none is", further.refused_in(enter, "fn words::list::List::enter: not proved\n") == ["words::list::List::enter"])
+    check("the goal is told", further.why_not("words::list::List::enter", own + line) == own.strip()[2:])
+
+
+# What is kept.
+
+
+def check_keys() -> None:
+    top, file = controls.TOP, controls.TOP / "crates/words/further/counts_one_less.edit"
+
+    def key() -> str:
+        return refusals.key_of(refusals.sum_of_crate("words"), file)
+
+    def is_other(name: str, text: str) -> None:
+        was, before = (top / name).read_text(), key()
+        (top / name).write_text(text)
+        check(f"another {name} has another key", key() != before)
+        (top / name).write_text(was)
+        check(f"the same {name} has the same", key() == before)
+
+    is_other("crates/words/further/counts_one_less.edit", "file: src/lib.rt\nold:         self.came\nnew:         self.came - 2\n")
+    is_other("crates/words/src/lib.rt", CRATE.replace("7", "8"))
+    is_other("crates/words/specs/Words.antt", "-- other words\n")
+    is_other("crates/other/src/lib.rt", "//! Other.\n")
+    is_other("crates.txt", "other:\nwords: other\nabove: words\n")
+    is_other("HANDLES", "Handles allowed: Wait.\n")
+    before, was = key(), proved.version
+    proved.version = lambda: "a later kit"
+    check("another kit has another key", key() != before)
+    proved.version = was
+    (top / "crates/words/proofs").mkdir()
+    (top / "crates/words/proofs/More.antt").write_text("-- more\n")
+    check("one more proof has another key", key() != before)
+    (top / "crates/words/proofs/More.antt").unlink()
+    (top / "crates/words/out").mkdir()
+    (top / "crates/words/out/made.antt").write_text("-- made\n")
+    check("what is built decides nothing", key() == before)
+
+
+def check_kept() -> None:
+    key = "0" * 64
+    refusals.keep(key, "NOT REFUSED")
+    check("what is not refused is not kept", refusals.kept(key) == "" and not (refusals.place() / key).exists())
+    refusals.keep(key, "refused: a goal")
+    check("a refusal is kept", refusals.kept(key) == "refused: a goal")
+    for name, text in (("damaged", f"{key}\nrefu"), ("cut", f"{key}\nrefused: a g"), ("another's", f"{'1' * 64}\nrefused: a goal\n"), ("no refusal", f"{key}\nNOT REFUSED\n")):
+        (refusals.place() / key).write_text(text)
+        check(f"one that is {name} counts for nothing", refusals.kept(key) == "")
+    (refusals.place() / key).write_bytes(b"\xff\xfe")
+    check("one that is no text counts for nothing", refusals.kept(key) == "")
+    (refusals.place() / key).unlink()
+
+
+def check_trials() -> None:
+    tried: list[str] = []
+
+    class Fake:
+        def __init__(self, room: object, crate: str) -> None:
+            self.checks, self.seconds, self.folder = 1, 1.0, controls.TOP / "crates" / crate
+
+        def check(self, changes: list[Pair], only: Iterable[str] = ()) -> proved.Checked:
+            tried.extend(only)
+            return Fake.answer
+
+        def remove(self) -> None:
+            pass
+
+    was, further.Work = further.Work, Fake
+    Fake.answer = proved.Checked(0, "only=1 proved=1")
+    trial = further.Trial("words")
+    trial.run(None)
+    check("one that is proved fails", trial.failed() == 1 and tried == ["Words::count"], trial.found, tried)
+    check("and is tried again", len(further.Trial("words").left()) == 1)
+    Fake.answer = proved.Checked(1, "fn words::Words::count: not proved\nonly=1 proved=0")
+    trial = further.Trial("words")
+    trial.run(None)
+    check("one that is refused passes", trial.failed() == 0, trial.found)
+    again = further.Trial("words")
+    check("and is not tried again", again.left() == [] and again.failed() == 0 and "(kept)" in again.told("no checks"), again.found)
+    source = controls.TOP / "crates/other/src/lib.rt"
+    source.write_text("//! Changed.\n")
+    check("but where a crate below changed", len(further.Trial("words").left()) == 1)
+    further.Work = was
+
+
+def check_no_place(folder: Path) -> None:
+    (folder / "file").write_text("no folder")
+    os.environ["XDG_CACHE_HOME"] = str(folder / "file")
+    refusals.keep("2" * 64, "refused: a goal")
+    refusals.forget_old()
+    check("a folder that can't be written is no error", refusals.kept("2" * 64) == "")
+
+
+def check_watch(folder: Path) -> None:
+    """A check of a lot runs in a folder that has not the crate's name, so the gate counts it under edits."""
+    process, lots = folder / "1", folder / "words-edits"
+    process.mkdir()
+    lots.mkdir()
+    (process / "cmdline").write_bytes(b"rattle\0check\0--crate-name\0words\0src/lib.rt\0")
+    (process / "cwd").symlink_to(lots)
+    was, gate.is_ours = gate.is_ours, lambda _: True
+    check("the check of a lot counts as edits", gate.check_of(process) == ("words", "edits"), gate.check_of(process))
+    gate.is_ours = was
+
+
+def main() -> int:
+    check_logs()
+    with tempfile.TemporaryDirectory(prefix="test-further-") as name:
+        folder = Path(name)
+        os.environ["XDG_CACHE_HOME"] = str(folder / "cache")
+        controls.TOP = further.TOP = proved.TOP = folder / "top"
+        make_repository(controls.TOP)
+        proved.version = lambda: "a kit"
+        check_places()
+        check_lots()
+        check_outcomes(folder / "made")
+        check_keys()
+        check_kept()
+        check_trials()
+        check_watch(folder)
+        check_no_place(folder)
+    return ended()
+
+
+if __name__ == "__main__":
+    sys.exit(main())
