@@ -48,6 +48,9 @@ OF_NAMES = "is not in scope|has no field|is no name|operand is missing|expected 
 UNREAD = re.compile(rf"^(?:\./)?(?:src|specs)/\S+: error: (?:(?!`)|.*(?:{OF_NAMES})).*", re.M)
 # What it says of a proof file that names what the edit took away.
 NAMES = re.compile(r"has no field|is not in scope|has no `|was not admitted")
+# What it says of a function that waits for others.
+WAITING = re.compile(r"^fn (\S+): (?:not proved|no proof)[:;] it (?:calls|passes) (.*)", re.M)
+QUOTED = re.compile(r"`([^`]+)`")
 # A line that begins what functions stand in, or a function that stands in nothing.
 OWNER = re.compile(r"^(?:pub(?:\([^)]*\))? )?(?:unsafe )?(?:(impl)\b([^{]*)|trait (\w+)|(?:const )?fn )", re.M)
 # The status of a `rattle` that was called wrongly, as with a name that fits no function.
@@ -67,19 +70,30 @@ class Edit(NamedTuple):
         return all(name for _, name in self.places)
 
 
-class Lot:
-    """Edits that are tried at once: no two change functions of one name, each can be applied after those before it, and one that is not local is
-    alone."""
+# Pairs of functions of which the first waits for the second: it calls it, or one that does.
+Waits = set[tuple[Place, Place]]
 
-    def __init__(self, folder: Path) -> None:
+
+class Lot:
+    """Edits that are tried at once: no two change functions of one name, or of which one is known to wait for the other, each can be applied after those
+    before it, and one that is not local is alone."""
+
+    def __init__(self, folder: Path, waits: Waits) -> None:
         self.folder = folder
+        self.waits = waits
         self.edits: list[Edit] = []
         self.texts: dict[str, str] = {}
 
+    def is_against(self, edit: Edit) -> bool:
+        """Whether an edit of the lot and this one can't be tried at once."""
+        if self.edits and not all(it.is_local() for it in (*self.edits, edit)):
+            return True
+        pairs_of = ((one, other) for it in self.edits for one in it.places for other in edit.places)
+        return any(one[1] == other[1] or (one, other) in self.waits or (other, one) in self.waits for one, other in pairs_of)
+
     def takes(self, edit: Edit) -> bool:
         """Takes an edit, and says whether it did."""
-        taken = {name for it in self.edits for _, name in it.places}
-        if taken & {name for _, name in edit.places} or self.edits and not all(it.is_local() for it in (*self.edits, edit)):
+        if self.is_against(edit):
             return False
         try:
             self.texts = applied(self.folder, edit.changes, self.texts)
@@ -89,9 +103,9 @@ class Lot:
         return True
 
 
-def lot_of(folder: Path, edits: list[Edit]) -> list[Edit]:
+def lot_of(folder: Path, edits: list[Edit], waits: Waits) -> list[Edit]:
     """As many of these edits as can be tried at once; none where none can be applied."""
-    lot = Lot(folder)
+    lot = Lot(folder, waits)
     for edit in edits:
         lot.takes(edit)
     return lot.edits
@@ -140,6 +154,29 @@ def refused_in(edit: Edit, log: str) -> list[str]:
     return sorted(name for place in edit.places for name in names_of(found, *place) if is_refused(name, found[name], log))
 
 
+def waited_for(log: str) -> dict[str, set[str]]:
+    """The functions, and the blocks of a trait's functions, that each function of a log waits for, itself or through others."""
+    found = {name: {*QUOTED.findall(rest)} for name, rest in WAITING.findall(log)}
+    for middle in found:
+        for name, others in found.items():
+            if middle in others:
+                found[name] = others | found[middle]
+    return found
+
+
+def waits_in(edits: list[Edit], log: str) -> Waits:
+    """Which functions that edits of a lot change wait for others of them, by the log of its check."""
+    waits, known = waited_for(log), verdicts(log)
+    names = {place: names_of(known, *place) for it in edits for place in it.places}
+    found: Waits = set()
+    for one in edits:
+        seen = {it for place in one.places for name in names[place] for it in waits.get(name, ())}
+        others = [place for other in edits if other is not one for place in other.places]
+        met = [place for place in others if any(name in seen or name.rpartition("::")[0] in seen for name in names[place])]
+        found |= {(place, other) for place in one.places for other in met}
+    return found
+
+
 def why_not(name: str, log: str) -> str:
     """Why a function is not proved: the first goal of its proof file that is refused; or those that have no answer, of which the log tells above the
     line of the function, and in it; or what else is wrong with the proof file, as a name in it that the edit took away."""
@@ -186,30 +223,32 @@ def alone(work: Work, edit: Edit) -> str:
     return f"ELSEWHERE: {reason(ran.log)}" if edit.is_local() else f"refused: {reason(ran.log)}"
 
 
-def together(work: Work, edits: list[Edit]) -> dict[str, str]:
-    """Those edits of a lot that a check of all shows as refused, with what is said of each."""
+def together(work: Work, edits: list[Edit], waits: Waits) -> dict[str, str]:
+    """Those edits of a lot that a check of all shows as refused, with what is said of each. Notes which functions wait for others."""
     log = tried(work, edits).log
     if not UNPROVED.search(log) or UNREAD.search(log):
         return {}
+    waits |= waits_in(edits, log)
     names = {it.name: refused_in(it, log) for it in edits}
     return {name: f"refused: {why_not(refused[0], log)}" for name, refused in names.items() if refused}
 
 
-def shown(work: Work, edits: list[Edit]) -> dict[str, str]:
+def shown(work: Work, edits: list[Edit], waits: Waits) -> dict[str, str]:
     """What comes of those edits of a lot that a check shows: one at least. Where a check of all shows none, as where one can't be read, each half is
     tried."""
     if len(edits) == 1:
         return {edits[0].name: alone(work, edits[0])}
     half = len(edits) // 2
-    return together(work, edits) or shown(work, edits[:half]) | shown(work, edits[half:])
+    return together(work, edits, waits) or shown(work, edits[:half], waits) | shown(work, edits[half:], waits)
 
 
 def outcomes(work: Work, edits: list[Edit]) -> dict[str, str]:
     """What comes of each edit. Those that a lot does not show are tried in a later one."""
     found: dict[str, str] = {}
+    waits: Waits = set()
     left = sorted(edits, key=lambda it: not it.is_local())
-    while lot := lot_of(work.folder, left):
-        found |= shown(work, lot)
+    while lot := lot_of(work.folder, left, waits):
+        found |= shown(work, lot, waits)
         left = [it for it in left if it.name not in found]
     return found | dict.fromkeys((it.name for it in left), "BAD EDIT: it can't be applied")
 

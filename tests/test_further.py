@@ -97,10 +97,12 @@ def check_lots() -> None:
     long, longer = edit("long", "word.len() > LONGEST", "word.len() >= LONGEST"), edit("longer", "word.len() > LONGEST", "true")
     clear, wide = edit("clear", "self.count = 0;", "self.count = 1;"), edit("wide", "pub(crate) const WIDEST: usize = 7;", "pub(crate) const WIDEST: usize = 8;")
     lost = Edit("lost", [Pair("src/lib.rt", "no such text", "")], [("words", "lost")], [])
-    names = lambda edits: [it.name for it in further.lot_of(folder, edits)]
+    names = lambda edits, *waits: [it.name for it in further.lot_of(folder, edits, set(waits))]
     check("edits of two functions are one lot", names([long, clear]) == ["long", "clear"])
     check("two of one function are none", names([long, longer, clear]) == ["long", "clear"])
     check("one that changes more than bodies is alone", names([long, wide]) == ["long"] and names([wide, long]) == ["wide"])
+    pair = (("words", "is_long"), ("words", "clear"))
+    check("a function and one that waits for it are none", names([long, clear], pair) == ["long"] and names([clear, long], pair) == ["clear"])
     check("one that can't be applied is in no lot", names([lost, clear]) == ["clear"] and names([lost]) == [])
 
 
@@ -141,7 +143,7 @@ def check_outcomes(folder: Path) -> None:
     prover = Prover(folder, {*every})
     found = further.outcomes(prover, made(*every))
     check("each is refused", all(it.startswith("refused") for it in found.values()) and len(found) == 5, found)
-    check("those that wait are tried again", prover.asked == [every, ["first", "second"], ["first"]], prover.asked)
+    check("those that wait are tried again, and not together", prover.asked == [every, ["first"], ["second"]], prover.asked)
     prover = Prover(folder, {"first", "second", "fourth", "fifth"})
     found = further.outcomes(prover, made(*every))
     check("one that is proved is told", found["third"] == "NOT REFUSED" and sum(it.startswith("refused") for it in found.values()) == 4, found)
@@ -161,6 +163,10 @@ def check_logs() -> None:
     check("one whose own answer is none is", further.refused_in(enter, own + line) == ["words::list::List::enter"])
     check("one whose proof names what is gone is not, while it waits", further.refused_in(enter, names + line) == [])
     check("one that waits for none is", further.refused_in(enter, "fn words::list::List::enter: not proved\n") == ["words::list::List::enter"])
+    both = [enter, Edit("from", [], [("words", "from")], [])]
+    log = "fn words::list::List::enter: no proof: it calls `words::more` and `words::other`, which are not proved\n"
+    log += "fn words::more: not proved; it passes the block `words::FaultFromError`, which is not proved\nfn words::FaultFromError::from: not proved\n"
+    check("one that waits through another waits", further.waits_in(both, log) == {(("words::list", "enter"), ("words", "from"))}, further.waits_in(both, log))
     check("the goal is told", further.why_not("words::list::List::enter", own + line) == own.strip()[2:])
 
 
