@@ -53,8 +53,8 @@ WAITING = re.compile(r"^fn (\S+): (?:not proved|no proof)[:;] it (?:calls|passes
 QUOTED = re.compile(r"`([^`]+)`")
 # A line that begins what functions stand in, or a function that stands in nothing.
 OWNER = re.compile(r"^(?:pub(?:\([^)]*\))? )?(?:unsafe )?(?:(impl)\b([^{]*)|trait (\w+)|(?:const )?fn )", re.M)
-# The status of a `rattle` that was called wrongly, as with a name that fits no function.
-CALLED_WRONGLY = 2
+# What it says of a name that it was told to look at, and that fits no function or several.
+MISNAMED = re.compile(r"^rattle: error: .*(?:has no function|several functions are named) `([^`]+)`", re.M)
 
 
 class Edit(NamedTuple):
@@ -197,11 +197,16 @@ def reason(log: str) -> str:
 
 
 def tried(work: Work, edits: list[Edit]) -> Checked:
-    """Checks the crate with these edits: only the functions that they change, and what these call, where all are local."""
+    """Checks the crate with these edits: only the functions that they change, and what these call, where all are local. Where a function is not found by
+    its name, as in an `impl` for one argument of a type, all of its module are checked; in the root module, all of the crate."""
     changes = [it for edit in edits for it in edit.changes]
-    only = sorted({it for edit in edits for it in edit.only}) if all(it.is_local() for it in edits) else []
-    ran = work.check(changes, only)
-    return work.check(changes) if only and ran.status == CALLED_WRONGLY else ran
+    only = {it for edit in edits for it in edit.only} if all(it.is_local() for it in edits) else set()
+    ran = work.check(changes, sorted(only))
+    while only and (wrong := MISNAMED.search(ran.log)):
+        modules = {module.partition("::")[2] for edit in edits if wrong[1] in edit.only for module, _ in edit.places}
+        only = only - {wrong[1]} | modules if wrong[1] in only and all(modules) else set()
+        ran = work.check(changes, sorted(only))
+    return ran
 
 
 def alone(work: Work, edit: Edit) -> str:

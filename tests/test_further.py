@@ -154,6 +154,24 @@ def check_outcomes(folder: Path) -> None:
     check("one that can't be applied is told", further.outcomes(Prover(folder, {"first"}), [*made("first"), lost])["lost"].startswith("BAD EDIT"))
 
 
+def check_names(folder: Path) -> None:
+    """A function that is not found by its name is looked for in its module."""
+    asked: list[list[str]] = []
+
+    class Misnamed(Prover):
+        def check(self, changes: list[Pair], only: Iterable[str] = ()) -> proved.Checked:
+            asked.append([*only])
+            wrong = "rattle: error: `words` has no function `List::first`: help: write the name that a check prints"
+            return proved.Checked(2, wrong) if "List::first" in only else super().check(changes, only)
+
+    one = Edit("first", [Pair("src/lib.rt", "[first]", "first")], [("words::list", "first")], ["List::first"])
+    further.tried(Misnamed(folder, {"first"}), [one, *made("fourth")])
+    check("a name that is not found", asked == [["List::first", "words::fourth"], ["list", "words::fourth"]], asked)
+    asked.clear()
+    further.tried(Misnamed(folder, {"first"}), [one._replace(places=[("words", "first")]), *made("fourth")])
+    check("one of the root module", asked == [["List::first", "words::fourth"], []], asked)
+
+
 def check_logs() -> None:
     enter = Edit("enter", [], [("words::list", "enter")], [])
     line = "fn words::list::List::enter: not proved; it calls `words::from`, which is not proved\n"
@@ -282,6 +300,7 @@ def main() -> int:
         check_places()
         check_lots()
         check_outcomes(folder / "made")
+        check_names(folder / "made")
         check_keys()
         check_kept()
         check_trials()
