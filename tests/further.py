@@ -46,8 +46,8 @@ LIMIT = re.compile(r"antt ran out of (?:stack|the (?:steps|memory))|(?:outgrew t
 # A text of src/ or specs/ that it can't read: what is wrong there is not about a goal, or is about a name.
 OF_NAMES = "is not in scope|has no field|is no name|operand is missing|expected the end|cannot continue"
 UNREAD = re.compile(rf"^(?:\./)?(?:src|specs)/\S+: error: (?:(?!`)|.*(?:{OF_NAMES})).*", re.M)
-# What it says of a proof file that names what the edit took away.
-NAMES = re.compile(r"has no field|is not in scope|has no `|was not admitted")
+# What it says of a proof file that names what the edit took away, or what was refused elsewhere.
+NAMES = re.compile(r"has no field|is not in scope|has no `|was not admitted|which was rejected, was not checked")
 # What it says of a function that waits for others.
 WAITING = re.compile(r"^fn (\S+): (?:not proved|no proof)[:;] it (?:calls|passes) (.*)", re.M)
 QUOTED = re.compile(r"`([^`]+)`")
