@@ -209,13 +209,10 @@ def tried(work: Work, edits: list[Edit]) -> Checked:
     return ran
 
 
-def alone(work: Work, edit: Edit) -> str:
-    """What comes of an edit that is tried alone."""
-    ran = tried(work, [edit])
+def outcome(edit: Edit, ran: Checked) -> str:
+    """What comes of an edit that was tried alone."""
     if ran.status == 0:
         return "NOT REFUSED"
-    if ran.status < 0:
-        return f"NOT TRIED: its check was killed by signal {-ran.status}"
     if UNREAD.search(ran.log):
         return f"BAD EDIT: {UNREAD.search(ran.log)[0][:200]}"
     names = refused_in(edit, ran.log)
@@ -228,23 +225,25 @@ def alone(work: Work, edit: Edit) -> str:
     return f"ELSEWHERE: {reason(ran.log)}" if edit.is_local() else f"refused: {reason(ran.log)}"
 
 
-def together(work: Work, edits: list[Edit], waits: Waits) -> dict[str, str]:
-    """Those edits of a lot that a check of all shows as refused, with what is said of each. Notes which functions wait for others."""
-    log = tried(work, edits).log
+def refused_of(edits: list[Edit], log: str) -> dict[str, str]:
+    """Those edits of a lot that the log of its check shows as refused, with what is said of each."""
     if not UNPROVED.search(log) or UNREAD.search(log):
         return {}
-    waits |= waits_in(edits, log)
     names = {it.name: refused_in(it, log) for it in edits}
     return {name: f"refused: {why_not(refused[0], log)}" for name, refused in names.items() if refused}
 
 
 def shown(work: Work, edits: list[Edit], waits: Waits) -> dict[str, str]:
     """What comes of those edits of a lot that a check shows: one at least. Where a check of all shows none, as where one can't be read, each half is
-    tried."""
+    tried. Notes which functions wait for others."""
+    ran = tried(work, edits)
+    if ran.status < 0:
+        return dict.fromkeys((it.name for it in edits), f"NOT TRIED: the check was killed by signal {-ran.status}")
     if len(edits) == 1:
-        return {edits[0].name: alone(work, edits[0])}
+        return {edits[0].name: outcome(edits[0], ran)}
+    waits |= waits_in(edits, ran.log)
     half = len(edits) // 2
-    return together(work, edits, waits) or shown(work, edits[:half], waits) | shown(work, edits[half:], waits)
+    return refused_of(edits, ran.log) or shown(work, edits[:half], waits) | shown(work, edits[half:], waits)
 
 
 def outcomes(work: Work, edits: list[Edit]) -> dict[str, str]:
@@ -273,10 +272,14 @@ class Trial:
     def __init__(self, crate: str) -> None:
         self.crate = crate
         self.files = sorted(TOP.glob(f"crates/{crate}/further/*.edit"))
-        crate_sum = refusals.sum_of_crate(crate)
-        self.keys = {it.stem: refusals.key_of(crate_sum, it) for it in self.files}
+        self.keys = self.keys_now()
         self.found = {name: said for name, key in self.keys.items() if (said := refusals.kept(key))}
         self.kept = frozenset(self.found)
+
+    def keys_now(self) -> dict[str, str]:
+        """The names under which refusals are kept, as the files are now."""
+        crate_sum = refusals.sum_of_crate(self.crate)
+        return {it.stem: refusals.key_of(crate_sum, it) for it in self.files}
 
     def left(self) -> list[Edit]:
         """The edits that are to be tried."""
@@ -287,12 +290,14 @@ class Trial:
         return sum(it.stat().st_size for it in TOP.glob(f"crates/{self.crate}/src/**/*.rt")) * (1 + len(self.files) - len(self.kept))
 
     def run(self, room: Room) -> str:
-        """Tries what is left, keeps what is refused, and answers how many checks that took."""
+        """Tries what is left, keeps what is refused, if no file was changed meanwhile, and answers how many checks that took."""
         work = Work(room, self.crate)
         found = outcomes(work, self.left())
         work.remove()
+        now = self.keys_now()
         for name, said in found.items():
-            refusals.keep(self.keys[name], said)
+            if now[name] == self.keys[name]:
+                refusals.keep(now[name], said)
         self.found |= found
         return f"{work.checks} checks, {work.seconds:.0f} seconds"
 
@@ -318,6 +323,8 @@ def try_all(trials: list[Trial]) -> None:
             print(it.told("no checks"), flush=True)
     if not left:
         return
+    count = sum(len(it.left()) for it in left)
+    print(f"further edits: {count} of {len(left)} crates are tried, once `rt ci` has given or proved these and those below them", flush=True)
     with tempfile.TemporaryDirectory(prefix="further-") as folder:
         room = Room(Path(folder), [it.crate for it in left])
         said = room.prove()

@@ -150,6 +150,10 @@ def check_outcomes(folder: Path) -> None:
     prover = Prover(folder, {*every}, {"fourth"})
     found = further.outcomes(prover, made(*every))
     check("one that can't be read is found", found["fourth"].startswith("BAD EDIT") and sum(it.startswith("refused") for it in found.values()) == 4, found)
+    prover = Prover(folder, {*every})
+    prover.check = lambda changes, only=(): proved.Checked(-9, "")
+    found = further.outcomes(prover, made(*every))
+    check("none is refused by a check that was killed", all(it.startswith("NOT TRIED") for it in found.values()) and len(found) == 5, found)
     lost = Edit("lost", [Pair("src/lib.rt", "no such text", "")], [("words", "lost")], [])
     check("one that can't be applied is told", further.outcomes(Prover(folder, {"first"}), [*made("first"), lost])["lost"].startswith("BAD EDIT"))
 
@@ -263,6 +267,14 @@ def check_trials() -> None:
     check("one that is refused passes", trial.failed() == 0, trial.found)
     again = further.Trial("words")
     check("and is not tried again", again.left() == [] and again.failed() == 0 and "(kept)" in again.told("no checks"), again.found)
+    (refusals.place() / trial.keys["counts_one_less"]).unlink()
+    changing = further.Trial("words")
+    Fake.remove = lambda _: (controls.TOP / "crates/words/specs/Words.antt").write_text("-- changed meanwhile\n")
+    changing.run(None)
+    Fake.remove = lambda _: None
+    check("nothing is kept of texts that changed meanwhile", len(further.Trial("words").left()) == 1 and not refusals.kept(changing.keys["counts_one_less"]))
+    further.Trial("words").run(None)
+    check("and what was tried again is", further.Trial("words").left() == [])
     source = controls.TOP / "crates/other/src/lib.rt"
     source.write_text("//! Changed.\n")
     check("but where a crate below changed", len(further.Trial("words").left()) == 1)
