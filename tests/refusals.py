@@ -11,6 +11,7 @@ import hashlib
 import os
 import tempfile
 import time
+from contextlib import suppress
 from pathlib import Path
 
 import controls
@@ -22,6 +23,8 @@ REFUSED = "refused"
 SCRIPTS = ("further.py", "proved.py", "controls.py", "refusals.py")
 # How many seconds a refusal is kept that no run has used.
 LONGEST = 60 * 24 * 3600
+# What is raised where there is no such folder, no home, or no text.
+UNUSABLE = (OSError, RuntimeError, ValueError)
 
 
 def place() -> Path:
@@ -60,17 +63,15 @@ def key_of(crate_sum: str, edit: Path) -> str:
 
 def kept(key: str) -> str:
     """What is kept under a name, and nothing where that is no refusal, or can't be read."""
-    file = place() / key
     try:
+        file = place() / key
         first, _, said = file.read_text(encoding="utf-8").partition("\n")
-        if first != key or not said.startswith(REFUSED) or not said.endswith("\n"):
-            return ""
-    except (OSError, ValueError):
+    except UNUSABLE:
         return ""
-    try:
+    if first != key or not said.startswith(REFUSED) or not said.endswith("\n"):
+        return ""
+    with suppress(*UNUSABLE):
         os.utime(file)
-    except OSError:
-        pass
     return said.strip()
 
 
@@ -78,20 +79,16 @@ def keep(key: str, said: str) -> None:
     """Keeps what was said of an edit, where that is a refusal and the folder can be written."""
     if not said.startswith(REFUSED):
         return
-    try:
+    with suppress(*UNUSABLE):
         place().mkdir(parents=True, exist_ok=True)
         with tempfile.NamedTemporaryFile("w", dir=place(), prefix="new-", encoding="utf-8", delete=False) as file:
             file.write(f"{key}\n{said}\n")
         os.replace(file.name, place() / key)
-    except OSError:
-        pass
 
 
 def forget_old() -> None:
     """Removes what no run has used for long."""
-    try:
+    with suppress(*UNUSABLE):
         for file in place().iterdir():
             if file.stat().st_mtime < time.time() - LONGEST:
                 file.unlink()
-    except OSError:
-        pass
