@@ -62,6 +62,25 @@ EXAMPLES = tuple(Conversation(it.name, tuple(Exchange(*turn[:2]) for turn in it.
 # The first of them: a record and a mark are written, and read back after a rewind. The read of the mark gives no bytes.
 WRITTEN_AND_READ_BACK = EXAMPLES[0]
 
+# A record of 4 bytes takes 12 bytes of the reel, and a mark 4. After a record one mark always has room.
+LITTLE_REELS = {
+    16: Conversation(
+        "a record and a mark fill the reel",
+        (
+            OPENED,
+            Exchange(b"W4\nabcd", b"A4\n"),
+            Exchange(b"W1\nx", b"A0\n"),
+            Exchange(b"I0\n1\n", b"A1\n"),
+            Exchange(b"I0\n1\n", NO_SPACE),
+            CLOSED,
+        ),
+    ),
+    15: Conversation(
+        "marks fill the reel but for 3 bytes",
+        (OPENED, Exchange(b"W4\nabcd", b"A0\n"), Exchange(b"I0\n3\n", b"A3\n"), Exchange(b"I0\n1\n", NO_SPACE)),
+    ),
+}
+
 # Spacing over marks (1 forward, 2 back) and records (3 forward, 4 back), and all that ends it before its count.
 SPACING = (
     # The end is met before a record. Above 7 there is no operation.

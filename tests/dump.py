@@ -396,6 +396,26 @@ def dumps(p: Programs) -> None:
     model.stop()
 
 
+def laid_back(p: Programs) -> None:
+    """The first of two reels is laid back on the stack, and read."""
+    p.file("payload", PAYLOAD)
+    for name in ("back-bin", "back"):
+        p.folder.joinpath(name).mkdir()
+    stack, filled = p.folder / "back", p.folder / "back-bin" / "r1"
+    for name in ("r1", "r2"):
+        stack.joinpath(name).touch()
+    words = ("--capacity", "3100", "--bin", str(filled.parent), f"{DEVICE}={stack}")
+    with p.listening(*words) as (address, _):
+        ends("two reels in a folder", p.dump(address), TWO_VOLUMES, DONE)
+        sizes = [it.stat().st_size for it in sorted(filled.parent.iterdir())]
+        check("two reels in a folder: their bytes", sizes == [3100, 2068], sizes)
+        filled.rename(stack / "r1")
+        got = p.run("read", "--to", address, "--device", DEVICE, "--out", "read")
+        text = "name /usr\nlevel 0\ndate 951782400\nsince 0\nvolume 1\nfirst 0\n"
+        ends("a reel that was laid back, read", got, text, DONE, "2 blocks of 1024 bytes")
+    check("a reel that was laid back: its 2,048 bytes", p.folder.joinpath("read").read_bytes() == PAYLOAD[:2048])
+
+
 def greatest(p: Programs) -> None:
     """Blocks of the greatest size: over the loopback into a folder and back; what a read asks for; and a server that takes lesser ones."""
     data = os.urandom(5 * GREATEST_RECORD - 1000)
@@ -864,7 +884,7 @@ def main() -> int:
     parser.add_argument("rmtd", nargs="?", default=str(CRATES / "rmtd/out/rmtd"))
     parser.add_argument("rdump", nargs="?", default=str(CRATES / "rdump/out/rdump"))
     asked = parser.parse_args()
-    for part in (dumps, greatest, payloads, memory, progress, dates, told_at_once, retries, startup, servers, operations, reads):
+    for part in (dumps, laid_back, greatest, payloads, memory, progress, dates, told_at_once, retries, startup, servers, operations, reads):
         with tempfile.TemporaryDirectory() as folder:
             part(Programs(os.path.abspath(asked.rmtd), os.path.abspath(asked.rdump), Path(folder)))
     return ended()

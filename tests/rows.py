@@ -19,6 +19,7 @@ from typing import Iterator, NamedTuple, Sequence
 from conversations import (
     CONVERSATIONS,
     FAILED,
+    LITTLE_REELS,
     WRITTEN_AND_READ_BACK,
     Conversation,
     beginnings,
@@ -114,6 +115,14 @@ def checks_of_examples(words: Sequence[str]) -> Iterator[Check]:
         yield Check(f"the stream {it.sent!r}", "one byte a piece", wanted, one_byte_a_piece(words, whole))
 
 
+def checks_of_capacities(program: str) -> Iterator[Check]:
+    """Reels of so few bytes that they are full."""
+    for capacity, it in LITTLE_REELS.items():
+        words = (program, "--stdio", "--capacity", str(capacity))
+        for form, ended in ("in lock step", in_lock_step), ("in one piece", in_one_piece), ("one byte a piece", one_byte_a_piece):
+            yield Check(f"{it.name}, of {capacity} bytes", form, wanted_of(it), ended(words, it))
+
+
 def checks_of_words(program: str) -> Iterator[Check]:
     """Words other than the lawful ones: nothing is answered, though the input has requests."""
     for words in BAD_WORDS:
@@ -144,6 +153,7 @@ def all_checks(program: str) -> Iterator[Check]:
     words = (program, "--stdio")
     yield from checks_of_conversations(words)
     yield from checks_of_examples(words)
+    yield from checks_of_capacities(program)
     yield from checks_of_words(program)
     yield from checks_of_streams(words)
 

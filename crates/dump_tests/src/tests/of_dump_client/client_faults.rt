@@ -37,6 +37,7 @@ const TO_THE_OPEN: &[Move] = &[
     Writes(FirstTwo),
     At(OPEN, b"A0\n", Send),
     At(OPEN, b"A1025\n", Send),
+    At(OPEN, b"A0\nA1\n", Failed(AttemptFault::Botched)),
     At(
         OPEN,
         b"E28\nNo space left on device\n",
@@ -306,7 +307,19 @@ const TO_THE_REWIND: &[Move] = &[
     Stands(State::Asking, &[], (1, 0)),
 ];
 
-static CASES: [Case; 11] = [
+/// The text of an error may be long and arrive in pieces. The attempt waits for its end, fails with the number, and counts nothing.
+const LONG_ERROR: &[Move] = &[
+    Writes(FirstTwo),
+    Starts(Ok(())),
+    Goes(OPEN, FIRST),
+    Asks(FIRST),
+    Hears(b"E5\n", Waiting),
+    Hears(&[b'z'; 10_000], Waiting),
+    Hears(b"\n", Failed(AttemptFault::Refused(5))),
+    Stands(State::Asking, &[], (1, 0)),
+];
+
+static CASES: [Case; 12] = [
     Case {
         name: "replies to the open",
         dumped: USR,
@@ -366,6 +379,12 @@ static CASES: [Case; 11] = [
         dumped: USR,
         blocks: 3,
         moves: NOISE,
+    },
+    Case {
+        name: "an error with a long text",
+        dumped: USR,
+        blocks: 3,
+        moves: LONG_ERROR,
     },
     Case {
         name: "numbers in replies to the rewind",

@@ -1,9 +1,10 @@
 //! Base dates of lists, and what lists hold once an entry is entered.
 
-use super::calls::{Row, enter, expect, holds};
+use super::calls::{Row, enter, expect, has_text, holds};
 use dumpdates::{Dates, LAST_SECOND};
 use std::alloc::Global;
 use std::process::Abort;
+use std::test::Fail;
 
 /// One name at two levels.
 const TWO_LEVELS: &str = "/usr 0 Tue Feb 29 00:00:00 2000\n/usr 1 Wed Mar  1 00:00:00 2000\n";
@@ -13,6 +14,11 @@ const LATER_BELOW: &str = "/usr 1 Tue Feb 29 00:00:00 2000\n/usr 0 Wed Mar  1 00
 
 /// One name and level twice.
 const TWICE: &str = "/usr 0 Thu Jan  1 00:01:40 1970\n/usr 0 Thu Jan  1 00:00:50 1970\n";
+
+/// Two names, one of them at two levels.
+const THREE: &str = "/usr 0 Tue Feb 29 00:00:00 2000\n\
+/usr 1 Tue Feb 29 00:00:00 2000\n\
+/home 0 Thu Jan  1 00:00:00 1970\n";
 
 /// The latest date.
 const LATEST: &str = "/usr 0 Fri Dec 31 23:59:59 9999\n";
@@ -70,7 +76,7 @@ const DOUBLES: &str = "/a 1 Thu Jan  1 00:00:10 1970\n\
 /// A file, an entry, and what the file's list holds once it is entered.
 type Entering = (&'static str, Row, &'static [Row]);
 
-static ENTERED: [Entering; 11] = [
+static ENTERED: [Entering; 12] = [
     // another name or another level, at the end
     ("", ("/a", 1, 99), &[("/a", 1, 99)]),
     (
@@ -98,6 +104,15 @@ static ENTERED: [Entering; 11] = [
         TWO_LEVELS,
         ("/usr", 0, 951868800),
         &[("/usr", 0, 951868800), ("/usr", 1, 951868800)],
+    ),
+    (
+        THREE,
+        ("/usr", 1, 951868800),
+        &[
+            ("/usr", 0, 951782400),
+            ("/usr", 1, 951868800),
+            ("/home", 0, 0),
+        ],
     ),
     // an earlier date
     (
@@ -159,4 +174,34 @@ fn check_entered(rt: &impl Abort, alloc: Global, rows: &[Entering]) {
 #[test]
 fn entries_are_entered(rt: HostRuntime) {
     check_entered(&rt, rt.alloc(), &ENTERED);
+}
+
+/// The three lines of two names, the second with the date that is entered.
+const THREE_ENTERED: &str = "/usr                             0 Tue Feb 29 00:00:00 2000\n\
+/usr                             1 Wed Mar  1 00:00:00 2000\n\
+/home                            0 Thu Jan  1 00:00:00 1970\n";
+
+/// Whether a list is written as this text once the entry is entered.
+fn is_written_after(dates: &mut Dates, entry: Row, wanted: &str) -> bool {
+    enter(dates, entry) && has_text(dates, wanted.as_bytes())
+}
+
+/// The line of an entry stays in its place, whether it is entered once or twice.
+#[test]
+fn an_entry_keeps_its_line(rt: HostRuntime) -> Result<(), Fail> {
+    let mut dates = Dates::read(rt.alloc(), THREE.as_bytes())?;
+    let entry = ("/usr", 1, 951868800);
+    assert!(rt; is_written_after(&mut dates, entry, THREE_ENTERED));
+    assert!(rt; is_written_after(&mut dates, entry, THREE_ENTERED));
+    Ok(())
+}
+
+/// The base follows the entry that took the place of two.
+#[test]
+fn a_base_after_entering(rt: HostRuntime) -> Result<(), Fail> {
+    let mut dates = Dates::read(rt.alloc(), TWICE.as_bytes())?;
+    assert!(rt; dates.base("/usr", 1) == 100);
+    assert!(rt; enter(&mut dates, ("/usr", 0, 70)));
+    assert!(rt; dates.len() == 1 && dates.base("/usr", 1) == 70);
+    Ok(())
 }

@@ -1,11 +1,12 @@
-//! Lines that are not possible.
+//! Lines and lists of events that are not possible.
 
+use super::dump::Dump;
 use super::line::{Line, stop_of};
 use super::place::expect_none;
 use super::world::new_world;
 use dump_client::Answer;
 use std::test::Fail;
-use tape_world::{DriveSpec, World};
+use tape_world::{DriveSpec, Event, World, WorldFault, run};
 
 static DRIVES: [DriveSpec<'static>; 1] = [DriveSpec {
     name: b"/dev/st0",
@@ -64,5 +65,32 @@ fn wrong_stop(world: &mut World) -> Option<usize> {
 fn lines_that_are_not_possible(rt: HostRuntime) -> Result<(), Fail> {
     let mut world = new_world(rt.alloc(), &DRIVES)?;
     expect_none(&rt, wrong_stop(world.as_mut()));
+    Ok(())
+}
+
+/// Whether a world has had one connection, and this one is the client's own.
+fn has_one_connection(world: &World, own: Option<usize>) -> bool {
+    world.on_way(1).is_some() && world.on_way(2).is_none() && world.own() == own
+}
+
+/// A list is made up to the event that is not possible, and no further.
+#[test]
+fn lists_with_an_event_that_is_not_possible(rt: HostRuntime) -> Result<(), Fail> {
+    let dump = Dump::new(rt.alloc(), 3)?;
+    let mut world = new_world(rt.alloc(), &DRIVES)?;
+    let stop = run(
+        world.as_mut(),
+        &[dump.start(), Event::Connect, Event::Connect],
+    );
+    assert!(rt; stop == Err(WorldFault::NotPossible(2)));
+    assert!(rt; has_one_connection(world.as_ref(), Some(1)));
+    let mut world = new_world(rt.alloc(), &DRIVES)?;
+    let cut = Event::Cut { connection: 1 };
+    let stop = run(
+        world.as_mut(),
+        &[Event::Stranger, cut, Event::Cut { connection: 1 }],
+    );
+    assert!(rt; stop == Err(WorldFault::NotPossible(2)));
+    assert!(rt; has_one_connection(world.as_ref(), None));
     Ok(())
 }
