@@ -224,6 +224,12 @@ def has_protect(rdump: str) -> bool:
     return "--protect" in subprocess.run((rdump, "dump", "--help"), capture_output=True, text=True, check=False).stdout
 
 
+def heeds_signals() -> None:
+    """A shell can set no trap for a signal that was ignored when it began, as SIGINT is for what runs in the background."""
+    for it in (signal.SIGHUP, signal.SIGINT, signal.SIGTERM):
+        signal.signal(it, signal.SIG_DFL)
+
+
 def stopped(folder: Path) -> None:
     """A signal at any time ends the script and its dump, and nothing stays."""
     asks = stand_in(folder, ASKS)
@@ -232,7 +238,8 @@ def stopped(folder: Path) -> None:
     temporary.mkdir()
     for number in range(SIGNALS):
         sent = generator.choice((signal.SIGHUP, signal.SIGINT, signal.SIGTERM))
-        how = {"cwd": folder, "stdin": subprocess.DEVNULL, "stdout": subprocess.DEVNULL, "stderr": subprocess.DEVNULL, "start_new_session": True}
+        streams = dict.fromkeys(("stdin", "stdout", "stderr"), subprocess.DEVNULL)
+        how = {"cwd": folder, "start_new_session": True, "preexec_fn": heeds_signals, **streams}
         variables = {**os.environ, "PAUSE": "1000", "SAID": "why", "TMPDIR": str(temporary)}
         with subprocess.Popen((UNATTENDED, asks, "dump"), env=variables, **how) as process:
             time.sleep(generator.random() * 0.1)
@@ -527,7 +534,9 @@ def nights() -> None:
     listener(1000000000)
     mail = n.run("2026-12-02 02:00", PAUSE="0", TIMES="2")
     check("night 4: two dumps", n.status == DONE and mail.count("dump complete: ") == 2, mail)
-    check("night 4: the first goes on", "going on: 2 volumes, " in mail and "dump complete: 3 volumes, 10 blocks\nvolume 1: " in mail, mail)
+    # The mail has both streams, and lines of the one keep their order among themselves alone.
+    lines = "".join(re.findall(r"(?m)^(?:volume|dump complete).*\n", mail))
+    check("night 4: the first goes on", "going on: 2 volumes, " in mail and "dump complete: 3 volumes, 10 blocks\nvolume 1: " in lines, mail)
     check("night 4: the entries", (CLIENT / "dumpdates").read_text().endswith("1 Wed Dec  2 02:00:00 2026\n"), (CLIENT / "dumpdates").read_text())
     mail = n.run("2026-12-02 09:00")
     check("morning 4", (mail, n.status) == ("", DONE), mail, shelf())
