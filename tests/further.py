@@ -1,7 +1,7 @@
 #!/usr/bin/env python3
 """Tries the further edits: wrong bodies that the prover has to refuse, many in one check.
 
-    further.py [CRATE..]
+    further.py [--anew] [CRATE..]
 
 The edits that `rt ci` tries are crates/CRATE/must-fail/NAME.edit, and each costs it a check. All others are crates/CRATE/further/NAME.edit, written
 alike, with controls beside them too. `make test` tries these when `rt ci` has passed. Functions are proved one by one, so many edits are tried at once:
@@ -10,8 +10,8 @@ itself: where one only calls another that is refused, the edit is tried again in
 
 A crate's lots run one after the other, over what `rt ci` proved of the crates below, and each over what those before it proved of this crate: so each
 function that a lot needs is proved once. Only the functions that a lot changes and those that they call are checked. As many crates are tried at once
-as there are processors and memory for. What was refused over the same texts is kept on this machine, and not tried again (refusals.py). It prints for
-each edit
+as there are processors and memory for. What was refused over the same texts is kept on this machine, and not tried again (refusals.py); with --anew
+all are tried. It prints for each edit
 
     refused         and why: the goals of a function that it changes which are not proved, or what is wrong with its proof
     NOT REFUSED     the functions that it changes are proved with it
@@ -269,11 +269,11 @@ def edit_of(crate: str, file: Path) -> Edit:
 class Trial:
     """The further edits of a crate, and what comes of each: first of those whose refusal is kept."""
 
-    def __init__(self, crate: str) -> None:
+    def __init__(self, crate: str, is_anew: bool = False) -> None:
         self.crate = crate
         self.files = sorted(TOP.glob(f"crates/{crate}/further/*.edit"))
         self.keys = self.keys_now()
-        self.found = {name: said for name, key in self.keys.items() if (said := refusals.kept(key))}
+        self.found = {name: said for name, key in self.keys.items() if not is_anew and (said := refusals.kept(key))}
         self.kept = frozenset(self.found)
 
     def keys_now(self) -> dict[str, str]:
@@ -344,11 +344,12 @@ def try_all(trials: list[Trial]) -> None:
 def main() -> int:
     """Tries the further edits of the crates that are named, or of all, and fails where one is not refused."""
     known = sorted(it.parent.name for it in (TOP / "crates").glob("*/further"))
-    wrong = [it for it in sys.argv[1:] if it not in known]
+    asked = [it for it in sys.argv[1:] if it != "--anew"]
+    wrong = [it for it in asked if it not in known]
     if wrong:
         print(f"no further edits: {' '.join(wrong)}")
         return 2
-    trials = [Trial(it) for it in sys.argv[1:] or known]
+    trials = [Trial(it, "--anew" in sys.argv) for it in asked or known]
     try_all(trials)
     refusals.forget_old()
     count, failed = sum(len(it.found) for it in trials), sum(it.failed() for it in trials)

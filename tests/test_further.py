@@ -267,6 +267,7 @@ def check_trials() -> None:
     check("one that is refused passes", trial.failed() == 0, trial.found)
     again = further.Trial("words")
     check("and is not tried again", again.left() == [] and again.failed() == 0 and "(kept)" in again.told("no checks"), again.found)
+    check("but where all are asked for", len(further.Trial("words", is_anew=True).left()) == 1)
     (refusals.place() / trial.keys["counts_one_less"]).unlink()
     changing = further.Trial("words")
     Fake.remove = lambda _: (controls.TOP / "crates/words/specs/Words.antt").write_text("-- changed meanwhile\n")
