@@ -36,13 +36,13 @@
 #include <unistd.h>
 
 enum call {
-    ALLOC, MALLOC, CALLOC, REALLOC, MEMALIGN, READ, PREAD, RECV, WRITE, WRITEV, SEND, SENDMSG, FTRUNCATE, FSYNC, FDATASYNC, RENAME, LINK, UNLINK,
-    OPEN, OPENAT, STATX, GETDENTS, FLOCK, ACCEPT, BIND, LISTEN, SOCKET, CONNECT, MMAP, FCHMOD, FCHOWN, THREAD, CLOCK, CALLS
+    ALLOC, MALLOC, CALLOC, REALLOC, MEMALIGN, READ, PREAD, RECV, WRITE, PWRITE, WRITEV, SEND, SENDMSG, FTRUNCATE, FSYNC, FDATASYNC, RENAME, LINK,
+    UNLINK, OPEN, OPENAT, STATX, GETDENTS, FLOCK, ACCEPT, BIND, LISTEN, SOCKET, CONNECT, SETSOCKOPT, MMAP, FCHMOD, FCHOWN, THREAD, CLOCK, CALLS
 };
 static const char *const names[CALLS] = {
-    "alloc", "malloc", "calloc", "realloc", "memalign", "read", "pread", "recv", "write", "writev", "send", "sendmsg", "ftruncate", "fsync",
-    "fdatasync", "rename", "link", "unlink", "open", "openat", "statx", "getdents64", "flock", "accept4", "bind", "listen", "socket", "connect",
-    "mmap", "fchmod", "fchown", "pthread_create", "clock_gettime"
+    "alloc", "malloc", "calloc", "realloc", "memalign", "read", "pread", "recv", "write", "pwrite", "writev", "send", "sendmsg", "ftruncate",
+    "fsync", "fdatasync", "rename", "link", "unlink", "open", "openat", "statx", "getdents64", "flock", "accept4", "bind", "listen", "socket",
+    "connect", "setsockopt", "mmap", "fchmod", "fchown", "pthread_create", "clock_gettime"
 };
 static atomic_long counts[CALLS];
 
@@ -258,6 +258,16 @@ ssize_t __write(int file, const void *from, size_t size) {
     return fails(rule) ? -1 : moved(rule, REAL(write)(file, from, at_most(rule, size)));
 }
 
+ssize_t pwrite(int file, const void *from, size_t size, off_t at) {
+    const struct rule *rule = MET_AT(PWRITE, file, size);
+    return fails(rule) ? -1 : moved(rule, REAL(pwrite)(file, from, at_most(rule, size), at));
+}
+
+ssize_t pwrite64(int file, const void *from, size_t size, off64_t at) {
+    const struct rule *rule = MET_AT(PWRITE, file, size);
+    return fails(rule) ? -1 : moved(rule, REAL(pwrite64)(file, from, at_most(rule, size), at));
+}
+
 ssize_t send(int socket, const void *from, size_t size, int how) {
     const struct rule *rule = MET_AT(SEND, socket, size);
     return fails(rule) ? -1 : moved(rule, REAL(send)(socket, from, at_most(rule, size), how));
@@ -338,6 +348,11 @@ int bind(int socket, const struct sockaddr *at, socklen_t size) { return fails(M
 int listen(int socket, int most) { return fails(MET(LISTEN, 0)) ? -1 : REAL(listen)(socket, most); }
 int socket(int domain, int kind, int protocol) { return fails(MET(SOCKET, 0)) ? -1 : REAL(socket)(domain, kind, protocol); }
 int connect(int socket, const struct sockaddr *to, socklen_t size) { return fails(MET(CONNECT, 0)) ? -1 : REAL(connect)(socket, to, size); }
+/* The size in the log is the option's value, where that is a number. */
+int setsockopt(int socket, int level, int option, const void *value, socklen_t size) {
+    int number = size == sizeof number ? *(const int *)value : 0;
+    return fails(MET(SETSOCKOPT, number)) ? -1 : REAL(setsockopt)(socket, level, option, value, size);
+}
 
 int pthread_create(pthread_t *restrict thread, const pthread_attr_t *restrict how, void *(*run)(void *), void *restrict with) {
     return fails(MET(THREAD, 0)) ? errno : REAL(pthread_create)(thread, how, run, with);
@@ -347,10 +362,11 @@ void *mmap(void *at, size_t size, int may, int how, int file, off_t from) {
     return fails(MET(MMAP, size)) ? MAP_FAILED : (void *)syscall(SYS_mmap, at, size, may, how, file, from);
 }
 
+/* A program with checks of its memory asks for the time in the midst of an allocation, where nothing of the C library can be looked for. */
 int clock_gettime(clockid_t clock, struct timespec *into) {
     const struct rule *rule = clock == CLOCK_REALTIME ? MET(CLOCK, 0) : 0;
     if (fails(rule)) return -1;
-    int status = REAL(clock_gettime)(clock, into);
+    int status = (int)syscall(SYS_clock_gettime, clock, into);
     if (rule && rule->what == 't') into->tv_sec = rule->value;
     return status;
 }

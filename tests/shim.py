@@ -37,10 +37,10 @@ class Shim(NamedTuple):
         """The names of the calls that were logged, in their order. A request for memory stands there as `alloc` and by its own name."""
         return [line.split()[0] for line in self.log.read_text().splitlines()] if self.log.exists() else []
 
-    def sizes(self) -> list[int]:
-        """How many bytes each logged request for memory asked for, in their order."""
+    def sizes(self, name: str = "alloc") -> list[int]:
+        """How many bytes each logged call of this name asked for, in their order; of `alloc` each request for memory."""
         lines = [line.split() for line in self.log.read_text().splitlines()] if self.log.exists() else []
-        return [int(size) for call, _, size in lines if call == "alloc"]
+        return [int(size) for call, _, size in lines if call == name]
 
 
 @contextmanager
