@@ -20,7 +20,7 @@ import sys
 import tempfile
 import threading
 import time
-from contextlib import contextmanager
+from contextlib import contextmanager, suppress
 from pathlib import Path
 from typing import Callable, Iterator, NamedTuple
 
@@ -146,13 +146,13 @@ class Model:
         self.worker.start()
 
     def serve(self) -> None:
-        """Serves until the listener is closed."""
+        """Serves until the listener is closed. A connection that is reset is one that ended."""
         while True:
             try:
                 stream, _ = self.listener.accept()
             except OSError:
                 return
-            with stream:
+            with stream, suppress(ConnectionError):
                 self.converse(Received(stream))
 
     def converse(self, received: Received) -> None:
@@ -548,6 +548,37 @@ def progress(p: Programs) -> None:
     model.stop()
 
 
+PIECE, PIECES = 65_536, 8
+# Two lines of progress are so far apart at least, and a bit.
+BETWEEN_SECONDS = 0.2
+
+
+def progress_again(p: Programs) -> None:
+    """What a terminal shows of a second attempt begins with no bytes a second, however many the first one read."""
+    p.file("payload", bytes(PIECE * PIECES))
+    model = Model(Reel("r1", 1 << 20), lost=(len(requests_of(1, 0, [])),))
+    near, terminal = pty.openpty()
+    words = (p.rdump, *p.dump_words(model.address, block=str(PIECE)))
+    with subprocess.Popen(words, cwd=p.folder, stdin=subprocess.PIPE, stdout=subprocess.PIPE, stderr=terminal) as run:
+        guard = threading.Timer(GUARD_SECONDS, run.kill)
+        guard.start()
+        asked = [run.stdout.readline() for _ in range(2)]
+        # A line is shown only where the one before is so old.
+        time.sleep(BETWEEN_SECONDS)
+        output, _ = run.communicate(b"yes\n")
+        guard.cancel()
+    os.close(terminal)
+    shown = all_of(near).decode()
+    os.close(near)
+    model.stop()
+    check("a second attempt: the question", asked == [b"volume 1 failed: ConnectionEnded\n", b"retry?\n"], asked)
+    check("a second attempt: the dump", (run.returncode, output[:11]) == (DONE, b"volume 1: 8"), run.returncode, output)
+    first, is_lost, second = shown.partition("the connection ended")
+    rates = [re.findall(r"\rvolume 1, block (\d+) of 8, (\d+) ([KM]iB)/s", it) for it in (first, second)]
+    begins = [it[:1] for it in rates]
+    check("each attempt begins with no bytes a second", is_lost != "" and begins == [[("1", "0", "KiB")]] * 2, shown)
+
+
 def dates(p: Programs) -> None:
     """The base date, and what becomes of dumpdates."""
     p.file("payload", b"")
@@ -884,7 +915,7 @@ def main() -> int:
     parser.add_argument("rmtd", nargs="?", default=str(CRATES / "rmtd/out/rmtd"))
     parser.add_argument("rdump", nargs="?", default=str(CRATES / "rdump/out/rdump"))
     asked = parser.parse_args()
-    for part in (dumps, laid_back, greatest, payloads, memory, progress, dates, told_at_once, retries, startup, servers, operations, reads):
+    for part in (dumps, laid_back, greatest, payloads, memory, progress, progress_again, dates, told_at_once, retries, startup, servers, operations, reads):
         with tempfile.TemporaryDirectory() as folder:
             part(Programs(os.path.abspath(asked.rmtd), os.path.abspath(asked.rdump), Path(folder)))
     return ended()
