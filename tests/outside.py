@@ -43,6 +43,7 @@ CHECKS = {
     "ls.py": ("rmtd", "rdump"),
     "stops.py": ("rmtd",),
     "moves.py": ("rmtd",),
+    "read_faults.py": ("rdump",),
     "replies.py": ("rdump",),
     "clients.py": ("rmtd",),
     "cuts.py": ("rsim",),
