@@ -4,7 +4,8 @@
     moves.py [RMTD]
 
 A move never replaces what the bin has, whenever it came there. A move that a stop cut short is finished before anything is written. A reel whose name
-the bin has is not written. The server is stopped, killed, or has calls refused by the library of hostile.c.
+the bin has, or that may only be read, is not written. A lock that fails is not had. The server is stopped, killed, or has calls refused by the library
+of hostile.c.
 """
 
 from __future__ import annotations
@@ -171,6 +172,45 @@ def without_links(p: Programs) -> None:
         check("a reel that has a link elsewhere is moved, and the link stays", moved and data_of(other) == images([b"data"]))
 
 
+def two_without_links(p: Programs) -> None:
+    """Where there are no hard links the bin is locked until a reel is renamed: another server that moves a reel of the same name waits, and finds the
+    name taken then. Both reels stand."""
+    title, no_links = "two servers without links", f"link:1+:E{NO_LINKS['EPERM']}"
+    with site(p.rmtd, drives=2) as shop:
+        reels = [shop.reel("r1", data, stack=stack) for data, stack in zip((b"one", b"two"), shop.stacks)]
+        # The look at the start asks for one rename for each of the two drives.
+        stops = p.shim.environment(f"{no_links},rename:3:S")
+        with talking(shop, env=stops) as first, talking(shop, env=p.shim.environment(no_links)) as second:
+            first.asks(title, (opened(), TAKEN))
+            second.asks(title, (opened(device="/dev/st1"), TAKEN))
+            meanwhile = lambda: second.asks(f"{title}: the second one, before the first one's rename", (OFFLINE, IO_ERROR))
+            reply = stopped(first, OFFLINE, meanwhile)
+            check(f"{title}: the first one moves its reel", reply == DONE_ONE, reply)
+            second.asks(f"{title}: the second one, after it", (OFFLINE, IO_ERROR), (b"R9\n", b"A3\ntwo"))
+        stands = [data_of(it) for it in (shop.bin / "r1", *reels)]
+        check(f"{title}: both reels stand", stands == [images([b"one"]), None, images([b"two"])], stands)
+
+
+# Locks.
+
+
+def locks(p: Programs) -> None:
+    """A lock that fails, and not as another has it, is not had: nothing is opened or moved, and the system's reason is told."""
+    reel = images([b"data"])
+    for error in (5, 22, 37):
+        why = rf"lock: {os.strerror(error)} \(os error {error}\)"
+        for title, sent, rule, wanted, line in (
+            ("a reel", opened() + b"R9\n", "flock:1", IO_ERROR + BAD_DESCRIPTOR, rf"open refused: .*/st0/r1: {why}"),
+            ("the bin", opened() + OFFLINE + b"R9\n", "flock:2", TAKEN + IO_ERROR + b"A4\ndata", rf"move refused: .*/bin: {why}"),
+        ):
+            title = f"the lock of {title} fails with {error}"
+            with folders(r1=reel) as folder:
+                got = asked(p, folder, sent, f"{rule}:E{error}")
+                check(title, (got.status, got.output) == (DONE, wanted), got.shown())
+                check(f"{title}: the reel stands", held(folder) == ({"r1": reel}, {}), held(folder))
+                said(title, got, line)
+
+
 # A name that the bin has.
 
 HAS_NAME = "r1 opened, to read only: the bin has the name"
@@ -251,6 +291,21 @@ def replaced(p: Programs) -> None:
             check(f"{title}: what stood stands", (data_of(shop.folder / "r1 away"), data_of(other)) == (images([b"data"]), b"other"))
 
 
+def no_writes(p: Programs) -> None:
+    """A reel that the system opens to read alone, as on a file system without writes, is read, and not written. Any other failure refuses the open."""
+    number, reel = opens_until_locked(p), images([b"data"])
+    sent = opened() + b"R9\n" + write(b"x") + b"I0\n1\n" + CLOSE
+    for error, opens in ((30, True), (13, True), (5, False), (24, False)):
+        title = f"a reel whose open to write fails with {error}"
+        with folders(r1=reel) as folder:
+            got = asked(p, folder, sent, f"open:{number}:E{error}")
+            wanted = TAKEN + b"A4\ndata" + IO_ERROR * 2 + TAKEN if opens else IO_ERROR + BAD_DESCRIPTOR * 4
+            check(title, (got.status, got.output) == (DONE, wanted), got.shown())
+            check(f"{title}: it stands", held(folder) == ({"r1": reel}, {}), held(folder))
+            refused = rf"open refused: .*/st0/r1: open: {os.strerror(error)} \(os error {error}\)"
+            said(title, got, READ_ONLY if opens else refused)
+
+
 def pipes(p: Programs) -> None:
     """A pipe in place of a folder is an error of the device at once: nobody waits for its other end."""
     for which in ("bin", "st0"):
@@ -267,7 +322,7 @@ def pipes(p: Programs) -> None:
                 talk.asks(f"{title} no more", (opened(), TAKEN), *MOVED)
 
 
-PARTS = (comes_meanwhile, cut_short, failing_calls, without_links, names_taken, replaced, pipes)
+PARTS = (comes_meanwhile, cut_short, failing_calls, without_links, two_without_links, locks, names_taken, replaced, no_writes, pipes)
 
 
 def main() -> int:
