@@ -583,7 +583,8 @@ def held(p: Programs) -> None:
 
 
 def exchanged(p: Programs) -> None:
-    """A file that is exchanged while its first volume is dumped is not written over: that another run has it is told once that is to be kept."""
+    """A file that is exchanged while its first volume is dumped is not written over: that another run has it is told once that is to be kept. One
+    that is exchanged later is not removed, which is told too."""
 
     def exchange(run: subprocess.Popen[bytes]) -> None:
         p.file("other", text_of(RUN, ONE))
@@ -592,6 +593,15 @@ def exchanged(p: Programs) -> None:
     got = acted_on(p, 3, exchange, False)
     not_written(p, "a file that is exchanged", got, LINES[0], text_of(RUN, ONE), f"rdump: {FILE}: another run has it\n")
     os.remove(p.folder / FILE)
+    title = "a file that is exchanged before the dump is abandoned"
+    run = started(p, NOWHERE)
+    asked = [run.stdout.readline() for _ in range(2)]
+    check(f"{title}: the question", asked == [b"volume 1 failed: ConnectionEnded\n", b"retry?\n"], asked)
+    exchange(run)
+    got = end_of(run)
+    ends(title, got, "dump abandoned\n", ABNORMAL, f"rdump: {FILE}: it could not be removed: another run has it\n")
+    check(f"{title}: the other file stays", kept(p) == text_of(RUN, ONE) and lying(p) == [FILE], kept(p), lying(p))
+    p.folder.joinpath(FILE).unlink(missing_ok=True)
 
 
 def together(p: Programs) -> None:
@@ -642,7 +652,7 @@ CALLS = "openat,open,flock,write,writev,fsync,fdatasync,rename,renameat,renameat
 
 def order(p: Programs) -> None:
     """The order of the calls: the new file is made, locked, written, synced, renamed, and its folder synced, before a connection is made; a count is
-    printed before it is kept, and the end before the file is removed."""
+    printed before it is kept, and the end before the file is removed. The folder is synced after that."""
     strace = traced(CALLS)
     if not strace:
         return
@@ -664,7 +674,7 @@ def order(p: Programs) -> None:
     connects = ("a connection is made", "connect", rf"htons\({port}\)")
     wanted = (*replaced, connects, ("a count is printed", "write", r"^1<.*volume 1: 2"), *replaced, connects)
     wanted += (("a count is printed", "write", r"^1<.*volume 2: 1"), *replaced, ("the end is printed", "write", r"^1<.*dump complete"))
-    wanted += (("the file is removed", "unlink", rf'{re.escape(FILE)}"'),)
+    wanted += (("the file is removed", "unlink", rf'{re.escape(FILE)}"'), ("the folder is synced", "fsync", rf"<{folder}>"))
     in_order(made_in(p.folder), wanted)
 
 
