@@ -164,16 +164,16 @@ def conversed(address: str) -> bytes | None:
     return None
 
 
-def listened(p: Programs, rules: str, folder: Path | None) -> Ended:
-    """Two connections, one after the other. What is left is what each was answered, and what is told is the log."""
-    words = (p.rmtd, *LISTEN, "--connections", "2", *(drive_words(folder) if folder else ()))
+def listened(p: Programs, rules: str, folder: Path | None, count: int = 2) -> Ended:
+    """Connections, one after the other. What is left is what each was answered, and what is told is the log."""
+    words = (p.rmtd, *LISTEN, "--connections", str(count), *(drive_words(folder) if folder else ()))
     p.shim.forget()
     with tempfile.TemporaryFile() as log, subprocess.Popen(words, stdout=subprocess.PIPE, stderr=log, env=p.shim.environment(rules)) as server:
         guard = threading.Timer(GUARD_SECONDS, server.kill)
         guard.start()
         line = server.stdout.readline().decode()
         found = re.fullmatch(r"listening on (.+:\d+)\n", line)
-        answers = [conversed(found[1]) for _ in range(2)] if found else []
+        answers = [conversed(found[1]) for _ in range(count)] if found else []
         rest = server.stdout.read()
         server.wait()
         guard.cancel()
@@ -221,6 +221,25 @@ def listener(p: Programs) -> None:
         came = Sweep(title, least, "accept4", go, before, after).run()
         met = {last for it in came for last in lasts(it)} - {SERVED, ""}
         check(f"{title}: what the log says of those that are not served", met == {*(UNSERVED if in_folder else UNSERVED[:1])}, met)
+
+
+# A server over folders has so many seats.
+SEATS = 32
+
+
+def seats(p: Programs) -> None:
+    """A connection to whose seat memory is refused takes none: after more of these than there are seats each later one is served."""
+    with folders(r1=b"") as folder:
+        calls = listened(p, "", folder).calls
+    early = calls[: calls.index("accept4")].count("alloc")
+    with folders(r1=b"") as folder:
+        got = listened(p, f"alloc:{early + 1}-{early + 2 * SEATS}:0", folder, 2 * SEATS + 2)
+    refused = [it for it in got.told.decode().splitlines() if it.endswith("closed: no seat is free")]
+    answered = got.left[len(refused) :]
+    check(f"memory is refused to more than {SEATS} seats", len(refused) > SEATS and not any(got.left[: len(refused)]), len(refused), got.left)
+    whole = History(ROW, empty("r1"), NO_MEMORY).wanted()
+    check("seats to which memory was refused: each later connection is served", {*answered} == {whole}, answered)
+    check("seats to which memory was refused: it ends", got.status == DONE, got.shown())
 
 
 # The client.
@@ -483,7 +502,7 @@ def simulator(p: Programs) -> None:
         check("a schedule: nothing else is told", not [it for it in came if b"Error" in it.told], [it for it in came if b"Error" in it.told][:3])
 
 
-PARTS = (in_memory, reserved, over_a_folder, listener, dump, kept_dump, dates, other_commands, stack, simulator)
+PARTS = (in_memory, reserved, over_a_folder, listener, seats, dump, kept_dump, dates, other_commands, stack, simulator)
 
 
 def main() -> int:
