@@ -454,8 +454,7 @@ def ls_under(shim: Shim, rdump: Rdump, rules: str, name: str) -> tuple[Ended, li
     """What is said of a good reel and of this one, whose reads meet these rules, and how many bytes each of these asked for."""
     shim.forget()
     got = rdump.ls("good", name, env=shim.environment(rules, f"/{name}"))
-    calls = [line.split() for line in shim.log.read_text().splitlines()]
-    return got, [int(size) for call, _, size in calls if call == "pread"]
+    return got, shim.sizes("pread")
 
 
 def output_fails(program: str) -> None:
@@ -536,6 +535,11 @@ DUMPS: tuple[tuple[tuple[Part, ...], int | None, str, bool], ...] = (
     ((Part(1, 0, 2), Part(1, 0, 3), Part(2, 2, 2), Part(2, 3, 2), Part(3, 4, 3)), None, "volumes 1 to 3, ends at block 7", True),
     ((Part(1, 0, 2), Part(1, 0, 3), Part(2, 4, 2)), None, "volume 2 begins at block 4, not 3", False),
     ((Part(1, 0, 2), Part(2, 2, 3), Part(2, 2, 3)), 5, "volumes 1 to 2, all 5 blocks", True),
+    # The blocks that reach farthest are taken, and not the most volumes.
+    ((Part(1, 0, 2), Part(1, 0, 5), Part(2, 2, 1)), None, "volumes 1 to 1, ends at block 5", True),
+    ((Part(1, 0, 5), Part(1, 0, 2), Part(2, 2, 1)), 5, "volumes 1 to 1, all 5 blocks", True),
+    ((Part(1, 0, 2), Part(1, 0, 5), Part(2, 2, 1)), 6, "block 5 is missing", False),
+    ((Part(1, 0, 2), Part(2, 2, 7), Part(2, 2, 1), Part(3, 3, 2)), 9, "volumes 1 to 2, all 9 blocks", True),
     ((Part(1, 0, 2), Part(2, 2, 3), Part(2, 9, 1)), 5, "volumes 1 to 2, all 5 blocks", True),
     # Volumes that are of another dump, though it has the same name, level and date.
     ((Part(1, 0, 2, since=1), Part(2, 2, 3)), None, "volume 2 is missing", False),

@@ -279,6 +279,26 @@ def gaps(p: Programs) -> None:
         check("two gaps", got.status == ABNORMAL and got.told.endswith(f"{BINNED}block 2 is missing\nblock 4 is missing\n{UNKNOWN}"), got)
 
 
+def nested(p: Programs) -> None:
+    """Volumes of which one has blocks of another, in each order: only what none has is missing."""
+    for ranges, lines in (
+        (((0, 5), (2, 3), (5, 6)), ""),
+        (((0, 4), (1, 2), (5, 6)), "block 4 is missing\n"),
+        (((2, 6), (3, 4)), "blocks 0 to 1 are missing\n"),
+    ):
+        for order in permutations(range(len(ranges))):
+            name = f"blocks {[ranges[it] for it in order]}"
+            p.folder.joinpath("out").unlink(missing_ok=True)
+            of = [(USR.label(it + 1, ranges[it][0]), blocks(*ranges[it])) for it in order]
+            with stacked(p, *(images([label, *data, None]) for label, data in of)) as site:
+                got = site.read("--all", "--length", str(len(PAYLOAD)))
+            output = "".join(USR.text(it + 1, ranges[it][0]) for it in order)
+            told(name, got, output, ABNORMAL if lines else DONE, "".join(sizes(len(data)) + BINNED for _, data in of) + lines)
+            came = {it for first, end in ranges for it in range(first, end)}
+            wanted = b"".join(PADDED[it * BLOCK : (it + 1) * BLOCK] if it in came else bytes(BLOCK) for it in range(6))
+            holds(name, p.folder / "out", wanted[: len(PAYLOAD)])
+
+
 def others(p: Programs) -> None:
     """A volume of another dump ends a stack, and stays; read by itself it is as good as any."""
     out = p.folder / "out"
@@ -866,7 +886,7 @@ def killed(p: Programs) -> None:
 
 
 PARTS = (
-    placed, stacks, many, plain, gaps, others, foreign, uneven, special, twice, full, sent, synced, unsynced, refusals, markless, marked, looks,
+    placed, stacks, many, plain, gaps, nested, others, foreign, uneven, special, twice, full, sent, synced, unsynced, refusals, markless, marked, looks,
     behind, again, first, empty, killed,
 )
 
