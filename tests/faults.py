@@ -5,13 +5,15 @@ stopped, and with the program killed in it.
     faults.py [RMTD [RDUMP]]
 
 No output is foretold. What a server answers to a conversation, and what its folders hold then, have to be one lawful history (lawful.py): what a
-tape may do whose device failed, and no more. A dump takes a lawful course, and dumpdates is the old file or the new one. Where a fault has an
-outcome of its own, as a sync that failed has, or a full table of files, it has a part of its own here.
+tape may do whose device failed, and no more. A dump takes a lawful course, and dumpdates is the old file or the new one. A call that fails alone is
+told, with the step or the file and the system's reason; those whose failure changes nothing are counted. Where a fault has an outcome of its own, as a
+sync that failed has, or a full table of files, it has a part of its own here.
 """
 
 from __future__ import annotations
 
 import argparse
+import errno
 import os
 import re
 import resource
@@ -33,10 +35,12 @@ from clients import BAD_DESCRIPTOR, CLOSE, DONE_ONE, IO_ERROR, NO_REEL, NOTHING,
 from clients import DONE as TAKEN
 from dump import Model, Reel
 from lawful import DEVICE_FAULT, History, empty, reels_of
+from model_checkpoint import text_of
 from model_rmtd import images
+from model_world import Run
 from shim import compiled
 from sites import ABNORMAL, BLOCK, CRATES, DATED, DAY, DEVICE, DONE, FAILED, GUARD_SECONDS, LISTEN, NEW_DATES, OLD_DATES, THREE_BLOCKS
-from sites import KEPT, Ended, Left, Programs, course, drive_words, dump_site, dumped, folders, held, kept_words, left, moved_once
+from sites import KEPT, NO_BLOCKS, Ended, Left, Programs, course, drive_words, dump_site, dumped, folders, held, kept_words, left, moved_once
 
 # A server that is to end is waited for so long.
 ENDS_SECONDS = GUARD_SECONDS
@@ -62,10 +66,11 @@ LEAST_CALLS, LEAST_DUMP_CALLS = 60, 50
 
 
 class Rule(NamedTuple):
-    """A rule of hostile.c, and its title."""
+    """A rule of hostile.c, and its title; and the error of a call that fails alone, if it is one of those that each call has."""
 
     title: str
     text: str
+    error: int = 0
 
 
 def counted(well: Ended) -> dict[str, int]:
@@ -97,8 +102,8 @@ def is_right(got: Ended) -> bool:
 
 
 def is_cut_short(got: Ended) -> bool:
-    """It ended in the middle, as a stream failed."""
-    return got.status == FAILED and is_history(got)
+    """It ended in the middle, as a stream failed: the status alone says so."""
+    return got.status == FAILED and faults_of(got) == [] and is_history(got)
 
 
 class Target(NamedTuple):
@@ -118,7 +123,7 @@ class Target(NamedTuple):
             for name, error in (ERRORS | OWN_ERRORS.get(self.call, {})).items():
                 for more in ("",) if name in ONCE else ("", "+"):
                     title = f"{self.title(number)}{' and all later ones' if more else ''}: {name}"
-                    yield Rule(title, f"{self.call}:{number}{more}:E{error}")
+                    yield Rule(title, f"{self.call}:{number}{more}:E{error}", error if name in ERRORS and not more else 0)
 
     def each(self, what: str) -> Iterator[Rule]:
         """This becomes of each of them alone, and of all of them."""
@@ -137,10 +142,62 @@ def targets(p: Programs) -> list[Target]:
     return at_files + [Target(call, STREAMS, streams[call], True) for call in ("read", "write")]
 
 
+# What the log calls the step at which a call failed, of an open or a move that is refused.
+STEPS = {"open": "open", "openat": "open", "getdents64": "list", "flock": "lock", "link": "link", "unlink": "remove", "fsync": "sync"}
+# What is tried again where it was interrupted.
+RETRIED = ("open", "getdents64", "flock", "pread", "read", "write", "writev", "ftruncate", "fsync", "recv", "send", "sendmsg", "connect")
+# How many calls may fail with nothing to be told. Of a server: the looks at the start for other folders and mounts, and a lock that is given back.
+UNTOLD = {"open": 1, "statx": 2, "rename": 1, "flock": 1}
+# Of a dump: looks at times and names, a lock that is given back, a new file that stays, a close once all is counted, rights, and the folder's sync.
+UNTOLD_OF_DUMP = {"open": 2, "statx": 5, "flock": 1, "unlink": 1, "send": 2, "recv": 2, "fchown": 1, "fchmod": 1, "fsync": 1}
+# Of a dump with a checkpoint file, which is put in place three times, and removed.
+UNTOLD_OF_KEPT_DUMP = UNTOLD_OF_DUMP | {"open": 6, "statx": 10, "fchown": 3, "fsync": 5}
+# A file that may not be written to is opened to read alone.
+UNWRITTEN = "a read or write failed: the reel may only be read"
+
+
+def reason(error: int) -> str:
+    """How the programs spell an error of the system."""
+    return f"{os.strerror(error)} (os error {error})"
+
+
+def faults_of(got: Ended) -> list[str]:
+    """The lines of what went wrong, without times. That a server is busy is none: it may not have seen yet that the last session is over."""
+    lines = [re.sub(r"^\S+Z (?=rmtd: )", "", it) for it in got.told.decode().splitlines()]
+    return [it for it in lines if it.startswith(("rmtd: ", "rdump: ")) and "Refused 16: " not in it]
+
+
+def tells(title: str, got: Ended, well: Ended, call: str, error: int, is_told: Callable[[Ended, str, int], bool], untold: Counter[str]) -> None:
+    """A call that failed alone was made again where it was interrupted, or is told; or nothing came of it, which is counted for one of the errors."""
+    is_untold = faults_of(got) == [] and (got.seen() == well.seen() or b"Refused 16: " in got.told)
+    if error == ERRORS["EINTR"] and call in RETRIED:
+        check(f"{title}: it is made again", is_untold, got.shown())
+        return
+    check(f"{title}: it is told", is_untold or is_told(got, call, error), got.shown())
+    untold[call] += is_untold and error == ERRORS["EIO"]
+
+
+def are_few(title: str, untold: Counter[str], most: dict[str, int]) -> None:
+    """No more calls failed with nothing told than may."""
+    check(f"{title}: how many calls fail and are not told", all(count <= most.get(call, 0) for call, count in untold.items()), untold, most)
+
+
+def is_told(got: Ended, call: str, error: int) -> bool:
+    """The server says which step failed of what it was asked for, and why: that of the call that failed."""
+    why, step = re.escape(reason(error)), STEPS.get(call, "(stat|open|remove)")
+    forms = [rf"(open|move) refused: \S+: {step}: {why}", rf"r\d (closed(, synced)?|moved to the bin), (a read or write failed|(folder )?sync failed): {why}"]
+    forms += [rf"r\d (closed(, synced)?|moved to the bin), {UNWRITTEN}"] if call == "open" and error == ERRORS["EROFS"] else []
+    lines = faults_of(got)
+    if got.status == FAILED:
+        return len(lines) == 1 and re.fullmatch(rf"rmtd: \S+: {why}", lines[0]) is not None
+    return lines != [] and all(re.fullmatch(rf"rmtd: /dev/st0: ({'|'.join(forms)})", it) for it in lines)
+
+
 def server(p: Programs) -> None:
     """Each call of a server fails."""
     well, calls = talked(p, ""), targets(p)
     seen = sum(it.count for it in calls)
+    untold: Counter[str] = Counter()
     check("a server in which nothing fails", (well.status, well.output) == (DONE, HISTORY.wanted()) and is_history(well), well.shown())
     check(f"at least {LEAST_CALLS} calls of a server are seen", seen >= LEAST_CALLS, calls)
     runs = changed = 0
@@ -148,8 +205,11 @@ def server(p: Programs) -> None:
         for rule in target.rules():
             got = talked(p, rule.text, target.path)
             check(rule.title, is_cut_short(got) if target.is_stream else is_right(got), got.shown())
+            if rule.error and not target.is_stream:
+                tells(rule.title, got, well, target.call, rule.error, is_told, untold)
             runs += 1
             changed += got.seen() != well.seen()
+    are_few("a server", untold, UNTOLD)
     print(f"a server: {seen} calls, {runs} runs, {changed} of them answered or left otherwise", flush=True)
     lies = ("writev:1:L", "writev:4:L", "ftruncate:1:L")
     noticed = [rule for rule in lies if not is_history(talked(p, rule))]
@@ -331,11 +391,18 @@ class Listener:
     def limit_files(self, count: int) -> None:
         resource.prlimit(self.process.pid, resource.RLIMIT_NOFILE, (count, 1024))
 
-    def failed_accepts(self) -> list[str]:
-        """Its lines that say why an accept failed, without their time."""
+    def lines(self) -> list[str]:
+        """Its log, without the times."""
         lines = os.pread(self.log.fileno(), 1 << 20, 0).decode().splitlines()
-        lines = [re.sub(r"^\d{4}-\d\d-\d\dT\d\d:\d\d:\d\dZ (?=rmtd: )", "", it) for it in lines]
-        return [it for it in lines if it.startswith("rmtd: accept failed: ")]
+        return [re.sub(r"^\d{4}-\d\d-\d\dT\d\d:\d\d:\d\dZ (?=rmtd: )", "", it) for it in lines]
+
+    def failed_accepts(self) -> list[str]:
+        """Its lines that say why an accept failed."""
+        return [it for it in self.lines() if it.startswith("rmtd: accept failed: ")]
+
+    def ends(self) -> list[str]:
+        """What its lines say of how each connection ended, or why it was closed."""
+        return [it.partition(": connection ")[2] for it in self.lines() if re.search(r": connection \d+: (ended|closed): ", it)]
 
     def ended(self) -> int | None:
         """Its status, and none where it does not end."""
@@ -506,7 +573,69 @@ def sockets(p: Programs) -> None:
         check("a reset in a write: the whole record stands, and nothing else", held(folder)[0] == {"r1": images([b"whole"])}, held(folder))
 
 
+def failed_streams(p: Programs) -> None:
+    """A connection of which a read or a write fails is told as that; one that cannot be made to send at once is closed, with the reason. The next one
+    is served."""
+    for call in ("recv", "send"):
+        for error in (5, 32, 104):
+            with folders(r1=b"") as folder, listening(p, f"{call}:1:E{error}", "--connections", "2", *drive_words(folder)) as it:
+                answers = [it.asked(NOTHING) for _ in range(2)]
+                title = f"a connection whose {call} fails with {error}"
+                check(f"{title} is answered nothing", (answers, it.ended()) == ([b"", BAD_DESCRIPTOR], DONE), answers)
+                check(f"{title}: how both ended", it.ends() == ["1: ended: stream failed", "2: ended: end"], it.lines())
+    for words in ((), ("in a folder",)):
+        with folders(r1=b"") as folder:
+            more = ("--connections", "2", *(drive_words(folder) if words else ()))
+            with listening(p, "", *more) as it:
+                first = it.shim.calls().count("setsockopt") + 1
+            with listening(p, f"setsockopt:{first}:E{errno.ENOBUFS}", *more) as it:
+                answers = [it.asked(NOTHING) for _ in range(2)]
+                title = f"a connection that cannot be made to send at once {words}"
+                check(f"{title} is closed", (answers, it.ended()) == ([b"", BAD_DESCRIPTOR], DONE), answers)
+                check(f"{title}: that is told", it.ends()[:1] == [f"1: closed: {reason(errno.ENOBUFS)}"], it.lines())
+
+
 # A dump.
+
+ATTEMPT = b"volume 1 failed: ConnectionEnded\nretry?\n"
+
+
+def client_connections(p: Programs) -> None:
+    """An attempt of a client whose connection cannot be made, or fails, has that reason told, and not that of an earlier one. Each connection is made
+    to send at once. A read that was interrupted is made again."""
+    ended_line = "the connection ended"
+    for rules, lost, why in (
+        ("connect:1:E111", 1, [reason(errno.ECONNREFUSED), ended_line]),
+        ("recv:1:E104", 2, [reason(errno.ECONNRESET), ended_line]),
+        ("connect:1:E111,recv:1:E104", 0, [reason(errno.ECONNREFUSED), reason(errno.ECONNRESET)]),
+        ("socket:1-2:E24", 0, [reason(errno.EMFILE)] * 2),
+        ("setsockopt:1-2:E105", 0, [reason(errno.ENOBUFS)] * 2),
+        ("send:1:E32,send:2:E104", 0, [reason(errno.EPIPE), reason(errno.ECONNRESET)]),
+        ("", 1, [ended_line, None]),
+    ):
+        got, lines = dumped_to(p, rules, (lost,) if lost else ())
+        title = f"two attempts of a client, {rules or 'no fault'}, the reply to request {lost} lost"
+        wanted = (ABNORMAL, ATTEMPT * 2 + b"dump abandoned\n") if why[1] else (DONE, ATTEMPT + THREE_BLOCKS.printed())
+        check(title, (got.status, got.output) == wanted, got.shown())
+        check(f"{title}: what is told", lines == [it for it in why if it], lines)
+    well, _ = dumped_to(p, "", ())
+    check("each connection of a client is made to send at once", p.shim.sizes("setsockopt") == [1, 1], p.shim.sizes("setsockopt"))
+    for call in ("recv", "send", "connect"):
+        for number in range(1, well.calls.count(call) + 1):
+            got, lines = dumped_to(p, f"{call}:{number}:E4", ())
+            check(f"{call} {number} of a client is interrupted", (got.status, got.output, lines) == (*well[:2], []), got.shown(), lines)
+
+
+def dumped_to(p: Programs, rules: str, lost: tuple[int, ...]) -> tuple[Ended, list[str]]:
+    """A dump to a server that loses these replies, whose operator says yes once; and what is told of the server."""
+    model = Model(*(Reel(it, 3100) for it in ("r1", "r2")), lost=lost)
+    with folders() as folder:
+        folder.joinpath("payload").write_bytes(THREE_BLOCKS.data())
+        words = (p.rdump, "dump", "--to", model.address, "--device", DEVICE, "--fs", "/usr", "--level", "0", "--block", str(BLOCK), *DATED)
+        got = p.run((*words, "--payload", str(folder / "payload"), "--dumpdates", str(folder / "none")), rules, b"yes\n")
+    model.stop()
+    head = f"rdump: {model.address}: "
+    return got, [it.removeprefix(head) for it in got.told.decode().splitlines() if it.startswith(head)]
 
 
 def is_dump_right(got: Ended, yes: int, stays: bool = False) -> bool:
@@ -525,6 +654,21 @@ def is_dump_right(got: Ended, yes: int, stays: bool = False) -> bool:
     return is_told and got.left.dates == (NEW_DATES if went.end == "complete" else OLD_DATES)
 
 
+# What is told of a payload without the system's reason.
+PAYLOAD_FAILS = r"rdump: \S+/payload: (its length could not be read|a block could not be read: the file became shorter, or its disk failed)"
+AT_CONNECTIONS = ("socket", "connect", "setsockopt", "send", "sendmsg", "recv")
+
+
+def is_client_told(got: Ended, call: str, error: int) -> bool:
+    """The client names the file or the address at which the call failed, with the reason of that call."""
+    why = re.escape(reason(error))
+    step = r"((its \.new|it could not be removed|whether it changed while it was dumped cannot be told): )?"
+    forms = [rf"rdump: \S+: {step}{why}(: the dump can't be entered)?", *([PAYLOAD_FAILS] if call in ("statx", "pread") else [])]
+    forms = [rf"rdump: 127\.0\.0\.1:\d+: {why}"] if call in AT_CONNECTIONS else forms
+    lines = faults_of(got)
+    return lines != [] and all(re.fullmatch("|".join(forms), it) for it in lines)
+
+
 # Where these calls fail the new file may stay: it is removed, and looked at before, so that no other file is removed by its name.
 STAYS = ("unlink", "statx")
 # Files that are written, which are told from standard error by their paths.
@@ -538,15 +682,19 @@ def dump(p: Programs) -> None:
     check("a dump in which nothing fails", (well.status, well.output) == (DONE, THREE_BLOCKS.printed()) and is_dump_right(well, 0), well.shown())
     check(f"at least {LEAST_DUMP_CALLS} calls of a dump are seen", sum(calls.values()) >= LEAST_DUMP_CALLS, calls)
     ends: Counter[int] = Counter()
-    tells: set[bytes] = set()
+    told: set[bytes] = set()
+    untold: Counter[str] = Counter()
     for call, count in calls.items():
         for rule in Target(call, WRITTEN.get(call, ""), count, False).rules():
             got = dumped(p, THREE_BLOCKS, b"", rule.text, WRITTEN.get(call, ""))
             check(f"a dump: {rule.title}", is_dump_right(got, 0, call in STAYS), got.shown())
+            if rule.error:
+                tells(f"a dump: {rule.title}", got, well, call, rule.error, is_client_told, untold)
             ends[got.status] += 1
-            tells.add(got.told)
+            told.add(got.told)
+    are_few("a dump", untold, UNTOLD_OF_DUMP)
     unread = re.compile(rb"rdump: \S+/payload: its length could not be read\n")
-    check("a dump: a payload whose length cannot be read is told", any(map(unread.fullmatch, tells)), sorted(tells))
+    check("a dump: a payload whose length cannot be read is told", any(map(unread.fullmatch, told)), sorted(told))
     print(f"a dump: {sum(ends.values())} runs, by their status {dict(ends)}; calls: {calls}", flush=True)
     for call in ("recv", "send", "sendmsg", "pread", "read", "write"):
         got = dumped(p, THREE_BLOCKS, b"", f"{call}:1+:s1")
@@ -644,17 +792,23 @@ def kept_dump(p: Programs) -> None:
     calls = counted(well) | {"write": kept_run(p, "", KEPT_PATH).got.calls.count("write")}
     check(f"at least {LEAST_KEPT_CALLS} calls of such a dump are seen", sum(calls.values()) >= LEAST_KEPT_CALLS, calls)
     ends: Counter[int] = Counter()
+    untold: Counter[str] = Counter()
     for call, count in calls.items():
         path = KEPT_PATH if call == "write" else ""
         for number in range(1, count + 1):
             for what in (f"{number}:E5", f"{number}:E28", f"{number}+:E5"):
                 it = kept_run(p, f"{call}:{what}", path)
                 check(f"a dump with a checkpoint file, {call}:{what}", is_kept_right(it, call), it.got.shown())
+                if "+" not in what:
+                    tells(f"a dump with a checkpoint file, {call}:{what}", it.got, well, call, int(what.split("E")[1]), is_client_told, untold)
                 goes_on = not it.again or it.goes_on()
                 check(f"a dump with a checkpoint file, {call}:{what}: it goes on", goes_on, it.got.shown(), it.again and it.again.shown())
                 ends[it.got.status] += 1
             killed_keeping(p, f"{call}:{number}:K", path)
+    are_few("a dump with a checkpoint file", untold, UNTOLD_OF_KEPT_DUMP)
     check("each end of such a dump is met", {DONE, FAILED, ABNORMAL} <= {*ends}, ends)
+    removed = [name for name in well.calls if name in ("unlink", "fsync")]
+    check("the folder is synced once a checkpoint file is removed", removed[-2:] == ["unlink", "fsync"], removed)
     print(f"a dump with a checkpoint file: {sum(ends.values())} runs, by their status {dict(ends)}; calls: {calls}", flush=True)
     short = kept_run(p, "write:1+:s1", KEPT_PATH).got
     check("a dump with a checkpoint file: each write to it is of one byte", short.seen() == well.seen(), short.shown())
@@ -745,6 +899,65 @@ def meeting(p: Programs, rule: str) -> str:
         return dumped[0] if len(dumped) == 1 else "neither" if not dumped else "both"
 
 
+@contextmanager
+def stopped_late(p: Programs, words: tuple[str, ...], rule: str) -> Iterator[Callable[[], Ended]]:
+    """A client that is stopped by this rule; and what has it go on, and answers how it ended."""
+    p.shim.forget()
+    streams = {"stdin": subprocess.DEVNULL, "stdout": subprocess.PIPE, "stderr": subprocess.PIPE}
+    with guarded(subprocess.Popen(words, env=p.shim.environment(rule), **streams)) as client:
+        os.waitid(os.P_PID, client.pid, os.WSTOPPED | os.WEXITED | os.WNOWAIT)
+
+        def ends() -> Ended:
+            os.kill(client.pid, signal.SIGCONT)
+            output, told = client.communicate(timeout=GUARD_SECONDS)
+            return Ended(client.returncode, output, told)
+
+        yield ends
+
+
+# The first request of the second volume of three blocks, before which the count of the first one is kept.
+SECOND_VOLUME = 12
+
+
+def locked_late(p: Programs) -> None:
+    """A dump that opens the checkpoint file of another one, and locks it only once that has put the next in its place, has not got it."""
+    title = "a checkpoint file that is locked once another has its name"
+    run = Run(DEVICE.encode(), b"/usr", 0, DAY, 0, BLOCK, THREE_BLOCKS.blocks)
+    late: list[Ended] = []
+    with folders() as folder:
+        folder.joinpath(KEPT).write_bytes(text_of(run, ()))
+        with stopped_late(p, meeting_words(p, folder, NOWHERE), "flock:1:S") as ends:
+            model = Model(*(Reel(it, 3100) for it in ("r1", "r2")), acts={SECOND_VOLUME: lambda: late.append(ends())})
+            got = p.run(meeting_words(p, folder, model.address), None)
+            model.stop()
+        refused = f"rdump: {folder / KEPT}: another run has it\n".encode()
+        check(title, late == [Ended(FAILED, b"", refused)], late)
+        check(f"{title}: the other dump goes on", (got.status, got.output) == (DONE, THREE_BLOCKS.printed()), got.shown())
+        check(f"{title}: the file is gone", not folder.joinpath(KEPT).exists())
+
+
+def entered_late(p: Programs) -> None:
+    """A dump whose new file of dumpdates another one takes away, before it is locked, makes another: both dumps are entered."""
+    title = "a new file of dumpdates that goes away before it is locked"
+    model = Model(*(Reel(it, 3100) for it in ("r1", "r2")))
+    with folders() as folder:
+        folder.joinpath("payload").write_bytes(b"")
+        words = (p.rdump, "dump", "--to", model.address, "--device", DEVICE, "--fs", "/usr", "--block", str(BLOCK), *DATED, "--update")
+        words += ("--payload", str(folder / "payload"), "--dumpdates", str(folder / "dates"))
+        # The first lock is that of the look at the start.
+        with stopped_late(p, (*words, "--level", "0"), "flock:2:S") as ends:
+            made = sorted(it.name for it in folder.iterdir() if it.name.startswith("dates"))
+            other = p.run((*words, "--level", "1"), None)
+            late = ends()
+        entries = b"".join(b"%-32s %d Wed Mar  1 00:00:00 2000\n" % (b"/usr", level) for level in (1, 0))
+        check(f"{title}: it is there", made == ["dates.new"], made)
+        for name, got in (("the other dump", other), ("the dump", late)):
+            check(f"{title}: {name}", (got.status, got.output) == (DONE, NO_BLOCKS.printed()), got.shown())
+        text = folder.joinpath("dates").read_bytes() if folder.joinpath("dates").exists() else None
+        check(f"{title}: both are entered", text == entries and not folder.joinpath("dates.new").exists(), text)
+    model.stop()
+
+
 def waits(comes: Callable[[], bool], seconds: float) -> None:
     """Waits until this is so, or for so long."""
     deadline = time.monotonic() + seconds
@@ -787,7 +1000,7 @@ def stopped_client(p: Programs) -> None:
 
 PARTS = (
     *(server, killed_and_stopped, failed_sync, folder_away, clocks, limited_size, no_threads, full_table, accepts, unstarted, sockets),
-    *(dump, kept_dump, two_keep, unprinted, stopped_client),
+    *(failed_streams, client_connections, dump, kept_dump, two_keep, locked_late, entered_late, unprinted, stopped_client),
 )
 
 
