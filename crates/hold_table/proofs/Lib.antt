@@ -1,4 +1,9 @@
+pub mod Lists
 pub mod Keeps
+pub mod Spread
+pub mod Allowed
+pub mod Fewer
+pub mod Ended
 pub mod Dealt
 pub mod Holders
 pub mod Moved

@@ -1,14 +1,43 @@
 -- Why each step keeps the hold rule, and what each step tells its seat. No public contract needs it.
-use Rattle.std.specs.Prelude.{◌≡◌, ℕ, ◌+◌, ◌-◌, ◌^◌, ◌<◌, ◌≤◌, min, true, false, ◌==◌, cond, List, length, slice_index}
+use Rattle.std.specs.Prelude.{◌≡◌, ◌≢◌, ◌⊎◌, ◌↔◌, ℕ, ◌+◌, ◌-◌, ◌^◌, ◌<◌, ◌≤◌, min, IsTrue, true, false, ◌==◌, cond, List, [], ◌∷◌, map, length, slice_index, slice_index_or, Some}
 use mathlib.Core.Option.{some}
 use lib.ListN.{get_elem?}
 use Rattle.atomic_table.specs.Table.{Me, Step}
+use Rattle.atomic_table.specs.Seated.{TableId}
 use Rattle.drives.specs.declared.holds.TheConstants.{DRIVE_LIMIT}
 use Rattle.hold_table.specs.declared.table.TheConstants.{SEAT_LIMIT}
+use Rattle.drives.specs.declared.view.LastStep.{LastStep}
 use Rattle.drives.specs.declared.view.View.{View}
 use Rattle.drives.specs.Holding.{has, newcomer, taken, given, looked}
 use Rattle.hold_table.specs.declared.rule.Seated.{Seated}
 use Rattle.hold_table.specs.Rule.{seated, HoldRule, IsRuledStep}
+use Rattle.hold_table.specs.Seats.{TableSeat, table_seat, FoundHolder}
+
+-- No seat: it stands where a list has none.
+abbrev pub nobody : Seated
+nobody = seated (newcomer 0) 0 0
+
+-- What a seat of the kit's table knows: the seats that it stands for. It is one, but in `HoldTable::apart` and `HoldTable::close`.
+abbrev pub Company : Type 0
+Company = List Seated
+
+abbrev pub first_of : Company → Seated
+first_of c = slice_index_or c 0 nobody
+
+abbrev pub second_of : Company → Seated
+second_of c = slice_index_or c 1 nobody
+
+-- a seat of the kit's table, which has no slots
+abbrev pub Sat : Type 0
+Sat = Me (Unit {0}) Company
+
+-- it stands for one seat
+abbrev pub IsAlone : Sat → Type 0
+IsAlone me = me ≡ (first_of me.0 ∷ [], [])
+
+-- it stands for two
+abbrev pub IsPair : Sat → Type 0
+IsPair me = me ≡ (first_of me.0 ∷ second_of me.0 ∷ [], [])
 
 -- a seat once its numbers are handed on
 abbrev pub settled : Seated → Seated
@@ -23,50 +52,99 @@ abbrev pub stepped : Seated → View → Seated
 stepped x v = seated v (x.made + 1) x.spare
 
 -- The seat at the place k has the number k + 1 and a mark for each drive that there can be, and it shows its steps. Only the newest
--- seat has numbers left to hand on.
+-- seat has numbers left to hand on. A seat that has made no step holds no drive.
 pub record IsNumbered (count k : ℕ) (x : Seated) : Type 0 where
   pub number : x.view.number ≡ k + 1
   pub most : x.view.number + x.spare ≤ SEAT_LIMIT
   pub newest : 0 < x.spare → count ≡ k + 1
   pub marks : length x.view.held ≡ DRIVE_LIMIT
   pub shown : x.view.steps ≡ min x.made (2 ^ 64 - 1)
+  pub begun : (d : ℕ) → IsTrue (has x.view d) → 1 ≤ x.made
 
--- a seat holds a drive exactly where the drive's word is its number
+-- n is 0, or the seat numbered n holds drive d or has made two steps or more
+abbrev pub WasHeld : List Seated → ℕ → ℕ → Type 0
+WasHeld seats d n = (n ≡ 0) ⊎ ((k : ℕ) × (x : Seated) × (get_elem? seats k ≡ some x) × (x.view.number ≡ n) × (IsTrue (has x.view d) ⊎ (2 ≤ x.made)))
+
+-- A seat holds a drive exactly where the drive's word is its number. What a seat's last step found was so.
 pub record IsTableKept (drives : ℕ) (words : List ℕ) (seats : List Seated) : Type 0 where
   pub size : length words ≡ drives
   pub small : drives ≤ DRIVE_LIMIT
   pub few : length seats ≤ SEAT_LIMIT
   pub numbered : (k : ℕ) (x : Seated) → get_elem? seats k ≡ some x → IsNumbered (length seats) k x
-  pub known : (d : ℕ) → d < length words → slice_index words d ≤ length seats
-  pub held : (k : ℕ) (x : Seated) (d : ℕ) → get_elem? seats k ≡ some x → d < length words
+  pub known : (d : ℕ) → slice_index words d ≤ length seats
+  pub held : (k : ℕ) (x : Seated) (d : ℕ) → get_elem? seats k ≡ some x
       → has x.view d ≡ (slice_index words d == x.view.number)
+  pub found : (k : ℕ) (x : Seated) (step : LastStep) → get_elem? seats k ≡ some x → x.view.last ≡ Some step → WasHeld seats step.drive step.found
 
--- the rule as it is kept, and the hold rule in its own words
-abbrev pub KeepsRule : ℕ → List ℕ → List Seated → Type 0
-KeepsRule drives words seats = IsTableKept drives words seats × HoldRule words seats
+-- the k-th company has the seat x at the place j
+abbrev pub Lies : List Company → ℕ → ℕ → Seated → Type 0
+Lies companies k j x = (c : Company) × (get_elem? companies k ≡ some c) × (get_elem? c j ≡ some x)
 
--- a seat at the table, which has no slots
-abbrev Sat : Type 0
-Sat = Me (Unit {0}) Seated
+-- each seat of a company is one of the seats, by its number, and no number lies at two places
+pub record IsSpread (seats : List Seated) (companies : List Company) : Type 0 where
+  pub known : (k j : ℕ) (x : Seated) → Lies companies k j x → get_elem? seats (x.view.number - 1) ≡ some x
+  pub once : (k j : ℕ) (x : Seated) (m i : ℕ) (y : Seated) → Lies companies k j x → Lies companies m i y
+      → x.view.number ≡ y.view.number → (k ≡ m) × (j ≡ i)
+
+-- the rule as it is kept, the hold rule in its own words, and where the seats lie
+pub record KeepsRule (drives : ℕ) (words : List ℕ) (companies : List Company) : Type 0 where
+  pub seats : List Seated
+  pub kept : IsTableKept drives words seats
+  pub rule : HoldRule words seats
+  pub spread : IsSpread seats companies
+
+-- a step by one seat, after which it is this one
+abbrev pub StepsTo : Sat → Seated → Type 0
+StepsTo me' x = IsAlone me' × (first_of me'.0 ≡ x)
 
 -- a take that found `found`
 abbrev pub TakesAt : Step (Unit {0}) → Sat → ℕ → Sat → Type 0
 TakesAt s me found me' =
-    (me'.0 ≡ stepped me.0 (taken me.0.view s.word found))
+    StepsTo me' (stepped (first_of me.0) (taken (first_of me.0).view s.word found))
     × (found ≤ SEAT_LIMIT)
-    × (found ≡ 0 → (has me.0.view s.word ≡ false) × (has me'.0.view s.word ≡ true))
-    × IsRuledStep s.word me.0.view me.0.made found (cond (found == 0) me.0.view.number found) me'.0.view
+    × (found ≡ 0 → (has (first_of me.0).view s.word ≡ false) × (has (first_of me'.0).view s.word ≡ true))
+    × IsRuledStep s.word (first_of me.0).view (first_of me.0).made found
+    (cond (found == 0) (first_of me.0).view.number found) (first_of me'.0).view
 
 -- a give
 abbrev pub GivesAt : Step (Unit {0}) → Sat → ℕ → Sat → Type 0
 GivesAt s me stored me' =
-    (me'.0 ≡ stepped me.0 (given me.0.view s.word))
-    × IsRuledStep s.word me.0.view me.0.made me.0.view.number 0 me'.0.view
+    StepsTo me' (stepped (first_of me.0) (given (first_of me.0).view s.word))
+    × IsRuledStep s.word (first_of me.0).view (first_of me.0).made (first_of me.0).view.number 0 (first_of me'.0).view
 
 -- a look that found `found`
 abbrev pub LooksAt : Step (Unit {0}) → Sat → ℕ → Sat → Type 0
 LooksAt s me found me' =
-    (me'.0 ≡ stepped me.0 (looked me.0.view s.word found))
+    StepsTo me' (stepped (first_of me.0) (looked (first_of me.0).view s.word found))
     × (found ≤ SEAT_LIMIT)
-    × ((found == me.0.view.number) ≡ has me.0.view s.word)
-    × IsRuledStep s.word me.0.view me.0.made found found me'.0.view
+    × ((found == (first_of me.0).view.number) ≡ has (first_of me.0).view s.word)
+    × IsRuledStep s.word (first_of me.0).view (first_of me.0).made found found (first_of me'.0).view
+
+-- the number found is that of a seat exactly where the seat holds the drive
+abbrev pub FindsAs : ℕ → ℕ → Seated → Type 0
+FindsAs found d x = found ≡ x.view.number ↔ IsTrue (has x.view d)
+
+-- Two seats are apart, also by what their last steps found.
+abbrev pub AreApart : Seated → Seated → Type 0
+AreApart x y =
+    (x.view.number ≢ y.view.number)
+    × ((d : ℕ) → IsTrue (has x.view d) → IsTrue (has y.view d) → ⊥)
+    × FoundHolder x.view y.view y.made
+    × FoundHolder y.view x.view x.made
+
+-- A load that found `found` while it stands for two seats changes neither, and tells that they are apart.
+abbrev pub ComparesAt : Step (Unit {0}) → Sat → ℕ → Sat → Type 0
+ComparesAt s me found me' =
+    (me' ≡ me)
+    × (found ≤ SEAT_LIMIT)
+    × FindsAs found s.word (first_of me.0)
+    × FindsAs found s.word (second_of me.0)
+    × AreApart (first_of me.0) (second_of me.0)
+
+-- a newcomer stands for no seat
+abbrev pub EntersAt : Step (Unit {0}) → Sat → ℕ → Sat → Type 0
+EntersAt s me found me' = me'.0 ≡ []
+
+-- the seats of a company, as contracts see them
+abbrev pub shown : TableId → Company → List TableSeat
+shown t c = map (λ x. table_seat t x.view x.made) c

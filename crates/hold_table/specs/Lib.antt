@@ -1,5 +1,6 @@
--- In reading order: Seats (what contracts see); Rule (what each step may do); Keeping (why the steps keep to it).
+-- In reading order: Seats (what contracts see); Rule (what each step may do); Keeping (why the steps keep to it); Closing (what is left at the end).
 pub mod Rule
 pub mod Moves
 pub mod Keeping
 pub mod Seats
+pub mod Closing

@@ -1,9 +1,10 @@
 -- What contracts see of a seat at the table. Public contracts cite it.
-use Rattle.std.specs.Prelude.{◌≡◌, ℕ, zero, suc, ◌+◌, ◌≤◌, List, [], ◌∷◌, ◌++◌}
+use Rattle.std.specs.Prelude.{◌≡◌, ◌⊎◌, ℕ, zero, suc, ◌+◌, ◌≤◌, IsTrue, List, [], ◌∷◌, ◌++◌, Some}
 use Rattle.atomic_table.specs.Seated.{TableId}
 use Rattle.hold_table.specs.declared.table.TheConstants.{SEAT_LIMIT}
+use Rattle.drives.specs.declared.view.LastStep.{LastStep}
 use Rattle.drives.specs.declared.view.View.{View}
-use Rattle.drives.specs.Holding.{newcomer}
+use Rattle.drives.specs.Holding.{has, newcomer}
 
 -- a seat: its table, what it knows, and how many steps it made
 pub record TableSeat : Type 0 where
@@ -28,3 +29,8 @@ pub record IsSeatAt (t : TableId) (s : TableSeat) : Type 0 where
   pub same : s.table ≡ t
   pub numbered : 1 ≤ s.view.number
   pub dealt : s.view.number ≤ SEAT_LIMIT
+
+-- If the last step of a seat that knows `v` found the number of a seat that knows `other`, that seat holds the drive of the step, or
+-- it has made two steps or more, as who took a drive and gave it back has.
+abbrev pub FoundHolder : View → View → ℕ → Type 0
+FoundHolder v other made = (step : LastStep) → v.last ≡ Some step → step.found ≡ other.number → IsTrue (has other step.drive) ⊎ (2 ≤ made)

@@ -10,6 +10,7 @@ mod rule;
 mod seat;
 mod steps;
 mod table;
+mod together;
 
 pub use hand::TableHand;
 pub use laws::{holders_move, one_holder};

@@ -1,6 +1,7 @@
 //! What holds between any two atomic steps at the table, and what each kind of step tells its seat.
-use atomic_table::{Play, Split, TableRule};
+use atomic_table::{Join, Play, Split, TableRule};
 use drives::View;
+use std::collections::LinkedList;
 
 /// What the table knows of a seat. No value of it is made: it stands in proofs alone, where its counts have no limit.
 pub struct Seated {
@@ -12,11 +13,14 @@ pub struct Seated {
     pub spare: u64,
 }
 
+/// What one of the kit's seats knows: the seats that it stands for. It is one, but in `HoldTable::apart` and `HoldTable::close`.
+pub(crate) type Company = LinkedList<Seated>;
+
 /// The rule of the table. It is told the number of drives.
 pub struct HoldLaw;
 
-impl TableRule<(), Seated, usize> for HoldLaw {
-    ghost use Rattle.std.specs.Prelude.{◌-◌};
+impl TableRule<(), Company, usize> for HoldLaw {
+    ghost use Rattle.std.specs.Prelude.{◌-◌, [], ◌∷◌};
     ghost use Rattle.drives.specs.Holding.{newcomer};
     ghost use Rattle.hold_table.specs.declared.table.TheConstants.{SEAT_LIMIT};
     ghost use Rattle.hold_table.specs.Rule.{seated};
@@ -24,24 +28,25 @@ impl TableRule<(), Seated, usize> for HoldLaw {
 
     ghost holds = { λ drives s. KeepsRule drives s.words s.views };
 
-    ghost first = { λ _. seated (newcomer 1) 0 (SEAT_LIMIT - 1) };
+    ghost first = { λ _. seated (newcomer 1) 0 (SEAT_LIMIT - 1) ∷ [] };
 }
 
 /// A seat hands its numbers on to a new seat.
 pub(crate) struct Deal;
 
-impl Split<Seated> for Deal {
-    ghost use Rattle.hold_table.specs.Keeping.{settled, following};
+impl Split<Company> for Deal {
+    ghost use Rattle.std.specs.Prelude.{[], ◌∷◌};
+    ghost use Rattle.hold_table.specs.Keeping.{first_of, settled, following};
 
-    ghost left = { settled };
+    ghost left = { λ c. settled (first_of c) ∷ [] };
 
-    ghost right = { following };
+    ghost right = { λ c. following (first_of c) ∷ [] };
 }
 
 /// One take.
 pub(crate) struct Takes;
 
-impl Play<(), Seated> for Takes {
+impl Play<(), Company> for Takes {
     ghost use Rattle.hold_table.specs.Keeping.{TakesAt};
 
     ghost then = { TakesAt };
@@ -50,7 +55,7 @@ impl Play<(), Seated> for Takes {
 /// One give.
 pub(crate) struct Gives;
 
-impl Play<(), Seated> for Gives {
+impl Play<(), Company> for Gives {
     ghost use Rattle.hold_table.specs.Keeping.{GivesAt};
 
     ghost then = { GivesAt };
@@ -59,8 +64,49 @@ impl Play<(), Seated> for Gives {
 /// One look.
 pub(crate) struct Looks;
 
-impl Play<(), Seated> for Looks {
+impl Play<(), Company> for Looks {
     ghost use Rattle.hold_table.specs.Keeping.{LooksAt};
 
     ghost then = { LooksAt };
+}
+
+/// A company takes in another, before its own seats.
+pub(crate) struct Gather;
+
+impl Join<Company> for Gather {
+    ghost use Rattle.std.specs.Prelude.{[], ◌++◌};
+
+    ghost both = { λ c d. d ++ c };
+
+    ghost spent = { [] };
+}
+
+/// Two seats part.
+pub(crate) struct Part;
+
+impl Split<Company> for Part {
+    ghost use Rattle.std.specs.Prelude.{[], ◌∷◌};
+    ghost use Rattle.hold_table.specs.Keeping.{first_of, second_of};
+
+    ghost left = { λ c. first_of c ∷ [] };
+
+    ghost right = { λ c. second_of c ∷ [] };
+}
+
+/// One look at two seats.
+pub(crate) struct Compares;
+
+impl Play<(), Company> for Compares {
+    ghost use Rattle.hold_table.specs.Keeping.{ComparesAt};
+
+    ghost then = { ComparesAt };
+}
+
+/// A company of no seat comes.
+pub(crate) struct Enters;
+
+impl Play<(), Company> for Enters {
+    ghost use Rattle.hold_table.specs.Keeping.{EntersAt};
+
+    ghost then = { EntersAt };
 }

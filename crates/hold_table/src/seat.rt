@@ -2,7 +2,7 @@
 ghost use Rattle.std.specs.Prelude.{◌≡◌};
 ghost use Rattle.hold_table.specs.Seats.{table_seat};
 
-use crate::rule::Seated;
+use crate::rule::Company;
 use atomic_table::Seat;
 use std::marker::Model;
 
@@ -11,17 +11,18 @@ use std::marker::Model;
 /// Contracts see the table that it is of, what it knows, and how many steps it made.
 #[derive(Drop)]
 pub struct HoldSeat {
-    pub(crate) seat: Seat<(), Seated>,
+    pub(crate) seat: Seat<(), Company>,
     pub(crate) number: u64,
 }
 
 impl Model for HoldSeat {
     ghost use Rattle.std.specs.Prelude.{◌≡◌};
+    ghost use Rattle.hold_table.specs.Keeping.{IsAlone, first_of};
     ghost use Rattle.hold_table.specs.Seats.{TableSeat, table_seat};
 
     ghost Value = { TableSeat };
 
-    ghost view = { λ s. table_seat s.seat.table_id s.seat.me.0.view s.seat.me.0.made };
+    ghost view = { λ s. table_seat s.seat.table_id (first_of s.seat.me.0).view (first_of s.seat.me.0).made };
 
-    ghost invariant = { λ s. s.seat.me.0.view.number ≡ s.number };
+    ghost invariant = { λ s. IsAlone s.seat.me × ((first_of s.seat.me.0).view.number ≡ s.number) };
 }

@@ -1,11 +1,11 @@
 //! The table, and its atomic steps.
-ghost use Rattle.std.specs.Prelude.{◌≡◌, ◌-◌, ◌<◌, ◌≤◌, ◌↔◌, ◌==◌, None, cond, length, All, IsTrue, IfOk};
+ghost use Rattle.std.specs.Prelude.{◌≡◌, ◌-◌, ◌<◌, ◌≤◌, ◌↔◌, ◌==◌, None, cond, [], ◌∷◌, length, All, IsTrue, IfOk};
 ghost use Rattle.drives.specs.declared.holds.TheConstants.{DRIVE_LIMIT};
 ghost use Rattle.drives.specs.Holding.{has, newcomer, taken, given, looked, found_by, TakeAnswers, HoldsJust};
 ghost use Rattle.hold_table.specs.Rule.{seated, IsRuledStep};
 ghost use Rattle.hold_table.specs.Seats.{next, dealt, IsSeatAt};
 
-use crate::rule::{Deal, HoldLaw, Seated};
+use crate::rule::{Company, Deal, HoldLaw};
 use crate::seat::HoldSeat;
 use atomic_table::{Seat, Table};
 use drives::Taken;
@@ -22,7 +22,7 @@ pub const SEAT_LIMIT: usize = 32;
 /// holds that drive, or n while the seat numbered n holds it and no other does. Contracts see which table it is.
 #[derive(Drop)]
 pub struct HoldTable {
-    pub(crate) table: Table<(), Seated, usize, HoldLaw, Global>,
+    pub(crate) table: Table<(), Company, usize, HoldLaw, Global>,
 }
 
 impl Model for HoldTable {
@@ -35,7 +35,7 @@ impl Model for HoldTable {
 
     ghost view = { λ t. t.table.shared.table_id };
 
-    ghost invariant = { λ t. (t.table.shared.key ≡ t.table.shared.table_id.words) × (t.table.shared.table_id.slots ≡ 0) };
+    ghost invariant = { λ t. (t.table.shared.key ≡ t.table.shared.table_id.words) × (1 ≤ t.table.shared.table_id.words) × (t.table.shared.table_id.slots ≡ 0) };
 }
 
 impl HoldTable {
@@ -55,12 +55,12 @@ impl HoldTable {
     }
 
     // A table of that many drives, which no seat holds, and its first seat, which has all numbers to hand on.
-    fn laid(alloc: Global, drives: usize) -> Result<(HoldTable, Seat<(), Seated>), AllocError>
+    fn laid(alloc: Global, drives: usize) -> Result<(HoldTable, Seat<(), Company>), AllocError>
         requires some { 1 ≤ drives }
         requires few { drives ≤ DRIVE_LIMIT }
         ensures drives { IfOk result (λ made. made.0.words ≡ drives) }
         ensures same { IfOk result (λ made. made.1.table_id ≡ made.0) }
-        ensures first { IfOk result (λ made. made.1.me.0 ≡ seated (newcomer 1) 0 (SEAT_LIMIT - 1)) }
+        ensures first { IfOk result (λ made. made.1.me ≡ (seated (newcomer 1) 0 (SEAT_LIMIT - 1) ∷ [], [])) }
     {
         let words = Vec::from_elem(alloc, 0u64, drives)?;
         let (table, first) = Table::of_words(alloc, words.as_slice(), &drives)?;
@@ -68,10 +68,9 @@ impl HoldTable {
     }
 
     // The seats of a new table, in the order of their numbers: each hands the numbers that are left on to the next.
-    fn deal(&self, alloc: Global, first: Seat<(), Seated>) -> Result<Vec<HoldSeat>, AllocError>
-        requires words { 0 < self.now.words }
+    fn deal(&self, alloc: Global, first: Seat<(), Company>) -> Result<Vec<HoldSeat>, AllocError>
         requires same { first.table_id ≡ self.now }
-        requires first { first.me.0 ≡ seated (newcomer 1) 0 (SEAT_LIMIT - 1) }
+        requires first { first.me ≡ (seated (newcomer 1) 0 (SEAT_LIMIT - 1) ∷ [], []) }
         ensures seats { IfOk result (λ seats. seats.items ≡ dealt self.now SEAT_LIMIT) }
         ensures idle { IfOk result (λ seats. All (λ s. IsSeatAt self.now s × HoldsJust s.view None) seats.items) }
     {

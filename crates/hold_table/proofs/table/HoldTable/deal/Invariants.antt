@@ -1,4 +1,4 @@
-use Rattle.std.proofs.Common.{◌≡◌, ◌+◌, ◌-◌, ◌≤◌}
+use Rattle.std.proofs.Common.{◌≡◌, ◌+◌, ◌-◌, ◌≤◌, [], ◌∷◌}
 use Rattle.hold_table.specs.declared.table.TheConstants.{SEAT_LIMIT}
 use Rattle.drives.specs.Holding.{newcomer}
 use Rattle.hold_table.specs.Rule.{seated}
@@ -9,7 +9,7 @@ abbrev pub invariant-loop-dealt : goal.invariant-loop-dealt
 invariant-loop-dealt l =
     (l.dealt ≤ SEAT_LIMIT - 1)
     × (l.seat.table_id ≡ l.self)
-    × (l.seat.me.0 ≡ seated (newcomer (l.dealt + 1)) 0 (SEAT_LIMIT - 1 - l.dealt))
+    × (l.seat.me ≡ (seated (newcomer (l.dealt + 1)) 0 (SEAT_LIMIT - 1 - l.dealt) ∷ [], []))
     × (l.seats.items ≡ dealt l.self l.dealt)
 
 abbrev pub decreases-loop-dealt : goal.decreases-loop-dealt

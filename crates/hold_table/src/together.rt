@@ -1,0 +1,108 @@
+//! Calls that have several seats at once, and tell that the table keeps them apart.
+ghost use Rattle.std.specs.Prelude.{◌≡◌, ◌≢◌, ℕ, ◌<◌, ◌≤◌, ◌↔◌, ◌∷◌, All, IsTrue, false, slice_index, slice_index_or};
+ghost use Rattle.drives.specs.Holding.{has};
+ghost use Rattle.hold_table.specs.Closing.{IsClosing};
+ghost use Rattle.hold_table.specs.Keeping.{shown};
+ghost use Rattle.hold_table.specs.Seats.{IsSeatAt, FoundHolder};
+ghost use Rattle.hold_table.specs.declared.table.TheConstants.{SEAT_LIMIT};
+
+use crate::rule::{Company, Compares, Enters, Gather, Part};
+use crate::seat::HoldSeat;
+use crate::table::HoldTable;
+use atomic_table::{Closed, Seat};
+use drives::DRIVE_LIMIT;
+use std::alloc::Global;
+
+impl HoldTable {
+    /// Shows that two seats of this table are apart, and returns both as they were, with the number of the seat that holds the
+    /// drive, counted from 0, or 0. Their numbers differ, and no drive is held by both, whatever other threads do meanwhile. The
+    /// number returned is that of one of them exactly if that seat holds the drive.
+    ///
+    /// If the last step of one of them found the number of the other, that other seat holds the drive of that step, or has made
+    /// two steps or more. So the first take at a table is never answered `Busy`.
+    ///
+    /// It makes three atomic steps, which change no word and which the seats do not count. It does not wait.
+    pub fn apart(&self, one: HoldSeat, other: HoldSeat, drive: usize) -> (HoldSeat, HoldSeat, u64)
+        requires one { IsSeatAt self.now one }
+        requires other { IsSeatAt self.now other }
+        requires drive { drive < self.now.words }
+        ensures same { (result.0 ≡ one) × (result.1 ≡ other) }
+        ensures numbers { one.view.number ≢ other.view.number }
+        ensures drives { (d : ℕ) → IsTrue (has one.view d) → IsTrue (has other.view d) → ⊥ }
+        ensures known { result.2 ≤ SEAT_LIMIT }
+        ensures holder { (result.2 ≡ one.view.number ↔ IsTrue (has one.view drive))
+            × (result.2 ≡ other.view.number ↔ IsTrue (has other.view drive)) }
+        ensures found { FoundHolder one.view other.view other.made × FoundHolder other.view one.view one.made }
+    {
+        let HoldSeat {
+            seat: first,
+            number,
+        } = one;
+        let HoldSeat {
+            mut seat,
+            number: other_number,
+        } = other;
+        self.table.shared.join_seat::<Gather>(&mut seat, first);
+        let found = self.table.shared.load::<Compares>(&mut seat, drive);
+        let second = self.table.shared.split_seat::<Part>(&mut seat);
+        let one = HoldSeat { seat, number };
+        let other = HoldSeat {
+            seat: second,
+            number: other_number,
+        };
+        (one, other, found)
+    }
+
+    // The company takes in the seat, before its own ones.
+    fn gather(&self, company: &mut Seat<(), Company>, next: HoldSeat)
+        requires company { company.old.table_id ≡ self.now }
+        requires next { IsSeatAt self.now next }
+        ensures same { company.new.table_id ≡ self.now }
+        ensures more { shown self.now company.new.me.0 ≡ next ∷ shown self.now company.old.me.0 }
+    {
+        let HoldSeat { seat, number: _ } = next;
+        self.table.shared.join_seat::<Gather>(company, seat);
+    }
+
+    // One company of all these seats, in their order.
+    fn gathered(&self, mut seats: Vec<HoldSeat>) -> Seat<(), Company>
+        requires seats { All (λ s. IsSeatAt self.now s) seats.items }
+        ensures same { result.table_id ≡ self.now }
+        ensures gathered { shown self.now result.me.0 ≡ seats.items }
+    {
+        let (_, mut company) = self.table.shared.load_new_seat::<Enters>(0);
+        while let Some(next) = seats.pop() {
+            self.gather(&mut company, next);
+        }
+        company
+    }
+
+    /// Ends the table, and gives its words: of each drive that there can be, the number of the seat that holds it, or 0. They agree with
+    /// what the seats know that are given back, which are seats of this table. It takes no memory.
+    pub fn close(self, seats: Vec<HoldSeat>) -> [u64; DRIVE_LIMIT]
+        requires seats { All (λ s. IsSeatAt self s) seats.items }
+        ensures { IsClosing result seats.items }
+    {
+        let company = self.gathered(seats);
+        let HoldTable { table } = self;
+        let closed = table.close_with(company);
+        let words = words_of(&closed);
+        closed.free();
+        words
+    }
+}
+
+// The words of a closed table, and 0 for each drive that it does not have.
+fn words_of(closed: &Closed<(), Global>) -> [u64; DRIVE_LIMIT]
+    requires full { (d : ℕ) → 0 ≤ d → d < closed.now.words.len → IsTrue (slice_index_or closed.now.words.filled d false) }
+    requires few { closed.now.words.len ≤ DRIVE_LIMIT }
+    ensures { (d : ℕ) → slice_index result d ≡ slice_index closed.now.words.items d }
+{
+    let mut words = [0; DRIVE_LIMIT];
+    let mut drive = 0;
+    while drive < closed.words.len() {
+        words[drive] = closed.word(drive);
+        drive += 1;
+    }
+    words
+}
