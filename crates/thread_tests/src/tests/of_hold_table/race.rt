@@ -1,6 +1,6 @@
 //! Seats in threads of their own, at the same drives at once.
 
-ghost use Rattle.std.specs.Prelude.{◌<◌, None, All};
+ghost use Rattle.std.specs.Prelude.{◌<◌, None, IfOk, All};
 ghost use Rattle.drives.specs.Holding.{HoldsJust};
 ghost use Rattle.hold_table.specs.Seats.{IsSeatAt};
 
@@ -13,49 +13,63 @@ use std::thread::{self, Threads};
 /// How often each seat tries to take the one drive.
 const TRIES: u32 = 2000;
 
-/// Whether the seat was alone each time that it had the drive, and saw itself there. `inside` counts the seats that have it.
-fn is_alone(table: &HoldTable, mut seat: HoldSeat, inside: &AtomicU64) -> bool
+/// Takes the one drive over and over, and gives it back each time. `inside` counts the seats that have it, and `faults` the times
+/// that the seat was not alone or did not see itself there. Returns the seat.
+fn race(
+    table: &HoldTable,
+    mut seat: HoldSeat,
+    inside: &AtomicU64,
+    faults: &AtomicU64,
+) -> HoldSeat
     requires seat { IsSeatAt table.now seat }
     requires drives { 0 < table.now.words }
+    ensures { IsSeatAt table.now result }
 {
-    let mut alone = true;
     for _ in 0..TRIES {
         if table.take(&mut seat, 0) == Taken::Held {
-            alone &= inside.fetch_add(1, Ordering::SeqCst) == 0;
-            alone &= table.holder(&mut seat, 0) != 0;
+            let before = inside.fetch_add(1, Ordering::SeqCst);
+            if before > 0 || table.holder(&mut seat, 0) == 0 {
+                faults.fetch_add(1, Ordering::SeqCst);
+            }
             inside.fetch_sub(1, Ordering::SeqCst);
             table.give(&mut seat, 0);
         }
     }
-    alone
+    seat
 }
 
-/// Whether each seat was alone, each in a thread of its own.
-fn alone_in_threads<R: Threads + Sync>(
+/// Has each seat take the one drive and give it back, each in a thread of its own, and returns the seats.
+fn race_in_threads<R: Threads + Sync>(
     rt: &R,
     table: &HoldTable,
     seats: Vec<HoldSeat>,
-    inside: &AtomicU64,
-) -> Result<Vec<bool>, Fail>
+    faults: &AtomicU64,
+) -> Result<Vec<HoldSeat>, Fail>
     requires seats { All (λ s. IsSeatAt table.now s × HoldsJust s.view None) seats.items }
     requires drives { 0 < table.now.words }
+    ensures { IfOk result (λ seats. All (λ s. IsSeatAt table.now s) seats.items) }
 {
-    let alone = thread::map_vec(
+    let inside = AtomicU64::new(0);
+    let seats = thread::map_vec(
         rt,
         seats,
-        &|seat: HoldSeat| -> bool
+        &|seat: HoldSeat| -> HoldSeat
             requires { IsSeatAt table.now seat × (0 < table.now.words) }
-        { is_alone(table, seat, inside) },
+            ensures { IsSeatAt table.entry.now result }
+        { race(table, seat, &inside, faults) },
     )?;
-    Ok(alone)
+    Ok(seats)
 }
 
-/// All 32 seats take one drive and give it back, over and over, each seat in a thread of its own: no two have it at once.
+/// All 32 seats take one drive and give it back, over and over, each seat in a thread of its own: no two have it at once. At the end
+/// all seats are back, and no word names a holder.
 #[test]
 fn no_two_have_a_drive_at_once(rt: HostRuntime) -> Result<(), Fail> {
     let (table, seats) = HoldTable::new(rt.alloc(), 1)?;
-    let inside = AtomicU64::new(0);
-    let alone = alone_in_threads(&rt, &table, seats, &inside)?;
-    assert!(rt; alone.len() == 32 && alone.iter().all(|was| *was));
+    let faults = AtomicU64::new(0);
+    let seats = race_in_threads(&rt, &table, seats, &faults)?;
+    assert!(rt; seats.len() == 32 && faults.load(Ordering::SeqCst) == 0);
+    let words = table.close(seats);
+    assert!(rt; words.iter().all(|word| *word == 0));
     Ok(())
 }
