@@ -2,13 +2,14 @@
 #![tactic(auto)]
 
 use rmt_wire::Counted;
-use rmtd_serve::{Begun, Connections, ErrorLog, Site, serve_many, start};
+use rmtd_serve::{Begun, Connections, ErrorLog, Site, close_table, serve_many, start};
 use std::io;
 use std::process::ExitCode;
 
 /// Does what the words ask, and ends with its status.
 ///
-/// It starts the threads of the connections itself: the runtime has threads in `main` alone.
+/// It starts the threads of the connections itself: the runtime has threads in `main` alone. Once the last connection has ended it
+/// closes the table of who holds which drive.
 fn main(rt: HostRuntime) -> io::Result<ExitCode> {
     let mut input = Counted::new(rt.stdin());
     let mut output = Counted::new(rt.stdout());
@@ -29,6 +30,7 @@ fn main(rt: HostRuntime) -> io::Result<ExitCode> {
         start,
     };
     let connections = Connections::new(&rt, &listener, left, log);
-    let connections = serve_many(&rt, rt.alloc(), connections, &table, seats, stacks);
+    let (connections, seats) = serve_many(&rt, rt.alloc(), connections, &table, seats, stacks);
+    close_table(table, seats);
     Ok(ExitCode::from(connections.status()))
 }

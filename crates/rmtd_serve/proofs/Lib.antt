@@ -3,3 +3,4 @@ pub mod Resting
 pub mod Afresh
 mod Seats
 mod Hands
+mod Closed

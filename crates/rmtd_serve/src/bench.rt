@@ -6,29 +6,34 @@ ghost use Rattle.hold_table.specs.Seats.{IsSeatAt};
 ghost use Rattle.hold_table.specs.declared.table.TheConstants.{SEAT_LIMIT};
 
 use crate::at::serve_at;
+use crate::at_table::AtTable;
 use drives::{DriveTable, Stacks};
 use hold_table::{HoldSeat, HoldTable, TableHand};
 use rmt_wire::Counted;
 use std::alloc::Global;
 use std::io::{Read, Write};
+use std::marker::PhantomData;
 
 /// A seat of a table that holds no drive, and the stacks that sessions there work on.
 #[derive(Drop)]
-pub(crate) struct Bench<'t, S: Stacks + Drop> {
+pub(crate) struct Bench<'t, S: Stacks + Drop, B: AtTable> {
     table: &'t HoldTable,
     seat: HoldSeat,
     stacks: S,
-    ghost same: { seat.table ≡ table.now },
+    at: PhantomData<B>,
+    ghost here: { table.now ≡ B.table },
+    ghost same: { seat.table ≡ B.table },
     ghost numbered: { 1 ≤ seat.view.number },
     ghost dealt: { seat.view.number ≤ SEAT_LIMIT },
     ghost idle: { HoldsJust seat.view None } by { Prim.hlevel props },
     ghost enough: { S.drives stacks ≤ table.now.words },
 }
 
-impl<'t, S: Stacks + Drop> Bench<'t, S> {
+impl<'t, S: Stacks + Drop, B: AtTable> Bench<'t, S, B> {
     /// A seat of this table that holds no drive, and stacks of as many drives as the table has, or fewer.
     pub(crate) fn new(table: &'t HoldTable, seat: HoldSeat, stacks: S) -> Self
-        requires seat { IsSeatAt table.now seat }
+        requires here { table.now ≡ B.table }
+        requires seat { IsSeatAt B.table seat }
         requires idle { HoldsJust seat.view None }
         requires enough { S.drives stacks ≤ table.now.words }
     {
@@ -36,7 +41,22 @@ impl<'t, S: Stacks + Drop> Bench<'t, S> {
             table,
             seat,
             stacks,
+            at: PhantomData,
         }
+    }
+
+    /// The seat, which holds no drive.
+    pub(crate) fn into_seat(self) -> HoldSeat
+        ensures seat { IsSeatAt B.table result }
+        ensures idle { HoldsJust result.view None }
+    {
+        let Bench {
+            table: _,
+            seat,
+            stacks: _,
+            at: _,
+        } = self;
+        seat
     }
 
     /// Serves the pair of streams of that number by a session here, and lets them go.
@@ -51,6 +71,7 @@ impl<'t, S: Stacks + Drop> Bench<'t, S> {
             table,
             seat,
             stacks,
+            at,
         } = self;
         let holds = TableHand { table };
         let drives = DriveTable { holds, stacks };
@@ -61,6 +82,7 @@ impl<'t, S: Stacks + Drop> Bench<'t, S> {
             table,
             seat,
             stacks,
+            at,
         }
     }
 }

@@ -1,38 +1,57 @@
 //! Benches that were not used yet.
-ghost use Rattle.std.specs.Prelude.{◌≤◌, None, All};
+ghost use Rattle.std.specs.Prelude.{◌≡◌, ◌≤◌, None, All};
 ghost use Rattle.std.proofs.Props.{props};
 ghost use Rattle.drives.specs.Holding.{HoldsJust};
 ghost use Rattle.hold_table.specs.Seats.{IsSeatAt};
 
+use crate::at_table::AtTable;
 use crate::bench::Bench;
 use drives::Stacks;
 use hold_table::{HoldSeat, HoldTable};
+use std::marker::PhantomData;
 
 /// The seats of a table that no session had yet, and the stacks.
 #[derive(Drop)]
-pub(crate) struct Fresh<'t, S: Stacks + Drop> {
+pub(crate) struct Fresh<'t, S: Stacks + Drop, B: AtTable> {
     table: &'t HoldTable,
     seats: Vec<HoldSeat>,
     stacks: Vec<S>,
-    ghost seated: { All (λ s. IsSeatAt table.now s × HoldsJust s.view None) seats.items } by { Prim.hlevel props },
+    at: PhantomData<B>,
+    ghost here: { table.now ≡ B.table },
+    ghost seated: { All (λ s. IsSeatAt B.table s × HoldsJust s.view None) seats.items } by { Prim.hlevel props },
     ghost enough: { All (λ s. S.drives s ≤ table.now.words) stacks.items } by { Prim.hlevel props },
 }
 
-impl<'t, S: Stacks + Drop> Fresh<'t, S> {
+impl<'t, S: Stacks + Drop, B: AtTable> Fresh<'t, S, B> {
     /// These seats and stacks of this table.
     pub(crate) fn new(table: &'t HoldTable, seats: Vec<HoldSeat>, stacks: Vec<S>) -> Self
-        requires seats { All (λ s. IsSeatAt table.now s × HoldsJust s.view None) seats.items }
+        requires here { table.now ≡ B.table }
+        requires seats { All (λ s. IsSeatAt B.table s × HoldsJust s.view None) seats.items }
         requires stacks { All (λ s. S.drives s ≤ table.now.words) stacks.items }
     {
         Fresh {
             table,
             seats,
             stacks,
+            at: PhantomData,
         }
     }
 
+    /// The seats that no session had, with room for as many as there once were.
+    pub(crate) fn into_seats(self) -> Vec<HoldSeat>
+        ensures { All (λ s. IsSeatAt B.table s × HoldsJust s.view None) result.items }
+    {
+        let Fresh {
+            table: _,
+            seats,
+            stacks: _,
+            at: _,
+        } = self;
+        seats
+    }
+
     /// The next seat with its stacks.
-    pub(crate) fn take(&mut self) -> Option<Bench<'t, S>> {
+    pub(crate) fn take(&mut self) -> Option<Bench<'t, S, B>> {
         let seat = self.seats.pop()?;
         let stacks = self.stacks.pop()?;
         Some(Bench::new(self.table, seat, stacks))

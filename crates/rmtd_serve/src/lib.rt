@@ -3,7 +3,9 @@
 #![tactic(auto)]
 
 mod at;
+mod at_table;
 mod bench;
+mod closing;
 mod connections;
 mod ended;
 mod error_log;
@@ -24,6 +26,7 @@ mod tape_server;
 mod warnings;
 
 pub use at::serve_at;
+pub use closing::close_table;
 pub use connections::Connections;
 pub use error_log::ErrorLog;
 pub use folders::{folder_stacks, seat_stacks};

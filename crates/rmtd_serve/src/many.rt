@@ -4,6 +4,7 @@ ghost use Rattle.std.specs.Thread.{IsSync, IsSend};
 ghost use Rattle.drives.specs.Holding.{HoldsJust};
 ghost use Rattle.hold_table.specs.Seats.{IsSeatAt};
 
+use crate::at_table::AtTable;
 use crate::fresh::Fresh;
 use crate::incoming::Incoming;
 use crate::pool::Pool;
@@ -11,14 +12,15 @@ use drives::Stacks;
 use hold_table::{HoldSeat, HoldTable, SEAT_LIMIT};
 use std::alloc::Global;
 use std::io::{Read, Write};
+use std::marker::Brand;
 use std::sync::{Mutex, Wait};
 use std::thread::{self, Threads};
 
 /// What a thread does: it serves the pair of that number at a bench that was promised, and puts the bench back.
-fn work<W: Wait, I: Read + Drop, O: Write + Drop, S: Stacks + Drop>(
+fn work<W: Wait, I: Read + Drop, O: Write + Drop, S: Stacks + Drop, B: AtTable>(
     rt: &W,
     alloc: Global,
-    pool: &Mutex<Pool<'_, S>>,
+    pool: &Mutex<Pool<'_, S, B>>,
     number: u64,
     input: I,
     output: O,
@@ -37,12 +39,12 @@ const NO_SEAT: &str = "no seat is free";
 const NO_THREAD: &str = "no thread";
 
 /// Starts a thread for each pair that comes while a bench is free, and waits for all.
-fn serve_all<R: Threads + Wait + Sync, I: Incoming + Drop, S: Stacks + Drop + Send>(
-    rt: &R,
-    alloc: Global,
-    incoming: I,
-    pool: &Mutex<Pool<'_, S>>,
-) -> I
+fn serve_all<
+    R: Threads + Wait + Sync,
+    I: Incoming + Drop,
+    S: Stacks + Drop + Send,
+    B: AtTable + Send,
+>(rt: &R, alloc: Global, incoming: I, pool: &Mutex<Pool<'_, S, B>>) -> I
 where
     S::Reel: Send,
     ensures { I.is_over result }
@@ -51,7 +53,7 @@ where
         thread::scope_env(),
         rt,
         move |scope| -> I
-            requires { IsSync R.row × IsSend S.row × IsSend S.Reel.row × IsSend I.In.row × IsSend I.Out.row }
+            requires { IsSync R.row × IsSend S.row × IsSend S.Reel.row × IsSend B.row × IsSend I.In.row × IsSend I.Out.row }
             ensures { I.is_over result }
         {
             let mut incoming = incoming;
@@ -76,8 +78,37 @@ where
     )
 }
 
+/// Serves the pairs at a table that its type names, and returns what they came from with the seats of its pool.
+fn serve_at_table<
+    R: Threads + Wait + Sync,
+    I: Incoming + Drop,
+    S: Stacks + Drop + Send,
+    B: AtTable + Send,
+>(
+    rt: &R,
+    alloc: Global,
+    incoming: I,
+    table: &HoldTable,
+    seats: Vec<HoldSeat>,
+    stacks: Vec<S>,
+) -> (I, Vec<HoldSeat>)
+where
+    S::Reel: Send,
+    requires here { table.now ≡ B.table }
+    requires seats { All (λ s. IsSeatAt B.table s × HoldsJust s.view None) seats.items }
+    requires stacks { All (λ s. S.drives s ≤ table.now.words) stacks.items }
+    ensures over { I.is_over result.0 }
+    ensures seats { All (λ s. IsSeatAt B.table s × HoldsJust s.view None) result.1.items }
+{
+    let fresh = Fresh::<S, B>::new(table, seats, stacks);
+    let pool = Mutex::new(Pool::new(alloc, fresh));
+    let incoming = serve_all(rt, alloc, incoming, &pool);
+    (incoming, pool.into_inner().into_seats())
+}
+
 /// Serves each pair of streams by a session in a thread of its own, at most `SEAT_LIMIT` at once. It returns once the last pair was given
-/// and each thread has ended, and gives back what the pairs came from.
+/// and each thread has ended, with what the pairs came from and the seats, in any order. Each seat is one of the table, and holds no
+/// drive; a seat that the memory of the server has no room for is not among them.
 ///
 /// Each session has one of the seats and one of the stacks. The seats are those of the table, and hold no drive, before
 /// and after each session; the stacks have no more drives than the table. A session that ended serves a later pair with its seat
@@ -95,13 +126,13 @@ pub fn serve_many<R: Threads + Wait + Sync, I: Incoming + Drop, S: Stacks + Drop
     table: &HoldTable,
     seats: Vec<HoldSeat>,
     stacks: Vec<S>,
-) -> I
+) -> (I, Vec<HoldSeat>)
 where
     S::Reel: Send,
     requires seats { (length seats.items ≡ SEAT_LIMIT) × All (λ s. IsSeatAt table.now s × HoldsJust s.view None) seats.items }
     requires stacks { (length stacks.items ≡ SEAT_LIMIT) × All (λ s. S.drives s ≤ table.now.words) stacks.items }
-    ensures { I.is_over result }
+    ensures over { I.is_over result.0 }
+    ensures seats { All (λ s. IsSeatAt table.now s × HoldsJust s.view None) result.1.items }
 {
-    let pool = Mutex::new(Pool::new(alloc, Fresh::new(table, seats, stacks)));
-    serve_all(rt, alloc, incoming, &pool)
+    serve_at_table::<R, I, S, Brand>(rt, alloc, incoming, table, seats, stacks)
 }

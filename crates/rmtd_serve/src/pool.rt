@@ -1,22 +1,26 @@
 //! The benches that no thread has.
+ghost use Rattle.std.specs.Prelude.{None, All};
+ghost use Rattle.drives.specs.Holding.{HoldsJust};
+ghost use Rattle.hold_table.specs.Seats.{IsSeatAt};
 
+use crate::at_table::AtTable;
 use crate::bench::Bench;
 use crate::fresh::Fresh;
 use drives::Stacks;
-use hold_table::SEAT_LIMIT;
+use hold_table::{HoldSeat, SEAT_LIMIT};
 use std::alloc::Global;
 
 /// The benches that no thread has, and how many of them are promised to none.
 #[derive(Drop)]
-pub(crate) struct Pool<'t, S: Stacks + Drop> {
-    fresh: Fresh<'t, S>,
-    benches: Vec<Bench<'t, S>>,
+pub(crate) struct Pool<'t, S: Stacks + Drop, B: AtTable> {
+    fresh: Fresh<'t, S, B>,
+    benches: Vec<Bench<'t, S, B>>,
     free: usize,
 }
 
-impl<'t, S: Stacks + Drop> Pool<'t, S> {
+impl<'t, S: Stacks + Drop, B: AtTable> Pool<'t, S, B> {
     /// These, of which all are free. It takes no memory.
-    pub(crate) fn new(alloc: Global, fresh: Fresh<'t, S>) -> Self {
+    pub(crate) fn new(alloc: Global, fresh: Fresh<'t, S, B>) -> Self {
         Pool {
             fresh,
             benches: Vec::new(alloc),
@@ -47,7 +51,7 @@ impl<'t, S: Stacks + Drop> Pool<'t, S> {
     }
 
     /// Gives a bench that was promised.
-    pub(crate) fn take(&mut self) -> Option<Bench<'t, S>> {
+    pub(crate) fn take(&mut self) -> Option<Bench<'t, S, B>> {
         match self.benches.pop() {
             Some(bench) => Some(bench),
             None => self.fresh.take(),
@@ -55,8 +59,25 @@ impl<'t, S: Stacks + Drop> Pool<'t, S> {
     }
 
     /// Takes a bench back. It takes no memory: room was made when it was promised.
-    pub(crate) fn put(&mut self, bench: Bench<'t, S>) {
+    pub(crate) fn put(&mut self, bench: Bench<'t, S, B>) {
         let is_back = self.benches.push(bench).is_ok();
         self.free = self.free.saturating_add(is_back as usize);
+    }
+
+    /// The seats of all benches, none of which holds a drive. A seat is lost if there is no room for it, but each came from these
+    /// seats, so there is room for all.
+    pub(crate) fn into_seats(self) -> Vec<HoldSeat>
+        ensures { All (λ s. IsSeatAt B.table s × HoldsJust s.view None) result.items }
+    {
+        let Pool {
+            fresh,
+            mut benches,
+            free: _,
+        } = self;
+        let mut seats = fresh.into_seats();
+        while let Some(bench) = benches.pop() {
+            let _ = seats.push(bench.into_seat());
+        }
+        seats
     }
 }

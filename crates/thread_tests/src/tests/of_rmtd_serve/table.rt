@@ -6,7 +6,7 @@ ghost use Rattle.hold_table.specs.Seats.{IsSeatAt};
 
 use drives::ListStacks;
 use hold_table::{HoldSeat, HoldTable};
-use rmtd_serve::{Incoming, serve_many};
+use rmtd_serve::{Incoming, close_table, serve_many};
 use std::alloc::Global;
 use std::sync::Wait;
 use std::test::Fail;
@@ -52,7 +52,8 @@ fn all_stacks(alloc: Global) -> Result<Vec<ListStacks>, Fail>
     Ok(all)
 }
 
-/// Serves pairs at two drives, each pair in a thread of its own, and gives back what they came from.
+/// Serves pairs at two drives, each pair in a thread of its own, and gives back what they came from. It fails if a seat does not
+/// come back, or a drive is held at the end.
 pub(crate) fn serve_pairs<R: Threads + Wait + Sync, I: Incoming + Drop>(
     rt: &R,
     alloc: Global,
@@ -60,5 +61,11 @@ pub(crate) fn serve_pairs<R: Threads + Wait + Sync, I: Incoming + Drop>(
 ) -> Result<I, Fail> {
     let (table, seats) = two_words(alloc)?;
     let stacks = all_stacks(alloc)?;
-    Ok(serve_many(rt, alloc, pairs, &table, seats, stacks))
+    let (pairs, seats) = serve_many(rt, alloc, pairs, &table, seats, stacks);
+    let are_back = seats.len() == 32;
+    let words = close_table(table, seats);
+    if !are_back || words.iter().any(|word| *word != 0) {
+        return Err(Fail::new("a drive is held at the end, or a seat is lost"));
+    }
+    Ok(pairs)
 }

@@ -1,11 +1,12 @@
-use Rattle.std.proofs.Common.{arith}
+use Rattle.std.proofs.Common.{◌∙◌, arith}
 use Rattle.rmtd_serve.proofs.Hands.{seat_comes_back}
 use Rattle.rmtd_serve.proofs.bench.Bench.serve.Goals as goal
 
 pub invariant_of-result : goal.invariant_of-result
 invariant_of-result g c =
     let back = seat_comes_back g.S.Stacks g.S.Reel.Reel _ _ _ c.serve_at-seat.ensures in record {
-      same = back.same;
+      here = c.args.self.here;
+      same = back.same ∙ c.args.self.here;
       numbered = back.numbered;
       dealt = back.dealt;
       idle = back.idle;
