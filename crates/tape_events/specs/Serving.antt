@@ -1,5 +1,5 @@
 -- What one request comes to that the server carries out. Public contracts cite it.
-use Rattle.std.specs.Prelude.{◌≡◌, ◌≢◌, ℕ, ◌+◌, ◌≤◌, Bool, true, false, List, [], ◌∷◌, ◌++◌, length, slice_get, Contains, Some, Ok}
+use Rattle.std.specs.Prelude.{◌≡◌, ◌≢◌, ℕ, ◌+◌, ◌≤◌, Bool, true, false, List, [], ◌∷◌, ◌++◌, length, slice_get, Contains, Some, None, MatchOption, Ok}
 use Rattle.rmt_wire.specs.Request.{PlainRequest}
 use Rattle.rmt_wire.specs.Request.PlainRequest.{Open, Op}
 use Rattle.rmt_wire.specs.Reply.{PlainReply}
@@ -8,9 +8,10 @@ use Rattle.rmt_wire.specs.RequestParts.{Gives}
 use Rattle.rmt_wire.specs.RequestReader.{RequestHeld, Unread}
 use Rattle.rmt_wire.specs.declared.mtio.TheConstants.{MTOFFL}
 use Rattle.tape.specs.declared.trouble.Trouble.{Trouble}
-use Rattle.drives.specs.Shop.{Shop, kept_reel, slot, rack_at}
+use Rattle.drives.specs.Shop.{Shop, KeptReel, kept_reel, Slot, slot, rack_at}
+use Rattle.rmt_server.specs.Refusals.{refused}
 use Rattle.rmt_server.specs.Hall.{Side}
-use Rattle.rmt_server.specs.Session.{PlainSession, scene}
+use Rattle.rmt_server.specs.Session.{PlainSession, Scene, scene, status_of, refusal as check, closed, closed_shop}
 use Rattle.rmt_server.specs.TroubledServe.{drive_in, with_holder, holder_of, TroubledServe}
 use Rattle.dump_client.specs.Lawful.{steps_before}
 use Rattle.dump_client.specs.declared.step.Step.{Step}
@@ -55,15 +56,47 @@ abbrev pub is_open : PlainRequest → Bool
 is_open (Open device mode) = true
 is_open request = false
 
--- What a request of session k meets: a refusal; or, unless it is an open, the drive that the session has open and still holds;
--- or it opened a drive that none holds once what the session had open is closed.
-pub data Meets (w : World) (k : ℕ) (session : PlainSession) (request : PlainRequest) (reply : PlainReply)
+-- What stands if nothing of the request is done: all as before it. An open closes what the session had open in every case, so all
+-- is as after that close.
+abbrev pub undone : PlainRequest → Scene → Scene
+undone (Open device mode) before = closed before
+undone request before = before
+
+-- who holds the drives then
+abbrev pub undone_holders : PlainRequest → PlainSession → List ℕ → List ℕ
+undone_holders (Open device mode) session holders = with_holder (drive_in session) 0 holders
+undone_holders request session holders = holders
+
+-- A reply that refuses the request: any error of an open; of any other request what the first check answers that refuses it. An
+-- error of the open reel, or of its move, is no refusal.
+abbrev pub Refuses : PlainSession → PlainRequest → PlainReply → Type 0
+Refuses session (Open device mode) reply = (n : ℕ) × (text : List ℕ) × (reply ≡ Error n text)
+Refuses session request reply = MatchOption (check (status_of session) request) ⊥ (λ why. reply ≡ refused why)
+
+-- The request is refused, and nothing of it is done: drives, stacks, bin, reels, the session and the holders stand as `undone` says.
+pub record IsRefused (w : World) (session : PlainSession) (request : PlainRequest) (reply : PlainReply) (u : World)
     (after : PlainSession) : Type 0 where
-  refusal : (n : ℕ) (text : List ℕ) → reply ≡ Error n text → Meets w k session request reply after
-  own : (d : ℕ) → is_open request ≡ false → drive_in session ≡ Some d → slice_get w.hall.holders d ≡ Some k
-      → Meets w k session request reply after
-  free : (d : ℕ) → is_open request ≡ true → drive_in after ≡ Some d
-      → holder_of (with_holder (drive_in session) 0 w.hall.holders) (Some d) ≡ 0 → Meets w k session request reply after
+  pub answer : Refuses session request reply
+  pub same : scene u.hall.shop after ≡ undone request (scene w.hall.shop session)
+  pub held : u.hall.holders ≡ undone_holders request session w.hall.holders
+
+-- Only drive d changes: the stacks of all other drives stay, and so does the bin, but that reels can be added at its end.
+pub record ChangesAt (d : ℕ) (s t : Shop) : Type 0 where
+  pub stacks : (e : ℕ) → e ≢ d → rack_at t e ≡ rack_at s e
+  pub added : List (Slot KeptReel)
+  pub bin : t.bin ≡ s.bin ++ added
+
+-- What a request of session k meets: a refusal; or, if it is no open and no check refuses it, the drive that the session has open
+-- and still holds; or it opened a drive that none holds once what the session had open is closed. Only that drive changes then.
+pub data Meets (w : World) (k : ℕ) (session : PlainSession) (request : PlainRequest) (reply : PlainReply) (u : World)
+    (after : PlainSession) : Type 0 where
+  refusal : IsRefused w session request reply u after → Meets w k session request reply u after
+  own : (d : ℕ) → is_open request ≡ false → check (status_of session) request ≡ None → drive_in session ≡ Some d
+      → slice_get w.hall.holders d ≡ Some k → ((e : ℕ) → drive_in after ≡ Some e → e ≡ d)
+      → ChangesAt d w.hall.shop u.hall.shop → Meets w k session request reply u after
+  free : (d : ℕ) → is_open request ≡ true → reply ≡ Done 0 → drive_in after ≡ Some d
+      → holder_of (with_holder (drive_in session) 0 w.hall.holders) (Some d) ≡ 0
+      → ChangesAt d (closed_shop w.hall.shop session) u.hall.shop → Meets w k session request reply u after
 
 -- of a drive that another has open the holder stays, and the stack, and so does that other's session
 abbrev pub OthersStay : World → ℕ → World → Type 0

@@ -91,8 +91,9 @@ pub fn kept()
 ///
 /// Of a client's connection it is the one request that was sent and not carried out. A request of any session, stale or not,
 /// is refused, or meets the drive that this session still holds, or opens a drive that is free; and it touches no drive that
-/// another has open. Where an MTOFFL of a client's session is done, the reel lies in the bin with its whole volume, whether
-/// or not the reply arrives.
+/// another has open. A refused request leaves drives, stacks, bin, reels, holders and session as they were; an open leaves
+/// them as after the close that comes first. Any other request changes its own drive alone. Where an MTOFFL of a client's
+/// session is done, the reel lies in the bin with its whole volume, whether or not the reply arrives.
 ///
 /// It does nothing: its contract is a law of the definitions.
 pub fn one_request()
@@ -101,7 +102,7 @@ pub fn one_request()
     ensures next_request { (w u : World) (k : ℕ) (t : Trouble) (c : ServerTurn w k t u) (d : Dumping) →
         IsWorldKept w → HasDump w k d → IsNextSent w d c.request }
     ensures stale_requests { (w u : World) (k : ℕ) (trouble : Trouble) (c : ServerTurn w k trouble u) → IsWorldKept w →
-        Meets w k c.s.session c.request c.reply c.session }
+        Meets w k c.s.session c.request c.reply u c.session }
     ensures others_stay { (w u : World) (k : ℕ) (trouble : Trouble) (c : ServerTurn w k trouble u) → IsWorldKept w → OthersStay w k u }
     ensures whole_at_the_move { (w u : World) (k : ℕ) (t : Trouble) (c : ServerTurn w k t u) (d : Dumping) →
         IsWorldKept w → HasDump w k d → IsMoveDone c.request c.reply → IsWholeInBin w k d u }
