@@ -15,12 +15,7 @@ const TRIES: u32 = 2000;
 
 /// Takes the one drive over and over, and gives it back each time. `inside` counts the seats that have it, and `faults` the times
 /// that the seat was not alone or did not see itself there. Returns the seat.
-fn race(
-    table: &HoldTable,
-    mut seat: HoldSeat,
-    inside: &AtomicU64,
-    faults: &AtomicU64,
-) -> HoldSeat
+fn race(table: &HoldTable, mut seat: HoldSeat, inside: &AtomicU64, faults: &AtomicU64) -> HoldSeat
     requires seat { IsSeatAt table.now seat }
     requires drives { 0 < table.now.words }
     ensures { IsSeatAt table.now result }
