@@ -118,10 +118,17 @@ def owner_of(text: str) -> str:
         return ""
     if found[-1][3]:
         return found[-1][3]
-    # What is written in capitals is the names of types: `impl<R: Read> From<Fault> for Source<R>` has SourceFromFault.
-    head = re.sub(r"^<(?:[^<>]|<[^<>]*>)*>", "", found[-1][2]).split(" where ")[0]
+    own = re.match(r"<((?:[^<>]|<[^<>]*>)*)>", found[-1][2])
+    head = found[-1][2][own.end() if own else 0 :].split(" where ")[0]
     trait, is_of_trait, kind = head.rpartition(" for ")
-    return re.search(r"[A-Z]\w*|$", kind)[0] + "".join(re.findall(r"\b[A-Z]\w*", trait) if is_of_trait else [])
+    name = re.search(r"[A-Z]\w*|$", kind)[0]
+    if is_of_trait:
+        # What is written in capitals is the names of types: `impl<R: Read> From<Fault> for Source<R>` has SourceFromFault.
+        return name + "".join(re.findall(r"\b[A-Z]\w*", trait))
+    # `impl<R> Source<R>` has Source, and `impl<R> Source<R, File>` has Source+R+File.
+    arguments = re.findall(r"(?<!')\b[A-Z]\w*", kind)[1:]
+    parameters = {it.split(":")[0].strip() for it in own[1].split(",")} if own else set()
+    return name if parameters.issuperset(arguments) else "+".join((name, *arguments))
 
 
 def only_of(crate: str, folder: Path, changes: list[Pair]) -> list[str]:

@@ -83,6 +83,8 @@ def check_places() -> None:
     check("a method", (less.places, less.only) == ([("words", "count")], ["Words::count"]), less)
     out = edit("out", "WordFault::OutOfMemory", "WordFault::Other")
     check("a method of a trait", (out.places, out.only) == ([("words", "from")], ["WordFaultFromAllocError::from"]), out)
+    for head, owner in (("impl<'a, R: Read<u8>> Source<'a, R> {", "Source"), ("impl<R: Read> Source<R, File> {", "Source+R+File"), ("impl Source<File> {", "Source+File"), ("pub fn open() {", "")):
+        check(f"the owner of {head}", further.owner_of(f"impl Other {{\n}}\n{head}\n    fn open") == owner, further.owner_of(f"{head}\n    fn open"))
     check("a use line is none of a function", edit("use", "use other::Word;", "use other::{Other, Word};").places == [])
     of_all = edit("const", "const LONGEST: usize = 7;", "const LONGEST: usize = 8;")
     check("a constant changes who names it", of_all.places == [("words", "is_long")] and of_all.is_local(), of_all)
