@@ -53,6 +53,7 @@ WAITING = re.compile(r"^fn (\S+): (?:not proved|no proof)[:;] it (?:calls|passes
 QUOTED = re.compile(r"`([^`]+)`")
 # A line that begins what functions stand in, or a function that stands in nothing.
 OWNER = re.compile(r"^(?:pub(?:\([^)]*\))? )?(?:unsafe )?(?:(impl)\b([^{]*)|trait (\w+)|(?:const )?fn )", re.M)
+FUNCTION = re.compile(r"\bfn (\w+)")
 # What it says of a name that it was told to look at, and that fits no function or several.
 MISNAMED = re.compile(r"^rattle: error: .*(?:has no function|several functions are named) `([^`]+)`", re.M)
 
@@ -111,6 +112,12 @@ def lot_of(folder: Path, edits: list[Edit], waits: Waits) -> list[Edit]:
     return lot.edits
 
 
+def is_of_trait(text: str) -> bool:
+    """Whether the end of a text is in an `impl` of a trait for a type."""
+    found = [*OWNER.finditer(text)]
+    return bool(found and found[-1][1]) and " for " in found[-1][2]
+
+
 def owner_of(text: str) -> str:
     """The type, or the type with the trait, whose functions the end of a text is among, as a log writes it; nothing where it is among none."""
     found = [*OWNER.finditer(text)]
@@ -132,16 +139,19 @@ def owner_of(text: str) -> str:
 
 
 def only_of(crate: str, folder: Path, changes: list[Pair]) -> list[str]:
-    """How a check is told to look at the functions that changes change."""
-    found: list[str] = []
+    """How a check is told to look at the functions that changes change, and at those that they add to a trait's `impl`: no function that is changed has
+    to call these."""
+    found: list[tuple[str, str]] = []
     texts: dict[str, str] = {}
     for it in changes:
-        text = texts.get(it.file) or (folder / it.file).read_text(encoding="utf-8")
-        for at in changed_at(text, it) if it.old != it.new else []:
-            owner = owner_of(text[: at.end()]) if at else ""
-            found += [f"{owner or module_of(crate, it.file)}::{at[1]}"] if at else []
+        text, module = texts.get(it.file) or (folder / it.file).read_text(encoding="utf-8"), module_of(crate, it.file)
+        if it.old != it.new:
+            found += [(owner_of(text[: at.end()]) or module, at[1]) for at in changed_at(text, it) if at]
+            before, known = text[: text.index(it.old)], FUNCTION.findall(it.old)
+            added = FUNCTION.findall(it.new) if is_of_trait(before) else []
+            found += [(owner_of(before), name) for name in added if name not in known]
         texts[it.file] = text.replace(it.old, it.new)
-    return [*dict.fromkeys(found)]
+    return [*dict.fromkeys(f"{owner}::{name}" for owner, name in found)]
 
 
 def own_errors(name: str, log: str) -> list[str]:

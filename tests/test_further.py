@@ -91,6 +91,8 @@ def check_places() -> None:
     check("one that other files see is not local", not edit("wide", "pub(crate) const WIDEST: usize = 7;", "pub(crate) const WIDEST: usize = 8;").is_local())
     head = edit("head", "        ensures { result ≡ self.now.count }", "        ensures { result ≡ self.now.count } { 0 } fn whole(&self) -> u64")
     check("what is added to a head is a body", head.places == [("words", "count"), ("words", "whole")] and head.only == ["Words::count"], head)
+    more = edit("more", "    fn from(_: AllocError)", "    fn other(&self) {} fn from(_: AllocError)")
+    check("what is added to the impl of a trait is looked at", more.only[-1:] == ["WordFaultFromAllocError::other"], more)
     check("the same text changes nothing", edit("same", "self.count = 0;", "self.count = 0;").places == [])
 
 
