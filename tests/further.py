@@ -53,6 +53,7 @@ WAITING = re.compile(r"^fn (\S+): (?:not proved|no proof)[:;] it (?:calls|passes
 QUOTED = re.compile(r"`([^`]+)`")
 # A line that begins what functions stand in, or a function that stands in nothing.
 OWNER = re.compile(r"^(?:pub(?:\([^)]*\))? )?(?:unsafe )?(?:(impl)\b([^{]*)|trait (\w+)|(?:const )?fn )", re.M)
+CONSTANT = re.compile(r"(?:pub(?:\([^)]*\))? )?(?:static|const) \w+:")
 FUNCTION = re.compile(r"\bfn (\w+)")
 # What it says of a name that it was told to look at, and that fits no function or several.
 MISNAMED = re.compile(r"^rattle: error: .*(?:has no function|several functions are named) `([^`]+)`", re.M)
@@ -69,6 +70,10 @@ class Edit(NamedTuple):
     def is_local(self) -> bool:
         """Whether it changes the bodies of functions alone."""
         return all(name for _, name in self.places)
+
+    def is_of_constant(self) -> bool:
+        """Whether it changes a constant. Where contracts name that, only who calls may be refused."""
+        return any(CONSTANT.match(it.old) and it.old != it.new for it in self.changes)
 
 
 # Pairs of functions of which the first waits for the second: it calls it, or one that does.
@@ -239,7 +244,8 @@ def outcome(edit: Edit, ran: Checked) -> str:
         return f"refused, at a limit: {reason(ran.log)}"
     if not UNPROVED.search(ran.log):
         return f"BAD EDIT: {reason(ran.log)}"
-    return f"ELSEWHERE: {reason(ran.log)}" if edit.is_local() else f"refused: {reason(ran.log)}"
+    is_own = not edit.is_local() or edit.is_of_constant()
+    return f"refused: {reason(ran.log)}" if is_own else f"ELSEWHERE: {reason(ran.log)}"
 
 
 def refused_of(edits: list[Edit], log: str) -> dict[str, str]:
@@ -257,7 +263,8 @@ def shown(work: Work, edits: list[Edit], waits: Waits) -> dict[str, str]:
     if ran.status < 0:
         return dict.fromkeys((it.name for it in edits), f"NOT TRIED: the check was killed by signal {-ran.status}")
     if len(edits) == 1:
-        return {edits[0].name: outcome(edits[0], ran)}
+        edit = edits[0]
+        return {edit.name: outcome(edit, work.check(edit.changes, []) if ran.status == 0 and edit.is_of_constant() else ran)}
     waits |= waits_in(edits, ran.log)
     half = len(edits) // 2
     return refused_of(edits, ran.log) or shown(work, edits[:half], waits) | shown(work, edits[half:], waits)
