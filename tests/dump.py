@@ -22,7 +22,7 @@ import threading
 import time
 from contextlib import contextmanager, suppress
 from pathlib import Path
-from typing import Callable, Iterator, NamedTuple
+from typing import Callable, Iterable, Iterator, NamedTuple
 
 from checks import check, ended
 from model_rmtd import GREATEST_RECORD
@@ -910,15 +910,23 @@ def reads(p: Programs) -> None:
     check("a read at no server", got.output == "" and got.status == ABNORMAL and bool(got.told), got)
 
 
-def main() -> int:
-    parser = argparse.ArgumentParser(description="Checks the built programs over the loopback.")
+def run_parts(description: str, parts: Iterable[Callable[[Programs], None]]) -> int:
+    """Runs the parts of a script with the programs that it is given, each part in a folder of its own, and answers the exit status."""
+    parser = argparse.ArgumentParser(description=description)
     parser.add_argument("rmtd", nargs="?", default=str(CRATES / "rmtd/out/rmtd"))
     parser.add_argument("rdump", nargs="?", default=str(CRATES / "rdump/out/rdump"))
     asked = parser.parse_args()
-    for part in (dumps, laid_back, greatest, payloads, memory, progress, progress_again, dates, told_at_once, retries, startup, servers, operations, reads):
+    for part in parts:
         with tempfile.TemporaryDirectory() as folder:
             part(Programs(os.path.abspath(asked.rmtd), os.path.abspath(asked.rdump), Path(folder)))
     return ended()
+
+
+PARTS = (dumps, laid_back, greatest, payloads, memory, progress, progress_again, dates, told_at_once, retries, startup, servers, operations, reads)
+
+
+def main() -> int:
+    return run_parts("Checks the built programs over the loopback.", PARTS)
 
 
 if __name__ == "__main__":

@@ -19,7 +19,7 @@ from pathlib import Path
 from typing import Callable
 
 from checks import check, ended
-from clients import BAD_DESCRIPTOR, CLOSE, DONE_ONE, IO_ERROR, NOTHING, NO_REEL, OFFLINE, Site, Talk, away, data_of, opened, seen, site, talking, write
+from clients import BAD_DESCRIPTOR, CLOSE, DONE_ONE, IO_ERROR, NOTHING, NO_REEL, OFFLINE, Talk, away, data_of, opened, seen, site, talking, write
 from clients import DONE as TAKEN
 from model_rmtd import images
 from shim import compiled

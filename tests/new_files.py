@@ -10,24 +10,18 @@ of what a restore needs stands on standard error. The tape server is the plain m
 
 from __future__ import annotations
 
-import argparse
 import fcntl
 import os
-import re
 import shlex
-import signal
 import stat
 import subprocess
 import sys
-import tempfile
 import threading
-import time
-from pathlib import Path
 from typing import Callable, Iterator
 
 import dump
-from checks import check, ended
-from dump import ABNORMAL, BLOCKS, DAY, DEVICE, DONE, ENTRY, FAILED, GUARD_SECONDS, PAYLOAD, RESTORE
+from checks import check
+from dump import ABNORMAL, DAY, DEVICE, DONE, ENTRY, FAILED, GUARD_SECONDS, PAYLOAD, RESTORE
 from dump import Ended, Model, Programs, Reel, ends
 from model_checkpoint import text_of
 from model_world import Run, Volume
@@ -421,14 +415,7 @@ PARTS = (payloads, strangers, late, left, one_file, modes, kinds, changed, young
 
 
 def main() -> int:
-    parser = argparse.ArgumentParser(description="Checks which files rdump dump touches, and what it says of its payload.")
-    parser.add_argument("rmtd", nargs="?", default=str(dump.CRATES / "rmtd/out/rmtd"))
-    parser.add_argument("rdump", nargs="?", default=str(dump.CRATES / "rdump/out/rdump"))
-    asked = parser.parse_args()
-    for part in PARTS:
-        with tempfile.TemporaryDirectory() as folder:
-            part(Programs(os.path.abspath(asked.rmtd), os.path.abspath(asked.rdump), Path(folder)))
-    return ended()
+    return dump.run_parts("Checks which files rdump dump touches, and what it says of its payload.", PARTS)
 
 
 if __name__ == "__main__":

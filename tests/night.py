@@ -32,8 +32,8 @@ from typing import Callable, NamedTuple
 
 import recipes
 from checks import check, ended
-from dump import ABNORMAL, BLOCKS, DEVICE, DONE, GUARD_SECONDS, PAYLOAD, label
-from told import Said, record
+from dump import ABNORMAL, DEVICE, DONE, GUARD_SECONDS, PAYLOAD
+from told import Said
 
 TOP = Path(__file__).resolve().parent.parent
 UNATTENDED = str(TOP / "etc/unattended")

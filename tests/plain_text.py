@@ -10,7 +10,6 @@ pseudo-terminal here.
 
 from __future__ import annotations
 
-import argparse
 import os
 import pty
 import re
@@ -21,7 +20,7 @@ from pathlib import Path
 from typing import NamedTuple
 
 import dump
-from checks import check, ended
+from checks import check
 from dump import ABNORMAL, BLOCKS, DEVICE, DONE, FAILED, GUARD_SECONDS, Model, Programs, Reel, label, write_volume
 from told import LABEL, Said
 
@@ -196,14 +195,7 @@ PARTS = (operations, records, lists, files, addresses, words, servers)
 
 
 def main() -> int:
-    parser = argparse.ArgumentParser(description="Checks that no text of others controls a terminal.")
-    parser.add_argument("rmtd", nargs="?", default=str(dump.CRATES / "rmtd/out/rmtd"))
-    parser.add_argument("rdump", nargs="?", default=str(dump.CRATES / "rdump/out/rdump"))
-    asked = parser.parse_args()
-    for part in PARTS:
-        with tempfile.TemporaryDirectory() as folder:
-            part(Programs(os.path.abspath(asked.rmtd), os.path.abspath(asked.rdump), Path(folder)))
-    return ended()
+    return dump.run_parts("Checks that no text of others controls a terminal.", PARTS)
 
 
 if __name__ == "__main__":

@@ -8,8 +8,6 @@ The server is the built `rmtd` at a drive in a folder. Where it is to answer oth
 
 from __future__ import annotations
 
-import argparse
-import os
 import select
 import subprocess
 import sys
@@ -19,9 +17,9 @@ from pathlib import Path
 from typing import Iterator, NamedTuple
 
 import dump
-from checks import check, ended
+from checks import check
 from dump import ABNORMAL, BLOCKS, DAY, DAY_BEFORE, DEVICE, DONE, GUARD_SECONDS, PAYLOAD, TWO_VOLUMES
-from dump import RESTORE, Ended, Model, Programs, Received, Reel, label, requests_of, write_volume
+from dump import RESTORE, Ended, Model, Programs, Reel, requests_of, write_volume
 from told import NOWHERE, Said
 
 HELD = "retry?\ndump abandoned\n"
@@ -355,14 +353,7 @@ PARTS = (reels, unprotected, asked, failed, freed, connections, exchanged, secon
 
 
 def main() -> int:
-    parser = argparse.ArgumentParser(description="Checks on which reels the built rdump writes with --protect.")
-    parser.add_argument("rmtd", nargs="?", default=str(dump.CRATES / "rmtd/out/rmtd"))
-    parser.add_argument("rdump", nargs="?", default=str(dump.CRATES / "rdump/out/rdump"))
-    given = parser.parse_args()
-    for part in PARTS:
-        with tempfile.TemporaryDirectory() as folder:
-            part(Programs(os.path.abspath(given.rmtd), os.path.abspath(given.rdump), Path(folder)))
-    return ended()
+    return dump.run_parts("Checks on which reels the built rdump writes with --protect.", PARTS)
 
 
 if __name__ == "__main__":
