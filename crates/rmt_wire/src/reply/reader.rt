@@ -129,6 +129,7 @@ impl ReplyReader {
             ReplyUnread self.old wanted bytes → result ≡ min (length piece.now) (READER_LIMIT - reply_taken_of wanted bytes) }
         ensures unread { (wanted : Option kinds.Wanted) (bytes : List ℕ) →
             ReplyUnread self.old wanted bytes → ReplyUnread self.new wanted (bytes ++ take result piece.now) }
+        ensures limit { length self.new.kept ≤ READER_LIMIT }
     {
         let start = self.start;
         let room = READER_LIMIT - (self.buffer.len() - start);
