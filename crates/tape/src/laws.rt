@@ -8,6 +8,9 @@ ghost use Rattle.tape.specs.Trouble.{AreTapeSteps, DeviceStep, TroubledTape, Tro
 ghost use Rattle.tape.specs.declared.fault.TapeFault.TheVariants.{Device};
 ghost use Rattle.tape.specs.declared.trouble.Trouble.{Trouble};
 ghost use Rattle.tape.specs.declared.trouble.Trouble.TheVariants.{None};
+ghost use Rattle.tape.specs.declared.laws.TheConstants.{OLDER_RECORD_LIMIT};
+
+use rmt_wire::RECORD_LIMIT;
 
 /// One call on a tape whose device is told how it fails next is a step of that tape, and with no trouble the device is
 /// not at fault. So each step of a `TroubledReel` is a call as every reel promises it.
@@ -29,12 +32,26 @@ pub fn one_spelling()
     ensures tape { (bytes : List ℕ) (offset : ℕ) (t : Tape) → IsFile bytes offset t → t ≡ tape_in offset bytes }
 {}
 
-/// A record file that was written with records up to a length spells the same entries where longer ones are allowed too,
-/// also where its last write was stopped inside; both lengths are below 2^32. So a greater `rmt_wire::RECORD_LIMIT`
-/// changes no reel that a server with the lesser one wrote.
+/// The greatest number of bytes of a record before `rmt_wire::RECORD_LIMIT` was raised: the one limit that servers of
+/// earlier versions wrote reels with.
+pub const OLDER_RECORD_LIMIT: usize = 65536;
+
+/// A reel that was written with records of at most `OLDER_RECORD_LIMIT` bytes, also where its last write was stopped
+/// inside, spells the same entries where records of `rmt_wire::RECORD_LIMIT` bytes are allowed. So the greater limit
+/// changes no reel that a server with the older one wrote.
 ///
 /// It does nothing: its contract is a law of the definitions.
-pub fn greater_limit()
-    ensures { (older newer : ℕ) (bytes : List ℕ) (entries : List PlainEntry) → older ≤ newer → newer < 2 ^ 32 →
+pub fn older_reels()
+    ensures { (bytes : List ℕ) (entries : List PlainEntry) →
+        IsWrittenUpTo OLDER_RECORD_LIMIT bytes → SpellsReelUpTo OLDER_RECORD_LIMIT bytes entries ↔ SpellsReel bytes entries }
+{
+    same_entries(OLDER_RECORD_LIMIT, RECORD_LIMIT);
+}
+
+/// The same of any two limits below 2^32, of which the older one is not greater.
+fn same_entries(older: usize, newer: usize)
+    requires order { older ≤ newer }
+    requires range { newer < 2 ^ 32 }
+    ensures { (bytes : List ℕ) (entries : List PlainEntry) →
         IsWrittenUpTo older bytes → SpellsReelUpTo older bytes entries ↔ SpellsReelUpTo newer bytes entries }
 {}

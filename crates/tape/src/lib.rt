@@ -25,7 +25,7 @@ pub use entry::Entry;
 pub use fault::TapeFault;
 pub use file_reel::FileReel;
 pub use fuse_medium::FuseMedium;
-pub use laws::{device_steps, greater_limit, one_spelling};
+pub use laws::{OLDER_RECORD_LIMIT, device_steps, older_reels, one_spelling};
 pub use list::ListReel;
 pub use medium::{Medium, MediumFailed};
 pub use memory_medium::MemoryMedium;
