@@ -213,10 +213,10 @@ abbrev pub status_of : Result Unit ReadFault → ℕ
 status_of (Ok x) = 0
 status_of (Err fault) = 3
 
--- the status of what was read
-abbrev pub IsReadStatus : {P F W : Type 0} → CopyKind P F W → List ℕ → AfterVolume → CopyEnds P F W → CopyEnds P F W → ℕ → Type 0
-IsReadStatus kind device after old new status =
-    (read : Result Unit ReadFault) × (status ≡ status_of read) × IsRead kind device after old new read
+-- the status of a volume that was read from a reel that stays
+abbrev pub IsReadStatus : {P F W : Type 0} → CopyKind P F W → List ℕ → CopyEnds P F W → CopyEnds P F W → ℕ → Type 0
+IsReadStatus kind device old new status =
+    (read : Result Unit ReadFault) × (status ≡ status_of read) × IsRead kind device Stay old new read
 
 -- records came so far, each of some bytes: there are so many with those before them
 abbrev pub AreRecords : ℕ → ℕ → List PlainReply → Type 0

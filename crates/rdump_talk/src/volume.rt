@@ -42,20 +42,22 @@ pub enum AfterVolume {
     Offline,
 }
 
-/// Reads a volume as `copy_volume` does. Answers the exit status of `rdump read`: 0 where it was read whole, and else 3.
+/// Reads the volume that begins a reel, as `copy_volume` does with `AfterVolume::Stay`, and returns the exit status: 0 if it
+/// was read whole, and 3 if not. The reel stays in the drive.
+///
+/// The device is one line of at most `LINE_LIMIT` bytes.
 pub fn read_volume<P: Peer, F: Write, W: Write>(
     alloc: Global,
     peer: &mut P,
     device: &[u8],
-    after: AfterVolume,
     file: &mut Counted<F>,
     out: &mut Counted<W>,
 ) -> u8
     requires { IsLine device.now }
-    ensures { IsReadStatus (copy_kind P.tells F.contents W.contents) device.now after
+    ensures { IsReadStatus (copy_kind P.tells F.contents W.contents) device.now
         (copy_ends peer.old file.old out.old) (copy_ends peer.new file.new out.new) result }
 {
-    match copy_volume(alloc, peer, device, after, file, out) {
+    match copy_volume(alloc, peer, device, AfterVolume::Stay, file, out) {
         Ok(()) => WHOLE,
         Err(_) => FAILED,
     }

@@ -28,8 +28,7 @@ fn is_read(alloc: Global, peer: &mut FakePeer) -> bool {
     let (mut file, mut text) = ([0; 5], [0; 3]);
     let mut out = Counted::new(file.as_mut_slice());
     let mut printed = Counted::new(text.as_mut_slice());
-    let after = AfterVolume::Stay;
-    let status = read_volume(alloc, peer, DEVICE, after, &mut out, &mut printed);
+    let status = read_volume(alloc, peer, DEVICE, &mut out, &mut printed);
     status == 0 && text == *b"one" && file == *b"abcde"
 }
 
