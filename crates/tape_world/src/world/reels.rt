@@ -38,14 +38,14 @@ fn find_online_at<'a>(host: &'a Host, connection: usize, name: &[u8]) -> Option<
     None
 }
 
-/// The reel of that name that one of so many connections has online: the first of them.
-fn find_online<'a>(host: &'a Host, connections: usize, name: &[u8]) -> Option<&'a TroubledReel>
+/// The reel of that name that one of `count` connections has online: the first of them.
+fn find_online<'a>(host: &'a Host, count: usize, name: &[u8]) -> Option<&'a TroubledReel>
     requires there { AreOpenThere host.now.hall }
-    requires all { length host.now.hall.sides ≡ connections }
+    requires all { length host.now.hall.sides ≡ count }
     ensures { option_map (λ r. r.tape) (option_copied result)
         ≡ first_tape_online name.now host.now.hall.shop host.now.hall.sides }
 {
-    for place in 0..connections {
+    for place in 0..count {
         if let Some(reel) = find_online_at(host, place + 1, name) {
             return Some(reel);
         }
