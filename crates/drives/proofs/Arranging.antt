@@ -17,14 +17,14 @@ use Rattle.std.specs.Prelude.{unwrap_or}
 use Rattle.std.specs.Set.{remove_key}
 use Rattle.std.specs.Str.{bytes_eq}
 use Rattle.tape.specs.Trouble.{TroubledTape}
-use Rattle.drives.specs.Shop.{Slot, Rack, rack, ShopOf, Shop, shop, rack_at, with_rack, slots_in, names_of, names_in, times, EachReelOnce, latched_at, latched_on, away_name}
-use Rattle.drives.specs.ListShop.{ListShop, with_shop, at_rest, rest_slot, shop_of, IsShop, is_set_in, StacksCanFail, IsStocked}
+use Rattle.drives.specs.TapeLibrary.{ReelSlot, Drive, drive_with, LibraryOf, TapeLibrary, library, drive_at, with_drive_at, slots_in, names_of, names_in, times, EachReelOnce, latched_at, latched_on, away_name}
+use Rattle.drives.specs.ListLibrary.{ListLibrary, with_library, at_rest, rest_slot, library_of, IsLibrary, is_set_in, StacksCanFail, IsStocked}
 use Rattle.drives.specs.Arranging.{slot_named, without, picked, left, pile_of, arranged, is_repeated, are_distinct, is_among, is_piled, may_arrange, IsArranged}
 use Rattle.drives.specs.Stacking.{HasLatched}
 use Rattle.drives.specs.declared.fault.DriveFault.{DriveFault}
 use Rattle.drives.specs.declared.fault.DriveFault.TheVariants.{NoSuchDrive, Busy, NoReel, Device, OutOfMemory, NameTaken}
-use Rattle.drives.proofs.Shops.{bit, named, times_named, length_sum, sum_by_slots, sum_by_with_rack}
-use Rattle.drives.proofs.ListShop.{told, rack_at_rest, read_at, stocked_same}
+use Rattle.drives.proofs.Shops.{bit, named, times_named, length_sum, sum_by_slots, sum_by_with_drive}
+use Rattle.drives.proofs.ListLibrary.{told, drive_at_rest, read_at, stocked_same}
 
 -- what is left where the first that passes is taken out by its place
 place_step : {X : Type 0} (p : X → Bool) (x : X) (xs : List X) (b : Bool) → p x ≡ b → remove_key p xs ≡ take (position_or_len p xs) xs ++ drop (suc (position_or_len p xs)) xs
@@ -42,7 +42,7 @@ sum_cons f None xs = omega arith
 sum_cons f (Some x) xs = sum_by-cons f x xs
 
 -- the reels that are taken and those that are left are all
-sum_picked : {X : Type 0} (f : Slot X → ℕ) (names : List (List ℕ)) (slots : List (Slot X)) → sum_by f (picked names slots) + sum_by f (left names slots) ≡ sum_by f slots
+sum_picked : {X : Type 0} (f : ReelSlot X → ℕ) (names : List (List ℕ)) (slots : List (ReelSlot X)) → sum_by f (picked names slots) + sum_by f (left names slots) ≡ sum_by f slots
 sum_picked f [] slots = omega arith
 sum_picked f (name ∷ names) slots =
     let a = sum_by-remove_key f (λ x. bytes_eq name x.name) slots in
@@ -50,38 +50,38 @@ sum_picked f (name ∷ names) slots =
     let c = sum_picked f names (without name slots) in
     omega (arith, a, b, c)
 
-pub sum_arranged : {X : Type 0} (f : Slot X → ℕ) (s : ShopOf X) (d : ℕ) (names : List (List ℕ)) → d < length s.racks → sum_by f (slots_in (arranged s d names)) ≡ sum_by f (slots_in s)
+pub sum_arranged : {X : Type 0} (f : ReelSlot X → ℕ) (s : LibraryOf X) (d : ℕ) (names : List (List ℕ)) → d < length s.drives → sum_by f (slots_in (arranged s d names)) ≡ sum_by f (slots_in s)
 sum_arranged f s d names l =
-    let r = rack (rack_at s d).name (picked names (pile_of s d)) in
-    let a = sum_by_with_rack f s d r l in
-    let b = sum_by_slots f (with_rack s d r) in
+    let r = drive_with (drive_at s d).name (picked names (pile_of s d)) in
+    let a = sum_by_with_drive f s d r l in
+    let b = sum_by_slots f (with_drive_at s d r) in
     let c = sum_by_slots f (arranged s d names) in
-    let m = sum_by-append f s.bin (rack_at s d).stack in
+    let m = sum_by-append f s.bin (drive_at s d).stack in
     let n = sum_picked f names (pile_of s d) in
     omega (arith, a, b, c, m, n)
 
 -- no name comes or goes
-pub times_arranged : {X : Type 0} (s : ShopOf X) (d : ℕ) (names : List (List ℕ)) → d < length s.racks → (name : List ℕ) → times name (names_in (arranged s d names)) ≡ times name (names_in s)
+pub times_arranged : {X : Type 0} (s : LibraryOf X) (d : ℕ) (names : List (List ℕ)) → d < length s.drives → (name : List ℕ) → times name (names_in (arranged s d names)) ≡ times name (names_in s)
 times_arranged s d names l name = times_named name (slots_in (arranged s d names)) ∙ sum_arranged (named name) s d names l ∙ sym (times_named name (slots_in s))
 
-pub once_arranged : {X : Type 0} (s : ShopOf X) (d : ℕ) (names : List (List ℕ)) → d < length s.racks → EachReelOnce s → EachReelOnce (arranged s d names)
+pub once_arranged : {X : Type 0} (s : LibraryOf X) (d : ℕ) (names : List (List ℕ)) → d < length s.drives → EachReelOnce s → EachReelOnce (arranged s d names)
 once_arranged s d names l once name = subst (λ n. n ≤ 1) (sym (times_arranged s d names l name)) (once name)
 
-pub length_arranged : {X : Type 0} (s : ShopOf X) (d : ℕ) (names : List (List ℕ)) → d < length s.racks → length (slots_in (arranged s d names)) ≡ length (slots_in s)
+pub length_arranged : {X : Type 0} (s : LibraryOf X) (d : ℕ) (names : List (List ℕ)) → d < length s.drives → length (slots_in (arranged s d names)) ≡ length (slots_in s)
 length_arranged s d names l = length_sum (slots_in (arranged s d names)) ∙ sum_arranged (λ x. 1) s d names l ∙ sym (length_sum (slots_in s))
 
 -- a reel of that name is found among those that have one
-found_step : {X : Type 0} (name : List ℕ) (x : Slot X) (rest : List (Slot X)) (b : Bool) → bytes_eq name x.name ≡ b → (b || is_among rest name) ≡ true
-    → (is_among rest name ≡ true → (y : Slot X) × (slot_named name rest ≡ Some y) × (y.name ≡ name)) → (y : Slot X) × (slot_named name (x ∷ rest) ≡ Some y) × (y.name ≡ name)
+found_step : {X : Type 0} (name : List ℕ) (x : ReelSlot X) (rest : List (ReelSlot X)) (b : Bool) → bytes_eq name x.name ≡ b → (b || is_among rest name) ≡ true
+    → (is_among rest name ≡ true → (y : ReelSlot X) × (slot_named name rest ≡ Some y) × (y.name ≡ name)) → (y : ReelSlot X) × (slot_named name (x ∷ rest) ≡ Some y) × (y.name ≡ name)
 found_step name x rest true e h more = (x, rw e refl, sym ((bytes_eq-Decides name x.name).0 e))
 found_step name x rest false e h more = let w = more h in (w.0, rw e w.1, w.2)
 
-found_among : {X : Type 0} (name : List ℕ) (slots : List (Slot X)) → is_among slots name ≡ true → (y : Slot X) × (slot_named name slots ≡ Some y) × (y.name ≡ name)
+found_among : {X : Type 0} (name : List ℕ) (slots : List (ReelSlot X)) → is_among slots name ≡ true → (y : ReelSlot X) × (slot_named name slots ≡ Some y) × (y.name ≡ name)
 found_among name [] h = absurd cc
 found_among name (x ∷ rest) h = found_step name x rest (bytes_eq name x.name) refl h (found_among name rest)
 
 -- one of another name is still there
-stays_step : {X : Type 0} (name other : List ℕ) (x : Slot X) (rest : List (Slot X)) (a b : Bool) → bytes_eq name x.name ≡ a → bytes_eq other x.name ≡ b → bytes_eq name other ≡ false
+stays_step : {X : Type 0} (name other : List ℕ) (x : ReelSlot X) (rest : List (ReelSlot X)) (a b : Bool) → bytes_eq name x.name ≡ a → bytes_eq other x.name ≡ b → bytes_eq name other ≡ false
     → (b || is_among rest other) ≡ true → (is_among rest other ≡ true → is_among (without name rest) other ≡ true) → is_among (without name (x ∷ rest)) other ≡ true
 stays_step name other x rest true true e f n h more =
     let same : name ≡ other = (bytes_eq-Decides name x.name).0 e ∙ sym ((bytes_eq-Decides other x.name).0 f) in
@@ -90,7 +90,7 @@ stays_step name other x rest true false e f n h more = rw e h
 stays_step name other x rest false true e f n h more = rw (e, f) refl
 stays_step name other x rest false false e f n h more = rw (e, f) (more h)
 
-stays_among : {X : Type 0} (name other : List ℕ) (slots : List (Slot X)) → bytes_eq name other ≡ false → is_among slots other ≡ true → is_among (without name slots) other ≡ true
+stays_among : {X : Type 0} (name other : List ℕ) (slots : List (ReelSlot X)) → bytes_eq name other ≡ false → is_among slots other ≡ true → is_among (without name slots) other ≡ true
 stays_among name other [] n h = absurd cc
 stays_among name other (x ∷ rest) n h = stays_step name other x rest (bytes_eq name x.name) (bytes_eq other x.name) refl refl n h (stays_among name other rest n)
 
@@ -106,7 +106,7 @@ turned : (b : Bool) → not b ≡ true → b ≡ false
 turned true h = absurd cc
 turned false h = refl
 
-all_stay : {X : Type 0} (name : List ℕ) (names : List (List ℕ)) (slots : List (Slot X)) → list_any (bytes_eq name) names ≡ false → list_all (is_among slots) names ≡ true
+all_stay : {X : Type 0} (name : List ℕ) (names : List (List ℕ)) (slots : List (ReelSlot X)) → list_any (bytes_eq name) names ≡ false → list_all (is_among slots) names ≡ true
     → list_all (is_among (without name slots)) names ≡ true
 all_stay name [] slots n h = refl
 all_stay name (other ∷ names) slots n h =
@@ -115,7 +115,7 @@ all_stay name (other ∷ names) slots n h =
     rw (stays_among name other slots no.0 yes.0) (all_stay name names slots no.1 yes.1)
 
 -- the names of the reels that are taken are those that were asked for
-pub names_picked : {X : Type 0} (names : List (List ℕ)) (slots : List (Slot X)) → are_distinct names ≡ true → list_all (is_among slots) names ≡ true → names_of (picked names slots) ≡ names
+pub names_picked : {X : Type 0} (names : List (List ℕ)) (slots : List (ReelSlot X)) → are_distinct names ≡ true → list_all (is_among slots) names ≡ true → names_of (picked names slots) ≡ names
 names_picked [] slots d h = refl
 names_picked (name ∷ names) slots d h =
     let apart = both (not (list_any (bytes_eq name) names)) (are_distinct names) d in
@@ -124,29 +124,29 @@ names_picked (name ∷ names) slots d h =
     let more = names_picked names (without name slots) apart.1 (all_stay name names slots (turned _ apart.0) there.1) in
     ap (λ o. names_of (cons_option o (picked names (without name slots)))) w.1 ∙ ap (λ n. n ∷ names_of (picked names (without name slots))) w.2 ∙ ap (λ rest. name ∷ rest) more
 
-piled : {X : Type 0} (s : ShopOf X) (d : ℕ) (names : List (List ℕ)) → list_all (is_piled s d) names ≡ true
+piled : {X : Type 0} (s : LibraryOf X) (d : ℕ) (names : List (List ℕ)) → list_all (is_piled s d) names ≡ true
     → list_all (is_among (pile_of s d)) names ≡ true
 piled s d [] h = refl
 piled s d (name ∷ names) h =
     let there = both (is_piled s d name) (list_all (is_piled s d) names) h in
-    rw (list_any-append (λ x. bytes_eq name x.name) s.bin (rack_at s d).stack ∙ there.0) (piled s d names there.1)
+    rw (list_any-append (λ x. bytes_eq name x.name) s.bin (drive_at s d).stack ∙ there.0) (piled s d names there.1)
 
 is_true : (b : Bool) → IsTrue b → b ≡ true
 is_true b h = h
 
-pub order_arranged : {U : Type 0} (old new : ListShop) (d : ℕ) (names : List (List ℕ)) (result : Result U DriveFault) → d < length old.shop.racks → IsTrue (may_arrange old.shop d names)
-    → IsArranged old d names result new → IfOk result (λ _. names_of (rack_at new.shop d).stack ≡ names)
+pub order_arranged : {U : Type 0} (old new : ListLibrary) (d : ℕ) (names : List (List ℕ)) (result : Result U DriveFault) → d < length old.library.drives → IsTrue (may_arrange old.library d names)
+    → IsArranged old d names result new → IfOk result (λ _. names_of (drive_at new.library d).stack ≡ names)
 order_arranged old new d names (Ok x) l may h =
-    let all = both (not (is_some (latched_at old.shop d)) && are_distinct names) (list_all (is_piled old.shop d) names) (is_true _ may) in
-    let apart = both (not (is_some (latched_at old.shop d))) (are_distinct names) all.0 in
-    ap (λ (x : ListShop). names_of (rack_at x.shop d).stack) h
-    ∙ ap (λ (r : Rack TroubledTape). names_of r.stack) (get_or-set_same old.shop.racks d (rack (rack_at old.shop d).name (picked names (pile_of old.shop d))) (rack [] []) l)
-    ∙ names_picked names (pile_of old.shop d) apart.1 (piled old.shop d names all.1)
+    let all = both (not (is_some (latched_at old.library d)) && are_distinct names) (list_all (is_piled old.library d) names) (is_true _ may) in
+    let apart = both (not (is_some (latched_at old.library d))) (are_distinct names) all.0 in
+    ap (λ (x : ListLibrary). names_of (drive_at x.library d).stack) h
+    ∙ ap (λ (r : Drive TroubledTape). names_of r.stack) (get_or-set_same old.library.drives d (drive_with (drive_at old.library d).name (picked names (pile_of old.library d))) (drive_with [] []) l)
+    ∙ names_picked names (pile_of old.library d) apart.1 (piled old.library d names all.1)
 order_arranged old new d names (Err fault) l may h = tt
 
 -- a fact of what an arrangement left, which holds where nothing changed
-after_arranged : {U : Type 0} (P : ListShop → Type 0) (old new : ListShop) (d : ℕ) (names : List (List ℕ)) (result : Result U DriveFault) → IsArranged old d names result new
-    → P (with_shop old (arranged old.shop d names)) → P old → P new
+after_arranged : {U : Type 0} (P : ListLibrary → Type 0) (old new : ListLibrary) (d : ℕ) (names : List (List ℕ)) (result : Result U DriveFault) → IsArranged old d names result new
+    → P (with_library old (arranged old.library d names)) → P old → P new
 after_arranged P old new d names (Ok x) h made same = subst P (sym h) made
 after_arranged P old new d names (Err OutOfMemory) h made same = subst P (sym h) same
 after_arranged P old new d names (Err NoReel) h made same = absurd h
@@ -155,66 +155,66 @@ after_arranged P old new d names (Err (Busy n)) h made same = absurd h
 after_arranged P old new d names (Err NoSuchDrive) h made same = absurd h
 after_arranged P old new d names (Err NameTaken) h made same = absurd h
 
-pub arrange_told : {U : Type 0} (old new : ListShop) (d : ℕ) (names : List (List ℕ)) (result : Result U DriveFault) → d < length old.shop.racks → EachReelOnce old.shop
-    → IsArranged old d names result new → IsShop new (shop_of new)
+pub arrange_told : {U : Type 0} (old new : ListLibrary) (d : ℕ) (names : List (List ℕ)) (result : Result U DriveFault) → d < length old.library.drives → EachReelOnce old.library
+    → IsArranged old d names result new → IsLibrary new (library_of new)
 arrange_told old new d names result l once h =
-    after_arranged (λ (x : ListShop). IsShop x (shop_of x)) old new d names result h (told (with_shop old (arranged old.shop d names)) (once_arranged old.shop d names l once)) (told old once)
+    after_arranged (λ (x : ListLibrary). IsLibrary x (library_of x)) old new d names result h (told (with_library old (arranged old.library d names)) (once_arranged old.library d names l once)) (told old once)
 
-pub arrange_names : {U : Type 0} (old new : ListShop) (d : ℕ) (names : List (List ℕ)) (result : Result U DriveFault) → d < length old.shop.racks
-    → IsArranged old d names result new → (name : List ℕ) → times name (names_in new.shop) ≡ times name (names_in old.shop)
+pub arrange_names : {U : Type 0} (old new : ListLibrary) (d : ℕ) (names : List (List ℕ)) (result : Result U DriveFault) → d < length old.library.drives
+    → IsArranged old d names result new → (name : List ℕ) → times name (names_in new.library) ≡ times name (names_in old.library)
 arrange_names old new d names result l h name =
-    after_arranged (λ (x : ListShop). times name (names_in x.shop) ≡ times name (names_in old.shop)) old new d names result h (times_arranged old.shop d names l name) refl
+    after_arranged (λ (x : ListLibrary). times name (names_in x.library) ≡ times name (names_in old.library)) old new d names result h (times_arranged old.library d names l name) refl
 
-still_able : (old : ListShop) (d : ℕ) (names : List (List ℕ)) → d < length old.shop.racks → StacksCanFail (with_shop old (arranged old.shop d names)) → StacksCanFail old
+still_able : (old : ListLibrary) (d : ℕ) (names : List (List ℕ)) → d < length old.library.drives → StacksCanFail (with_library old (arranged old.library d names)) → StacksCanFail old
 still_able old d names l (inl e) = inl e
-still_able old d names l (inr m) = let same = sum_arranged (λ x. bit (is_set_in x.reel)) old.shop d names l in inr (omega (arith, same, m))
+still_able old d names l (inr m) = let same = sum_arranged (λ x. bit (is_set_in x.reel)) old.library d names l in inr (omega (arith, same, m))
 
-pub arrange_quiet : {U : Type 0} (old new : ListShop) (d : ℕ) (names : List (List ℕ)) (result : Result U DriveFault) → d < length old.shop.racks
+pub arrange_quiet : {U : Type 0} (old new : ListLibrary) (d : ℕ) (names : List (List ℕ)) (result : Result U DriveFault) → d < length old.library.drives
     → IsArranged old d names result new → StacksCanFail new → StacksCanFail old
 arrange_quiet old new d names result l h =
-    after_arranged (λ (x : ListShop). StacksCanFail x → StacksCanFail old) old new d names result h (still_able old d names l) (λ f. f)
+    after_arranged (λ (x : ListLibrary). StacksCanFail x → StacksCanFail old) old new d names result h (still_able old d names l) (λ f. f)
 
 -- what is told of the reels that are latched
 away_rest : (name : List ℕ) (reel : Option TroubledTape) → away_name name (option_map at_rest reel) ≡ away_name name reel
 away_rest name None = refl
 away_rest name (Some r) = refl
 
-on_rest : (stack : List (Slot TroubledTape)) → latched_on (map rest_slot stack) ≡ latched_on stack
+on_rest : (stack : List (ReelSlot TroubledTape)) → latched_on (map rest_slot stack) ≡ latched_on stack
 on_rest [] = refl
 on_rest (first ∷ rest) = away_rest first.name first.reel
 
-pub latched_rest : (s : ListShop) (e : ℕ) → latched_at (shop_of s) e ≡ latched_at s.shop e
-latched_rest s e = ap (λ (r : Rack _). latched_on r.stack) (rack_at_rest s e) ∙ on_rest (rack_at s.shop e).stack
+pub latched_rest : (s : ListLibrary) (e : ℕ) → latched_at (library_of s) e ≡ latched_at s.library e
+latched_rest s e = ap (λ (r : Drive _). latched_on r.stack) (drive_at_rest s e) ∙ on_rest (drive_at s.library e).stack
 
-other_latched : (old : ListShop) (d e : ℕ) (names : List (List ℕ)) → EachReelOnce old.shop → e ≢ d → HasLatched IsShop old e → HasLatched IsShop (with_shop old (arranged old.shop d names)) e
+other_latched : (old : ListLibrary) (d e : ℕ) (names : List (List ℕ)) → EachReelOnce old.library → e ≢ d → HasLatched IsLibrary old e → HasLatched IsLibrary (with_library old (arranged old.library d names)) e
 other_latched old d e names once n h t tells =
-    let new = with_shop old (arranged old.shop d names) in
-    let same : latched_at new.shop e ≡ latched_at old.shop e =
-    ap (λ (r : Rack _). latched_on r.stack) (get_or-set_other old.shop.racks d e (rack (rack_at old.shop d).name (picked names (pile_of old.shop d))) (rack [] []) n) in
-    subst (λ o. IsSome o) (sym (ap (λ (x : Shop). latched_at x e) tells.0 ∙ latched_rest new e ∙ same ∙ sym (latched_rest old e))) (h (shop_of old) (told old once))
+    let new = with_library old (arranged old.library d names) in
+    let same : latched_at new.library e ≡ latched_at old.library e =
+    ap (λ (r : Drive _). latched_on r.stack) (get_or-set_other old.library.drives d e (drive_with (drive_at old.library d).name (picked names (pile_of old.library d))) (drive_with [] []) n) in
+    subst (λ o. IsSome o) (sym (ap (λ (x : TapeLibrary). latched_at x e) tells.0 ∙ latched_rest new e ∙ same ∙ sym (latched_rest old e))) (h (library_of old) (told old once))
 
-pub arrange_elsewhere : {U : Type 0} (old new : ListShop) (d : ℕ) (names : List (List ℕ)) (result : Result U DriveFault) → EachReelOnce old.shop
-    → IsArranged old d names result new → (e : ℕ) → e ≢ d → HasLatched IsShop old e → HasLatched IsShop new e
+pub arrange_elsewhere : {U : Type 0} (old new : ListLibrary) (d : ℕ) (names : List (List ℕ)) (result : Result U DriveFault) → EachReelOnce old.library
+    → IsArranged old d names result new → (e : ℕ) → e ≢ d → HasLatched IsLibrary old e → HasLatched IsLibrary new e
 arrange_elsewhere old new d names result once h e n latched =
-    after_arranged (λ (x : ListShop). HasLatched IsShop x e) old new d names result h (other_latched old d e names once n latched) latched
+    after_arranged (λ (x : ListLibrary). HasLatched IsLibrary x e) old new d names result h (other_latched old d e names once n latched) latched
 
-pub arrange_same : {U A : Type 0} (f : ListShop → A) (old new : ListShop) (d : ℕ) (names : List (List ℕ)) (result : Result U DriveFault)
-    → f (with_shop old (arranged old.shop d names)) ≡ f old → IsArranged old d names result new → f new ≡ f old
-arrange_same f old new d names result same h = after_arranged (λ (x : ListShop). f x ≡ f old) old new d names result h same refl
+pub arrange_same : {U A : Type 0} (f : ListLibrary → A) (old new : ListLibrary) (d : ℕ) (names : List (List ℕ)) (result : Result U DriveFault)
+    → f (with_library old (arranged old.library d names)) ≡ f old → IsArranged old d names result new → f new ≡ f old
+arrange_same f old new d names result same h = after_arranged (λ (x : ListLibrary). f x ≡ f old) old new d names result h same refl
 
 -- on the way: what was picked and will be, and what will be left
-pub record IsPicking {X : Type 0} (rest : List (List ℕ)) (now onto : List (Slot X)) (names : List (List ℕ)) (slots before : List (Slot X)) : Type 0 where
+pub record IsPicking {X : Type 0} (rest : List (List ℕ)) (now onto : List (ReelSlot X)) (names : List (List ℕ)) (slots before : List (ReelSlot X)) : Type 0 where
   pub all : onto ++ picked rest now ≡ before ++ picked names slots
   pub others : left rest now ≡ left names slots
 
-pub picking_none : {X : Type 0} (name : List ℕ) (rest : List (List ℕ)) (now onto : List (Slot X)) (names : List (List ℕ)) (slots before : List (Slot X))
+pub picking_none : {X : Type 0} (name : List ℕ) (rest : List (List ℕ)) (now onto : List (ReelSlot X)) (names : List (List ℕ)) (slots before : List (ReelSlot X))
     → IsPicking (name ∷ rest) now onto names slots before → slot_named name now ≡ None → IsPicking rest (without name now) onto names slots before
 picking_none name rest now onto names slots before h none = record {
   all = ap (λ o. onto ++ cons_option o (picked rest (without name now))) (sym none) ∙ h.all;
   others = h.others;
 }
 
-pub picking_some : {X : Type 0} (name : List ℕ) (rest : List (List ℕ)) (now onto : List (Slot X)) (names : List (List ℕ)) (slots before : List (Slot X)) (x : Slot X)
+pub picking_some : {X : Type 0} (name : List ℕ) (rest : List (List ℕ)) (now onto : List (ReelSlot X)) (names : List (List ℕ)) (slots before : List (ReelSlot X)) (x : ReelSlot X)
     → IsPicking (name ∷ rest) now onto names slots before → slot_named name now ≡ Some x → IsPicking rest (without name now) (onto ++ x ∷ []) names slots before
 picking_some name rest now onto names slots before x h some = record {
   all = append_assoc onto (x ∷ []) (picked rest (without name now)) ∙ ap (λ o. onto ++ cons_option o (picked rest (without name now))) (sym some) ∙ h.all;
@@ -299,59 +299,59 @@ all_lent f p [] = refl
 all_lent f p (x ∷ xs) = ap (λ b. p (f x) && b) (all_lent f p xs)
 
 -- what is found of the fields is so of the value
-pub may_is : {A : Type 0} (s now : ListShop) (d : ℕ) (old : Rack TroubledTape) (f : A → List ℕ) (names : List A) (latched differ there : Bool) → s ≡ now → d < length now.shop.racks
-    → old ≡ get_or s.shop.racks d old → latched ≡ is_some (latched_on old.stack) → latched ≡ false → differ ≡ are_distinct (map f names) → differ ≡ true
-    → (bin stack : List (Slot TroubledTape)) → bin ≡ s.shop.bin → stack ≡ old.stack
-    → there ≡ list_all (λ n. is_among bin (f n) || is_among stack (f n)) names → there ≡ may_arrange now.shop d (map f names)
+pub may_is : {A : Type 0} (s now : ListLibrary) (d : ℕ) (old : Drive TroubledTape) (f : A → List ℕ) (names : List A) (latched differ there : Bool) → s ≡ now → d < length now.library.drives
+    → old ≡ get_or s.library.drives d old → latched ≡ is_some (latched_on old.stack) → latched ≡ false → differ ≡ are_distinct (map f names) → differ ≡ true
+    → (bin stack : List (ReelSlot TroubledTape)) → bin ≡ s.library.bin → stack ≡ old.stack
+    → there ≡ list_all (λ n. is_among bin (f n) || is_among stack (f n)) names → there ≡ may_arrange now.library d (map f names)
 may_is s now d old f names latched differ there v l e a b m n bin stack g h u =
-    let t = u ∙ ap (λ xs. list_all (λ n. is_among xs (f n) || is_among stack (f n)) names) g ∙ ap (λ xs. list_all (λ n. is_among s.shop.bin (f n) || is_among xs (f n)) names) h in
-    let within : d < length s.shop.racks = subst (λ (x : ListShop). d < length x.shop.racks) (sym v) l in
-    let is : old ≡ rack_at s.shop d = read_at s.shop d old within e in
-    let ready : is_some (latched_at s.shop d) ≡ false = ap (λ (r : Rack TroubledTape). is_some (latched_on r.stack)) (sym is) ∙ sym a ∙ b in
+    let t = u ∙ ap (λ xs. list_all (λ n. is_among xs (f n) || is_among stack (f n)) names) g ∙ ap (λ xs. list_all (λ n. is_among s.library.bin (f n) || is_among xs (f n)) names) h in
+    let within : d < length s.library.drives = subst (λ (x : ListLibrary). d < length x.library.drives) (sym v) l in
+    let is : old ≡ drive_at s.library d = read_at s.library d old within e in
+    let ready : is_some (latched_at s.library d) ≡ false = ap (λ (r : Drive TroubledTape). is_some (latched_on r.stack)) (sym is) ∙ sym a ∙ b in
     let apart : are_distinct (map f names) ≡ true = sym m ∙ n in
-    let all : list_all (is_piled s.shop d) (map f names) ≡ there =
-    all_lent f (is_piled s.shop d) names ∙ ap (λ (r : Rack TroubledTape). list_all (λ n. is_among s.shop.bin (f n) || is_among r.stack (f n)) names) (sym is) ∙ sym t in
-    subst (λ (x : ListShop). there ≡ may_arrange x.shop d (map f names)) v
-    (sym (ap (λ b. (not b && are_distinct (map f names)) && list_all (is_piled s.shop d) (map f names)) ready ∙ ap (λ b. b && list_all (is_piled s.shop d) (map f names)) apart ∙ all))
+    let all : list_all (is_piled s.library d) (map f names) ≡ there =
+    all_lent f (is_piled s.library d) names ∙ ap (λ (r : Drive TroubledTape). list_all (λ n. is_among s.library.bin (f n) || is_among r.stack (f n)) names) (sym is) ∙ sym t in
+    subst (λ (x : ListLibrary). there ≡ may_arrange x.library d (map f names)) v
+    (sym (ap (λ b. (not b && are_distinct (map f names)) && list_all (is_piled s.library d) (map f names)) ready ∙ ap (λ b. b && list_all (is_piled s.library d) (map f names)) apart ∙ all))
 
 -- what the fields keep where a stack was arranged
-pub stocked_arranged : (s : ShopOf TroubledTape) (d : ℕ) (old new : Rack TroubledTape) (names : List (List ℕ)) (onto bin : List (Slot TroubledTape)) (reels room more : ℕ) → d < length s.racks
-    → old ≡ get_or s.racks d old → new ≡ rack old.name onto → onto ≡ picked names (s.bin ++ old.stack) → bin ≡ left names (s.bin ++ old.stack) → room ≤ more → IsStocked s reels room
-    → IsStocked (shop (set s.racks d new) bin) reels more
+pub stocked_arranged : (s : LibraryOf TroubledTape) (d : ℕ) (old new : Drive TroubledTape) (names : List (List ℕ)) (onto bin : List (ReelSlot TroubledTape)) (reels room more : ℕ) → d < length s.drives
+    → old ≡ get_or s.drives d old → new ≡ drive_with old.name onto → onto ≡ picked names (s.bin ++ old.stack) → bin ≡ left names (s.bin ++ old.stack) → room ≤ more → IsStocked s reels room
+    → IsStocked (library (set s.drives d new) bin) reels more
 stocked_arranged s d old new names onto bin reels room more l e n o b m h =
-    let is : old ≡ rack_at s d = read_at s d old l e in
-    let put : shop (set s.racks d new) bin ≡ shop (set s.racks d (rack old.name (picked names (s.bin ++ old.stack)))) (left names (s.bin ++ old.stack)) =
-    ap (λ r. shop (set s.racks d r) bin) (n ∙ ap (λ st. rack old.name st) o) ∙ ap (λ xs. shop (set s.racks d (rack old.name (picked names (s.bin ++ old.stack)))) xs) b in
-    let same = put ∙ ap (λ (r : Rack TroubledTape). shop (set s.racks d (rack r.name (picked names (s.bin ++ r.stack)))) (left names (s.bin ++ r.stack))) is in
+    let is : old ≡ drive_at s d = read_at s d old l e in
+    let put : library (set s.drives d new) bin ≡ library (set s.drives d (drive_with old.name (picked names (s.bin ++ old.stack)))) (left names (s.bin ++ old.stack)) =
+    ap (λ r. library (set s.drives d r) bin) (n ∙ ap (λ st. drive_with old.name st) o) ∙ ap (λ xs. library (set s.drives d (drive_with old.name (picked names (s.bin ++ old.stack)))) xs) b in
+    let same = put ∙ ap (λ (r : Drive TroubledTape). library (set s.drives d (drive_with r.name (picked names (s.bin ++ r.stack)))) (left names (s.bin ++ r.stack))) is in
     let made : IsStocked (arranged s d names) reels room = record {
       once = once_arranged s d names l h.once;
       counted = h.counted ∙ sym (length_arranged s d names l);
       fits = h.fits;
     } in
-    stocked_same (arranged s d names) (shop (set s.racks d new) bin) reels room more same m made
+    stocked_same (arranged s d names) (library (set s.drives d new) bin) reels room more same m made
 
 -- a reel that is found on the stacks or in the bin
-pub found_or : {X : Type 0} (name : List ℕ) (above below : List (Slot X)) (o : Option (Slot X)) → o ≡ slot_named name above → IsSome o → o ≡ slot_named name (above ++ below)
+pub found_or : {X : Type 0} (name : List ℕ) (above below : List (ReelSlot X)) (o : Option (ReelSlot X)) → o ≡ slot_named name above → IsSome o → o ≡ slot_named name (above ++ below)
 found_or name above below None e h = absurd cc
 found_or name above below (Some x) e h = sym (find-append (λ x. bytes_eq name x.name) above below ∙ ap (λ o. option_or o (slot_named name below)) (sym e))
 
-pub found_below : {X : Type 0} (name : List ℕ) (above below : List (Slot X)) (o : Option (Slot X)) → None ≡ slot_named name above → o ≡ slot_named name below → o ≡ slot_named name (above ++ below)
+pub found_below : {X : Type 0} (name : List ℕ) (above below : List (ReelSlot X)) (o : Option (ReelSlot X)) → None ≡ slot_named name above → o ≡ slot_named name below → o ≡ slot_named name (above ++ below)
 found_below name above below o e h = h ∙ sym (find-append (λ x. bytes_eq name x.name) above below ∙ ap (λ a. option_or a (slot_named name below)) (sym e))
 
 -- the first stack from drive i on has the reel of that name
-stacks_from : {X : Type 0} (name : List ℕ) (racks : List (Rack X)) (i : ℕ) (r : Rack X) → i < length racks → r ≡ get_or racks i r
-    → slot_named name (flat_map (λ x. x.stack) (drop i racks)) ≡ slot_named name (r.stack ++ flat_map (λ x. x.stack) (drop (i + 1) racks))
-stacks_from {X = X} name racks i r l is =
-    let S : List (Rack X) → List (Slot X) = λ rs. flat_map (λ x. x.stack) rs in
-    ap (λ rs. slot_named name (S rs)) (drop-cons racks i r l ∙ ap (λ x. x ∷ drop (suc i) racks) (sym is)) ∙ ap (λ m. slot_named name (r.stack ++ S (drop m racks))) (suc-eq-add-one i)
+stacks_from : {X : Type 0} (name : List ℕ) (drives : List (Drive X)) (i : ℕ) (r : Drive X) → i < length drives → r ≡ get_or drives i r
+    → slot_named name (flat_map (λ x. x.stack) (drop i drives)) ≡ slot_named name (r.stack ++ flat_map (λ x. x.stack) (drop (i + 1) drives))
+stacks_from {X = X} name drives i r l is =
+    let S : List (Drive X) → List (ReelSlot X) = λ rs. flat_map (λ x. x.stack) rs in
+    ap (λ rs. slot_named name (S rs)) (drop-cons drives i r l ∙ ap (λ x. x ∷ drop (suc i) drives) (sym is)) ∙ ap (λ m. slot_named name (r.stack ++ S (drop m drives))) (suc-eq-add-one i)
 
-pub stacked_here : {X : Type 0} (name : List ℕ) (racks : List (Rack X)) (i : ℕ) (r : Rack X) (o : Option (Slot X)) → i < length racks → r ≡ get_or racks i r → o ≡ slot_named name r.stack → IsSome o
-    → slot_named name (flat_map (λ x. x.stack) (drop i racks)) ≡ slot_named name (flat_map (λ x. x.stack) racks) → o ≡ slot_named name (flat_map (λ x. x.stack) racks)
-stacked_here name racks i r o l is found some same =
-    found_or name r.stack (flat_map (λ x. x.stack) (drop (i + 1) racks)) o found some ∙ sym (stacks_from name racks i r l is) ∙ same
+pub stacked_here : {X : Type 0} (name : List ℕ) (drives : List (Drive X)) (i : ℕ) (r : Drive X) (o : Option (ReelSlot X)) → i < length drives → r ≡ get_or drives i r → o ≡ slot_named name r.stack → IsSome o
+    → slot_named name (flat_map (λ x. x.stack) (drop i drives)) ≡ slot_named name (flat_map (λ x. x.stack) drives) → o ≡ slot_named name (flat_map (λ x. x.stack) drives)
+stacked_here name drives i r o l is found some same =
+    found_or name r.stack (flat_map (λ x. x.stack) (drop (i + 1) drives)) o found some ∙ sym (stacks_from name drives i r l is) ∙ same
 
-pub stacked_on : {X : Type 0} (name : List ℕ) (racks : List (Rack X)) (i : ℕ) (r : Rack X) → i < length racks → r ≡ get_or racks i r → None ≡ slot_named name r.stack
-    → slot_named name (flat_map (λ x. x.stack) (drop i racks)) ≡ slot_named name (flat_map (λ x. x.stack) racks)
-    → slot_named name (flat_map (λ x. x.stack) (drop (i + 1) racks)) ≡ slot_named name (flat_map (λ x. x.stack) racks)
-stacked_on name racks i r l is none same =
-    found_below name r.stack (flat_map (λ x. x.stack) (drop (i + 1) racks)) (slot_named name (flat_map (λ x. x.stack) (drop (i + 1) racks))) none refl ∙ sym (stacks_from name racks i r l is) ∙ same
+pub stacked_on : {X : Type 0} (name : List ℕ) (drives : List (Drive X)) (i : ℕ) (r : Drive X) → i < length drives → r ≡ get_or drives i r → None ≡ slot_named name r.stack
+    → slot_named name (flat_map (λ x. x.stack) (drop i drives)) ≡ slot_named name (flat_map (λ x. x.stack) drives)
+    → slot_named name (flat_map (λ x. x.stack) (drop (i + 1) drives)) ≡ slot_named name (flat_map (λ x. x.stack) drives)
+stacked_on name drives i r l is none same =
+    found_below name r.stack (flat_map (λ x. x.stack) (drop (i + 1) drives)) (slot_named name (flat_map (λ x. x.stack) (drop (i + 1) drives))) none refl ∙ sym (stacks_from name drives i r l is) ∙ same

@@ -1,5 +1,5 @@
 pub mod Held
-pub mod ListShop
+pub mod ListLibrary
 pub mod Seats
 pub mod Shops
 pub mod Elsewhere

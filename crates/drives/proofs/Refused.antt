@@ -5,7 +5,7 @@ use Rattle.drives.specs.declared.fault.DriveFault.{DriveFault}
 use Rattle.drives.specs.declared.fault.DriveFault.TheVariants.{NoSuchDrive, Busy, NoReel, Device, OutOfMemory, NameTaken}
 use Rattle.drives.specs.declared.view.View.{View}
 use Rattle.drives.specs.Holding.{given, taken, last_drive, word_after_take, word_after_give}
-use Rattle.drives.specs.Shop.{Shop, IsDriveNamed}
+use Rattle.drives.specs.TapeLibrary.{TapeLibrary, IsDriveNamed}
 use Rattle.drives.specs.Calls.StacksCall.{Latch}
 use Rattle.drives.specs.Stacking.{IsStacksCall}
 use Rattle.drives.specs.Opening.{Kinds, SeatStep, drive_asked, found_in_open, OpenStep, LatchesFor}
@@ -20,7 +20,7 @@ pub record IsRefused {H S Seat R : Type 0} (k : Kinds H Seat S R) (view view' : 
   pub call : LatchesFor k old (drive_asked {R = R} (Err fault) view') (Err fault) new
 
 pub latch_refused : {H S Seat R : Type 0} (k : Kinds H Seat S R) (view view' : View) (name : List ℕ) (old new : S) (d : ℕ) (fault : DriveFault)
-    → view' ≡ given (taken view d 0) d → ((s : Shop) → k.stacks.holds old s → IsDriveNamed name s (Some d))
+    → view' ≡ given (taken view d 0) d → ((s : TapeLibrary) → k.stacks.holds old s → IsDriveNamed name s (Some d))
     → IsStacksCall k.stacks k.reels old (Latch d (Err fault)) new → IsRefused k view view' name old new d fault
 latch_refused k view view' name old new d NoReel v named call =
     let last : last_drive view' ≡ Some d = ap last_drive v in

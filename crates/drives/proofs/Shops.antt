@@ -6,27 +6,27 @@ use Rattle.std.proofs.lemmas.List.Sums.{sum_by_push, sum_by-set, sum_by-append, 
 use Rattle.std.proofs.lemmas.List.Folds.{list_any-append}
 use Rattle.std.specs.List.{sum_by, count_by, list_any}
 use Rattle.std.specs.Str.{bytes_eq}
-use Rattle.drives.specs.Shop.{Slot, slot, Rack, rack, ShopOf, shop, rack_at, with_rack, slots_in, names_of, names_in, times, EachReelOnce, first_reel, latched_at, latched_on, with_first, at_first, to_bin}
+use Rattle.drives.specs.TapeLibrary.{ReelSlot, slot, Drive, drive_with, LibraryOf, library, drive_at, with_drive_at, slots_in, names_of, names_in, times, EachReelOnce, first_reel, latched_at, latched_on, with_first, at_first, to_bin}
 
 -- a sum over all reels, by drives
-sum_by_stacks : {X : Type 0} (f : Slot X → ℕ) (racks : List (Rack X)) → sum_by f (flat_map (λ r. r.stack) racks) ≡ sum_by (λ r. sum_by f r.stack) racks
+sum_by_stacks : {X : Type 0} (f : ReelSlot X → ℕ) (drives : List (Drive X)) → sum_by f (flat_map (λ r. r.stack) drives) ≡ sum_by (λ r. sum_by f r.stack) drives
 sum_by_stacks f [] = refl
-sum_by_stacks f (r ∷ racks) =
-    sum_by-append f r.stack (flat_map (λ r. r.stack) racks) ∙ ap (λ n. sum_by f r.stack + n) (sum_by_stacks f racks) ∙ sym (sum_by-cons (λ r. sum_by f r.stack) r racks)
+sum_by_stacks f (r ∷ drives) =
+    sum_by-append f r.stack (flat_map (λ r. r.stack) drives) ∙ ap (λ n. sum_by f r.stack + n) (sum_by_stacks f drives) ∙ sym (sum_by-cons (λ r. sum_by f r.stack) r drives)
 
-pub sum_by_slots : {X : Type 0} (f : Slot X → ℕ) (s : ShopOf X) → sum_by f (slots_in s) ≡ sum_by (λ r. sum_by f r.stack) s.racks + sum_by f s.bin
-sum_by_slots f s = sum_by-append f (flat_map (λ r. r.stack) s.racks) s.bin ∙ ap (λ n. n + sum_by f s.bin) (sum_by_stacks f s.racks)
+pub sum_by_slots : {X : Type 0} (f : ReelSlot X → ℕ) (s : LibraryOf X) → sum_by f (slots_in s) ≡ sum_by (λ r. sum_by f r.stack) s.drives + sum_by f s.bin
+sum_by_slots f s = sum_by-append f (flat_map (λ r. r.stack) s.drives) s.bin ∙ ap (λ n. n + sum_by f s.bin) (sum_by_stacks f s.drives)
 
 -- a sum after the drive d was replaced
-pub sum_by_with_rack : {X : Type 0} (f : Slot X → ℕ) (s : ShopOf X) (d : ℕ) (r : Rack X) → d < length s.racks
-    → sum_by f (slots_in (with_rack s d r)) + sum_by f (rack_at s d).stack ≡ sum_by f (slots_in s) + sum_by f r.stack
-sum_by_with_rack f s d r l =
-    let moved = sum_by-set (λ r. sum_by f r.stack) s.racks d r (rack [] []) l in
+pub sum_by_with_drive : {X : Type 0} (f : ReelSlot X → ℕ) (s : LibraryOf X) (d : ℕ) (r : Drive X) → d < length s.drives
+    → sum_by f (slots_in (with_drive_at s d r)) + sum_by f (drive_at s d).stack ≡ sum_by f (slots_in s) + sum_by f r.stack
+sum_by_with_drive f s d r l =
+    let moved = sum_by-set (λ r. sum_by f r.stack) s.drives d r (drive_with [] []) l in
     let before = sum_by_slots f s in
-    let after = sum_by_slots f (with_rack s d r) in
+    let after = sum_by_slots f (with_drive_at s d r) in
     omega (arith, moved, before, after)
 
-first_more : {X : Type 0} (f : Slot X → ℕ) (reel : Option X) (stack : List (Slot X)) (first : Slot X) (rest : List (Slot X)) → stack ≡ first ∷ rest
+first_more : {X : Type 0} (f : ReelSlot X → ℕ) (reel : Option X) (stack : List (ReelSlot X)) (first : ReelSlot X) (rest : List (ReelSlot X)) → stack ≡ first ∷ rest
     → sum_by f (with_first reel stack) + f first ≡ sum_by f stack + f (slot first.name reel)
 first_more f reel stack first rest e =
     rw e (
@@ -35,23 +35,23 @@ first_more f reel stack first rest e =
     omega (arith, a, b))
 
 -- a sum after the first reel of the drive d was taken away or laid down
-pub sum_by_at_first : {X : Type 0} (f : Slot X → ℕ) (s : ShopOf X) (d : ℕ) (reel : Option X) (first : Slot X) (rest : List (Slot X)) → d < length s.racks
-    → (rack_at s d).stack ≡ first ∷ rest → sum_by f (slots_in (at_first s d reel)) + f first ≡ sum_by f (slots_in s) + f (slot first.name reel)
+pub sum_by_at_first : {X : Type 0} (f : ReelSlot X → ℕ) (s : LibraryOf X) (d : ℕ) (reel : Option X) (first : ReelSlot X) (rest : List (ReelSlot X)) → d < length s.drives
+    → (drive_at s d).stack ≡ first ∷ rest → sum_by f (slots_in (at_first s d reel)) + f first ≡ sum_by f (slots_in s) + f (slot first.name reel)
 sum_by_at_first f s d reel first rest l e =
-    let r = rack_at s d in
-    let a = sum_by_with_rack f s d (rack r.name (with_first reel r.stack)) l in
+    let r = drive_at s d in
+    let a = sum_by_with_drive f s d (drive_with r.name (with_first reel r.stack)) l in
     let b = first_more f reel r.stack first rest e in
     omega (arith, a, b)
 
 -- a sum after the first reel of the drive d was moved to the bin
-pub sum_by_to_bin : {X : Type 0} (f : Slot X → ℕ) (s : ShopOf X) (d : ℕ) (reel : X) (first : Slot X) (rest : List (Slot X)) → d < length s.racks
-    → (rack_at s d).stack ≡ first ∷ rest → sum_by f (slots_in (to_bin s d reel)) + f first ≡ sum_by f (slots_in s) + f (slot first.name (Some reel))
+pub sum_by_to_bin : {X : Type 0} (f : ReelSlot X → ℕ) (s : LibraryOf X) (d : ℕ) (reel : X) (first : ReelSlot X) (rest : List (ReelSlot X)) → d < length s.drives
+    → (drive_at s d).stack ≡ first ∷ rest → sum_by f (slots_in (to_bin s d reel)) + f first ≡ sum_by f (slots_in s) + f (slot first.name (Some reel))
 sum_by_to_bin f s d reel first rest l e =
-    let r = rack_at s d in
-    let left = rack r.name (drop 1 r.stack) in
+    let r = drive_at s d in
+    let left = drive_with r.name (drop 1 r.stack) in
     let put = with_first (Some reel) (take 1 r.stack) in
-    let a = sum_by_with_rack f s d left l in
-    let b = sum_by_slots f (with_rack s d left) in
+    let a = sum_by_with_drive f s d left l in
+    let b = sum_by_slots f (with_drive_at s d left) in
     let c = sum_by_slots f (to_bin s d reel) in
     let m = sum_by-append f s.bin put in
     let n : sum_by f put ≡ 0 + f (slot first.name (Some reel)) = ap (λ st. sum_by f (with_first (Some reel) (take 1 st))) e in
@@ -59,10 +59,10 @@ sum_by_to_bin f s d reel first rest l e =
     omega (arith, a, b, c, m, n, o)
 
 -- how often a name stands, as a sum over the reels
-abbrev pub named : {X : Type 0} → List ℕ → Slot X → ℕ
+abbrev pub named : {X : Type 0} → List ℕ → ReelSlot X → ℕ
 named name x = cond (bytes_eq name x.name) 1 0
 
-pub times_named : {X : Type 0} (name : List ℕ) (slots : List (Slot X)) → times name (names_of slots) ≡ sum_by (named name) slots
+pub times_named : {X : Type 0} (name : List ℕ) (slots : List (ReelSlot X)) → times name (names_of slots) ≡ sum_by (named name) slots
 times_named name [] = refl
 times_named name (x ∷ slots) =
     sum_by-cons (λ n. cond (bytes_eq name n) 1 0) x.name (names_of slots) ∙ ap (λ n. named name x + n) (times_named name slots) ∙ sym (sum_by-cons (named name) x slots)
@@ -73,24 +73,24 @@ length_sum [] = refl
 length_sum (x ∷ xs) = let a = length_sum xs in let b = sum_by-cons (λ x. 1) x xs in omega (arith, a, b)
 
 -- a stack that has a first reel
-pub first_of : {X : Type 0} (stack : List (Slot X)) → 0 < length stack → (first : Slot X) × (rest : List (Slot X)) × (stack ≡ first ∷ rest)
+pub first_of : {X : Type 0} (stack : List (ReelSlot X)) → 0 < length stack → (first : ReelSlot X) × (rest : List (ReelSlot X)) × (stack ≡ first ∷ rest)
 first_of [] l = absurd (omega arith)
 first_of (first ∷ rest) l = (first, rest, refl)
 
-pub length_waiting : {X : Type 0} (stack : List (Slot X)) (r : X) → first_reel stack ≡ Some r → 0 < length stack
+pub length_waiting : {X : Type 0} (stack : List (ReelSlot X)) (r : X) → first_reel stack ≡ Some r → 0 < length stack
 length_waiting [] r e = absurd cc
 length_waiting (first ∷ rest) r e = omega arith
 
-pub length_latched : {X : Type 0} (stack : List (Slot X)) → IsSome (latched_on stack) → 0 < length stack
+pub length_latched : {X : Type 0} (stack : List (ReelSlot X)) → IsSome (latched_on stack) → 0 < length stack
 length_latched [] h = absurd cc
 length_latched (first ∷ rest) h = omega arith
 
 -- a sum of what does not change at the first reel of the drive d stays
-same_at_first : {X : Type 0} (f : Slot X → ℕ) (same : (x : Slot X) (reel : Option X) → f (slot x.name reel) ≡ f x) (s : ShopOf X) (d : ℕ) (reel : Option X) (stack : List (Slot X))
-    → (rack_at s d).stack ≡ stack → d < length s.racks → sum_by f (slots_in (at_first s d reel)) ≡ sum_by f (slots_in s)
+same_at_first : {X : Type 0} (f : ReelSlot X → ℕ) (same : (x : ReelSlot X) (reel : Option X) → f (slot x.name reel) ≡ f x) (s : LibraryOf X) (d : ℕ) (reel : Option X) (stack : List (ReelSlot X))
+    → (drive_at s d).stack ≡ stack → d < length s.drives → sum_by f (slots_in (at_first s d reel)) ≡ sum_by f (slots_in s)
 same_at_first f same s d reel [] e l =
-    let r = rack_at s d in
-    let a = sum_by_with_rack f s d (rack r.name (with_first reel r.stack)) l in
+    let r = drive_at s d in
+    let a = sum_by_with_drive f s d (drive_with r.name (with_first reel r.stack)) l in
     let b : sum_by f (with_first reel r.stack) ≡ 0 = ap (λ st. sum_by f (with_first reel st)) e in
     let c : sum_by f r.stack ≡ 0 = ap (λ st. sum_by f st) e in
     omega (arith, a, b, c)
@@ -100,41 +100,41 @@ same_at_first f same s d reel (first ∷ rest) e l =
     omega (arith, a, b)
 
 -- no name comes or goes where the first reel of the drive d is taken away or laid down
-pub once_at_first : {X : Type 0} (s : ShopOf X) (d : ℕ) (reel : Option X) → d < length s.racks → EachReelOnce s → EachReelOnce (at_first s d reel)
+pub once_at_first : {X : Type 0} (s : LibraryOf X) (d : ℕ) (reel : Option X) → d < length s.drives → EachReelOnce s → EachReelOnce (at_first s d reel)
 once_at_first s d reel l once name =
-    let a = same_at_first (named name) (λ x reel. refl) s d reel (rack_at s d).stack refl l in
+    let a = same_at_first (named name) (λ x reel. refl) s d reel (drive_at s d).stack refl l in
     let b = times_named name (slots_in s) in
     let c = times_named name (slots_in (at_first s d reel)) in
     let o = once name in
     omega (arith, a, b, c, o)
 
 -- and none where it is moved to the bin
-pub once_to_bin : {X : Type 0} (s : ShopOf X) (d : ℕ) (reel : X) → d < length s.racks → 0 < length (rack_at s d).stack → EachReelOnce s → EachReelOnce (to_bin s d reel)
+pub once_to_bin : {X : Type 0} (s : LibraryOf X) (d : ℕ) (reel : X) → d < length s.drives → 0 < length (drive_at s d).stack → EachReelOnce s → EachReelOnce (to_bin s d reel)
 once_to_bin s d reel l some once name =
-    let w = first_of (rack_at s d).stack some in
+    let w = first_of (drive_at s d).stack some in
     let a = sum_by_to_bin (named name) s d reel w.0 w.1 l w.2 in
     let b = times_named name (slots_in s) in
     let c = times_named name (slots_in (to_bin s d reel)) in
     let o = once name in
     omega (arith, a, b, c, o)
 
-pub length_at_first : {X : Type 0} (s : ShopOf X) (d : ℕ) (reel : Option X) → d < length s.racks → length (slots_in (at_first s d reel)) ≡ length (slots_in s)
+pub length_at_first : {X : Type 0} (s : LibraryOf X) (d : ℕ) (reel : Option X) → d < length s.drives → length (slots_in (at_first s d reel)) ≡ length (slots_in s)
 length_at_first s d reel l =
-    let a = same_at_first (λ x. 1) (λ x reel. refl) s d reel (rack_at s d).stack refl l in
+    let a = same_at_first (λ x. 1) (λ x reel. refl) s d reel (drive_at s d).stack refl l in
     let b = length_sum (slots_in s) in
     let c = length_sum (slots_in (at_first s d reel)) in
     omega (arith, a, b, c)
 
-pub length_to_bin : {X : Type 0} (s : ShopOf X) (d : ℕ) (reel : X) → d < length s.racks → 0 < length (rack_at s d).stack → length (slots_in (to_bin s d reel)) ≡ length (slots_in s)
+pub length_to_bin : {X : Type 0} (s : LibraryOf X) (d : ℕ) (reel : X) → d < length s.drives → 0 < length (drive_at s d).stack → length (slots_in (to_bin s d reel)) ≡ length (slots_in s)
 length_to_bin s d reel l some =
-    let w = first_of (rack_at s d).stack some in
+    let w = first_of (drive_at s d).stack some in
     let a = sum_by_to_bin (λ x. 1) s d reel w.0 w.1 l w.2 in
     let b = length_sum (slots_in s) in
     let c = length_sum (slots_in (to_bin s d reel)) in
     omega (arith, a, b, c)
 
 -- the bin has less reels than there are
-pub bin_within : {X : Type 0} (s : ShopOf X) → length s.bin ≤ length (slots_in s)
+pub bin_within : {X : Type 0} (s : LibraryOf X) → length s.bin ≤ length (slots_in s)
 bin_within s =
     let a = length_sum (slots_in s) in
     let b = length_sum s.bin in
@@ -142,21 +142,21 @@ bin_within s =
     omega (arith, a, b, c)
 
 -- and less where one is on a stack
-pub bin_below : {X : Type 0} (s : ShopOf X) (d : ℕ) → d < length s.racks → 0 < length (rack_at s d).stack → length s.bin < length (slots_in s)
+pub bin_below : {X : Type 0} (s : LibraryOf X) (d : ℕ) → d < length s.drives → 0 < length (drive_at s d).stack → length s.bin < length (slots_in s)
 bin_below s d l some =
     let a = length_sum (slots_in s) in
     let b = length_sum s.bin in
     let c = sum_by_slots (λ x. 1) s in
-    let n = length_sum (rack_at s d).stack in
-    let e = sum_by-set (λ r. sum_by (λ x. 1) r.stack) s.racks d (rack [] []) (rack [] []) l in
+    let n = length_sum (drive_at s d).stack in
+    let e = sum_by-set (λ r. sum_by (λ x. 1) r.stack) s.drives d (drive_with [] []) (drive_with [] []) l in
     omega (arith, a, b, c, n, e)
 
 -- the reel that was latched at drive d is away
-pub latched_at_first : {X : Type 0} (s : ShopOf X) (d : ℕ) → d < length s.racks → 0 < length (rack_at s d).stack → IsSome (latched_at (at_first s d None) d)
+pub latched_at_first : {X : Type 0} (s : LibraryOf X) (d : ℕ) → d < length s.drives → 0 < length (drive_at s d).stack → IsSome (latched_at (at_first s d None) d)
 latched_at_first s d l some =
-    let r = rack_at s d in
+    let r = drive_at s d in
     let w = first_of r.stack some in
-    let is : (rack_at (at_first s d None) d).stack ≡ with_first None r.stack = ap (λ x. x.stack) (get_or-set_same s.racks d (rack r.name (with_first None r.stack)) (rack [] []) l) in
+    let is : (drive_at (at_first s d None) d).stack ≡ with_first None r.stack = ap (λ x. x.stack) (get_or-set_same s.drives d (drive_with r.name (with_first None r.stack)) (drive_with [] []) l) in
     subst (λ st. IsSome (latched_on st)) (sym is) (subst (λ st. IsSome (latched_on (with_first None st))) (sym w.2) refl)
 
 -- 1 for what is so, and else 0
@@ -181,35 +181,35 @@ any_count p [] = refl
 any_count p (x ∷ xs) = any_more p x xs (p x) refl (any_count p xs)
 
 -- what is found on the stacks or in the bin stands among the names
-any_stacks : {X : Type 0} (p : Slot X → Bool) (racks : List (Rack X)) → list_any p (flat_map (λ r. r.stack) racks) ≡ list_any (λ r. list_any p r.stack) racks
+any_stacks : {X : Type 0} (p : ReelSlot X → Bool) (drives : List (Drive X)) → list_any p (flat_map (λ r. r.stack) drives) ≡ list_any (λ r. list_any p r.stack) drives
 any_stacks p [] = refl
-any_stacks p (r ∷ racks) = list_any-append p r.stack (flat_map (λ r. r.stack) racks) ∙ ap (λ b. list_any p r.stack || b) (any_stacks p racks)
+any_stacks p (r ∷ drives) = list_any-append p r.stack (flat_map (λ r. r.stack) drives) ∙ ap (λ b. list_any p r.stack || b) (any_stacks p drives)
 
 -- a name is found among all where it is found on the stacks or in the bin
-any_slots : {X : Type 0} (name : List ℕ) (s : ShopOf X) (found : Bool) → (list_any (λ r. list_any (λ x. bytes_eq name x.name) r.stack) s.racks || list_any (λ x. bytes_eq name x.name) s.bin) ≡ found
+any_slots : {X : Type 0} (name : List ℕ) (s : LibraryOf X) (found : Bool) → (list_any (λ r. list_any (λ x. bytes_eq name x.name) r.stack) s.drives || list_any (λ x. bytes_eq name x.name) s.bin) ≡ found
     → MatchBool found (0 < times name (names_in s)) (times name (names_in s) ≡ 0)
 any_slots name s found e =
     let all : list_any (λ x. bytes_eq name x.name) (slots_in s) ≡ found =
-    list_any-append (λ x. bytes_eq name x.name) (flat_map (λ r. r.stack) s.racks) s.bin ∙ ap (λ b. b || list_any (λ x. bytes_eq name x.name) s.bin) (any_stacks (λ x. bytes_eq name x.name) s.racks) ∙ e in
+    list_any-append (λ x. bytes_eq name x.name) (flat_map (λ r. r.stack) s.drives) s.bin ∙ ap (λ b. b || list_any (λ x. bytes_eq name x.name) s.bin) (any_stacks (λ x. bytes_eq name x.name) s.drives) ∙ e in
     subst (λ b. MatchBool b (0 < times name (names_in s)) (times name (names_in s) ≡ 0)) all
     (subst (λ n. MatchBool (list_any (λ x. bytes_eq name x.name) (slots_in s)) (0 < n) (n ≡ 0)) (sym (times_named name (slots_in s))) (any_count (λ x. bytes_eq name x.name) (slots_in s)))
 
-pub any_is_stacked : {X : Type 0} (name : List ℕ) (s : ShopOf X) (found : Bool) → found ≡ list_any (λ r. list_any (λ x. bytes_eq name x.name) r.stack) s.racks → found ≡ true
+pub any_is_stacked : {X : Type 0} (name : List ℕ) (s : LibraryOf X) (found : Bool) → found ≡ list_any (λ r. list_any (λ x. bytes_eq name x.name) r.stack) s.drives → found ≡ true
     → MatchBool found (0 < times name (names_in s)) (times name (names_in s) ≡ 0)
 any_is_stacked name s found e t = any_slots name s found (ap (λ b. b || list_any (λ x. bytes_eq name x.name) s.bin) (sym e ∙ t) ∙ sym t)
 
-pub any_binned : {X : Type 0} (name : List ℕ) (s : ShopOf X) (stacked found : Bool) → stacked ≡ list_any (λ r. list_any (λ x. bytes_eq name x.name) r.stack) s.racks → stacked ≡ false
+pub any_binned : {X : Type 0} (name : List ℕ) (s : LibraryOf X) (stacked found : Bool) → stacked ≡ list_any (λ r. list_any (λ x. bytes_eq name x.name) r.stack) s.drives → stacked ≡ false
     → found ≡ list_any (λ x. bytes_eq name x.name) s.bin → MatchBool found (0 < times name (names_in s)) (times name (names_in s) ≡ 0)
 any_binned name s stacked found e f b = any_slots name s found (ap (λ x. x || list_any (λ x. bytes_eq name x.name) s.bin) (sym e ∙ f) ∙ sym b)
 
 -- a drive more adds no reel
-pub slots_drive : {X : Type 0} (racks : List (Rack X)) (bin : List (Slot X)) (name : List ℕ) → slots_in (shop (racks ++ rack name [] ∷ []) bin) ≡ slots_in (shop racks bin)
-slots_drive racks bin name = ap (λ xs. xs ++ bin) (flat_map-append (λ r. r.stack) racks (rack name [] ∷ []) ∙ append-nil (flat_map (λ r. r.stack) racks))
+pub slots_drive : {X : Type 0} (drives : List (Drive X)) (bin : List (ReelSlot X)) (name : List ℕ) → slots_in (library (drives ++ drive_with name [] ∷ []) bin) ≡ slots_in (library drives bin)
+slots_drive drives bin name = ap (λ xs. xs ++ bin) (flat_map-append (λ r. r.stack) drives (drive_with name [] ∷ []) ∙ append-nil (flat_map (λ r. r.stack) drives))
 
 -- a sum after a reel was added to the stack of the drive d
-pub sum_by_added : {X : Type 0} (f : Slot X → ℕ) (s : ShopOf X) (d : ℕ) (x : Slot X) → d < length s.racks
-    → sum_by f (slots_in (with_rack s d (rack (rack_at s d).name ((rack_at s d).stack ++ x ∷ [])))) ≡ sum_by f (slots_in s) + f x
+pub sum_by_added : {X : Type 0} (f : ReelSlot X → ℕ) (s : LibraryOf X) (d : ℕ) (x : ReelSlot X) → d < length s.drives
+    → sum_by f (slots_in (with_drive_at s d (drive_with (drive_at s d).name ((drive_at s d).stack ++ x ∷ [])))) ≡ sum_by f (slots_in s) + f x
 sum_by_added f s d x l =
-    let a = sum_by_with_rack f s d (rack (rack_at s d).name ((rack_at s d).stack ++ x ∷ [])) l in
-    let b = sum_by_push f (rack_at s d).stack x in
+    let a = sum_by_with_drive f s d (drive_with (drive_at s d).name ((drive_at s d).stack ++ x ∷ [])) l in
+    let b = sum_by_push f (drive_at s d).stack x in
     omega (arith, a, b)

@@ -4,40 +4,40 @@ use Rattle.std.specs.List.{list_any, list_all, find, cons_option}
 use Rattle.std.specs.Option.{option_and_then}
 use Rattle.std.specs.Set.{remove_key}
 use Rattle.std.specs.Str.{bytes_eq}
-use Rattle.drives.specs.Shop.{Slot, rack, ShopOf, shop, rack_at, latched_at}
-use Rattle.drives.specs.ListShop.{ListShop, with_shop}
+use Rattle.drives.specs.TapeLibrary.{ReelSlot, drive_with, LibraryOf, library, drive_at, latched_at}
+use Rattle.drives.specs.ListLibrary.{ListLibrary, with_library}
 use Rattle.drives.specs.declared.fault.DriveFault.{DriveFault}
 use Rattle.drives.specs.declared.fault.DriveFault.TheVariants.{OutOfMemory}
 
 -- the reel that has that name
-abbrev pub slot_named : {X : Type 0} → List ℕ → List (Slot X) → Option (Slot X)
+abbrev pub slot_named : {X : Type 0} → List ℕ → List (ReelSlot X) → Option (ReelSlot X)
 slot_named name slots = find (λ x. bytes_eq name x.name) slots
 
 -- what lies under that name: none while the reel is latched
-abbrev pub reel_named : {X : Type 0} → List ℕ → List (Slot X) → Option X
+abbrev pub reel_named : {X : Type 0} → List ℕ → List (ReelSlot X) → Option X
 reel_named name slots = option_and_then (λ x. x.reel) (slot_named name slots)
 
 -- the reels but the one of that name, in their order
-abbrev pub without : {X : Type 0} → List ℕ → List (Slot X) → List (Slot X)
+abbrev pub without : {X : Type 0} → List ℕ → List (ReelSlot X) → List (ReelSlot X)
 without name slots = remove_key (λ x. bytes_eq name x.name) slots
 
 -- the reels of these names, in the names' order
-abbrev pub picked : {X : Type 0} → List (List ℕ) → List (Slot X) → List (Slot X)
+abbrev pub picked : {X : Type 0} → List (List ℕ) → List (ReelSlot X) → List (ReelSlot X)
 picked [] slots = []
 picked (name ∷ names) slots = cons_option (slot_named name slots) (picked names (without name slots))
 
 -- the reels of other names, in their own order
-abbrev pub left : {X : Type 0} → List (List ℕ) → List (Slot X) → List (Slot X)
+abbrev pub left : {X : Type 0} → List (List ℕ) → List (ReelSlot X) → List (ReelSlot X)
 left [] slots = slots
 left (name ∷ names) slots = left names (without name slots)
 
 -- what may come to the stack of drive d: the reels of the bin, and those of that stack
-abbrev pub pile_of : {X : Type 0} → ShopOf X → ℕ → List (Slot X)
-pile_of s d = s.bin ++ (rack_at s d).stack
+abbrev pub pile_of : {X : Type 0} → LibraryOf X → ℕ → List (ReelSlot X)
+pile_of s d = s.bin ++ (drive_at s d).stack
 
 -- the stack of drive d is the reels of these names in that order, and the bin has the others
-abbrev pub arranged : {X : Type 0} → ShopOf X → ℕ → List (List ℕ) → ShopOf X
-arranged s d names = shop (slice_set s.racks d (rack (rack_at s d).name (picked names (pile_of s d)))) (left names (pile_of s d))
+abbrev pub arranged : {X : Type 0} → LibraryOf X → ℕ → List (List ℕ) → LibraryOf X
+arranged s d names = library (slice_set s.drives d (drive_with (drive_at s d).name (picked names (pile_of s d)))) (left names (pile_of s d))
 
 -- the first of these names stands again
 abbrev pub is_repeated : List (List ℕ) → Bool
@@ -50,20 +50,20 @@ are_distinct [] = true
 are_distinct (name ∷ names) = not (list_any (bytes_eq name) names) && are_distinct names
 
 -- one of these reels has that name
-abbrev pub is_among : {X : Type 0} → List (Slot X) → List ℕ → Bool
+abbrev pub is_among : {X : Type 0} → List (ReelSlot X) → List ℕ → Bool
 is_among slots name = list_any (λ x. bytes_eq name x.name) slots
 
 -- a reel of the bin or of the stack of drive d has that name
-abbrev pub is_piled : {X : Type 0} → ShopOf X → ℕ → List ℕ → Bool
-is_piled s d name = is_among s.bin name || is_among (rack_at s d).stack name
+abbrev pub is_piled : {X : Type 0} → LibraryOf X → ℕ → List ℕ → Bool
+is_piled s d name = is_among s.bin name || is_among (drive_at s d).stack name
 
 -- The stack of drive d may be arranged so: no reel of it is latched, no name stands twice, and each is that of a reel
 -- of the bin or of that stack.
-abbrev pub may_arrange : {X : Type 0} → ShopOf X → ℕ → List (List ℕ) → Bool
+abbrev pub may_arrange : {X : Type 0} → LibraryOf X → ℕ → List (List ℕ) → Bool
 may_arrange s d names = (not (is_some (latched_at s d)) && are_distinct names) && list_all (is_piled s d) names
 
 -- The stack was arranged. It is not only for want of memory; then nothing changed.
-abbrev pub IsArranged : {U : Type 0} → ListShop → ℕ → List (List ℕ) → Result U DriveFault → ListShop → Type 0
-IsArranged old d names (Ok x) new = new ≡ with_shop old (arranged old.shop d names)
+abbrev pub IsArranged : {U : Type 0} → ListLibrary → ℕ → List (List ℕ) → Result U DriveFault → ListLibrary → Type 0
+IsArranged old d names (Ok x) new = new ≡ with_library old (arranged old.library d names)
 IsArranged old d names (Err OutOfMemory) new = new ≡ old
 IsArranged old d names (Err _) new = ⊥

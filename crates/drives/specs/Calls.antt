@@ -1,6 +1,6 @@
 -- The calls of stacks: what was asked of them, and what they answered. Public contracts cite it.
 use Rattle.std.specs.Prelude.{ℕ, Option, Some, None, Result, Ok, Err}
-use Rattle.drives.specs.Shop.{Shop}
+use Rattle.drives.specs.TapeLibrary.{TapeLibrary}
 use Rattle.drives.specs.declared.fault.DriveFault.{DriveFault}
 
 pub data StacksCall (R : Type 0) : Type 0 where
@@ -62,13 +62,13 @@ moved_result (Err refused) = Err refused.1
 -- what stacks of a kind promise: what they tell, the number of drives, the count of failures, whether a device can
 -- fail, and what they promise of a call beside what all stacks promise
 pub record StacksKind (S R : Type 0) : Type 1 where
-  pub holds : S → Shop → Type 0
+  pub holds : S → TapeLibrary → Type 0
   pub drives : S → ℕ
   pub failures : S → ℕ
   pub can_fail : S → Type 0
   pub makes : S → S → StacksCall R → Type 0
 
-abbrev pub stacks_kind : {S R : Type 0} → (S → Shop → Type 0) → (S → ℕ) → (S → ℕ) → (S → Type 0)
+abbrev pub stacks_kind : {S R : Type 0} → (S → TapeLibrary → Type 0) → (S → ℕ) → (S → ℕ) → (S → Type 0)
     → (S → S → StacksCall R → Type 0) → StacksKind S R
 stacks_kind holds drives failures can_fail makes =
     record { holds = holds; drives = drives; failures = failures; can_fail = can_fail; makes = makes }

@@ -10,7 +10,7 @@ use Rattle.drives.specs.declared.stacks.Stacks.{Ghosts as StacksPromise}
 use Rattle.drives.specs.declared.table.DriveTable.{DriveTable}
 use Rattle.drives.specs.declared.view.View.{View}
 use Rattle.drives.specs.Holding.{has, taken, given, last_drive, word_after_take}
-use Rattle.drives.specs.Shop.{Shop, IsDriveNamed}
+use Rattle.drives.specs.TapeLibrary.{TapeLibrary, IsDriveNamed}
 use Rattle.drives.specs.Calls.{StacksKind, stacks_kind}
 use Rattle.drives.specs.Calls.StacksCall.{Latch}
 use Rattle.drives.specs.Stacking.{LatchStep, IsStacksCall}
@@ -53,7 +53,7 @@ word_after_open (Ok opened) number d n = word_after_take number opened.0 d n
 word_after_open (Err fault) number d n = n
 
 -- the first line that applies: no drive of that name, busy, and then what the latch answers
-abbrev pub OpenStep : {R : Type 0} → (R → Tape → Type 0) → (R → ℕ) → List ℕ → Option ℕ → Result (ℕ × R) DriveFault → Shop → Shop → Type 0
+abbrev pub OpenStep : {R : Type 0} → (R → Tape → Type 0) → (R → ℕ) → List ℕ → Option ℕ → Result (ℕ × R) DriveFault → TapeLibrary → TapeLibrary → Type 0
 OpenStep holds capacity name asked (Ok opened) s now =
     (asked ≡ Some opened.0) × IsDriveNamed name s (Some opened.0) × LatchStep holds capacity opened.0 (Ok opened.1) s now
 OpenStep holds capacity name asked (Err NoSuchDrive) s now = IsDriveNamed name s None × (now ≡ s)

@@ -5,13 +5,13 @@ use Rattle.tape.specs.Tape.{Tape, tape, entries_of}
 use Rattle.tape.specs.declared.reel.Reel.{Ghosts as ReelPromise}
 use Rattle.drives.specs.declared.fault.DriveFault.{DriveFault}
 use Rattle.drives.specs.declared.fault.DriveFault.TheVariants.{NoReel, Device, OutOfMemory, NameTaken}
-use Rattle.drives.specs.Shop.{Shop, KeptReel, waiting_reel, latched_at, after_latch, after_unlatch, after_offline, IsNameInBin}
+use Rattle.drives.specs.TapeLibrary.{TapeLibrary, KeptReel, waiting_reel, latched_at, after_latch, after_unlatch, after_offline, IsNameInBin}
 use Rattle.drives.specs.Calls.{StacksKind, StacksCall, fault_of, reel_taken, reel_brought, drive_latched, drive_left, moved_result}
 use Rattle.drives.specs.Calls.StacksCall.{Latch, LayBack, Move}
 
 -- The first reel is latched at place 0. It is not only where there is none, or one that cannot be had; then
 -- nothing changed.
-abbrev pub LatchStep : {R : Type 0} → (R → Tape → Type 0) → (R → ℕ) → ℕ → Result R DriveFault → Shop → Shop → Type 0
+abbrev pub LatchStep : {R : Type 0} → (R → Tape → Type 0) → (R → ℕ) → ℕ → Result R DriveFault → TapeLibrary → TapeLibrary → Type 0
 LatchStep holds capacity d (Ok reel) s now =
     (first : KeptReel) × (waiting_reel s d ≡ Some first) × (now ≡ after_latch s d)
     × holds reel (tape [] first.entries) × (capacity reel ≡ first.capacity)
@@ -19,21 +19,21 @@ LatchStep holds capacity d (Err NoReel) s now = (waiting_reel s d ≡ None) × (
 LatchStep holds capacity d (Err fault) s now = (waiting_reel s d ≢ None) × (now ≡ s)
 
 -- a reel was not moved: nothing changed, and its name is taken only where the bin has it
-abbrev pub StaysOnline : ℕ → DriveFault → Shop → Shop → Type 0
+abbrev pub StaysOnline : ℕ → DriveFault → TapeLibrary → TapeLibrary → Type 0
 StaysOnline d fault s now = (now ≡ s) × (fault ≡ NameTaken → IsNameInBin s (latched_at s d))
 
 -- where the stacks tell, a reel is latched at drive d
-abbrev pub HasLatched : {S : Type 0} → (S → Shop → Type 0) → S → ℕ → Type 0
-HasLatched {S} holds stacks d = (s : Shop) → holds stacks s → IsSome (latched_at s d)
+abbrev pub HasLatched : {S : Type 0} → (S → TapeLibrary → Type 0) → S → ℕ → Type 0
+HasLatched {S} holds stacks d = (s : TapeLibrary) → holds stacks s → IsSome (latched_at s d)
 
 -- what the call does to the shop, where the stacks tell one: a reel that comes to them is the tape that it tells
-abbrev pub ShopStep : {S R : Type 0} → StacksKind S R → ReelPromise R → S → StacksCall R → S → Type 0
-ShopStep s r old (Latch d result) new = Steps s.holds old new (LatchStep r.holds r.capacity d result)
-ShopStep s r old (LayBack d reel) new =
+abbrev pub LibraryStep : {S R : Type 0} → StacksKind S R → ReelPromise R → S → StacksCall R → S → Type 0
+LibraryStep s r old (Latch d result) new = Steps s.holds old new (LatchStep r.holds r.capacity d result)
+LibraryStep s r old (LayBack d reel) new =
     (t : Tape) → r.holds reel t → Steps s.holds old new (λ v now. now ≡ after_unlatch v d (entries_of t) (r.capacity reel))
-ShopStep s r old (Move d reel (Ok done)) new =
+LibraryStep s r old (Move d reel (Ok done)) new =
     (t : Tape) → r.holds reel t → Steps s.holds old new (λ v now. now ≡ after_offline v d (entries_of t) (r.capacity reel))
-ShopStep s r old (Move d reel (Err why)) new = Steps s.holds old new (StaysOnline d why)
+LibraryStep s r old (Move d reel (Err why)) new = Steps s.holds old new (StaysOnline d why)
 
 -- the faults that a latch can have
 abbrev pub IsLatchFault : Option DriveFault → Type 0
@@ -56,7 +56,7 @@ ReelCanFail r (Some reel) = r.can_fail reel
 
 pub record IsStacksCall {S R : Type 0} (s : StacksKind S R) (r : ReelPromise R) (old : S) (call : StacksCall R) (new : S) : Type 0 where
   -- where they tell, it is a step of their shop
-  pub step : ShopStep s r old call new
+  pub step : LibraryStep s r old call new
   -- and whether they tell or not, the answer is one that the call can have
   pub can : CanStacksAnswer call
   -- a reel is latched where the call latched one, and wherever one was, but where the call left none

@@ -3,14 +3,14 @@
 ghost use Rattle.std.specs.Prelude.{◌≡◌, ◌≢◌, ℕ, ◌<◌, List, IfErr, IfOk, IfSome, IsTrue, None, MatchBool, MatchResult, map, length};
 ghost use Rattle.std.specs.Option.{option_copied, option_map};
 ghost use Rattle.drives.specs.declared.fault.DriveFault.TheVariants.{Device};
-ghost use Rattle.drives.specs.ListShop.{IsShop, StacksCanFail, empty_shop, shop_of, at_rest, rest_slot, after_failure, IsDriveAdded, IsReelAdded, IsReelLatched, IsReelLaidBack, IsReelMoved, IsListStacksCall};
-ghost use Rattle.drives.specs.Shop.{Shop, IsDriveNamed, rack_at, slots_in, times, names_of, names_in, EachReelOnce};
+ghost use Rattle.drives.specs.ListLibrary.{IsLibrary, StacksCanFail, empty_library, library_of, at_rest, rest_slot, after_failure, IsDriveAdded, IsReelAdded, IsReelLatched, IsReelLaidBack, IsReelMoved, IsListStacksCall};
+ghost use Rattle.drives.specs.TapeLibrary.{TapeLibrary, IsDriveNamed, drive_at, slots_in, times, names_of, names_in, EachReelOnce};
 ghost use Rattle.drives.specs.Arranging.{slot_named, reel_named, arranged, may_arrange, IsArranged};
 ghost use Rattle.drives.specs.Calls.{moved_result};
 ghost use Rattle.drives.specs.Stacking.{HasLatched};
 
+use crate::list_drive::{ListDrive, any_stacked, find_stacked};
 use crate::pick::{all_differ, all_there, any_named, find_named, pick};
-use crate::rack::{ListRack, any_stacked, find_stacked};
 use crate::{DriveFault, ListedReel, Stacks};
 use std::alloc::Global;
 use std::marker::Model;
@@ -22,7 +22,7 @@ use tape::{Reel, TroubledReel};
 #[derive(Drop)]
 pub struct ListStacks {
     alloc: Global,
-    racks: Vec<ListRack>,
+    drives: Vec<ListDrive>,
     bin: Vec<ListedReel>,
     reels: usize,
     trouble: bool,
@@ -31,26 +31,26 @@ pub struct ListStacks {
 
 impl Model for ListStacks {
     ghost use Rattle.std.specs.Prelude.{vec_capacity};
-    ghost use Rattle.drives.specs.Shop.{shop};
-    ghost use Rattle.drives.specs.ListShop.{ListShop, IsStocked};
+    ghost use Rattle.drives.specs.TapeLibrary.{library};
+    ghost use Rattle.drives.specs.ListLibrary.{ListLibrary, IsStocked};
 
-    ghost Value = { ListShop };
+    ghost Value = { ListLibrary };
 
-    ghost view = { λ s. record { shop = shop s.racks.items s.bin.items; trouble = s.trouble; failures = s.failures } };
+    ghost view = { λ s. record { library = library s.drives.items s.bin.items; trouble = s.trouble; failures = s.failures } };
 
-    ghost invariant = { λ s. IsStocked (shop s.racks.items s.bin.items) s.reels (vec_capacity s.bin) };
+    ghost invariant = { λ s. IsStocked (library s.drives.items s.bin.items) s.reels (vec_capacity s.bin) };
 }
 
 impl ListStacks {
     /// No drive and an empty bin, with no trouble. It takes no memory.
     pub fn new(alloc: Global) -> ListStacks
-        ensures empty { result ≡ empty_shop }
-        ensures told { IsShop result (shop_of result) }
+        ensures empty { result ≡ empty_library }
+        ensures told { IsLibrary result (library_of result) }
         ensures quiet { StacksCanFail result → ⊥ }
     {
         ListStacks {
             alloc,
-            racks: Vec::new(alloc),
+            drives: Vec::new(alloc),
             bin: Vec::new(alloc),
             reels: 0,
             trouble: false,
@@ -63,7 +63,7 @@ impl ListStacks {
     /// Answers `NameTaken` where a drive has that name, and `OutOfMemory`. Nothing has changed then.
     pub fn add_drive(&mut self, name: &[u8]) -> Result<usize, DriveFault>
         ensures added { IsDriveAdded self.old name.now result self.new }
-        ensures told { IsShop self.new (shop_of self.new) }
+        ensures told { IsLibrary self.new (library_of self.new) }
         ensures quiet { StacksCanFail self.new → StacksCanFail self.old }
     {
         if self.number_of(name).is_some() {
@@ -78,9 +78,9 @@ impl ListStacks {
     /// Answers `NameTaken` where a reel on a stack, latched or in the bin has that name, and `OutOfMemory`. Nothing
     /// has changed then.
     pub fn add_reel(&mut self, drive: usize, name: &[u8], capacity: u64) -> Result<(), DriveFault>
-        requires { drive < length self.old.shop.racks }
+        requires { drive < length self.old.library.drives }
         ensures added { IsReelAdded self.old drive name.now capacity result self.new }
-        ensures told { IsShop self.new (shop_of self.new) }
+        ensures told { IsLibrary self.new (library_of self.new) }
         ensures quiet { StacksCanFail self.new → StacksCanFail self.old }
     {
         if self.has_reel(name) {
@@ -92,26 +92,26 @@ impl ListStacks {
     /// The reels of the drive's stack in order, first the one that is latched or would be latched next. The drive's number is
     /// one that `add_drive` gave.
     pub fn stack(&self, drive: usize) -> &[ListedReel]
-        requires { drive < length self.now.shop.racks }
-        ensures lying { result.now ≡ (rack_at self.now.shop drive).stack }
-        ensures told { map rest_slot result.now ≡ (rack_at (shop_of self.now) drive).stack }
+        requires { drive < length self.now.library.drives }
+        ensures lying { result.now ≡ (drive_at self.now.library drive).stack }
+        ensures told { map rest_slot result.now ≡ (drive_at (library_of self.now) drive).stack }
     {
-        let rack = &self.racks[drive];
-        rack.stack()
+        let chosen = &self.drives[drive];
+        chosen.stack()
     }
 
     /// The reels of the bin, in the order in which they were moved there.
     pub fn bin(&self) -> &[ListedReel]
-        ensures lying { result.now ≡ self.now.shop.bin }
-        ensures told { map rest_slot result.now ≡ (shop_of self.now).bin }
+        ensures lying { result.now ≡ self.now.library.bin }
+        ensures told { map rest_slot result.now ≡ (library_of self.now).bin }
     {
         &self.bin
     }
 
     /// The reel of that name, on a stack or in the bin. None while it is latched, and where there is none.
     pub fn reel(&self, name: &[u8]) -> Option<&TroubledReel>
-        ensures found { option_copied result ≡ reel_named name.now (slots_in self.now.shop) }
-        ensures told { option_map at_rest (option_copied result) ≡ reel_named name.now (slots_in (shop_of self.now)) }
+        ensures found { option_copied result ≡ reel_named name.now (slots_in self.now.library) }
+        ensures told { option_map at_rest (option_copied result) ≡ reel_named name.now (slots_in (library_of self.now)) }
     {
         match self.listed(name) {
             Some(listed) => listed.reel(),
@@ -122,9 +122,9 @@ impl ListStacks {
     /// Whether `arrange` can be asked for these names: no reel of the drive is latched, no name stands twice, and each
     /// is the name of a reel of its stack or of the bin. The drive's number is one that `add_drive` gave.
     pub fn can_arrange(&self, drive: usize, names: &[&[u8]]) -> bool
-        requires { drive < length self.now.shop.racks }
-        ensures may { result ≡ may_arrange self.now.shop drive (map (λ n. n.now) names.now) }
-        ensures told { result ≡ may_arrange (shop_of self.now) drive (map (λ n. n.now) names.now) }
+        requires { drive < length self.now.library.drives }
+        ensures may { result ≡ may_arrange self.now.library drive (map (λ n. n.now) names.now) }
+        ensures told { result ≡ may_arrange (library_of self.now) drive (map (λ n. n.now) names.now) }
     {
         self.can_put_stack(drive, names)
     }
@@ -135,20 +135,20 @@ impl ListStacks {
     ///
     /// Answers `OutOfMemory`. Nothing has changed then.
     pub fn arrange(&mut self, drive: usize, names: &[&[u8]]) -> Result<(), DriveFault>
-        requires drive { drive < length self.old.shop.racks }
-        requires may { IsTrue (may_arrange self.old.shop drive (map (λ n. n.now) names.now)) }
+        requires drive { drive < length self.old.library.drives }
+        requires may { IsTrue (may_arrange self.old.library drive (map (λ n. n.now) names.now)) }
         ensures arranged { IsArranged self.old drive (map (λ n. n.now) names.now) result self.new }
         ensures told_order { MatchResult result
-            (λ _. shop_of self.new ≡ arranged (shop_of self.old) drive (map (λ n. n.now) names.now))
-            (λ _. shop_of self.new ≡ shop_of self.old) }
-        ensures order { IfOk result (λ _. names_of (rack_at self.new.shop drive).stack ≡ map (λ n. n.now) names.now) }
-        ensures told { IsShop self.new (shop_of self.new) }
-        ensures names { (name : List ℕ) → times name (names_in self.new.shop) ≡ times name (names_in self.old.shop) }
-        ensures elsewhere { (d : ℕ) → d ≢ drive → HasLatched IsShop self.old d → HasLatched IsShop self.new d }
+            (λ _. library_of self.new ≡ arranged (library_of self.old) drive (map (λ n. n.now) names.now))
+            (λ _. library_of self.new ≡ library_of self.old) }
+        ensures order { IfOk result (λ _. names_of (drive_at self.new.library drive).stack ≡ map (λ n. n.now) names.now) }
+        ensures told { IsLibrary self.new (library_of self.new) }
+        ensures names { (name : List ℕ) → times name (names_in self.new.library) ≡ times name (names_in self.old.library) }
+        ensures elsewhere { (d : ℕ) → d ≢ drive → HasLatched IsLibrary self.old d → HasLatched IsLibrary self.new d }
         ensures quiet { StacksCanFail self.new → StacksCanFail self.old }
         ensures same_trouble { self.new.trouble ≡ self.old.trouble }
         ensures same_failures { self.new.failures ≡ self.old.failures }
-        ensures same_drives { length self.new.shop.racks ≡ length self.old.shop.racks }
+        ensures same_drives { length self.new.library.drives ≡ length self.old.library.drives }
     {
         self.put_stack(drive, names)
     }
@@ -163,28 +163,28 @@ impl ListStacks {
 
     /// The first drive of that name.
     fn number_of(&self, name: &[u8]) -> Option<usize>
-        ensures found { IsDriveNamed name.now self.now.shop result }
-        ensures once { EachReelOnce self.now.shop }
+        ensures found { IsDriveNamed name.now self.now.library result }
+        ensures once { EachReelOnce self.now.library }
     {
-        self.racks.iter().position(|rack| rack.is_named(name))
+        self.drives.iter().position(|chosen| chosen.is_named(name))
     }
 
     /// Whether a reel on a stack, latched or in the bin has that name.
     fn has_reel(&self, name: &[u8]) -> bool
-        ensures found { MatchBool result (0 < times name.now (names_in self.now.shop)) (times name.now (names_in self.now.shop) ≡ 0) }
-        ensures once { EachReelOnce self.now.shop }
+        ensures found { MatchBool result (0 < times name.now (names_in self.now.library)) (times name.now (names_in self.now.library) ≡ 0) }
+        ensures once { EachReelOnce self.now.library }
     {
-        any_stacked(&self.racks, name) || any_named(&self.bin, name)
+        any_stacked(&self.drives, name) || any_named(&self.bin, name)
     }
 
     /// Adds a drive of a new name. Answers `OutOfMemory`; nothing has changed then.
     fn put_drive(&mut self, name: &[u8]) -> Result<usize, DriveFault>
-        requires { IsDriveNamed name.now self.old.shop None }
+        requires { IsDriveNamed name.now self.old.library None }
         ensures { IsDriveAdded self.old name.now result self.new }
     {
-        let number = self.racks.len();
-        let rack = ListRack::new(self.alloc, name)?;
-        if self.racks.push(rack).is_err() {
+        let number = self.drives.len();
+        let chosen = ListDrive::new(self.alloc, name)?;
+        if self.drives.push(chosen).is_err() {
             return Err(DriveFault::OutOfMemory);
         }
         Ok(number)
@@ -192,23 +192,23 @@ impl ListStacks {
 
     /// Adds an empty reel of a new name. Answers `OutOfMemory`; nothing has changed then.
     fn put_reel(&mut self, drive: usize, name: &[u8], capacity: u64) -> Result<(), DriveFault>
-        requires drive { drive < length self.old.shop.racks }
-        requires free { times name.now (names_in self.old.shop) ≡ 0 }
+        requires drive { drive < length self.old.library.drives }
+        requires free { times name.now (names_in self.old.library) ≡ 0 }
         ensures { IsReelAdded self.old drive name.now capacity result self.new }
     {
         let reel = ListedReel::new(self.alloc, name, capacity)?;
         self.bin.reserve(self.reels - self.bin.len() + 1)?;
-        let rack = &mut self.racks[drive];
-        rack.push(reel)?;
+        let chosen = &mut self.drives[drive];
+        chosen.push(reel)?;
         self.reels += 1;
         Ok(())
     }
 
     /// The place of the reel of that name, on a stack or in the bin.
     fn listed(&self, name: &[u8]) -> Option<&ListedReel>
-        ensures { option_copied result ≡ slot_named name.now (slots_in self.now.shop) }
+        ensures { option_copied result ≡ slot_named name.now (slots_in self.now.library) }
     {
-        if let Some(listed) = find_stacked(&self.racks, name) {
+        if let Some(listed) = find_stacked(&self.drives, name) {
             return Some(listed);
         }
         find_named(&self.bin, name)
@@ -216,44 +216,44 @@ impl ListStacks {
 
     /// Whether the stack of the drive can be arranged so, as `can_arrange` says.
     fn can_put_stack(&self, drive: usize, names: &[&[u8]]) -> bool
-        requires { drive < length self.now.shop.racks }
-        ensures { result ≡ may_arrange self.now.shop drive (map (λ n. n.now) names.now) }
+        requires { drive < length self.now.library.drives }
+        ensures { result ≡ may_arrange self.now.library drive (map (λ n. n.now) names.now) }
     {
-        let rack = &self.racks[drive];
-        if rack.is_latched() {
+        let chosen = &self.drives[drive];
+        if chosen.is_latched() {
             return false;
         }
-        all_differ(names) && all_there(names, &self.bin, rack.stack())
+        all_differ(names) && all_there(names, &self.bin, chosen.stack())
     }
 
     /// Arranges the stack of the drive, as `arrange` does.
     fn put_stack(&mut self, drive: usize, names: &[&[u8]]) -> Result<(), DriveFault>
-        requires { drive < length self.old.shop.racks }
+        requires { drive < length self.old.library.drives }
         ensures arranged { IsArranged self.old drive (map (λ n. n.now) names.now) result self.new }
-        ensures once { EachReelOnce self.old.shop }
+        ensures once { EachReelOnce self.old.library }
     {
         let mut stack = Vec::with_capacity(self.alloc, names.len())?;
-        let rack = &mut self.racks[drive];
-        rack.lay_off(&mut self.bin)?;
+        let chosen = &mut self.drives[drive];
+        chosen.lay_off(&mut self.bin)?;
         pick(&mut self.bin, names, &mut stack);
-        rack.lay_on(stack);
+        chosen.lay_on(stack);
         Ok(())
     }
 
     /// Latches the first reel of the drive's stack, as `Stacks::latch` does.
     fn take_first(&mut self, drive: usize) -> Result<TroubledReel, DriveFault>
-        requires { drive < length self.old.shop.racks }
+        requires { drive < length self.old.library.drives }
         ensures latched { IsReelLatched self.old drive result self.new }
-        ensures once { EachReelOnce self.old.shop }
+        ensures once { EachReelOnce self.old.library }
     {
         if self.trouble {
-            let rack = &self.racks[drive];
-            if rack.is_ready() {
+            let chosen = &self.drives[drive];
+            if chosen.is_ready() {
                 return Err(self.fail());
             }
         }
-        let rack = &mut self.racks[drive];
-        let Some(mut reel) = rack.latch() else {
+        let chosen = &mut self.drives[drive];
+        let Some(mut reel) = chosen.latch() else {
             return Err(DriveFault::NoReel);
         };
         reel.rewind();
@@ -262,14 +262,14 @@ impl ListStacks {
 
     /// Lays the latched reel down, as `Stacks::unlatch` does.
     fn lay_first(&mut self, drive: usize, reel: TroubledReel)
-        requires drive { drive < length self.old.shop.racks }
-        requires latched { HasLatched IsShop self.old drive }
-        ensures some { 0 < length (rack_at self.old.shop drive).stack }
-        ensures once { EachReelOnce self.old.shop }
+        requires drive { drive < length self.old.library.drives }
+        requires latched { HasLatched IsLibrary self.old drive }
+        ensures some { 0 < length (drive_at self.old.library drive).stack }
+        ensures once { EachReelOnce self.old.library }
         ensures laid { IsReelLaidBack self.old drive reel self.new }
     {
-        let rack = &mut self.racks[drive];
-        rack.unlatch(reel);
+        let chosen = &mut self.drives[drive];
+        chosen.unlatch(reel);
     }
 
     /// Moves the latched reel to the end of the bin, as `Stacks::offline` does.
@@ -278,18 +278,18 @@ impl ListStacks {
         drive: usize,
         reel: TroubledReel,
     ) -> Result<(), (TroubledReel, DriveFault)>
-        requires drive { drive < length self.old.shop.racks }
-        requires latched { HasLatched IsShop self.old drive }
-        ensures some { 0 < length (rack_at self.old.shop drive).stack }
-        ensures once { EachReelOnce self.old.shop }
+        requires drive { drive < length self.old.library.drives }
+        requires latched { HasLatched IsLibrary self.old drive }
+        ensures some { 0 < length (drive_at self.old.library drive).stack }
+        ensures once { EachReelOnce self.old.library }
         ensures moved { IsReelMoved self.old drive reel (moved_result result) self.new }
         ensures back { IfErr result (λ refused. refused.0 ≡ reel) }
     {
         if self.trouble {
             return Err((reel, self.fail()));
         }
-        let rack = &mut self.racks[drive];
-        let mut listed = rack.remove_first();
+        let chosen = &mut self.drives[drive];
+        let mut listed = chosen.remove_first();
         listed.put(reel);
         self.bin.push_reserved(listed);
         Ok(())
@@ -309,13 +309,13 @@ impl ListStacks {
 impl Stacks for ListStacks {
     ghost use Rattle.std.proofs.Common.{ap, sym, ◌∙◌};
     ghost use Rattle.std.proofs.lemmas.List.{length-map};
-    ghost use Rattle.drives.specs.ListShop.{rest_rack};
+    ghost use Rattle.drives.specs.ListLibrary.{rest_drive};
 
     type Reel = TroubledReel;
 
-    ghost holds = { IsShop };
+    ghost holds = { IsLibrary };
 
-    ghost drives = { λ s. length s.shop.racks };
+    ghost drives = { λ s. length s.library.drives };
 
     ghost failures = { λ s. s.failures };
 
@@ -324,9 +324,9 @@ impl Stacks for ListStacks {
     ghost makes = { IsListStacksCall };
 
     fn drive(&self, name: &[u8]) -> Option<usize>
-        ensures below { IfSome result (λ d. d < length self.now.shop.racks) }
-        ensures named { (s : Shop) → IsShop self.now s → IsDriveNamed name.now s result }
-        ensures found { IsDriveNamed name.now self.now.shop result }
+        ensures below { IfSome result (λ d. d < length self.now.library.drives) }
+        ensures named { (s : TapeLibrary) → IsLibrary self.now s → IsDriveNamed name.now s result }
+        ensures found { IsDriveNamed name.now self.now.library result }
     {
         self.number_of(name)
     }
@@ -362,5 +362,5 @@ impl Stacks for ListStacks {
 
     ghost once = { λ stacks s h. h.1 };
 
-    ghost sized = { λ stacks s h. ap (λ (x : Shop). length x.racks) h.0 ∙ length-map stacks.shop.racks rest_rack };
+    ghost sized = { λ stacks s h. ap (λ (x : TapeLibrary). length x.drives) h.0 ∙ length-map stacks.library.drives rest_drive };
 }

@@ -2,8 +2,8 @@
 
 ghost use Rattle.std.specs.Prelude.{◌≡◌, Some, None, IfOk, MatchOption};
 ghost use Rattle.std.specs.Str.{bytes_eq};
-ghost use Rattle.drives.specs.Shop.{slot};
-ghost use Rattle.drives.specs.ListShop.{blank_reel};
+ghost use Rattle.drives.specs.TapeLibrary.{slot};
+ghost use Rattle.drives.specs.ListLibrary.{blank_reel};
 
 use std::alloc::{AllocError, Global};
 use std::marker::Model;
@@ -17,10 +17,10 @@ pub struct ListedReel {
 }
 
 impl Model for ListedReel {
-    ghost use Rattle.drives.specs.Shop.{Slot, slot};
+    ghost use Rattle.drives.specs.TapeLibrary.{ReelSlot, slot};
     ghost use Rattle.tape.specs.Trouble.{TroubledTape};
 
-    ghost Value = { Slot TroubledTape };
+    ghost Value = { ReelSlot TroubledTape };
 
     ghost view = { λ x. slot x.name.items x.reel };
 }

@@ -1,7 +1,7 @@
 //! Stacks: what every kind of drives does with its reels.
 
 ghost use Rattle.std.specs.Prelude.{◌≡◌, ℕ, ◌<◌, IfSome, IfErr, length};
-ghost use Rattle.drives.specs.Shop.{Shop, IsDriveNamed, EachReelOnce};
+ghost use Rattle.drives.specs.TapeLibrary.{TapeLibrary, IsDriveNamed, EachReelOnce};
 ghost use Rattle.drives.specs.Calls.{StacksCall, stacks_kind};
 ghost use Rattle.drives.specs.Calls.StacksCall.{Latch, LayBack};
 ghost use Rattle.drives.specs.Stacking.{HasLatched, IsStacksCall, IsMoveCall};
@@ -18,7 +18,7 @@ pub trait Stacks {
     type Reel: Reel + Drop;
 
     /// The drives, reels and bin, where they tell.
-    ghost holds: { Self → Shop → Type 0 };
+    ghost holds: { Self → TapeLibrary → Type 0 };
 
     /// How many drives there are. They are numbered from 0.
     ghost drives: { Self → ℕ };
@@ -36,7 +36,7 @@ pub trait Stacks {
     /// The first drive of that name. It takes no memory.
     fn drive(&self, name: &[u8]) -> Option<usize>
         ensures below { IfSome result (λ d. d < drives self.now) }
-        ensures named { (s : Shop) → holds self.now s → IsDriveNamed name.now s result };
+        ensures named { (s : TapeLibrary) → holds self.now s → IsDriveNamed name.now s result };
 
     /// Latches the first reel of the drive's stack, at its beginning. Drives are counted from 0.
     ///
@@ -71,11 +71,11 @@ pub trait Stacks {
     fn note(&self, _line: &str) {}
 
     /// They tell one shop at most.
-    ghost single: { (stacks : Self) (s t : Shop) → holds stacks s → holds stacks t → s ≡ t };
+    ghost single: { (stacks : Self) (s t : TapeLibrary) → holds stacks s → holds stacks t → s ≡ t };
 
     /// No reel name stands twice.
-    ghost once: { (stacks : Self) (s : Shop) → holds stacks s → EachReelOnce s };
+    ghost once: { (stacks : Self) (s : TapeLibrary) → holds stacks s → EachReelOnce s };
 
     /// The shop has that many drives.
-    ghost sized: { (stacks : Self) (s : Shop) → holds stacks s → length s.racks ≡ drives stacks };
+    ghost sized: { (stacks : Self) (s : TapeLibrary) → holds stacks s → length s.drives ≡ drives stacks };
 }

@@ -14,7 +14,7 @@ const CAPACITY: u64 = 1 << 20;
 
 /// Two drives, `/dev/st0` and `/dev/st1`, each with an empty reel. None where memory is refused.
 fn two_drives(alloc: Global) -> Option<ListStacks>
-    ensures { IfSome result (λ stacks. length stacks.shop.racks ≡ 2) }
+    ensures { IfSome result (λ stacks. length stacks.library.drives ≡ 2) }
 {
     let mut stacks = ListStacks::new(alloc);
     let first = stacks.add_drive(b"/dev/st0").ok()?;

@@ -22,46 +22,46 @@ abbrev pub folder_row : List ℕ → List ℕ → Bool → FolderRow
 folder_row name folder latched = record { name = name; folder = folder; latched = latched; failed = None }
 
 -- the drives, the bin's folder, how many bytes each reel takes, and how often the device has failed
-pub record FolderShop : Type 0 where
+pub record FolderLibrary : Type 0 where
   pub rows : List FolderRow
   pub bin : List ℕ
   pub capacity : ℕ
   pub failures : ℕ
 
-abbrev pub folder_shop : List FolderRow → List ℕ → ℕ → ℕ → FolderShop
-folder_shop rows bin capacity failures = record { rows = rows; bin = bin; capacity = capacity; failures = failures }
+abbrev pub folder_library : List FolderRow → List ℕ → ℕ → ℕ → FolderLibrary
+folder_library rows bin capacity failures = record { rows = rows; bin = bin; capacity = capacity; failures = failures }
 
 -- the drive d
-abbrev pub row_at : FolderShop → ℕ → FolderRow
+abbrev pub row_at : FolderLibrary → ℕ → FolderRow
 row_at s d = slice_index_or s.rows d (folder_row [] [] false)
 
 -- a reel is latched at drive d, or none is, and no sync has failed
-abbrev pub with_latched : FolderShop → ℕ → Bool → FolderShop
+abbrev pub with_latched : FolderLibrary → ℕ → Bool → FolderLibrary
 with_latched s d latched = record s { rows = slice_set s.rows d (folder_row (row_at s d).name (row_at s d).folder latched) }
 
 -- a sync failed at drive d, of a file that had been cut to nothing so often
-abbrev pub with_failed : FolderShop → ℕ → ℕ → FolderShop
+abbrev pub with_failed : FolderLibrary → ℕ → ℕ → FolderLibrary
 with_failed s d beginnings = record s { rows = slice_set s.rows d (record (row_at s d) { failed = Some beginnings }) }
 
 -- no sync has failed at drive d since its file was last cut to nothing
-abbrev pub IsSyncable : FolderShop → ℕ → FileCount → Type 0
+abbrev pub IsSyncable : FolderLibrary → ℕ → FileCount → Type 0
 IsSyncable s d file = (row_at s d).failed ≢ Some file.beginnings
 
 -- the device failed once more
-abbrev pub after_fault : FolderShop → FolderShop
+abbrev pub after_fault : FolderLibrary → FolderLibrary
 after_fault s = record s { failures = raised s.failures }
 
 -- one of its folders: that of a stack, or the bin's
-abbrev pub IsFolderOf : FolderShop → List ℕ → Type 0
+abbrev pub IsFolderOf : FolderLibrary → List ℕ → Type 0
 IsFolderOf s folder = Contains (map (λ r. r.folder) s.rows) folder ⊎ (folder ≡ s.bin)
 
 -- the first drive of that name, or that there is none
-abbrev pub IsRowNamed : List ℕ → FolderShop → Option ℕ → Type 0
+abbrev pub IsRowNamed : List ℕ → FolderLibrary → Option ℕ → Type 0
 IsRowNamed name s None = (k : ℕ) → k < length s.rows → (row_at s k).name ≢ name
 IsRowNamed name s (Some d) = (d < length s.rows) × ((row_at s d).name ≡ name) × ((k : ℕ) → k < d → (row_at s k).name ≢ name)
 
 -- The device failed, which is counted, or a growth was refused, and nothing changed.
-abbrev pub IsFolderRefused : FolderShop → DriveFault → FolderShop → Type 0
+abbrev pub IsFolderRefused : FolderLibrary → DriveFault → FolderLibrary → Type 0
 IsFolderRefused old Device new = new ≡ after_fault old
 IsFolderRefused old OutOfMemory new = new ≡ old
 IsFolderRefused old _ new = ⊥
@@ -72,7 +72,7 @@ IsUntouched file = (file.failures ≡ 0) × (file.beginnings ≡ 0) × (file.wri
 
 -- A reel was latched where none was, at its beginning and with the capacity, on a file that is untouched. It is not only where one
 -- is latched or none was found, for want of memory, which change nothing, and where the device failed, which is counted.
-abbrev pub IsFolderLatch : FolderShop → ℕ → Result (FileTape FileCount) DriveFault → FolderShop → Type 0
+abbrev pub IsFolderLatch : FolderLibrary → ℕ → Result (FileTape FileCount) DriveFault → FolderLibrary → Type 0
 IsFolderLatch old d (Ok reel) new =
     ((row_at old d).latched ≡ false) × (reel.offset ≡ 0) × (reel.capacity ≡ old.capacity) × IsUntouched reel.medium
     × (new ≡ with_latched old d true)
@@ -81,14 +81,14 @@ IsFolderLatch old d (Err fault) new = ((row_at old d).latched ≡ false) × IsFo
 
 -- The latched reel was moved, of which no sync has failed since its file was last cut to nothing. It is not only where its
 -- name is taken, which changes nothing, and where the device failed, which is counted: a sync that failed is noted.
-abbrev pub IsFolderMove : {U : Type 0} → FolderShop → ℕ → FileCount → Result U DriveFault → FolderShop → Type 0
+abbrev pub IsFolderMove : {U : Type 0} → FolderLibrary → ℕ → FileCount → Result U DriveFault → FolderLibrary → Type 0
 IsFolderMove old d file (Ok done) new = ((row_at old d).latched ≡ true) × IsSyncable old d file × (new ≡ with_latched old d false)
 IsFolderMove old d file (Err Device) new = (new ≡ after_fault old) ⊎ (new ≡ after_fault (with_failed old d file.beginnings))
 IsFolderMove old d file (Err NameTaken) new = ((row_at old d).latched ≡ true) × IsSyncable old d file × (new ≡ old)
 IsFolderMove old d file (Err _) new = ⊥
 
 -- what a call of stacks in folders leaves
-abbrev pub IsFolderCall : FolderShop → FolderShop → StacksCall (FileTape FileCount) → Type 0
+abbrev pub IsFolderCall : FolderLibrary → FolderLibrary → StacksCall (FileTape FileCount) → Type 0
 IsFolderCall old new (Latch d result) = IsFolderLatch old d result new
 IsFolderCall old new (LayBack d reel) = new ≡ with_latched old d false
 IsFolderCall old new (Move d reel result) = IsFolderMove old d reel.medium result new

@@ -3,26 +3,26 @@
 ghost use Rattle.std.specs.Prelude.{◌≡◌, ◌≤◌, ◌<◌, ◌↔◌, false, IfOk, IfSome, IsSome, IsErr, IsErrAnd, MatchResult, None, map, length};
 ghost use Rattle.std.specs.IoError.{error_kind, raw_os_error};
 ghost use Rattle.drives.specs.declared.fault.DriveFault.TheVariants.{Device, OutOfMemory};
-ghost use Rattle.drives.specs.Shop.{Shop, IsDriveNamed};
+ghost use Rattle.drives.specs.TapeLibrary.{TapeLibrary, IsDriveNamed};
 ghost use Rattle.drives.specs.declared.holds.TheConstants.{DRIVE_LIMIT};
-ghost use Rattle.reel_files.specs.Folders.{folder_shop, folder_row, after_fault, row_at, IsFolderOf, IsRowNamed, IsFolderRefused, IsFolderMove, IsUntouched};
+ghost use Rattle.reel_files.specs.Folders.{folder_library, folder_row, after_fault, row_at, IsFolderOf, IsRowNamed, IsFolderRefused, IsFolderMove, IsUntouched};
 
+mod drive_state;
 mod known;
 mod line;
 mod listing;
 mod lock;
 mod look;
 mod moving;
-mod rack;
 mod refusal;
 mod report;
 
 use crate::{FileMedium, FolderSystem, Log, NoLog};
+use drive_state::{FolderDriveState, Found};
 use drives::{DriveFault, Stacks};
 use known::FileId;
 use look::{clash_of, look_at, look_at_next, look_between};
 use moving::Moved;
-use rack::{FolderRack, Found};
 use refusal::Refusal;
 use std::alloc::{AllocError, Global};
 use std::fs::File;
@@ -58,7 +58,7 @@ pub struct FolderFault<'a> {
 pub struct FolderStacks<R: FolderSystem, L: Log + Drop> {
     rt: R,
     log: L,
-    racks: Vec<FolderRack>,
+    drives: Vec<FolderDriveState>,
     bin: String,
     capacity: u64,
     failures: u64,
@@ -66,11 +66,11 @@ pub struct FolderStacks<R: FolderSystem, L: Log + Drop> {
 
 impl<R: FolderSystem, L: Log + Drop> Model for FolderStacks<R, L> {
     ghost use Rattle.std.specs.Prelude.{string_bytes};
-    ghost use Rattle.reel_files.specs.Folders.{FolderShop, folder_shop};
+    ghost use Rattle.reel_files.specs.Folders.{FolderLibrary, folder_library};
 
-    ghost Value = { FolderShop };
+    ghost Value = { FolderLibrary };
 
-    ghost view = { λ s. folder_shop s.racks.items (string_bytes s.bin) s.capacity s.failures };
+    ghost view = { λ s. folder_library s.drives.items (string_bytes s.bin) s.capacity s.failures };
 }
 
 impl<R: FolderSystem> FolderStacks<R, NoLog> {
@@ -85,7 +85,7 @@ impl<R: FolderSystem> FolderStacks<R, NoLog> {
         requires some { 1 ≤ length drives.now }
         requires few { length drives.now ≤ DRIVE_LIMIT }
         ensures drives { IfOk result (λ opened. opened
-            ≡ folder_shop (map (λ d. folder_row d.name.now d.folder.now false) drives.now) bin.now capacity 0) }
+            ≡ folder_library (map (λ d. folder_row d.name.now d.folder.now false) drives.now) bin.now capacity 0) }
         ensures count { IfOk result (λ opened. length opened.rows ≡ length drives.now) }
     {
         FolderStacks::with_log(rt, drives, bin, capacity, NoLog)
@@ -104,15 +104,15 @@ impl<R: FolderSystem, L: Log + Drop> FolderStacks<R, L> {
         requires some { 1 ≤ length drives.now }
         requires few { length drives.now ≤ DRIVE_LIMIT }
         ensures drives { IfOk result (λ opened. opened
-            ≡ folder_shop (map (λ d. folder_row d.name.now d.folder.now false) drives.now) bin.now capacity 0) }
+            ≡ folder_library (map (λ d. folder_row d.name.now d.folder.now false) drives.now) bin.now capacity 0) }
         ensures count { IfOk result (λ opened. length opened.rows ≡ length drives.now) }
     {
-        let racks = racks_of(rt.alloc(), drives)?;
+        let drives = drive_states_of(rt.alloc(), drives)?;
         let bin = String::from_str(rt.alloc(), bin)?;
         Ok(FolderStacks {
             rt,
             log,
-            racks,
+            drives,
             bin,
             capacity,
             failures: 0,
@@ -132,8 +132,8 @@ impl<R: FolderSystem, L: Log + Drop> FolderStacks<R, L> {
         ensures { IfSome result (λ fault. IsFolderOf self.now fault.folder.now) }
     {
         let mut seen = Vec::new(self.rt.alloc());
-        for rack in &self.racks {
-            let folder = rack.folder();
+        for chosen in &self.drives {
+            let folder = chosen.folder();
             if let Err(reason) = look_at_next(&self.rt, folder, &mut seen) {
                 return Some(FolderFault { folder, reason });
             }
@@ -149,14 +149,14 @@ impl<R: FolderSystem, L: Log + Drop> FolderStacks<R, L> {
     fn find_clash(&self, seen: &[FileId], bin: FileId) -> Option<FolderFault<'_>>
         ensures { IfSome result (λ fault. IsFolderOf self.now fault.folder.now) }
     {
-        for (drive, rack) in self.racks.iter().enumerate() {
+        for (drive, chosen) in self.drives.iter().enumerate() {
             let clash = match clash_of(seen, drive, bin) {
-                None => look_between(&self.rt, rack.folder(), self.bin.as_str()).err(),
+                None => look_between(&self.rt, chosen.folder(), self.bin.as_str()).err(),
                 clash => clash,
             };
             if let Some(reason) = clash {
                 return Some(FolderFault {
-                    folder: rack.folder(),
+                    folder: chosen.folder(),
                     reason,
                 });
             }
@@ -164,20 +164,20 @@ impl<R: FolderSystem, L: Log + Drop> FolderStacks<R, L> {
         None
     }
 
-    /// Opens and locks the file of the reel that a latch takes, as `FolderRack::find` does, and notes what came of it.
+    /// Opens and locks the file of the reel that a latch takes, as `FolderDriveState::find` does, and notes what came of it.
     fn find(&self, drive: usize) -> io::Result<Option<Found>>
         requires { drive < length self.now.rows }
         ensures free { MatchResult result (λ found. IsSome found → (row_at self.now drive).latched ≡ false) (λ _. (row_at self.now drive).latched ≡ false) }
     {
-        let rack = &self.racks[drive];
-        match rack.find(&self.rt, self.bin.as_str(), &self.log) {
+        let chosen = &self.drives[drive];
+        match chosen.find(&self.rt, self.bin.as_str(), &self.log) {
             Ok(Some(found)) => {
-                rack.opened(&found).tell(&self.log);
+                chosen.opened(&found).tell(&self.log);
                 Ok(Some(found))
             }
             Ok(None) => Ok(None),
             Err(refusal) => {
-                rack.refused(&refusal).tell(&self.log);
+                chosen.refused(&refusal).tell(&self.log);
                 Err(refusal.reason)
             }
         }
@@ -188,12 +188,12 @@ impl<R: FolderSystem, L: Log + Drop> FolderStacks<R, L> {
         requires { drive < length self.old.rows }
         ensures { IsFolderMove self.old drive medium.now result self.new }
     {
-        let rack = &mut self.racks[drive];
-        let moved = rack.take_off(&self.rt, self.bin.as_str(), medium);
-        rack.moved(&moved, medium).tell(&self.log);
+        let chosen = &mut self.drives[drive];
+        let moved = chosen.take_off(&self.rt, self.bin.as_str(), medium);
+        chosen.moved(&moved, medium).tell(&self.log);
         match moved {
             Ok(Moved::Done(_)) => {
-                rack.note(None);
+                chosen.note(None);
                 Ok(())
             }
             Ok(Moved::NameTaken) => Err(DriveFault::NameTaken),
@@ -240,10 +240,10 @@ impl<R: FolderSystem, L: Log + Drop> Stacks for FolderStacks<R, L> {
 
     fn drive(&self, name: &[u8]) -> Option<usize>
         ensures below { IfSome result (λ d. d < length self.now.rows) }
-        ensures named { (s : Shop) → ⊥ → IsDriveNamed name.now s result }
+        ensures named { (s : TapeLibrary) → ⊥ → IsDriveNamed name.now s result }
         ensures found { IsRowNamed name.now self.now result }
     {
-        self.racks.iter().position(|rack| rack.is_named(name))
+        self.drives.iter().position(|chosen| chosen.is_named(name))
     }
 
     /// Lists the folder of the stack, and opens and locks its first plain file, to read and to append; where it may only be read, or the
@@ -255,8 +255,8 @@ impl<R: FolderSystem, L: Log + Drop> Stacks for FolderStacks<R, L> {
     fn latch(&mut self, drive: usize) -> Result<FileReel<FileMedium>, DriveFault> {
         match self.find(drive) {
             Ok(Some(found)) => {
-                let rack = &mut self.racks[drive];
-                rack.note(Some(found.latched));
+                let chosen = &mut self.drives[drive];
+                chosen.note(Some(found.latched));
                 let medium = medium_of(found.file, found.reads_only);
                 Ok(FileReel::open(medium, self.capacity))
             }
@@ -268,8 +268,8 @@ impl<R: FolderSystem, L: Log + Drop> Stacks for FolderStacks<R, L> {
     /// Syncs the file where it was written to since the latch, or was to be, and lets it go, with its lock. A sync that fails, or has failed since
     /// the file was last cut to nothing, is noted, and counted nowhere. Where none is latched it does nothing else.
     fn unlatch(&mut self, drive: usize, reel: FileReel<FileMedium>) {
-        let rack = &mut self.racks[drive];
-        let report = rack.close(&self.rt, self.bin.as_str(), reel.medium());
+        let chosen = &mut self.drives[drive];
+        let report = chosen.close(&self.rt, self.bin.as_str(), reel.medium());
         drop(reel);
         if let Some(report) = report {
             report.tell(&self.log);
@@ -321,12 +321,15 @@ fn medium_of(file: File, is_read_only: bool) -> FileMedium
 }
 
 /// The drives with no reel latched.
-fn racks_of(alloc: Global, drives: &[FolderDrive<'_>]) -> Result<Vec<FolderRack>, AllocError>
-    ensures { IfOk result (λ racks. racks.items ≡ map (λ d. folder_row d.name.now d.folder.now false) drives.now) }
+fn drive_states_of(
+    alloc: Global,
+    drives: &[FolderDrive<'_>],
+) -> Result<Vec<FolderDriveState>, AllocError>
+    ensures { IfOk result (λ states. states.items ≡ map (λ d. folder_row d.name.now d.folder.now false) drives.now) }
 {
-    let mut racks = Vec::new(alloc);
+    let mut states = Vec::new(alloc);
     for drive in drives {
-        racks.push(FolderRack::new(alloc, drive)?)?;
+        states.push(FolderDriveState::new(alloc, drive)?)?;
     }
-    Ok(racks)
+    Ok(states)
 }

@@ -3,10 +3,10 @@ use Rattle.std.proofs.Common.{◌≡◌, ◌≢◌, ◌⊎◌, ℕ, Option, Some
 use Rattle.tape.specs.declared.reel.Reel.{Ghosts as ReelPromise}
 use Rattle.drives.specs.Calls.{StacksKind}
 use Rattle.drives.specs.Calls.StacksCall.{LayBack}
-use Rattle.drives.specs.Shop.{Shop}
+use Rattle.drives.specs.TapeLibrary.{TapeLibrary}
 use Rattle.drives.specs.Stacking.{HasLatched, ReelCanFail, IsStacksCall}
 use Rattle.rmt_server.specs.declared.access.Access.{Access}
-use Rattle.rmt_server.specs.Session.{PlainSession, closed_shop}
+use Rattle.rmt_server.specs.Session.{PlainSession, closed_library}
 use Rattle.rmt_server.specs.State.{State, drive_of, online_drive, reel_of, IsAt, IsSeenWith, IsSeenAs, IsReelCall}
 use Rattle.rmt_server.specs.declared.session.desk.Opened.{Opened}
 use Rattle.drives.specs.Holding.{HoldsJust, given, word_after_give}
@@ -16,7 +16,7 @@ use Rattle.rmt_server.proofs.Seats.{HoldsJust_given}
 use Rattle.tape.specs.Tape.{entries_of}
 use Rattle.tape.specs.Tape.TapeRequest.{Rewind}
 use Rattle.tape.specs.Tape.TapeAnswer.{Done as Did}
-use Rattle.drives.specs.Shop.{after_unlatch}
+use Rattle.drives.specs.TapeLibrary.{after_unlatch}
 use Rattle.rmt_server.specs.Opening.{LaysBack, LaysBackOpened, IsClosed, view_after_close}
 
 -- what laying a reel back keeps
@@ -25,18 +25,18 @@ pub record IsLaid {S R : Type 0} (s : StacksKind S R) (r : ReelPromise R) (old :
   pub unfailed : s.failures new ≡ s.failures old
   pub elsewhere : (d : ℕ) → d ≢ drive → HasLatched s.holds old d → HasLatched s.holds new d
   pub quiet : s.can_fail new → s.can_fail old ⊎ ReelCanFail r reel
-  pub step : (access : Access) (shop : Shop) (session : PlainSession) → s.holds old shop → IsSeenWith r drive access reel session → s.holds new (closed_shop shop session)
+  pub step : (access : Access) (library : TapeLibrary) (session : PlainSession) → s.holds old library → IsSeenWith r drive access reel session → s.holds new (closed_library library session)
 
 some_is : {a b : ℕ} → Some a ≡ Some b → a ≡ b
 some_is e = cc
 
 laid_step : {S R : Type 0} (s : StacksKind S R) (r : ReelPromise R) (old : S) (drive : ℕ) (reel : R) (new : S) (rested : R)
     → IsReelCall r reel Rewind Did rested → IsStacksCall s r old (LayBack drive rested) new
-    → (access : Access) (shop : Shop) (session : PlainSession) → s.holds old shop → IsSeenWith r drive access (Some reel) session → s.holds new (closed_shop shop session)
-laid_step s r old drive reel new rested rewound call access shop session h (t, on, seen) =
+    → (access : Access) (library : TapeLibrary) (session : PlainSession) → s.holds old library → IsSeenWith r drive access (Some reel) session → s.holds new (closed_library library session)
+laid_step s r old drive reel new rested rewound call access library session h (t, on, seen) =
     let rest = rewound.step t on in
-    let laid = call.step rest.0 rest.1 shop h in
-    subst (s.holds new) (laid.2 ∙ ap (λ c. after_unlatch shop drive (entries_of rest.0) c) rewound.same_capacity ∙ ap (λ u. after_unlatch shop drive (entries_of u) (r.capacity reel)) rest.2 ∙ sym (ap (closed_shop shop) seen)) laid.1
+    let laid = call.step rest.0 rest.1 library h in
+    subst (s.holds new) (laid.2 ∙ ap (λ c. after_unlatch library drive (entries_of rest.0) c) rewound.same_capacity ∙ ap (λ u. after_unlatch library drive (entries_of u) (r.capacity reel)) rest.2 ∙ sym (ap (closed_library library) seen)) laid.1
 
 pub laid_kept : {S R : Type 0} (s : StacksKind S R) (r : ReelPromise R) (old : S) (drive : ℕ) (reel : Option R) (new : S) → LaysBack s r old drive reel new → IsLaid s r old drive reel new
 laid_kept s r old drive None new e = record {
@@ -44,14 +44,14 @@ laid_kept s r old drive None new e = record {
   unfailed = ap s.failures e;
   elsewhere = λ d n l. rw e l;
   quiet = λ f. inl (subst s.can_fail e f);
-  step = λ access shop session h seen. rw (e, seen) h;
+  step = λ access library session h seen. rw (e, seen) h;
 }
 laid_kept s r old drive (Some reel) new (rested, rewound, call) = record {
   same_drives = call.same_drives;
   unfailed = elim call.failed [ inl e ↦ e | inr e ↦ absurd cc ];
   elsewhere = λ d n l. call.elsewhere d (λ e. n (some_is (sym e))) l;
   quiet = λ f. elim (call.quiet f) [ inl x ↦ inl x | inr x ↦ inr (rewound.quiet x) ];
-  step = λ access shop session h seen. laid_step s r old drive reel new rested rewound call access shop session h seen;
+  step = λ access library session h seen. laid_step s r old drive reel new rested rewound call access library session h seen;
 }
 
 -- what was open is closed: its reel was laid back, and its drive given back
@@ -77,7 +77,7 @@ closed_by k old new device at o none laid view told own others same_holds same_s
         latched = λ d e. (let n : None ≡ Some d = sym (ap online_drive none) ∙ e in absurd cc);
       };
       laid = subst (λ p. LaysBackOpened k.stacks k.reels old.drives.stacks p new.drives.stacks) (sym o) laid;
-      step = λ v tells. kept.step device.access v.shop v.session tells.shop (subst (λ p. IsSeenAs k.reels p v.session) o tells.session);
+      step = λ v tells. kept.step device.access v.library v.session tells.library (subst (λ p. IsSeenAs k.reels p v.session) o tells.session);
       view = view ∙ sym (ap (view_after_close (k.holds.shows old.seat)) drive);
       told = λ d n t. rw drive (told d n t);
       kept = record {

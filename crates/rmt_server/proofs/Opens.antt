@@ -9,7 +9,7 @@ use Rattle.drives.specs.declared.fault.DriveFault.{DriveFault}
 use Rattle.drives.specs.declared.fault.DriveFault.TheVariants.{NoSuchDrive, Busy, NoReel, Device, OutOfMemory, NameTaken}
 use Rattle.drives.specs.declared.view.StepKind.TheVariants.{Take}
 use Rattle.drives.specs.Holding.{last_drive, last_step}
-use Rattle.drives.specs.Shop.{Shop}
+use Rattle.drives.specs.TapeLibrary.{TapeLibrary}
 use Rattle.drives.specs.Calls.StacksCall.{Latch}
 use Rattle.drives.specs.Stacking.{HasLatched, ReelCanFail, IsStacksCall}
 use Rattle.drives.specs.Opening.{Kinds, OpenStep, SeatStep, LatchesFor, drive_asked, found_in_open}
@@ -69,19 +69,19 @@ busy_asked (Err OutOfMemory) v w s x = absurd (omega arith)
 busy_asked (Err NameTaken) v w s x = absurd (omega arith)
 
 -- what an open answered and left, as it is seen
-pub record OpenSeen {R : Type 0} (r : ReelPromise R) (device : List ℕ) (access : Access) (asked : Option ℕ) (result : Result (ℕ × R) DriveFault) (shop shop' : Shop) : Type 0 where
+pub record OpenSeen {R : Type 0} (r : ReelPromise R) (device : List ℕ) (access : Access) (asked : Option ℕ) (result : Result (ℕ × R) DriveFault) (library library' : TapeLibrary) : Type 0 where
   pub plain : Result (ℕ × PlainReel) DriveFault
-  pub step : OpenStep (λ (reel : PlainReel) (t : Tape). reel.tape ≡ t) (λ (reel : PlainReel). reel.capacity) device asked plain shop shop'
+  pub step : OpenStep (λ (reel : PlainReel) (t : Tape). reel.tape ≡ t) (λ (reel : PlainReel). reel.capacity) device asked plain library library'
   pub found : found_in_open result ≡ found_in_open plain
   pub excused : IsOpenExcused (is_device result) plain
   pub reply : open_reply result ≡ open_reply plain
   pub seen : IsSeenAs r (opened_by access result) (session_after access plain)
 
-pub open_seen : {R : Type 0} (r : ReelPromise R) (device : List ℕ) (access : Access) (asked : Option ℕ) (result : Result (ℕ × R) DriveFault) (shop shop' : Shop)
+pub open_seen : {R : Type 0} (r : ReelPromise R) (device : List ℕ) (access : Access) (asked : Option ℕ) (result : Result (ℕ × R) DriveFault) (library library' : TapeLibrary)
     → IsOpenExcused (is_device result) result
-    → OpenStep r.holds r.capacity device asked result shop shop' → OpenSeen r device access asked result shop shop'
+    → OpenStep r.holds r.capacity device asked result library library' → OpenSeen r device access asked result library library'
 unfolding is_device
-open_seen r device access asked (Ok taken) shop shop' x h = record {
+open_seen r device access asked (Ok taken) library library' x h = record {
   plain = Ok (taken.0, plain_reel (tape [] h.2.0.entries) (r.capacity taken.1));
   step = (h.0, h.1, (h.2.0, h.2.1, h.2.2, refl, h.2.4));
   found = refl;
@@ -89,12 +89,12 @@ open_seen r device access asked (Ok taken) shop shop' x h = record {
   reply = refl;
   seen = (tape [] h.2.0.entries, h.2.3, refl);
 }
-open_seen r device access asked (Err NoSuchDrive) shop shop' x h = record { plain = Err NoSuchDrive; step = h; found = refl; excused = x; reply = refl; seen = refl }
-open_seen r device access asked (Err (Busy n)) shop shop' x h = record { plain = Err (Busy n); step = h; found = refl; excused = x; reply = refl; seen = refl }
-open_seen r device access asked (Err NoReel) shop shop' x h = record { plain = Err NoReel; step = h; found = refl; excused = x; reply = refl; seen = refl }
-open_seen r device access asked (Err Device) shop shop' x h = record { plain = Err Device; step = h; found = refl; excused = x; reply = refl; seen = refl }
-open_seen r device access asked (Err OutOfMemory) shop shop' x h = record { plain = Err OutOfMemory; step = h; found = refl; excused = x; reply = refl; seen = refl }
-open_seen r device access asked (Err NameTaken) shop shop' x h = record { plain = Err NameTaken; step = h; found = refl; excused = x; reply = refl; seen = refl }
+open_seen r device access asked (Err NoSuchDrive) library library' x h = record { plain = Err NoSuchDrive; step = h; found = refl; excused = x; reply = refl; seen = refl }
+open_seen r device access asked (Err (Busy n)) library library' x h = record { plain = Err (Busy n); step = h; found = refl; excused = x; reply = refl; seen = refl }
+open_seen r device access asked (Err NoReel) library library' x h = record { plain = Err NoReel; step = h; found = refl; excused = x; reply = refl; seen = refl }
+open_seen r device access asked (Err Device) library library' x h = record { plain = Err Device; step = h; found = refl; excused = x; reply = refl; seen = refl }
+open_seen r device access asked (Err OutOfMemory) library library' x h = record { plain = Err OutOfMemory; step = h; found = refl; excused = x; reply = refl; seen = refl }
+open_seen r device access asked (Err NameTaken) library library' x h = record { plain = Err NameTaken; step = h; found = refl; excused = x; reply = refl; seen = refl }
 
 -- what an open keeps of the stacks, by the latch that it asked for
 err_is : {X : Type 0} (r : Result X DriveFault) (a b : DriveFault) → r ≡ Err a → r ≡ Err b → a ≡ b

@@ -2,8 +2,8 @@
 use Rattle.std.proofs.Common.{◌≡◌, ℕ, Option, Some, None, refl, sym, ap, ◌∙◌}
 use Rattle.tape.specs.Trouble.{TroubledTape}
 use Rattle.tape.specs.contracts.troubled.TroubledReelReel.TheImpl.{ghosts as of_reel}
-use Rattle.drives.specs.Shop.{Shop}
-use Rattle.drives.specs.ListShop.{shop_of, IsShop}
+use Rattle.drives.specs.TapeLibrary.{TapeLibrary}
+use Rattle.drives.specs.ListLibrary.{library_of, IsLibrary}
 use Rattle.rmt_server.specs.declared.access.Access.{Access}
 use Rattle.rmt_server.specs.declared.session.desk.Opened.{Opened}
 use Rattle.rmt_server.specs.Session.{plain_reel, PlainSession, Scene, scene}
@@ -29,10 +29,10 @@ opened_only None session seen = seen
 opened_only (Some device) session seen = with_only device.drive device.access device.reel session seen
 
 -- they tell it where each reel stands once
-pub seen_told : (x : MemoryState) → IsShop x.drives.stacks (shop_of x.drives.stacks) → Tells in_memory x (scene_seen x)
-seen_told x told = record { shop = told; session = opened_seen x.opened }
+pub seen_told : (x : MemoryState) → IsLibrary x.drives.stacks (library_of x.drives.stacks) → Tells in_memory x (scene_seen x)
+seen_told x told = record { library = told; session = opened_seen x.opened }
 
 -- and no other
 pub seen_only : (x : MemoryState) (v : Scene) → Tells in_memory x v → v ≡ scene_seen x
 seen_only x v tells =
-    ap (λ (s : Shop). scene s v.session) tells.shop.0 ∙ ap (λ (p : PlainSession). scene (shop_of x.drives.stacks) p) (opened_only x.opened v.session tells.session)
+    ap (λ (s : TapeLibrary). scene s v.session) tells.library.0 ∙ ap (λ (p : PlainSession). scene (library_of x.drives.stacks) p) (opened_only x.opened v.session tells.session)

@@ -60,7 +60,7 @@ module _ {H S Seat R : Type 0} (k : Kinds H Seat S R) (old : State H S Seat R) (
       → IsClosed k old between → OpensFor k between device access reply new → IsServed k old (Open device mode) reply new before
   opens device mode None a reply between new c (e, n) = record {
     after = closed before;
-    tells = rw n (record { shop = c.step before tells; session = rw c.nothing refl });
+    tells = rw n (record { library = c.step before tells; session = rw c.nothing refl });
     troubled = false;
     trouble = λ t. absurd cc;
     able = λ t. absurd cc;
@@ -72,12 +72,12 @@ module _ {H S Seat R : Type 0} (k : Kinds H Seat S R) (old : State H S Seat R) (
     step = rw a (e, refl);
   }
   opens device mode (Some access) a reply between new c (result, e, o) =
-      let st = o.opening.step (closed before).shop (c.step before tells) in
+      let st = o.opening.step (closed before).library (c.step before tells) in
       let latch = latching k between.drives.stacks _ result new.drives.stacks o.opening.call in
-      let seen = open_seen k.reels device access (drive_asked result (k.holds.shows new.seat)) result (closed before).shop st.0 (is_excused result _ _ o.opening.view) st.2 in
+      let seen = open_seen k.reels device access (drive_asked result (k.holds.shows new.seat)) result (closed before).library st.0 (is_excused result _ _ o.opening.view) st.2 in
       record {
         after = scene st.0 (session_after access seen.plain);
-        tells = record { shop = st.1; session = rw o.opens seen.seen };
+        tells = record { library = st.1; session = rw o.opens seen.seen };
         troubled = is_device result;
         trouble = λ t. HasRisen_earlier _ _ _ c.kept.counted (latch.device (is_device_is result t));
         able = λ t. c.quiet (inl (latch.able (is_device_is result t)));
@@ -120,17 +120,17 @@ module _ {H S Seat R : Type 0} (k : Kinds H Seat S R) (old : State H S Seat R) (
       served Close reply new before false (refused_tells new n) (λ t. absurd cc) (λ t. absurd cc) (rw idle (e, refl))
   closes (Some device) reply new o (e, c) =
       let open_at : status_of before.session ≡ status_at (Some device) = status_seen k.reels (Some device) before.session (subst (λ p. IsSeenAs k.reels p before.session) o tells.session) in
-      served Close reply new (closed before) false (record { shop = c.step before tells; session = rw c.nothing refl }) (λ t. absurd cc) (λ t. absurd cc)
+      served Close reply new (closed before) false (record { library = c.step before tells; session = rw c.nothing refl }) (λ t. absurd cc) (λ t. absurd cc)
       (rw (open_at, not_refused device.access device.reel) (e, refl))
 
   -- a request that the reel serves
   reel_parts : (request : PlainRequest) (reply : PlainReply) (new : State H S Seat R) → Serves k old request reply new
-      → ReelServed k.reels (reel_of old.opened) new.opened before.shop before.session (refusal (status_of before.session) request) request reply
-  reel_parts request reply new (n, e, serves) = reel_serves k.reels old.opened new.opened before.shop before.session request reply serves tells.session
+      → ReelServed k.reels (reel_of old.opened) new.opened before.library before.session (refusal (status_of before.session) request) request reply
+  reel_parts request reply new (n, e, serves) = reel_serves k.reels old.opened new.opened before.library before.session request reply serves tells.session
 
   reel_tells : (request : PlainRequest) (reply : PlainReply) (new : State H S Seat R) (by : Option Refusal) → new.drives ≡ old.drives
-      → (p : ReelServed k.reels (reel_of old.opened) new.opened before.shop before.session by request reply) → Tells k new (scene before.shop p.after)
-  reel_tells request reply new by n p = record { shop = rw n tells.shop; session = p.seen }
+      → (p : ReelServed k.reels (reel_of old.opened) new.opened before.library before.session by request reply) → Tells k new (scene before.library p.after)
+  reel_tells request reply new by n p = record { library = rw n tells.library; session = p.seen }
 
   -- a reel that was taken off its drive, or stays
   taken : (device : Opened R) (reel : R) (op count : ℕ) (reply : PlainReply) (result : Result (Unit {0}) DriveFault) (new : State H S Seat R)
@@ -140,9 +140,9 @@ module _ {H S Seat R : Type 0} (k : Kinds H Seat S R) (old : State H S Seat R) (
       → IsServed k old (Op op count) reply new before
   taken device reel op count reply (Ok x) new o off free e m t held seen =
       let u = m.rewound.step t held in
-      let v = m.call.step u.0 u.1 before.shop tells.shop in
+      let v = m.call.step u.0 u.1 before.library tells.library in
       served (Op op count) reply new (scene v.0 (Offline device.drive device.access)) false
-      (record { shop = v.1; session = rw m.opens refl }) (λ z. absurd cc) (λ z. absurd cc)
+      (record { library = v.1; session = rw m.opens refl }) (λ z. absurd cc) (λ z. absurd cc)
       (rw (free, off) (
         device.drive,
         device.access,
@@ -154,9 +154,9 @@ module _ {H S Seat R : Type 0} (k : Kinds H Seat S R) (old : State H S Seat R) (
       ))
   taken device reel op count reply (Err why) new o off free e m t held seen =
       let u = m.rewound.step t held in
-      let v = m.call.step before.shop tells.shop in
+      let v = m.call.step before.library tells.library in
       served (Op op count) reply new (scene v.0 (Online device.drive device.access (plain_reel u.0 (k.reels.capacity m.rested)))) (is_move_device (Err why))
-      (record { shop = v.1; session = rw m.opens (u.0, u.1, refl) })
+      (record { library = v.1; session = rw m.opens (u.0, u.1, refl) })
       (λ z. rw off (m.call.device (move_device why z))) (λ z. inl (m.call.able (move_device why z)))
       (rw (free, off) (
         device.drive,
@@ -196,7 +196,7 @@ module _ {H S Seat R : Type 0} (k : Kinds H Seat S R) (old : State H S Seat R) (
       moves_by (refusal (status_at old.opened) (Op op count)) op count reply new (ap (λ s. refusal s (Op op count)) (status_seen k.reels old.opened before.session tells.session)) off m
   op_served false op count reply new off serves =
       let p = reel_parts (Op op count) reply new serves in
-      served (Op op count) reply new (scene before.shop p.after) p.troubled (reel_tells (Op op count) reply new _ serves.0 p)
+      served (Op op count) reply new (scene before.library p.after) p.troubled (reel_tells (Op op count) reply new _ serves.0 p)
       (λ t. rw off (p.trouble t)) (λ t. inr (p.able t)) (rw off p.step)
 
   pub serves_step : (request : PlainRequest) (reply : PlainReply) (new : State H S Seat R) → CarriesOut k old request reply new → IsServed k old request reply new before
@@ -204,13 +204,13 @@ module _ {H S Seat R : Type 0} (k : Kinds H Seat S R) (old : State H S Seat R) (
   serves_step Close reply new c = closes old.opened reply new refl c
   serves_step (Write bytes) reply new serves =
       let p = reel_parts (Write bytes) reply new serves in
-      served (Write bytes) reply new (scene before.shop p.after) p.troubled (reel_tells (Write bytes) reply new _ serves.0 p) p.trouble (λ t. inr (p.able t)) p.step
+      served (Write bytes) reply new (scene before.library p.after) p.troubled (reel_tells (Write bytes) reply new _ serves.0 p) p.trouble (λ t. inr (p.able t)) p.step
   serves_step (WriteDropped count) reply new serves =
       let p = reel_parts (WriteDropped count) reply new serves in
-      served (WriteDropped count) reply new (scene before.shop p.after) p.troubled (reel_tells (WriteDropped count) reply new _ serves.0 p) p.trouble (λ t. inr (p.able t)) p.step
+      served (WriteDropped count) reply new (scene before.library p.after) p.troubled (reel_tells (WriteDropped count) reply new _ serves.0 p) p.trouble (λ t. inr (p.able t)) p.step
   serves_step (Read count) reply new serves =
       let p = reel_parts (Read count) reply new serves in
-      served (Read count) reply new (scene before.shop p.after) p.troubled (reel_tells (Read count) reply new _ serves.0 p) p.trouble (λ t. inr (p.able t)) p.step
+      served (Read count) reply new (scene before.library p.after) p.troubled (reel_tells (Read count) reply new _ serves.0 p) p.trouble (λ t. inr (p.able t)) p.step
   serves_step (Op op count) reply new c = op_served (is_offline op) op count reply new refl c
 
 module _ {H S Seat R : Type 0} (k : Kinds H Seat S R) (old : State H S Seat R) where

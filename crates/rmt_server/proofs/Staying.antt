@@ -5,7 +5,7 @@ use Rattle.drives.specs.declared.holds.Holds.{Ghosts as HoldsPromise}
 use Rattle.drives.specs.declared.table.DriveTable.{DriveTable}
 use Rattle.drives.specs.declared.view.View.{View}
 use Rattle.drives.specs.Local.{Holders, holders, IsSeatOf}
-use Rattle.drives.specs.ListShop.{ListShop}
+use Rattle.drives.specs.ListLibrary.{ListLibrary}
 use Rattle.drives.specs.Stacking.{HasLatched}
 use Rattle.drives.specs.Opening.{Kinds, kinds}
 use Rattle.drives.specs.contracts.list.ListStacksStacks.TheImpl.{ghosts as of_stacks}
@@ -48,7 +48,7 @@ pub still_seated : {S R : Type 0} (s : StacksPromise S R) (r : ReelPromise R) (o
 still_seated s r old desk last at l =
     still (kinds of_holds s r) old (record old { holds = holders old.holds.numbers last }) desk at (more_seats old.holds last desk.seat l at.own) refl refl (λ d e h. h)
 
-pub still_troubled : {H Seat : Type 0} (h : HoldsPromise H Seat) (old : DriveTable H ListShop Seat TroubledTape) (desk : Desk Seat TroubledTape) (on : Bool)
+pub still_troubled : {H Seat : Type 0} (h : HoldsPromise H Seat) (old : DriveTable H ListLibrary Seat TroubledTape) (desk : Desk Seat TroubledTape) (on : Bool)
     → IsAt (kinds h of_stacks of_reel) (state old desk)
     → IsAt (kinds h of_stacks of_reel) (state (record old { stacks = record old.stacks { trouble = on } }) desk)
 still_troubled h old desk on at =

@@ -9,7 +9,7 @@ use Rattle.tape.specs.declared.fault.TapeFault.TheVariants as fault
 use Rattle.rmt_server.specs.declared.refusal.Refusal.{Refusal}
 use Rattle.rmt_server.specs.declared.session.desk.Opened.{Opened}
 use Rattle.rmt_server.specs.Refusals.{refused}
-use Rattle.drives.specs.Shop.{Shop}
+use Rattle.drives.specs.TapeLibrary.{TapeLibrary}
 use Rattle.rmt_server.specs.Session.{PlainSession, plain_reel, scene, status_of, refusal, IsExcused, ReelStep}
 use Rattle.rmt_server.specs.Session.PlainSession.{Online}
 use Rattle.drives.specs.Stacking.{ReelCanFail}
@@ -43,22 +43,22 @@ is_excused grows (Fault fault.BadOperation) h = tt
 is_excused grows (Fault fault.OutOfMemory) h = h refl
 
 -- what a request that the reel serves leaves of a session that is seen so
-pub record ReelServed {R : Type 0} (r : ReelPromise R) (reel : Option R) (new : Option (Opened R)) (shop : Shop) (session : PlainSession)
+pub record ReelServed {R : Type 0} (r : ReelPromise R) (reel : Option R) (new : Option (Opened R)) (library : TapeLibrary) (session : PlainSession)
     (refused_by : Option Refusal) (request : PlainRequest) (reply : PlainReply) : Type 0 where
   pub after : PlainSession
   pub seen : IsSeenAs r new after
   pub troubled : Bool
   pub trouble : IsTrue troubled → ReelFailed r reel (reel_of new)
   pub able : IsTrue troubled → ReelCanFail r reel
-  pub step : MatchOption refused_by (ReelStep troubled r.GROWS (scene shop session) request reply (scene shop after))
-      (λ x. (reply ≡ refused x) × (scene shop after ≡ scene shop session))
+  pub step : MatchOption refused_by (ReelStep troubled r.GROWS (scene library session) request reply (scene library after))
+      (λ x. (reply ≡ refused x) × (scene library after ≡ scene library session))
 
-calls_in : {R : Type 0} (r : ReelPromise R) (device : Opened R) (reel : Option R) (new : Option (Opened R)) (shop : Shop) (session : PlainSession)
+calls_in : {R : Type 0} (r : ReelPromise R) (device : Opened R) (reel : Option R) (new : Option (Opened R)) (library : TapeLibrary) (session : PlainSession)
     (request : PlainRequest) (reply : PlainReply)
     → CallsIn r device reel new request reply → IsSeenWith r device.drive device.access reel session
-    → ReelServed r reel new shop session None request reply
-calls_in r device None new shop session request reply call seen = absurd call
-calls_in r device (Some reel) new shop session request reply (answer, moved, n, e, call) (t, held, s) =
+    → ReelServed r reel new library session None request reply
+calls_in r device None new library session request reply call seen = absurd call
+calls_in r device (Some reel) new library session request reply (answer, moved, n, e, call) (t, held, s) =
     let u = call.step t held in
     record {
       after = Online device.drive device.access (plain_reel u.0 (r.capacity moved));
@@ -76,23 +76,23 @@ calls_in r device (Some reel) new shop session request reply (answer, moved, n, 
         u.2,
         is_excused r.GROWS answer call.memory,
         e,
-        ap (λ c. scene shop (Online device.drive device.access (plain_reel u.0 c))) call.same_capacity,
+        ap (λ c. scene library (Online device.drive device.access (plain_reel u.0 c))) call.same_capacity,
       );
     }
 
-calls_reel : {R : Type 0} (r : ReelPromise R) (old new : Option (Opened R)) (shop : Shop) (session : PlainSession)
+calls_reel : {R : Type 0} (r : ReelPromise R) (old new : Option (Opened R)) (library : TapeLibrary) (session : PlainSession)
     (request : PlainRequest) (reply : PlainReply)
     → CallsReel r old new request reply → IsSeenAs r old session
-    → ReelServed r (reel_of old) new shop session None request reply
-calls_reel r None new shop session request reply call seen = absurd call
-calls_reel r (Some device) new shop session request reply call seen = calls_in r device device.reel new shop session request reply call seen
+    → ReelServed r (reel_of old) new library session None request reply
+calls_reel r None new library session request reply call seen = absurd call
+calls_reel r (Some device) new library session request reply call seen = calls_in r device device.reel new library session request reply call seen
 
-serves_by : {R : Type 0} (r : ReelPromise R) (old new : Option (Opened R)) (shop : Shop) (session : PlainSession)
+serves_by : {R : Type 0} (r : ReelPromise R) (old new : Option (Opened R)) (library : TapeLibrary) (session : PlainSession)
     (request : PlainRequest) (reply : PlainReply) (by : Option Refusal)
     → MatchOption by (CallsReel r old new request reply) (λ x. (reply ≡ refused x) × (new ≡ old)) → IsSeenAs r old session
-    → ReelServed r (reel_of old) new shop session by request reply
-serves_by r old new shop session request reply None call seen = calls_reel r old new shop session request reply call seen
-serves_by r old new shop session request reply (Some x) (e, n) seen = record {
+    → ReelServed r (reel_of old) new library session by request reply
+serves_by r old new library session request reply None call seen = calls_reel r old new library session request reply call seen
+serves_by r old new library session request reply (Some x) (e, n) seen = record {
   after = session;
   seen = rw n seen;
   troubled = false;
@@ -112,9 +112,9 @@ status_seen r None session seen = ap status_of seen
 status_seen r (Some device) session seen = status_with r device device.reel session seen
 
 -- a request that the reel serves, where stacks and reel tell
-pub reel_serves : {R : Type 0} (r : ReelPromise R) (old new : Option (Opened R)) (shop : Shop) (session : PlainSession)
+pub reel_serves : {R : Type 0} (r : ReelPromise R) (old new : Option (Opened R)) (library : TapeLibrary) (session : PlainSession)
     (request : PlainRequest) (reply : PlainReply)
     → ReelServes r old new request reply → IsSeenAs r old session
-    → ReelServed r (reel_of old) new shop session (refusal (status_of session) request) request reply
-reel_serves r old new shop session request reply serves seen =
-    rw (status_seen r old session seen) (serves_by r old new shop session request reply (refusal (status_at old) request) serves seen)
+    → ReelServed r (reel_of old) new library session (refusal (status_of session) request) request reply
+reel_serves r old new library session request reply serves seen =
+    rw (status_seen r old session seen) (serves_by r old new library session request reply (refusal (status_at old) request) serves seen)

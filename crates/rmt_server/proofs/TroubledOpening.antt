@@ -12,8 +12,8 @@ use Rattle.tape.specs.contracts.troubled.TroubledReelReel.TheImpl.{ghosts as of_
 use Rattle.drives.specs.declared.fault.DriveFault.{DriveFault}
 use Rattle.drives.specs.declared.fault.DriveFault.TheVariants.{NoSuchDrive, Busy, NoReel, Device, OutOfMemory, NameTaken}
 use Rattle.drives.specs.declared.view.View.{View}
-use Rattle.drives.specs.Shop.{Shop}
-use Rattle.drives.specs.ListShop.{ListShop, troubled_in, rest_rack, is_set}
+use Rattle.drives.specs.TapeLibrary.{TapeLibrary}
+use Rattle.drives.specs.ListLibrary.{ListLibrary, troubled_in, rest_drive, is_set}
 use Rattle.drives.specs.Opening.{OpenStep, SeatStep, LatchesFor, drive_asked, found_in_open}
 use Rattle.rmt_server.specs.declared.access.Access.{Access}
 use Rattle.rmt_server.specs.declared.refusal.Refusal.TheVariants.{Invalid}
@@ -30,88 +30,88 @@ use Rattle.rmt_server.proofs.TroubledLying.{LyingLaw, latched_lying, latched_cal
 use Rattle.rmt_server.proofs.TroubledServing.{unset, set_means, drive_seen, reel_so, reel_parts, closed_lying, closed_held, closed_tells, close_so, offline_so}
 
 -- what an open answered and left, as it is seen
-record OpenSeenSo (trouble : Trouble) (held : ℕ) (device : List ℕ) (access : Access) (asked : Option ℕ) (result : Result (ℕ × TroubledTape) DriveFault) (shop shop' : Shop) : Type 0 where
+record OpenSeenSo (trouble : Trouble) (held : ℕ) (device : List ℕ) (access : Access) (asked : Option ℕ) (result : Result (ℕ × TroubledTape) DriveFault) (library library' : TapeLibrary) : Type 0 where
   plain : Result (ℕ × PlainReel) DriveFault
-  step : OpenStep (λ (reel : PlainReel) (t : Tape). reel.tape ≡ t) (λ (reel : PlainReel). reel.capacity) device asked plain shop shop'
+  step : OpenStep (λ (reel : PlainReel) (t : Tape). reel.tape ≡ t) (λ (reel : PlainReel). reel.capacity) device asked plain library library'
   cause : IsOpenCause trouble held plain
   reply : open_reply result ≡ open_reply plain
   seen : IsSeenAs of_reel (opened_by access result) (session_after access plain)
 
-open_seen_so : (trouble : Trouble) (held : ℕ) (device : List ℕ) (access : Access) (asked : Option ℕ) (result : Result (ℕ × TroubledTape) DriveFault) (shop shop' : Shop)
-    → OpenStep of_reel.holds of_reel.capacity device asked result shop shop' → IsOpenCause trouble held result → OpenSeenSo trouble held device access asked result shop shop'
-open_seen_so trouble held device access asked (Ok taken) shop shop' h q = record {
+open_seen_so : (trouble : Trouble) (held : ℕ) (device : List ℕ) (access : Access) (asked : Option ℕ) (result : Result (ℕ × TroubledTape) DriveFault) (library library' : TapeLibrary)
+    → OpenStep of_reel.holds of_reel.capacity device asked result library library' → IsOpenCause trouble held result → OpenSeenSo trouble held device access asked result library library'
+open_seen_so trouble held device access asked (Ok taken) library library' h q = record {
   plain = Ok (taken.0, plain_reel (tape [] h.2.0.entries) taken.1.capacity);
   step = (h.0, h.1, (h.2.0, h.2.1, h.2.2, refl, h.2.4));
   cause = q;
   reply = refl;
   seen = (tape [] h.2.0.entries, h.2.3, refl);
 }
-open_seen_so trouble held device access asked (Err NoSuchDrive) shop shop' h q = record { plain = Err NoSuchDrive; step = h; cause = q; reply = refl; seen = refl }
-open_seen_so trouble held device access asked (Err (Busy n)) shop shop' h q = record { plain = Err (Busy n); step = h; cause = q; reply = refl; seen = refl }
-open_seen_so trouble held device access asked (Err NoReel) shop shop' h q = record { plain = Err NoReel; step = h; cause = q; reply = refl; seen = refl }
-open_seen_so trouble held device access asked (Err Device) shop shop' h q = record { plain = Err Device; step = h; cause = q; reply = refl; seen = refl }
-open_seen_so trouble held device access asked (Err OutOfMemory) shop shop' h q = absurd q
-open_seen_so trouble held device access asked (Err NameTaken) shop shop' h q = absurd q
+open_seen_so trouble held device access asked (Err NoSuchDrive) library library' h q = record { plain = Err NoSuchDrive; step = h; cause = q; reply = refl; seen = refl }
+open_seen_so trouble held device access asked (Err (Busy n)) library library' h q = record { plain = Err (Busy n); step = h; cause = q; reply = refl; seen = refl }
+open_seen_so trouble held device access asked (Err NoReel) library library' h q = record { plain = Err NoReel; step = h; cause = q; reply = refl; seen = refl }
+open_seen_so trouble held device access asked (Err Device) library library' h q = record { plain = Err Device; step = h; cause = q; reply = refl; seen = refl }
+open_seen_so trouble held device access asked (Err OutOfMemory) library library' h q = absurd q
+open_seen_so trouble held device access asked (Err NameTaken) library library' h q = absurd q
 
 -- why an open answered so
-open_cause : (trouble : Trouble) (numbers device : List ℕ) (asked : Option ℕ) (result : Result (ℕ × TroubledTape) DriveFault) (v w : View) (old new : ListShop) (shop shop' : Shop)
-    → OpenStep of_reel.holds of_reel.capacity device asked result shop shop' → SeatStep result v w → LatchesFor in_memory old asked result new
+open_cause : (trouble : Trouble) (numbers device : List ℕ) (asked : Option ℕ) (result : Result (ℕ × TroubledTape) DriveFault) (v w : View) (old new : ListLibrary) (library library' : TapeLibrary)
+    → OpenStep of_reel.holds of_reel.capacity device asked result library library' → SeatStep result v w → LatchesFor in_memory old asked result new
     → ((d : ℕ) → asked ≡ Some d → found_in_open result ≡ slice_index numbers d) → old.trouble ≡ is_set trouble
     → IsOpenCause trouble (holder_of numbers asked) result
-open_cause trouble numbers device asked (Ok taken) v w old new shop shop' h s call found set =
+open_cause trouble numbers device asked (Ok taken) v w old new library library' h s call found set =
     (ap (holder_of numbers) h.0 ∙ sym (found taken.0 h.0), unset trouble (sym set ∙ call.made.0))
-open_cause trouble numbers device asked (Err NoSuchDrive) v w old new shop shop' h s call found set = tt
-open_cause trouble numbers device asked (Err (Busy n)) v w old new shop shop' h s call found set =
+open_cause trouble numbers device asked (Err NoSuchDrive) v w old new library library' h s call found set = tt
+open_cause trouble numbers device asked (Err (Busy n)) v w old new library library' h s call found set =
     let is : n ≡ holder_of numbers asked = found h.0 h.1 ∙ sym (ap (holder_of numbers) h.1) in
     (subst (λ m. 0 < m) is s.0, is)
-open_cause trouble numbers device asked (Err NoReel) v w old new shop shop' h s call found set = ap (holder_of numbers) h.1 ∙ sym (found h.0 h.1)
-open_cause trouble numbers device asked (Err Device) v w old new shop shop' h s call found set =
+open_cause trouble numbers device asked (Err NoReel) v w old new library library' h s call found set = ap (holder_of numbers) h.1 ∙ sym (found h.0 h.1)
+open_cause trouble numbers device asked (Err Device) v w old new library library' h s call found set =
     (ap (holder_of numbers) h.1 ∙ sym (found h.0 h.1), set_means trouble (sym set ∙ call.2.made.0))
-open_cause trouble numbers device asked (Err OutOfMemory) v w old new shop shop' h s call found set = absurd call.2.made
-open_cause trouble numbers device asked (Err NameTaken) v w old new shop shop' h s call found set = absurd s
+open_cause trouble numbers device asked (Err OutOfMemory) v w old new library library' h s call found set = absurd call.2.made
+open_cause trouble numbers device asked (Err NameTaken) v w old new library library' h s call found set = absurd s
 
 -- a drive that was opened had no holder
-open_free : (numbers device : List ℕ) (asked : Option ℕ) (result : Result (ℕ × TroubledTape) DriveFault) (shop shop' : Shop)
-    → OpenStep of_reel.holds of_reel.capacity device asked result shop shop' → ((d : ℕ) → asked ≡ Some d → found_in_open result ≡ slice_index numbers d)
+open_free : (numbers device : List ℕ) (asked : Option ℕ) (result : Result (ℕ × TroubledTape) DriveFault) (library library' : TapeLibrary)
+    → OpenStep of_reel.holds of_reel.capacity device asked result library library' → ((d : ℕ) → asked ≡ Some d → found_in_open result ≡ slice_index numbers d)
     → IfOk result (λ opened. slice_index numbers opened.0 ≡ 0)
-open_free numbers device asked (Ok taken) shop shop' h found = sym (found taken.0 h.0)
-open_free numbers device asked (Err fault) shop shop' h found = tt
+open_free numbers device asked (Ok taken) library library' h found = sym (found taken.0 h.0)
+open_free numbers device asked (Err fault) library library' h found = tt
 
 some_below : (asked : Option ℕ) (d e n : ℕ) → asked ≡ Some d → asked ≡ Some e → d < n → e < n
 some_below asked d e n a b l = let same : d ≡ e = cc in subst (λ x. x < n) same l
 
 -- no reel that lies there gets a trouble by a latch
-open_lying : (law : LyingLaw) (device : List ℕ) (asked : Option ℕ) (result : Result (ℕ × TroubledTape) DriveFault) (old new : ListShop) (shop shop' : Shop)
-    → OpenStep of_reel.holds of_reel.capacity device asked result shop shop' → LatchesFor in_memory old asked result new
-    → length shop.racks ≡ length old.shop.racks → troubled_in old.shop ≡ 0 → troubled_in new.shop ≡ 0
-open_lying law device asked (Ok taken) old new shop shop' h call racks none =
-    latched_lying law old new taken.0 (Ok taken.1) (subst (λ n. taken.0 < n) racks h.1.0) call.made none
-open_lying law device asked (Err NoSuchDrive) old new shop shop' h call racks none = ap (λ (s : ListShop). troubled_in s.shop) call ∙ none
-open_lying law device asked (Err (Busy n)) old new shop shop' h call racks none = ap (λ (s : ListShop). troubled_in s.shop) call ∙ none
-open_lying law device asked (Err NoReel) old new shop shop' h call racks none =
-    latched_lying law old new call.0 (Err NoReel) (subst (λ n. call.0 < n) racks (some_below asked h.0 call.0 _ h.1 call.1 h.2.0)) call.2.made none
-open_lying law device asked (Err Device) old new shop shop' h call racks none =
-    latched_lying law old new call.0 (Err Device) (subst (λ n. call.0 < n) racks (some_below asked h.0 call.0 _ h.1 call.1 h.2.0)) call.2.made none
-open_lying law device asked (Err OutOfMemory) old new shop shop' h call racks none = absurd call.2.made
-open_lying law device asked (Err NameTaken) old new shop shop' h call racks none = absurd call.2.made
+open_lying : (law : LyingLaw) (device : List ℕ) (asked : Option ℕ) (result : Result (ℕ × TroubledTape) DriveFault) (old new : ListLibrary) (library library' : TapeLibrary)
+    → OpenStep of_reel.holds of_reel.capacity device asked result library library' → LatchesFor in_memory old asked result new
+    → length library.drives ≡ length old.library.drives → troubled_in old.library ≡ 0 → troubled_in new.library ≡ 0
+open_lying law device asked (Ok taken) old new library library' h call drives none =
+    latched_lying law old new taken.0 (Ok taken.1) (subst (λ n. taken.0 < n) drives h.1.0) call.made none
+open_lying law device asked (Err NoSuchDrive) old new library library' h call drives none = ap (λ (s : ListLibrary). troubled_in s.library) call ∙ none
+open_lying law device asked (Err (Busy n)) old new library library' h call drives none = ap (λ (s : ListLibrary). troubled_in s.library) call ∙ none
+open_lying law device asked (Err NoReel) old new library library' h call drives none =
+    latched_lying law old new call.0 (Err NoReel) (subst (λ n. call.0 < n) drives (some_below asked h.0 call.0 _ h.1 call.1 h.2.0)) call.2.made none
+open_lying law device asked (Err Device) old new library library' h call drives none =
+    latched_lying law old new call.0 (Err Device) (subst (λ n. call.0 < n) drives (some_below asked h.0 call.0 _ h.1 call.1 h.2.0)) call.2.made none
+open_lying law device asked (Err OutOfMemory) old new library library' h call drives none = absurd call.2.made
+open_lying law device asked (Err NameTaken) old new library library' h call drives none = absurd call.2.made
 
 -- a reel that is opened has no trouble
-open_calm : (law : LyingLaw) (access : Access) (reply : PlainReply) (device : List ℕ) (asked : Option ℕ) (result : Result (ℕ × TroubledTape) DriveFault) (old new : ListShop) (shop shop' : Shop)
-    → OpenStep of_reel.holds of_reel.capacity device asked result shop shop' → LatchesFor in_memory old asked result new
-    → length shop.racks ≡ length old.shop.racks → troubled_in old.shop ≡ 0
+open_calm : (law : LyingLaw) (access : Access) (reply : PlainReply) (device : List ℕ) (asked : Option ℕ) (result : Result (ℕ × TroubledTape) DriveFault) (old new : ListLibrary) (library library' : TapeLibrary)
+    → OpenStep of_reel.holds of_reel.capacity device asked result library library' → LatchesFor in_memory old asked result new
+    → length library.drives ≡ length old.library.drives → troubled_in old.library ≡ 0
     → MatchOption (reel_of (opened_by access result)) (Unit {0}) (λ r. IsSpent NoTrouble reply r.trouble)
-open_calm law access reply device asked (Ok taken) old new shop shop' h call racks none =
-    inl (latched_calm law old new taken.0 taken.1 (subst (λ n. taken.0 < n) racks h.1.0) call.made none)
-open_calm law access reply device asked (Err fault) old new shop shop' h call racks none = tt
+open_calm law access reply device asked (Ok taken) old new library library' h call drives none =
+    inl (latched_calm law old new taken.0 taken.1 (subst (λ n. taken.0 < n) drives h.1.0) call.made none)
+open_calm law access reply device asked (Err fault) old new library library' h call drives none = tt
 
 -- the stacks' trouble is gone where a latch met it, and else left
-open_next : (asked : Option ℕ) (result : Result (ℕ × TroubledTape) DriveFault) (reply : PlainReply) (old new : ListShop) → LatchesFor in_memory old asked result new
+open_next : (asked : Option ℕ) (result : Result (ℕ × TroubledTape) DriveFault) (reply : PlainReply) (old new : ListLibrary) → LatchesFor in_memory old asked result new
     → reply ≡ open_reply result → IsNextSpent old.trouble reply new.trouble
-open_next asked (Ok taken) reply old new call e = inl (ap (λ (s : ListShop). s.trouble) call.made.2)
-open_next asked (Err NoSuchDrive) reply old new call e = inl (ap (λ (s : ListShop). s.trouble) call)
-open_next asked (Err (Busy n)) reply old new call e = inl (ap (λ (s : ListShop). s.trouble) call)
-open_next asked (Err NoReel) reply old new call e = inl (ap (λ (s : ListShop). s.trouble) call.2.made.1)
-open_next asked (Err Device) reply old new call e = inr (call.2.made.0, ap (λ (s : ListShop). s.trouble) call.2.made.2, e)
+open_next asked (Ok taken) reply old new call e = inl (ap (λ (s : ListLibrary). s.trouble) call.made.2)
+open_next asked (Err NoSuchDrive) reply old new call e = inl (ap (λ (s : ListLibrary). s.trouble) call)
+open_next asked (Err (Busy n)) reply old new call e = inl (ap (λ (s : ListLibrary). s.trouble) call)
+open_next asked (Err NoReel) reply old new call e = inl (ap (λ (s : ListLibrary). s.trouble) call.2.made.1)
+open_next asked (Err Device) reply old new call e = inr (call.2.made.0, ap (λ (s : ListLibrary). s.trouble) call.2.made.2, e)
 open_next asked (Err OutOfMemory) reply old new call e = absurd call.2.made
 open_next asked (Err NameTaken) reply old new call e = absurd call.2.made
 
@@ -122,19 +122,19 @@ module _ (law : LyingLaw) (trouble : Trouble) (old : MemoryState) (before : Scen
       → IsTroubled NoTrouble (is_set trouble) old → IsServedUnder trouble old before (Open device mode) reply new
   opened_so device mode access reply result between new a e c o set =
       let asked : Option ℕ = drive_asked result new.seat in
-      let st = o.opening.step (closed before).shop (c.step before tells) in
+      let st = o.opening.step (closed before).library (c.step before tells) in
       let closed_numbers = closed_held law trouble old before at tells between c in
       let rest = closed_lying law trouble old before at tells (is_set trouble) between c set in
       let found : (d : ℕ) → asked ≡ Some d → found_in_open result ≡ slice_index between.drives.holds.numbers d
       = λ d x. o.opening.found d (slice_index between.drives.holds.numbers d) x (o.opening.asked d x, refl) in
-      let cause = open_cause trouble between.drives.holds.numbers device asked result between.seat new.seat between.drives.stacks new.drives.stacks (closed before).shop st.0
+      let cause = open_cause trouble between.drives.holds.numbers device asked result between.seat new.seat between.drives.stacks new.drives.stacks (closed before).library st.0
       st.2 o.opening.view o.opening.call found (rest.1 ∙ set.next) in
-      let seen = open_seen_so trouble (holder_of between.drives.holds.numbers asked) device access asked result (closed before).shop st.0 st.2 cause in
+      let seen = open_seen_so trouble (holder_of between.drives.holds.numbers asked) device access asked result (closed before).library st.0 st.2 cause in
       let after : Scene = scene st.0 (session_after access seen.plain) in
-      let told : Tells in_memory new after = record { shop = st.1; session = rw o.opens seen.seen } in
-      let racks : length (closed before).shop.racks ≡ length between.drives.stacks.shop.racks
-      = ap (λ (s : Shop). length s.racks) (c.step before tells).0 ∙ length-map between.drives.stacks.shop.racks rest_rack in
-      let free = open_free between.drives.holds.numbers device asked result (closed before).shop st.0 st.2 found in
+      let told : Tells in_memory new after = record { library = st.1; session = rw o.opens seen.seen } in
+      let drives : length (closed before).library.drives ≡ length between.drives.stacks.library.drives
+      = ap (λ (s : TapeLibrary). length s.drives) (c.step before tells).0 ∙ length-map between.drives.stacks.library.drives rest_drive in
+      let free = open_free between.drives.holds.numbers device asked result (closed before).library st.0 st.2 found in
       let opened : new.drives.holds.numbers ≡ with_holder (drive_of (opened_by access result)) between.seat.number between.drives.holds.numbers
       = opened_numbers access result between.seat.number between.drives.holds new.drives.holds o.opening.same_holds o.opening.told free in
       record {
@@ -144,8 +144,8 @@ module _ (law : LyingLaw) (trouble : Trouble) (old : MemoryState) (before : Scen
           step = rw a (seen.plain, asked, seen.step, subst (λ ns. IsOpenCause trouble (holder_of ns asked) seen.plain) closed_numbers seen.cause, e ∙ seen.reply, refl);
           held = rw (drive_seen new.opened after.session told.session, o.opens, ← closed_numbers, ← c.kept.number) opened;
         };
-        lying = open_lying law device asked result between.drives.stacks new.drives.stacks (closed before).shop st.0 st.2 o.opening.call racks rest.0;
-        online = rw o.opens (open_calm law access reply device asked result between.drives.stacks new.drives.stacks (closed before).shop st.0 st.2 o.opening.call racks rest.0);
+        lying = open_lying law device asked result between.drives.stacks new.drives.stacks (closed before).library st.0 st.2 o.opening.call drives rest.0;
+        online = rw o.opens (open_calm law access reply device asked result between.drives.stacks new.drives.stacks (closed before).library st.0 st.2 o.opening.call drives rest.0);
         next = subst (λ flag. IsNextSpent flag reply new.drives.stacks.trouble) rest.1 (open_next asked result reply between.drives.stacks new.drives.stacks o.opening.call e);
       }
 

@@ -9,7 +9,7 @@ use Rattle.tape.specs.declared.fault.TapeFault.TheVariants as fault
 use Rattle.tape.specs.Trouble.{TroubledTape, DeviceStep, IsCounted}
 use Rattle.tape.specs.declared.trouble.Trouble.{Trouble}
 use Rattle.tape.specs.contracts.troubled.TroubledReelReel.TheImpl.{ghosts as of_reel}
-use Rattle.drives.specs.Shop.{Shop}
+use Rattle.drives.specs.TapeLibrary.{TapeLibrary}
 use Rattle.rmt_server.specs.declared.refusal.Refusal.{Refusal}
 use Rattle.rmt_server.specs.declared.refusal.Refusal.TheVariants.{InputOutput}
 use Rattle.rmt_server.specs.declared.session.desk.Opened.{Opened}
@@ -22,12 +22,12 @@ use Rattle.rmt_server.specs.TroubledServe.{TroubledReelStep, IsSpent}
 use Rattle.rmt_server.proofs.Steps.{status_seen}
 
 -- what a request that the reel serves leaves of a session that is seen so
-pub record ReelServedSo (trouble : Trouble) (new : Option (Opened TroubledTape)) (shop : Shop) (session : PlainSession) (by : Option Refusal)
+pub record ReelServedSo (trouble : Trouble) (new : Option (Opened TroubledTape)) (library : TapeLibrary) (session : PlainSession) (by : Option Refusal)
     (request : PlainRequest) (reply : PlainReply) : Type 0 where
   pub after : PlainSession
   pub seen : IsSeenAs of_reel new after
-  pub step : MatchOption by (TroubledReelStep trouble (scene shop session) request reply (scene shop after))
-      (λ x. (reply ≡ refused x) × (scene shop after ≡ scene shop session))
+  pub step : MatchOption by (TroubledReelStep trouble (scene library session) request reply (scene library after))
+      (λ x. (reply ≡ refused x) × (scene library after ≡ scene library session))
   pub left : MatchOption (reel_of new) (Unit {0}) (λ r. IsSpent trouble reply r.trouble)
 
 device_reply : (request : PlainRequest) → reel_reply request (Fault fault.Device) ≡ refused InputOutput
@@ -55,10 +55,10 @@ pub kept_left : (trouble : Trouble) (reply : PlainReply) (reel : Option Troubled
 kept_left trouble reply None set = tt
 kept_left trouble reply (Some reel) set = inl set
 
-module _ (trouble : Trouble) (new : Option (Opened TroubledTape)) (shop : Shop) (session : PlainSession) (request : PlainRequest) (reply : PlainReply) where
+module _ (trouble : Trouble) (new : Option (Opened TroubledTape)) (library : TapeLibrary) (session : PlainSession) (request : PlainRequest) (reply : PlainReply) where
   calls_in : (device : Opened TroubledTape) (reel : Option TroubledTape) → CallsIn of_reel device reel new request reply
       → MatchOption reel (Unit {0}) (λ r. r.trouble ≡ trouble) → IsSeenWith of_reel device.drive device.access reel session
-      → ReelServedSo trouble new shop session None request reply
+      → ReelServedSo trouble new library session None request reply
   calls_in device None call set seen = absurd call
   calls_in device (Some reel) (answer, moved, n, e, call) set (t, held, s) = record {
     after = Online device.drive device.access (plain_reel moved.tape moved.capacity);
@@ -73,21 +73,21 @@ module _ (trouble : Trouble) (new : Option (Opened TroubledTape)) (shop : Shop) 
       subst (λ x. DeviceStep reel.capacity x t (tape_request request) answer moved.tape) set
           (subst (λ x. DeviceStep reel.capacity reel.trouble x (tape_request request) answer moved.tape) held call.made.step),
       e,
-      ap (λ c. scene shop (Online device.drive device.access (plain_reel moved.tape c))) call.same_capacity,
+      ap (λ c. scene library (Online device.drive device.access (plain_reel moved.tape c))) call.same_capacity,
     );
     left = rw n (subst (λ x. IsSpent x reply moved.trouble) set (spent_by request answer reel moved reply e call.made.counted call.made.step));
   }
 
   calls_reel : (old : Option (Opened TroubledTape)) → CallsReel of_reel old new request reply
       → MatchOption (reel_of old) (Unit {0}) (λ r. r.trouble ≡ trouble) → IsSeenAs of_reel old session
-      → ReelServedSo trouble new shop session None request reply
+      → ReelServedSo trouble new library session None request reply
   calls_reel None call set seen = absurd call
   calls_reel (Some device) call set seen = calls_in device device.reel call set seen
 
   serves_by : (old : Option (Opened TroubledTape)) (by : Option Refusal)
       → MatchOption by (CallsReel of_reel old new request reply) (λ x. (reply ≡ refused x) × (new ≡ old))
       → MatchOption (reel_of old) (Unit {0}) (λ r. r.trouble ≡ trouble) → IsSeenAs of_reel old session
-      → ReelServedSo trouble new shop session by request reply
+      → ReelServedSo trouble new library session by request reply
   serves_by old None call set seen = calls_reel old call set seen
   serves_by old (Some x) (e, n) set seen = record {
     after = session;
@@ -99,6 +99,6 @@ module _ (trouble : Trouble) (new : Option (Opened TroubledTape)) (shop : Shop) 
   -- a request that the reel serves, where it tells
   pub reel_serves_so : (old : Option (Opened TroubledTape)) → ReelServes of_reel old new request reply
       → MatchOption (reel_of old) (Unit {0}) (λ r. r.trouble ≡ trouble) → IsSeenAs of_reel old session
-      → ReelServedSo trouble new shop session (refusal (status_of session) request) request reply
+      → ReelServedSo trouble new library session (refusal (status_of session) request) request reply
   reel_serves_so old serves set seen =
       rw (status_seen of_reel old session seen) (serves_by old (refusal (status_at old) request) serves set seen)

@@ -11,8 +11,8 @@ use Rattle.tape.specs.declared.trouble.Trouble.TheVariants.{None as NoTrouble, K
 use Rattle.tape.specs.contracts.troubled.TroubledReelReel.TheImpl.{ghosts as of_reel}
 use Rattle.drives.specs.declared.fault.DriveFault.{DriveFault}
 use Rattle.drives.specs.declared.fault.DriveFault.TheVariants.{NoSuchDrive, Busy, NoReel, Device, OutOfMemory, NameTaken}
-use Rattle.drives.specs.Shop.{Shop}
-use Rattle.drives.specs.ListShop.{ListShop, troubled_in, is_set, IsShop}
+use Rattle.drives.specs.TapeLibrary.{TapeLibrary}
+use Rattle.drives.specs.ListLibrary.{ListLibrary, troubled_in, is_set, IsLibrary}
 use Rattle.drives.specs.Stacking.{HasLatched}
 use Rattle.rmt_server.specs.declared.access.Access.{Access}
 use Rattle.rmt_server.specs.declared.refusal.Refusal.{Refusal}
@@ -54,13 +54,13 @@ drive_seen None session seen = ap drive_in seen
 drive_seen (Some device) session seen = seen_with device device.reel session seen
 
 -- a reel that was laid back, or was not there
-pub lays_lying : (law : LyingLaw) (old new : ListShop) (t : Shop) (drive : ℕ) (reel : Option TroubledTape) → IsShop old t → drive < length old.shop.racks
-    → MatchOption reel (Unit {0}) (λ r. HasLatched IsShop old drive) → LaysBack in_memory.stacks of_reel old drive reel new
-    → MatchOption reel (Unit {0}) (λ r. r.trouble ≡ NoTrouble) → troubled_in old.shop ≡ 0 → (troubled_in new.shop ≡ 0) × (new.trouble ≡ old.trouble)
-lays_lying law old new t drive None tells l latched e calm none = (ap (λ (s : ListShop). troubled_in s.shop) e ∙ none, ap (λ (s : ListShop). s.trouble) e)
+pub lays_lying : (law : LyingLaw) (old new : ListLibrary) (t : TapeLibrary) (drive : ℕ) (reel : Option TroubledTape) → IsLibrary old t → drive < length old.library.drives
+    → MatchOption reel (Unit {0}) (λ r. HasLatched IsLibrary old drive) → LaysBack in_memory.stacks of_reel old drive reel new
+    → MatchOption reel (Unit {0}) (λ r. r.trouble ≡ NoTrouble) → troubled_in old.library ≡ 0 → (troubled_in new.library ≡ 0) × (new.trouble ≡ old.trouble)
+lays_lying law old new t drive None tells l latched e calm none = (ap (λ (s : ListLibrary). troubled_in s.library) e ∙ none, ap (λ (s : ListLibrary). s.trouble) e)
 lays_lying law old new t drive (Some reel) tells l latched (rested, rewound, call) calm none = (
   laid_lying law old new t drive rested l tells latched call.made none (rewound.made.counted.0 ∙ calm),
-  ap (λ (s : ListShop). s.trouble) call.made,
+  ap (λ (s : ListLibrary). s.trouble) call.made,
 )
 
 module _ (law : LyingLaw) (trouble : Trouble) (old : MemoryState) (before : Scene) (at : IsAt in_memory old) (tells : Tells in_memory old before) where
@@ -86,52 +86,52 @@ module _ (law : LyingLaw) (trouble : Trouble) (old : MemoryState) (before : Scen
   -- a request that the reel serves
   pub reel_so : (request : PlainRequest) (reply : PlainReply) (new : MemoryState) → Serves in_memory old request reply new → IsTroubled trouble false old
       → set_online trouble request ≡ trouble
-      → (p : ReelServedSo trouble new.opened before.shop before.session (refusal (status_of before.session) request) request reply)
-      → TroubledServeStep trouble old.drives.holds.numbers before request reply (scene before.shop p.after)
+      → (p : ReelServedSo trouble new.opened before.library before.session (refusal (status_of before.session) request) request reply)
+      → TroubledServeStep trouble old.drives.holds.numbers before request reply (scene before.library p.after)
       → IsServedUnder trouble old before request reply new
   reel_so request reply new (n, e, serves) set same p step =
-      let seen : Tells in_memory new (scene before.shop p.after) = record { shop = rw n tells.shop; session = p.seen } in
+      let seen : Tells in_memory new (scene before.library p.after) = record { library = rw n tells.library; session = p.seen } in
       record {
-        after = scene before.shop p.after;
+        after = scene before.library p.after;
         tells = seen;
         served = record {
           step = step;
-          held = held_same new (scene before.shop p.after) (ap (λ d. d.holds) n) (serves_same of_reel old.opened new.opened request reply serves).0 seen;
+          held = held_same new (scene before.library p.after) (ap (λ d. d.holds) n) (serves_same of_reel old.opened new.opened request reply serves).0 seen;
         };
-        lying = ap (λ d. troubled_in d.stacks.shop) n ∙ set.lying;
+        lying = ap (λ d. troubled_in d.stacks.library) n ∙ set.lying;
         online = rw same p.left;
         next = inl (ap (λ d. d.stacks.trouble) n);
       }
 
   pub reel_parts : (request : PlainRequest) (reply : PlainReply) (new : MemoryState) → Serves in_memory old request reply new → IsTroubled trouble false old
-      → ReelServedSo trouble new.opened before.shop before.session (refusal (status_of before.session) request) request reply
-  reel_parts request reply new (n, e, serves) set = reel_serves_so trouble new.opened before.shop before.session request reply old.opened serves set.online tells.session
+      → ReelServedSo trouble new.opened before.library before.session (refusal (status_of before.session) request) request reply
+  reel_parts request reply new (n, e, serves) set = reel_serves_so trouble new.opened before.library before.session request reply old.opened serves set.online tells.session
 
   latched_in : (device : Opened TroubledTape) (lying : Option TroubledTape) → old.opened ≡ Some device → device.reel ≡ lying
-      → MatchOption lying (Unit {0}) (λ r. HasLatched IsShop old.drives.stacks device.drive)
+      → MatchOption lying (Unit {0}) (λ r. HasLatched IsLibrary old.drives.stacks device.drive)
   latched_in device None o e = tt
   latched_in device (Some reel) o e = at.latched device.drive (ap online_drive o ∙ ap (online_in device.drive) e)
 
-  below_in : (device : Opened TroubledTape) → old.opened ≡ Some device → device.drive < length old.drives.stacks.shop.racks
+  below_in : (device : Opened TroubledTape) → old.opened ≡ Some device → device.drive < length old.drives.stacks.library.drives
   below_in device o = at.below device.drive (ap drive_of o)
 
-  closed_by : (opened : Option (Opened TroubledTape)) (stacks : ListShop) → old.opened ≡ opened → LaysBackOpened in_memory.stacks of_reel old.drives.stacks opened stacks
-      → MatchOption (reel_of opened) (Unit {0}) (λ r. r.trouble ≡ NoTrouble) → troubled_in old.drives.stacks.shop ≡ 0
-      → (troubled_in stacks.shop ≡ 0) × (stacks.trouble ≡ old.drives.stacks.trouble)
-  closed_by None stacks o e calm none = (ap (λ (s : ListShop). troubled_in s.shop) e ∙ none, ap (λ (s : ListShop). s.trouble) e)
+  closed_by : (opened : Option (Opened TroubledTape)) (stacks : ListLibrary) → old.opened ≡ opened → LaysBackOpened in_memory.stacks of_reel old.drives.stacks opened stacks
+      → MatchOption (reel_of opened) (Unit {0}) (λ r. r.trouble ≡ NoTrouble) → troubled_in old.drives.stacks.library ≡ 0
+      → (troubled_in stacks.library ≡ 0) × (stacks.trouble ≡ old.drives.stacks.trouble)
+  closed_by None stacks o e calm none = (ap (λ (s : ListLibrary). troubled_in s.library) e ∙ none, ap (λ (s : ListLibrary). s.trouble) e)
   closed_by (Some device) stacks o laid calm none =
-      lays_lying law old.drives.stacks stacks before.shop device.drive device.reel tells.shop (below_in device o) (latched_in device device.reel o refl) laid calm none
+      lays_lying law old.drives.stacks stacks before.library device.drive device.reel tells.library (below_in device o) (latched_in device device.reel o refl) laid calm none
 
   -- what was open is closed
   pub closed_lying : (stacks : Bool) (new : MemoryState) → IsClosed in_memory old new → IsTroubled NoTrouble stacks old
-      → (troubled_in new.drives.stacks.shop ≡ 0) × (new.drives.stacks.trouble ≡ old.drives.stacks.trouble)
+      → (troubled_in new.drives.stacks.library ≡ 0) × (new.drives.stacks.trouble ≡ old.drives.stacks.trouble)
   closed_lying stacks new c set = closed_by old.opened new.drives.stacks refl c.laid set.online set.lying
 
   pub closed_held : (new : MemoryState) → IsClosed in_memory old new → new.drives.holds.numbers ≡ with_holder (drive_in before.session) 0 old.drives.holds.numbers
   closed_held new c = rw (drive_seen old.opened before.session tells.session) (closed_numbers (drive_of old.opened) old.drives.holds new.drives.holds c.kept.same_holds c.told)
 
   pub closed_tells : (new : MemoryState) → IsClosed in_memory old new → Tells in_memory new (closed before)
-  closed_tells new c = record { shop = c.step before tells; session = rw c.nothing refl }
+  closed_tells new c = record { library = c.step before tells; session = rw c.nothing refl }
 
   not_refused : (access : Access) (reel : Option TroubledTape) → refusal (status_in access reel) Close ≡ None
   not_refused access None = refl
@@ -169,9 +169,9 @@ module _ (law : LyingLaw) (trouble : Trouble) (old : MemoryState) (before : Scen
       → IsServedUnder trouble old before (Op op count) reply new
   taken_so device reel op count reply (Ok x) new o online off free e m set t held seen =
       let u = m.rewound.step t held in
-      let v = m.call.step u.0 u.1 before.shop tells.shop in
+      let v = m.call.step u.0 u.1 before.library tells.library in
       let after : Scene = scene v.0 (Offline device.drive device.access) in
-      let told : Tells in_memory new after = record { shop = v.1; session = rw m.opens refl } in
+      let told : Tells in_memory new after = record { library = v.1; session = rw m.opens refl } in
       record {
         after = after;
         tells = told;
@@ -188,16 +188,16 @@ module _ (law : LyingLaw) (trouble : Trouble) (old : MemoryState) (before : Scen
           );
           held = held_same new after m.same_holds (ap drive_of m.opens ∙ sym (ap drive_of o)) told;
         };
-        lying = moved_lying law old.drives.stacks new.drives.stacks before.shop device.drive m.rested (Ok x) (below_in device o) tells.shop
+        lying = moved_lying law old.drives.stacks new.drives.stacks before.library device.drive m.rested (Ok x) (below_in device o) tells.library
             (latched_in device (Some reel) o online) m.call.made set.lying (m.rewound.made.counted.0 ∙ calm_in device reel (is_set trouble) o online set);
         online = rw m.opens tt;
-        next = inl (ap (λ (x : ListShop). x.trouble) m.call.made.1);
+        next = inl (ap (λ (x : ListLibrary). x.trouble) m.call.made.1);
       }
   taken_so device reel op count reply (Err Device) new o online off free e m set t held seen =
       let u = m.rewound.step t held in
-      let v = m.call.step before.shop tells.shop in
+      let v = m.call.step before.library tells.library in
       let after : Scene = scene v.0 (Online device.drive device.access (plain_reel u.0 m.rested.capacity)) in
-      let told : Tells in_memory new after = record { shop = v.1; session = rw m.opens (u.0, u.1, refl) } in
+      let told : Tells in_memory new after = record { library = v.1; session = rw m.opens (u.0, u.1, refl) } in
       record {
         after = after;
         tells = told;
@@ -214,10 +214,10 @@ module _ (law : LyingLaw) (trouble : Trouble) (old : MemoryState) (before : Scen
           );
           held = held_same new after m.same_holds (ap drive_of m.opens ∙ sym (ap drive_of o)) told;
         };
-        lying = moved_lying law old.drives.stacks new.drives.stacks before.shop device.drive m.rested (Err Device) (below_in device o) tells.shop
+        lying = moved_lying law old.drives.stacks new.drives.stacks before.library device.drive m.rested (Err Device) (below_in device o) tells.library
             (latched_in device (Some reel) o online) m.call.made set.lying (m.rewound.made.counted.0 ∙ calm_in device reel (is_set trouble) o online set);
         online = rw (m.opens, off) (inl (m.rewound.made.counted.0 ∙ calm_in device reel (is_set trouble) o online set));
-        next = inr (m.call.made.0, ap (λ (x : ListShop). x.trouble) m.call.made.1, e);
+        next = inr (m.call.made.0, ap (λ (x : ListLibrary). x.trouble) m.call.made.1, e);
       }
   taken_so device reel op count reply (Err NoSuchDrive) new o online off free e m set t held seen = absurd m.call.made
   taken_so device reel op count reply (Err (Busy n)) new o online off free e m set t held seen = absurd m.call.made

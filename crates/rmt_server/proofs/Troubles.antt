@@ -6,7 +6,7 @@ use Rattle.tape.specs.Trouble.{TroubledTape}
 use Rattle.tape.specs.declared.trouble.Trouble.{Trouble}
 use Rattle.tape.specs.declared.trouble.Trouble.TheVariants.{None as NoTrouble}
 use Rattle.tape.specs.contracts.troubled.TroubledReelReel.TheImpl.{ghosts as of_reel}
-use Rattle.drives.specs.ListShop.{troubled_in, is_set}
+use Rattle.drives.specs.ListLibrary.{troubled_in, is_set}
 use Rattle.rmt_server.specs.declared.session.desk.Opened.{Opened}
 use Rattle.rmt_server.specs.Session.{PlainSession, Scene, is_offline}
 use Rattle.rmt_server.specs.State.{drive_of, online_in, online_drive, reel_of, IsAt, IsSeenWith, IsSeenAs, Tells}
@@ -25,15 +25,15 @@ opened_set : (trouble : Trouble) (opened : Option (Opened TroubledTape)) → Mat
 opened_set trouble None = tt
 opened_set trouble (Some device) = reel_set trouble device.reel
 
-pub troubles_are_set : (reel : Trouble) (stacks : Bool) (x : MemoryState) → troubled_in x.drives.stacks.shop ≡ 0 → IsTroubled reel stacks (with_troubles reel stacks x)
+pub troubles_are_set : (reel : Trouble) (stacks : Bool) (x : MemoryState) → troubled_in x.drives.stacks.library ≡ 0 → IsTroubled reel stacks (with_troubles reel stacks x)
 troubles_are_set reel stacks x none = record { online = opened_set reel x.opened; next = refl; lying = none }
 
-set_by : (of_stacks : Bool) (trouble : Trouble) (x : MemoryState) → troubled_in x.drives.stacks.shop ≡ 0 → IsSetAt of_stacks trouble (set_at of_stacks trouble x)
+set_by : (of_stacks : Bool) (trouble : Trouble) (x : MemoryState) → troubled_in x.drives.stacks.library ≡ 0 → IsSetAt of_stacks trouble (set_at of_stacks trouble x)
 set_by true trouble x none = troubles_are_set NoTrouble (is_set trouble) x none
 set_by false trouble x none = troubles_are_set trouble false x none
 
 -- the trouble that a request meets
-pub request_set : (trouble : Trouble) (request : PlainRequest) (x : MemoryState) → troubled_in x.drives.stacks.shop ≡ 0 → IsSetFor trouble request (set_for trouble request x)
+pub request_set : (trouble : Trouble) (request : PlainRequest) (x : MemoryState) → troubled_in x.drives.stacks.library ≡ 0 → IsSetFor trouble request (set_for trouble request x)
 request_set trouble (Open device mode) x none = set_by true trouble x none
 request_set trouble Close x none = troubles_are_set NoTrouble false x none
 request_set trouble (Write bytes) x none = set_by false trouble x none
@@ -52,7 +52,7 @@ same_seen trouble (Some device) session seen = same_seen_with trouble device dev
 
 -- what is told stays
 pub troubles_told : (reel : Trouble) (stacks : Bool) (x : MemoryState) (v : Scene) → Tells in_memory x v → Tells in_memory (with_troubles reel stacks x) v
-troubles_told reel stacks x v tells = record { shop = tells.shop; session = same_seen reel x.opened v.session tells.session }
+troubles_told reel stacks x v tells = record { library = tells.library; session = same_seen reel x.opened v.session tells.session }
 
 same_drive : (trouble : Trouble) (opened : Option (Opened TroubledTape)) → drive_of (with_trouble trouble opened) ≡ drive_of opened
 same_drive trouble None = refl

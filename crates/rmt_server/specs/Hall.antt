@@ -1,7 +1,7 @@
 -- A server's drives, who holds each, and its end of each connection. Public contracts cite it.
 use Rattle.std.specs.Prelude.{ℕ, List, Option}
 use Rattle.rmt_wire.specs.RequestReader.{RequestHeld}
-use Rattle.drives.specs.Shop.{Shop}
+use Rattle.drives.specs.TapeLibrary.{TapeLibrary}
 use Rattle.rmt_server.specs.Session.{PlainSession}
 
 -- what a connection's reader of requests holds, and its session
@@ -15,9 +15,9 @@ side reached session = record { reached = reached; session = session }
 -- Drives and reels, the holder of each drive, 0 where there is none, and the server's side of each connection, while it is
 -- live. Connection k is at place k - 1, and its session has the number k.
 pub record Hall : Type 0 where
-  pub shop : Shop
+  pub library : TapeLibrary
   pub holders : List ℕ
   pub sides : List (Option Side)
 
-abbrev pub hall : Shop → List ℕ → List (Option Side) → Hall
-hall shop holders sides = record { shop = shop; holders = holders; sides = sides }
+abbrev pub hall : TapeLibrary → List ℕ → List (Option Side) → Hall
+hall library holders sides = record { library = library; holders = holders; sides = sides }

@@ -5,7 +5,7 @@ use Rattle.tape.specs.declared.trouble.Trouble.{Trouble}
 use Rattle.tape.specs.declared.trouble.Trouble.TheVariants.{None as NoTrouble}
 use Rattle.drives.specs.declared.table.DriveTable.{DriveTable}
 use Rattle.drives.specs.declared.view.View.{View}
-use Rattle.drives.specs.ListShop.{ListShop, is_set}
+use Rattle.drives.specs.ListLibrary.{ListLibrary, is_set}
 use Rattle.drives.specs.Local.{Holders, holders, IsHeldBy}
 use Rattle.drives.specs.Stacking.{HasLatched}
 use Rattle.drives.specs.Opening.{Kinds}
@@ -59,8 +59,8 @@ StaysAtWithMoreSeats {S} {R} k = (old : DriveTable Holders S View R) (desk : Des
     IsAt k (state old desk) → old.holds.last ≤ last → IsAt k (state (record old { holds = holders old.holds.numbers last }) desk)
 
 -- drives in memory are still those of a session after a trouble of the stacks was set or taken back
-abbrev pub StaysAtUnderTrouble : {H Seat : Type 0} → Kinds H Seat ListShop TroubledTape → Type 0
-StaysAtUnderTrouble {H} {Seat} k = (old : DriveTable H ListShop Seat TroubledTape) (desk : Desk Seat TroubledTape) (on : Bool) →
+abbrev pub StaysAtUnderTrouble : {H Seat : Type 0} → Kinds H Seat ListLibrary TroubledTape → Type 0
+StaysAtUnderTrouble {H} {Seat} k = (old : DriveTable H ListLibrary Seat TroubledTape) (desk : Desk Seat TroubledTape) (on : Bool) →
     IsAt k (state old desk) → IsAt k (state (record old { stacks = record old.stacks { trouble = on } }) desk)
 
 -- one request over drives in memory, a trouble of its device call being set: what is seen of it afterwards is what `IsServedUnder` says

@@ -4,7 +4,7 @@ use Rattle.tape.specs.Trouble.{TroubledTape}
 use Rattle.tape.specs.contracts.troubled.TroubledReelReel.TheImpl.{ghosts as of_reel}
 use Rattle.drives.specs.declared.view.View.{View}
 use Rattle.drives.specs.Local.{Holders}
-use Rattle.drives.specs.ListShop.{ListShop, shop_of}
+use Rattle.drives.specs.ListLibrary.{ListLibrary, library_of}
 use Rattle.drives.specs.Opening.{Kinds, kinds}
 use Rattle.drives.specs.contracts.list.ListStacksStacks.TheImpl.{ghosts as of_stacks}
 use Rattle.drives.specs.contracts.local.LocalHoldsHolds.TheImpl.{ghosts as of_holds}
@@ -15,9 +15,9 @@ use Rattle.rmt_server.specs.Session.PlainSession.{Idle, Offline, Online}
 use Rattle.rmt_server.specs.State.{State}
 
 abbrev pub MemoryState : Type 0
-MemoryState = State Holders ListShop View TroubledTape
+MemoryState = State Holders ListLibrary View TroubledTape
 
-abbrev pub in_memory : Kinds Holders View ListShop TroubledTape
+abbrev pub in_memory : Kinds Holders View ListLibrary TroubledTape
 in_memory = kinds of_holds of_stacks of_reel
 
 -- the session where this drive is open, with this reel or with none
@@ -31,4 +31,4 @@ session_seen (Some device) = session_with device.drive device.access device.reel
 
 -- what stacks and open reel tell
 abbrev pub scene_seen : MemoryState → Scene
-scene_seen x = scene (shop_of x.drives.stacks) (session_seen x.opened)
+scene_seen x = scene (library_of x.drives.stacks) (session_seen x.opened)

@@ -49,7 +49,7 @@ pub record IsClosed {H S Seat R : Type 0} (k : Kinds H Seat S R) (old new : Stat
   -- nothing else is asked of the reel and of the stacks
   pub laid : LaysBackOpened k.stacks k.reels old.drives.stacks old.opened new.drives.stacks
   -- where stacks and reel tell, the reel's tape lies on the stack
-  pub step : (v : Scene) → Tells k old v → k.stacks.holds new.drives.stacks (closed v).shop
+  pub step : (v : Scene) → Tells k old v → k.stacks.holds new.drives.stacks (closed v).library
   -- the seat gives the open drive back, and the holds tell so
   pub view : k.holds.shows new.seat ≡ view_after_close (k.holds.shows old.seat) (drive_of old.opened)
   pub told : (d n : ℕ) → k.holds.tells old.drives.holds d n

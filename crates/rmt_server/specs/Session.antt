@@ -21,7 +21,7 @@ use Rattle.drives.specs.declared.fault.DriveFault.{DriveFault}
 use Rattle.drives.specs.declared.fault.DriveFault.TheVariants as drive
 use Rattle.rmt_server.specs.Access.{access_of, reads, writes}
 use Rattle.rmt_server.specs.Refusals.{refused, tape_refusal, drive_refusal}
-use Rattle.drives.specs.Shop.{Shop, after_unlatch, after_offline}
+use Rattle.drives.specs.TapeLibrary.{TapeLibrary, after_unlatch, after_offline}
 use Rattle.drives.specs.Stacking.{StaysOnline}
 use Rattle.drives.specs.Opening.{OpenStep, found_in_open}
 
@@ -43,11 +43,11 @@ pub data PlainSession : Type 0 where
 
 -- drives, reels and bin, and the session that works on them
 pub record Scene : Type 0 where
-  pub shop : Shop
+  pub library : TapeLibrary
   pub session : PlainSession
 
-abbrev pub scene : Shop → PlainSession → Scene
-scene shop session = record { shop = shop; session = session }
+abbrev pub scene : TapeLibrary → PlainSession → Scene
+scene library session = record { library = library; session = session }
 
 -- as much of a session as the checks look at
 pub data Status : Type 0 where
@@ -123,16 +123,16 @@ ReelStep troubled grows before request reply after =
     × TapeStep reel.capacity reel.tape (tape_request request) answer t
     × IsExcused troubled grows answer
     × (reply ≡ reel_reply request answer)
-    × (after ≡ scene before.shop (Online drive access (plain_reel t reel.capacity)))
+    × (after ≡ scene before.library (Online drive access (plain_reel t reel.capacity)))
 
 -- the shop once the session has nothing open: a latched reel lies on its stack again
-abbrev pub closed_shop : Shop → PlainSession → Shop
-closed_shop shop Idle = shop
-closed_shop shop (Offline drive access) = shop
-closed_shop shop (Online drive access reel) = after_unlatch shop drive (entries_of reel.tape) reel.capacity
+abbrev pub closed_library : TapeLibrary → PlainSession → TapeLibrary
+closed_library library Idle = library
+closed_library library (Offline drive access) = library
+closed_library library (Online drive access reel) = after_unlatch library drive (entries_of reel.tape) reel.capacity
 
 abbrev pub closed : Scene → Scene
-closed v = scene (closed_shop v.shop v.session) Idle
+closed v = scene (closed_library v.library v.session) Idle
 
 -- what a client is told of an open
 abbrev pub open_reply : {R : Type 0} → Result (ℕ × R) DriveFault → PlainReply
@@ -157,7 +157,7 @@ abbrev pub OpensAs : Bool → Option ℕ → ℕ → Scene → List ℕ → Opti
 OpensAs troubled asked found before device None reply after = (reply ≡ refused Invalid) × (after ≡ before)
 OpensAs troubled asked found before device (Some access) reply after =
     (result : Result (ℕ × PlainReel) DriveFault)
-    × OpenStep (λ reel t. reel.tape ≡ t) (λ reel. reel.capacity) device asked result before.shop after.shop
+    × OpenStep (λ reel t. reel.tape ≡ t) (λ reel. reel.capacity) device asked result before.library after.library
     × (found ≡ found_in_open result)
     × IsOpenExcused troubled result
     × (reply ≡ open_reply result)
@@ -180,11 +180,11 @@ move_reply count (Ok done) = Done count
 move_reply count (Err why) = refused (drive_refusal why)
 
 -- The reel lies last in the bin, and its drive stays open. Or it was not moved, and stands at its beginning.
-abbrev pub MovesAs : Bool → ℕ → Access → PlainReel → Result Unit DriveFault → Shop → Scene → Type 0
+abbrev pub MovesAs : Bool → ℕ → Access → PlainReel → Result Unit DriveFault → TapeLibrary → Scene → Type 0
 MovesAs troubled drive access reel (Ok done) before after =
     after ≡ scene (after_offline before drive (entries_of reel.tape) reel.capacity) (Offline drive access)
 MovesAs troubled drive access reel (Err why) before after =
-    IsMoveExcused troubled why × StaysOnline drive why before after.shop
+    IsMoveExcused troubled why × StaysOnline drive why before after.library
     × (after.session ≡ Online drive access (plain_reel (tape [] (entries_of reel.tape)) reel.capacity))
 
 -- the latched reel is rewound and moved to the bin
@@ -193,7 +193,7 @@ MoveStep troubled before count reply after =
     (drive : ℕ) × (access : Access) × (reel : PlainReel) × (result : Result Unit DriveFault)
     × (before.session ≡ Online drive access reel)
     × (reply ≡ move_reply count result)
-    × MovesAs troubled drive access reel result before.shop after
+    × MovesAs troubled drive access reel result before.library after
 
 -- an operation, which is MTOFFL or not
 abbrev pub OpStep : Bool → Bool → Bool → Scene → ℕ → ℕ → PlainReply → Scene → Type 0

@@ -83,7 +83,7 @@ IsSeenAs r (Some device) session = IsSeenWith r device.drive device.access devic
 
 -- what the stacks and the open reel tell
 pub record Tells {H S Seat R : Type 0} (k : Kinds H Seat S R) (x : State H S Seat R) (v : Scene) : Type 0 where
-  pub shop : k.stacks.holds x.drives.stacks v.shop
+  pub library : k.stacks.holds x.drives.stacks v.library
   pub session : IsSeenAs k.reels x.opened v.session
 
 -- a device can fail: that of the stacks, or that of the open reel

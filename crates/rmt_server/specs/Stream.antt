@@ -184,7 +184,7 @@ pub record IsServedAs {H S Seat R In Out : Type 0} (k : Kinds H Seat S R) (kind 
   pub number : (k.holds.shows new.seat).number ≡ (k.holds.shows old.seat).number
   pub same_seats : k.holds.seated new.drives.holds ≡ k.holds.seated old.drives.holds
   pub steps : (fails shared : Bool) → MayFail k old fails → MayShare k old shared → (start : Scene) → Tells k old start
-      → (finish : Scene) × ServeRun fails shared k.reels.GROWS start done finish × k.stacks.holds new.drives.stacks (closed finish).shop
+      → (finish : Scene) × ServeRun fails shared k.reels.GROWS start done finish × k.stacks.holds new.drives.stacks (closed finish).library
 
 -- the same of a session that is serving
 abbrev pub ServesAs : {In Out H S Seat R : Type 0} → Kinds H Seat S R → ReadPromise In → WritePromise Out → Result Served ServeFault

@@ -11,7 +11,7 @@ use Rattle.tape.specs.declared.trouble.Trouble.{Trouble}
 use Rattle.tape.specs.declared.trouble.Trouble.TheVariants.{None as NoTrouble}
 use Rattle.drives.specs.declared.fault.DriveFault.{DriveFault}
 use Rattle.drives.specs.declared.fault.DriveFault.TheVariants as drive
-use Rattle.drives.specs.ListShop.{is_set, troubled_in}
+use Rattle.drives.specs.ListLibrary.{is_set, troubled_in}
 use Rattle.drives.specs.Opening.{OpenStep}
 use Rattle.rmt_server.specs.declared.access.Access.{Access}
 use Rattle.rmt_server.specs.declared.refusal.Refusal.TheVariants.{InputOutput, Invalid}
@@ -47,7 +47,7 @@ TroubledReelStep trouble before request reply after =
     × (before.session ≡ Online drive access reel)
     × DeviceStep reel.capacity trouble reel.tape (tape_request request) answer t
     × (reply ≡ reel_reply request answer)
-    × (after ≡ scene before.shop (Online drive access (plain_reel t reel.capacity)))
+    × (after ≡ scene before.library (Online drive access (plain_reel t reel.capacity)))
 
 -- Why an open answers so, where the drive of that name is held by n, or by none at 0: a drive that is held is busy, and
 -- no reel is latched in spite of a trouble. A latch in memory wants no memory.
@@ -64,7 +64,7 @@ abbrev pub TroubledOpens : Trouble → List ℕ → Scene → List ℕ → Optio
 TroubledOpens trouble holders before device None reply after = (reply ≡ refused Invalid) × (after ≡ before)
 TroubledOpens trouble holders before device (Some access) reply after =
     (result : Result (ℕ × PlainReel) DriveFault) × (asked : Option ℕ)
-    × OpenStep (λ reel t. reel.tape ≡ t) (λ reel. reel.capacity) device asked result before.shop after.shop
+    × OpenStep (λ reel t. reel.tape ≡ t) (λ reel. reel.capacity) device asked result before.library after.library
     × IsOpenCause trouble (holder_of holders asked) result
     × (reply ≡ open_reply result)
     × (after.session ≡ session_after access result)
@@ -83,7 +83,7 @@ TroubledMoveStep trouble before count reply after =
     × (before.session ≡ Online drive access reel)
     × IsMoveCause trouble result
     × (reply ≡ move_reply count result)
-    × MovesAs (is_set trouble) drive access reel result before.shop after
+    × MovesAs (is_set trouble) drive access reel result before.library after
 
 -- an operation, which is MTOFFL or not
 abbrev pub TroubledOpStep : Bool → Trouble → Scene → ℕ → ℕ → PlainReply → Scene → Type 0
@@ -116,7 +116,7 @@ pub record TroubledServe (trouble : Trouble) (holders : List ℕ) (k : ℕ) (bef
 pub record IsTroubled (reel : Trouble) (stacks : Bool) (x : MemoryState) : Type 0 where
   pub online : MatchOption (reel_of x.opened) (Unit {0}) (λ r. r.trouble ≡ reel)
   pub next : x.drives.stacks.trouble ≡ stacks
-  pub lying : troubled_in x.drives.stacks.shop ≡ 0
+  pub lying : troubled_in x.drives.stacks.library ≡ 0
 
 abbrev pub IsSetAt : Bool → Trouble → MemoryState → Type 0
 IsSetAt true trouble x = IsTroubled NoTrouble (is_set trouble) x
@@ -148,7 +148,7 @@ pub record IsServedUnder (trouble : Trouble) (old : MemoryState) (before : Scene
   pub after : Scene
   pub tells : Tells in_memory new after
   pub served : TroubledServe trouble old.drives.holds.numbers old.seat.number before request reply after new.drives.holds.numbers
-  pub lying : troubled_in new.drives.stacks.shop ≡ 0
+  pub lying : troubled_in new.drives.stacks.library ≡ 0
   pub online : MatchOption (reel_of new.opened) (Unit {0}) (λ r. IsSpent (set_online trouble request) reply r.trouble)
   pub next : IsNextSpent old.drives.stacks.trouble reply new.drives.stacks.trouble
 
@@ -171,4 +171,4 @@ set_for trouble request x = set_at (is_of_stacks request) trouble x
 pub record IsEnded (old : MemoryState) (before : Scene) (new : MemoryState) : Type 0 where
   pub tells : Tells in_memory new (closed before)
   pub held : new.drives.holds.numbers ≡ with_holder (drive_in before.session) 0 old.drives.holds.numbers
-  pub lying : troubled_in new.drives.stacks.shop ≡ 0
+  pub lying : troubled_in new.drives.stacks.library ≡ 0

@@ -4,7 +4,7 @@ ghost use Rattle.std.specs.Prelude.{◌≡◌, Bool};
 ghost use Rattle.tape.specs.contracts.troubled.TroubledReelReel.TheImpl.{ghosts as of_reel};
 ghost use Rattle.drives.specs.contracts.list.ListStacksStacks.TheImpl.{ghosts as of_stacks};
 ghost use Rattle.drives.specs.contracts.local.LocalHoldsHolds.TheImpl.{ghosts as of_holds};
-ghost use Rattle.drives.specs.ListShop.{shop_of, IsShop, troubled_in};
+ghost use Rattle.drives.specs.ListLibrary.{library_of, IsLibrary, troubled_in};
 ghost use Rattle.drives.specs.Opening.{kinds};
 ghost use Rattle.rmt_wire.specs.Request.{PlainRequest};
 ghost use Rattle.tape.specs.declared.trouble.Trouble.{Trouble};
@@ -64,7 +64,7 @@ pub fn stacks_trouble<H: Holds>()
 ///
 /// It does nothing: its contract is a law of the definitions.
 pub fn one_scene()
-    ensures told { (x : MemoryState) → IsShop x.drives.stacks (shop_of x.drives.stacks) → Tells in_memory x (scene_seen x) }
+    ensures told { (x : MemoryState) → IsLibrary x.drives.stacks (library_of x.drives.stacks) → Tells in_memory x (scene_seen x) }
     ensures one { (x : MemoryState) (v : Scene) → Tells in_memory x v → v ≡ scene_seen x }
 {}
 
@@ -101,9 +101,9 @@ pub fn troubles_set()
     ensures at { (reel : Trouble) (stacks : Bool) (x : MemoryState) → IsAt in_memory x → IsAt in_memory (with_troubles reel stacks x) }
     ensures told { (reel : Trouble) (stacks : Bool) (x : MemoryState) (v : Scene) →
         Tells in_memory x v → Tells in_memory (with_troubles reel stacks x) v }
-    ensures set { (reel : Trouble) (stacks : Bool) (x : MemoryState) → troubled_in x.drives.stacks.shop ≡ 0 →
+    ensures set { (reel : Trouble) (stacks : Bool) (x : MemoryState) → troubled_in x.drives.stacks.library ≡ 0 →
         IsTroubled reel stacks (with_troubles reel stacks x) }
-    ensures request { (trouble : Trouble) (request : PlainRequest) (x : MemoryState) → troubled_in x.drives.stacks.shop ≡ 0 →
+    ensures request { (trouble : Trouble) (request : PlainRequest) (x : MemoryState) → troubled_in x.drives.stacks.library ≡ 0 →
         IsSetFor trouble request (set_for trouble request x) }
 {}
 

@@ -3,7 +3,7 @@ use Rattle.std.specs.Prelude.{◌≡◌, ℕ, ◌-◌, ◌^◌, min, Bool, true,
 use Rattle.tape.specs.Trouble.{TroubledTape}
 use Rattle.drives.specs.declared.table.DriveTable.{DriveTable}
 use Rattle.drives.specs.declared.view.View.{View}
-use Rattle.drives.specs.ListShop.{ListShop}
+use Rattle.drives.specs.ListLibrary.{ListLibrary}
 use Rattle.drives.specs.Local.{Holders}
 use Rattle.rmt_server.specs.declared.session.desk.Desk.{Desk}
 use Rattle.rmt_server.specs.Memory.{MemoryState, in_memory}
@@ -30,7 +30,7 @@ where_so true passed = passed
 where_so false passed = []
 
 abbrev pub Drives : Type 0
-Drives = DriveTable Holders ListShop View TroubledTape
+Drives = DriveTable Holders ListLibrary View TroubledTape
 
 abbrev pub Seated : Type 0
 Seated = Desk View TroubledTape

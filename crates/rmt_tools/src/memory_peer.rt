@@ -48,7 +48,7 @@ impl MemoryPeer {
     ///
     /// None where memory was refused, or no number is left for a session.
     pub fn new(alloc: Global, drives: DriveTable<LocalHolds, ListStacks>) -> Option<MemoryPeer>
-        requires { length drives.stacks.shop.racks ≤ length drives.holds.numbers }
+        requires { length drives.stacks.library.drives ≤ length drives.holds.numbers }
         ensures tells { IfSome result (λ p. IsLogOf p.log []) }
         ensures made { IfSome result (λ p. IsMadeOf drives p) }
     {
@@ -71,7 +71,7 @@ impl MemoryPeer {
     /// The drives, once the session has ended. Another peer can be made of them.
     pub fn into_drives(self) -> DriveTable<LocalHolds, ListStacks>
         ensures apart { IsTakenApart self result }
-        ensures enough { length result.stacks.shop.racks ≤ length result.holds.numbers }
+        ensures enough { length result.stacks.library.drives ≤ length result.holds.numbers }
     {
         let MemoryPeer { far, .. } = self;
         far.into_drives()

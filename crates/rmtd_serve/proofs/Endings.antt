@@ -9,7 +9,7 @@ use Rattle.rmt_server.specs.State.{State, reel_of}
 use Rattle.rmt_server.specs.Carrying.{MayFail}
 use Rattle.rmt_server.specs.Session.{none}
 use Rattle.rmt_server.specs.Stream.{streams, streams_kind, Exchange, EndsAs, NoneFailed}
-use Rattle.drives.specs.Shop.{Shop}
+use Rattle.drives.specs.TapeLibrary.{TapeLibrary}
 use Rattle.rmt_server.specs.Session.{scene}
 use Rattle.rmt_server.specs.Session.PlainSession.{Idle}
 use Rattle.rmtd_serve.specs.Stdio.{blank_scene, EndsWith, IsServedAlone}
@@ -38,7 +38,7 @@ kept_ok P (Ok x) value p e = let same : value ≡ x = cc in subst P (sym same) p
 kept_ok P (Err x) value p e = absurd cc
 
 -- nothing was read or written
-pub unserved : {R W : Type 0} {remaining : R → Option (List ℕ)} {contents : W → Option (List ℕ)} {before after : Shop} {input : Counting R} {output : Counting W} {ending : Option Served}
+pub unserved : {R W : Type 0} {remaining : R → Option (List ℕ)} {contents : W → Option (List ℕ)} {before after : TapeLibrary} {input : Counting R} {output : Counting W} {ending : Option Served}
     → after ≡ before → ending ≡ None → IsServedNext (streams_kind remaining contents) before after (streams input output) (streams input output) ending
 unserved {remaining = remaining} {contents} {before} {after} {input} {output} same e =
     subst (IsServedNext (streams_kind remaining contents) before after (streams input output) (streams input output)) (sym e) record {
@@ -53,9 +53,9 @@ unserved {remaining = remaining} {contents} {before} {after} {input} {output} sa
     }
 
 -- a stream that is served next from an empty reel is served alone
-pub alone : {R W : Type 0} {remaining : R → Option (List ℕ)} {contents : W → Option (List ℕ)} {capacity : ℕ} {after : Shop}
+pub alone : {R W : Type 0} {remaining : R → Option (List ℕ)} {contents : W → Option (List ℕ)} {capacity : ℕ} {after : TapeLibrary}
     {input input' : Counting R} {output output' : Counting W} {ending : Option Served}
-    → IsServedNext (streams_kind remaining contents) (blank_scene capacity).shop after (streams input output) (streams input' output') ending
+    → IsServedNext (streams_kind remaining contents) (blank_scene capacity).library after (streams input output) (streams input' output') ending
     → IsServedAlone (streams_kind remaining contents) capacity (streams input output) (streams input' output') ending
 alone served = record {
   read = served.read;

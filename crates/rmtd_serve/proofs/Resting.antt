@@ -25,8 +25,8 @@ use Rattle.rmt_server.specs.declared.stream.Served.{Served}
 use Rattle.rmt_server.specs.declared.stream.ServeFault.{ServeFault}
 use Rattle.rmt_server.specs.Memory.{MemoryState, in_memory}
 use Rattle.rmt_wire.specs.Counted.{Counting}
-use Rattle.drives.specs.Shop.{Shop, EachReelOnce}
-use Rattle.drives.specs.ListShop.{ListShop, shop_of}
+use Rattle.drives.specs.TapeLibrary.{TapeLibrary, EachReelOnce}
+use Rattle.drives.specs.ListLibrary.{ListLibrary, library_of}
 use Rattle.drives.specs.contracts.list.ListStacksStacks.TheImpl.{ghosts as of_stacks}
 use Rattle.tape.specs.contracts.troubled.TroubledReelReel.TheImpl.{ghosts as of_reel}
 use Rattle.rmt_server.specs.Stream.CarryRun.{none, one_more}
@@ -173,13 +173,13 @@ pub served_from_rest : {In Out : Type 0} {remaining : In → Option (List ℕ)} 
     {input input' : Counting In} {output output' : Counting Out} (start new : MemoryState) → IsAtRest start.drives → start.opened ≡ None
     → (served : IsServedAs in_memory (streams_kind remaining contents) result (streams input output) (streams input' output') start new)
     → IsAtRest new.drives
-    × ((finish : Scene) × ServeRun false false true (scene (shop_of start.drives.stacks) Idle) served.done finish
-    × (shop_of new.drives.stacks ≡ (closed finish).shop))
+    × ((finish : Scene) × ServeRun false false true (scene (library_of start.drives.stacks) Idle) served.done finish
+    × (library_of new.drives.stacks ≡ (closed finish).library))
 served_from_rest start new rest closed served =
     let idle : IsSeenAs of_reel start.opened Idle = subst (λ o. IsSeenAs of_reel o Idle) (sym closed) refl in
     let quiet : MayFail in_memory start false = none_fails in_memory start rest.quiet closed in
     let steps = served.steps false false quiet (inr (free_alone of_stacks of_reel start rest.free))
-    (scene (shop_of start.drives.stacks) Idle) record { shop = rest.told; session = idle } in (
+    (scene (library_of start.drives.stacks) Idle) record { library = rest.told; session = idle } in (
       record {
         free = ends_free of_stacks of_reel _ start served.last new rest.free refl served.run served.ended;
         enough = served.ended.at.enough;
@@ -194,12 +194,12 @@ pub served_at_rest : {In Out : Type 0} {remaining : In → Option (List ℕ)} {c
     {input input' : Counting In} {output output' : Counting Out} (start : MemoryState) {finish : MemoryState} → IsAtRest start.drives → start.opened ≡ None
     → ServesStreams in_memory (streams_kind remaining contents) start (streams input output) (streams input' output') ending finish
     → IsAtRest finish.drives
-    × IsServedNext (streams_kind remaining contents) (shop_of start.drives.stacks) (shop_of finish.drives.stacks) (streams input output) (streams input' output') ending
+    × IsServedNext (streams_kind remaining contents) (library_of start.drives.stacks) (library_of finish.drives.stacks) (streams input output) (streams input' output') ending
 served_at_rest {remaining = remaining} {contents} {input = input} {input'} {output} start rest nothing (untouched i o) =
-    let shop = shop_of start.drives.stacks in (
+    let library = library_of start.drives.stacks in (
       rest,
-      subst (λ o'. IsServedNext (streams_kind remaining contents) shop shop (streams input output) (streams input' o') None) (sym o)
-          (subst (λ i'. IsServedNext (streams_kind remaining contents) shop shop (streams input output) (streams i' output) None) (sym i) (unserved refl refl)),
+      subst (λ o'. IsServedNext (streams_kind remaining contents) library library (streams input output) (streams input' o') None) (sym o)
+          (subst (λ i'. IsServedNext (streams_kind remaining contents) library library (streams input output) (streams i' output) None) (sym i) (unserved refl refl)),
     )
 served_at_rest {remaining = remaining} {contents} {input = input} {input'} {output} {output'} start rest nothing (by_session finish result is steady) =
     let from = served_from_rest start finish rest nothing is in
@@ -218,11 +218,11 @@ served_at_rest {remaining = remaining} {contents} {input = input} {input'} {outp
     )
 
 -- drives at rest are so after one more seat was given
-pub seated_rest : {holds : Holders} (new : Holders) (stacks : ListShop) → IsAtRest (record { holds = holds; stacks = stacks })
+pub seated_rest : {holds : Holders} (new : Holders) (stacks : ListLibrary) → IsAtRest (record { holds = holds; stacks = stacks })
     → {last : ℕ} → new ≡ holders holds.numbers last → IsAtRest (record { holds = new; stacks = stacks })
 seated_rest new stacks rest e = rw e (record { free = rest.free; enough = rest.enough; told = rest.told; quiet = rest.quiet })
 
 -- streams served after others that were
-pub in_turn : {first between last : Shop} → ServedInTurn first between → ServedInTurn between last → ServedInTurn first last
+pub in_turn : {first between last : TapeLibrary} → ServedInTurn first between → ServedInTurn between last → ServedInTurn first last
 in_turn some none_served = some
 in_turn some (one_more_served done finish more run) = one_more_served done finish (in_turn some more) run

@@ -3,8 +3,8 @@ use Rattle.std.specs.Prelude.{◌≡◌, ℕ, ◌<◌, ◌≤◌, false, true, L
 use Rattle.tape.specs.Trouble.{TroubledTape}
 use Rattle.drives.specs.declared.table.DriveTable.{DriveTable}
 use Rattle.drives.specs.declared.view.View.{View}
-use Rattle.drives.specs.Shop.{Shop}
-use Rattle.drives.specs.ListShop.{ListShop, IsShop, shop_of, StacksCanFail}
+use Rattle.drives.specs.TapeLibrary.{TapeLibrary}
+use Rattle.drives.specs.ListLibrary.{ListLibrary, IsLibrary, library_of, StacksCanFail}
 use Rattle.drives.specs.Local.{Holders}
 use Rattle.rmt_server.specs.declared.stream.Served.{Served}
 use Rattle.rmt_server.specs.Session.{Scene, scene, closed, ServeRun}
@@ -17,15 +17,15 @@ abbrev pub AllFree : Holders → Type 0
 AllFree holds = (d : ℕ) → d < length holds.numbers → slice_index holds.numbers d ≡ 0
 
 -- No session holds a drive, each reel stands once, and no device can fail.
-pub record IsAtRest (drives : DriveTable Holders ListShop View TroubledTape) : Type 0 where
+pub record IsAtRest (drives : DriveTable Holders ListLibrary View TroubledTape) : Type 0 where
   pub free : AllFree drives.holds
-  pub enough : length drives.stacks.shop.racks ≤ length drives.holds.numbers
-  pub told : IsShop drives.stacks (shop_of drives.stacks)
+  pub enough : length drives.stacks.library.drives ≤ length drives.holds.numbers
+  pub told : IsLibrary drives.stacks (library_of drives.stacks)
   pub quiet : StacksCanFail drives.stacks → ⊥
 
 -- One stream served: from the reels as they lay, the requests read with the replies are a run of serve steps in which no device
 -- fails and no drive is busy, and what is open at its end is closed. Where memory was refused nothing is read.
-pub record IsServedNext {In Out : Type 0} (kind : StreamsKind In Out) (before after : Shop) (old new : Streams In Out)
+pub record IsServedNext {In Out : Type 0} (kind : StreamsKind In Out) (before after : TapeLibrary) (old new : Streams In Out)
     (ending : Option Served) : Type 0 where
   pub read : List ℕ
   pub done : List Exchange
@@ -34,11 +34,11 @@ pub record IsServedNext {In Out : Type 0} (kind : StreamsKind In Out) (before af
   pub consumed : AreRead kind old new read
   pub ends : EndsWith kind ending old new read done rest
   pub run : ServeRun false false true (scene before Idle) done finish
-  pub left : after ≡ (closed finish).shop
+  pub left : after ≡ (closed finish).library
 
 -- streams served one after the other: the reels go from each to the next
-pub data ServedInTurn (first : Shop) : Shop → Type 0 where
+pub data ServedInTurn (first : TapeLibrary) : TapeLibrary → Type 0 where
   none : ServedInTurn first first
-  one_more : {before : Shop} (done : List Exchange) (finish : Scene)
+  one_more : {before : TapeLibrary} (done : List Exchange) (finish : Scene)
       → ServedInTurn first before → ServeRun false false true (scene before Idle) done finish
-      → ServedInTurn first (closed finish).shop
+      → ServedInTurn first (closed finish).library

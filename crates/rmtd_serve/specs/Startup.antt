@@ -5,7 +5,7 @@ use Rattle.std.specs.declared.io.traits.Read.{Ghosts as ReadPromise}
 use Rattle.clap.specs.Words.{Text}
 use Rattle.rmt_server.specs.declared.stream.Served.{Served}
 use Rattle.rmt_server.specs.Stream.{Exchange, Streams, StreamsKind, AreRead}
-use Rattle.reel_files.specs.Folders.{FolderShop}
+use Rattle.reel_files.specs.Folders.{FolderLibrary}
 use Rattle.rmtd_words.specs.declared.rmtd_line.ServerLine.{ServerLine}
 use Rattle.rmtd_words.specs.Rmtd.{AskToBeShown, IsLineOf}
 use Rattle.rmtd_serve.specs.declared.startup.Begun.{Begun}
@@ -34,7 +34,7 @@ pub data EndsLine {In Out : Type 0} (kind : StreamsKind In Out) (line : ServerLi
   failed : AreUntouched old new → status ≡ 1 → EndsLine kind line old new status
 
 -- At once so many connections are served with these drives, of which each seat of the table has stacks: those of the line.
-pub record IsSiteOf (line : ServerLine) (left drives : ℕ) (stacks : List FolderShop) : Type 0 where
+pub record IsSiteOf (line : ServerLine) (left drives : ℕ) (stacks : List FolderLibrary) : Type 0 where
   pub some : 0 < length line.drives.items
   pub bin : List ℕ
   pub same_bin : option_map (λ s. s.now) line.bin ≡ Some bin

@@ -6,7 +6,7 @@ use Rattle.rmt_server.specs.declared.stream.ServeFault.TheVariants.{Input, Outpu
 use Rattle.rmt_server.specs.Session.{Scene, scene, ServeRun}
 use Rattle.rmt_server.specs.Session.PlainSession.{Idle}
 use Rattle.rmt_server.specs.Stream.{Exchange, Streams, StreamsKind, AreRead, AreAnswered, EndsAs, NoneFailed}
-use Rattle.drives.specs.Shop.{shop, rack, slot, kept_reel}
+use Rattle.drives.specs.TapeLibrary.{library, drive_with, slot, kept_reel}
 
 abbrev pub the_drive : List ℕ
 the_drive = codes "/dev/st0"
@@ -16,7 +16,7 @@ the_reel = codes "reel"
 
 -- nothing is open, and the drive's one reel is empty
 abbrev pub blank_scene : ℕ → Scene
-blank_scene capacity = scene (shop (rack the_drive (slot the_reel (Some (kept_reel [] capacity)) ∷ []) ∷ []) []) Idle
+blank_scene capacity = scene (library (drive_with the_drive (slot the_reel (Some (kept_reel [] capacity)) ∷ []) ∷ []) []) Idle
 
 -- the exit status, by how the stream ended: none where it failed, or where memory was refused before it was read
 abbrev pub exit_status : Option Served → ℕ

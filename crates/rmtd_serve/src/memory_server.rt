@@ -1,6 +1,6 @@
 //! A drive in memory that serves one stream after the other.
 ghost use Rattle.std.specs.Prelude.{◌≡◌, IfSome, length};
-ghost use Rattle.drives.specs.ListShop.{IsShop, StacksCanFail};
+ghost use Rattle.drives.specs.ListLibrary.{IsLibrary, StacksCanFail};
 ghost use Rattle.rmt_server.specs.Stream.{streams, streams_kind};
 ghost use Rattle.rmtd_serve.specs.Stdio.{blank_scene};
 ghost use Rattle.rmtd_serve.specs.Serving.{IsServedNext};
@@ -29,13 +29,13 @@ pub struct MemoryServer {
 }
 
 impl Model for MemoryServer {
-    ghost use Rattle.drives.specs.Shop.{Shop};
-    ghost use Rattle.drives.specs.ListShop.{shop_of};
+    ghost use Rattle.drives.specs.TapeLibrary.{TapeLibrary};
+    ghost use Rattle.drives.specs.ListLibrary.{library_of};
     ghost use Rattle.rmtd_serve.specs.Serving.{IsAtRest};
 
-    ghost Value = { Shop };
+    ghost Value = { TapeLibrary };
 
-    ghost view = { λ s. shop_of s.drives.stacks };
+    ghost view = { λ s. library_of s.drives.stacks };
 
     ghost invariant = { λ s. IsAtRest s.drives };
 }
@@ -43,7 +43,7 @@ impl Model for MemoryServer {
 impl MemoryServer {
     /// The drive with one reel `reel`, which is empty and of this capacity in bytes. None where memory was refused.
     pub fn new(alloc: Global, capacity: u64) -> Option<MemoryServer>
-        ensures { IfSome result (λ s. s ≡ (blank_scene capacity).shop) }
+        ensures { IfSome result (λ s. s ≡ (blank_scene capacity).library) }
     {
         let holds = LocalHolds::new(alloc, 1).ok()?;
         let stacks = one_reel(alloc, capacity)?;
@@ -71,9 +71,9 @@ impl MemoryServer {
 
 /// The drive with its one reel, which is empty. None where memory was refused.
 fn one_reel(alloc: Global, capacity: u64) -> Option<ListStacks>
-    ensures shop { IfSome result (λ stacks. IsShop stacks (blank_scene capacity).shop) }
+    ensures library { IfSome result (λ stacks. IsLibrary stacks (blank_scene capacity).library) }
     ensures quiet { IfSome result (λ stacks. StacksCanFail stacks → ⊥) }
-    ensures drives { IfSome result (λ stacks. length stacks.shop.racks ≡ 1) }
+    ensures drives { IfSome result (λ stacks. length stacks.library.drives ≡ 1) }
 {
     let mut stacks = ListStacks::new(alloc);
     let drive = stacks.add_drive(DEVICE).ok()?;

@@ -10,53 +10,53 @@ use Rattle.std.proofs.lemmas.Slice.Eq.{bytes_eq-Decides}
 use Rattle.tape.specs.Tape.{PlainEntry}
 use Rattle.tape.specs.List.{bytes_of, told_length}
 use Rattle.tape.specs.Trouble.{TroubledTape}
-use Rattle.drives.specs.Shop.{KeptReel, Slot, Rack, rack, Shop, names_of}
-use Rattle.drives.specs.ListShop.{rest_slot}
+use Rattle.drives.specs.TapeLibrary.{KeptReel, ReelSlot, Drive, drive_with, TapeLibrary, names_of}
+use Rattle.drives.specs.ListLibrary.{rest_slot}
 use Rattle.tape_events.specs.World.{World, Count}
 use Rattle.tape_world.specs.Entries.{entry_on, entries_on}
 use Rattle.tape_world.specs.Telling.{TellsStack}
 use Rattle.schedules.specs.Report.{stack_of, entry_text, length_text, entries_of_reel}
 
-passed_by : (r : Rack KeptReel) (racks : List (Rack KeptReel)) (name : List ℕ) (b : Bool) → bytes_eq name r.name ≡ b → r.name ≢ name
-    → (if b then r.stack else stack_of racks name) ≡ stack_of racks name
-passed_by r racks name true is differs = absurd (differs (sym ((bytes_eq-Decides name r.name).0 is)))
-passed_by r racks name false is differs = refl
+passed_by : (r : Drive KeptReel) (drives : List (Drive KeptReel)) (name : List ℕ) (b : Bool) → bytes_eq name r.name ≡ b → r.name ≢ name
+    → (if b then r.stack else stack_of drives name) ≡ stack_of drives name
+passed_by r drives name true is differs = absurd (differs (sym ((bytes_eq-Decides name r.name).0 is)))
+passed_by r drives name false is differs = refl
 
-met : (r : Rack KeptReel) (racks : List (Rack KeptReel)) (name : List ℕ) (b : Bool) → bytes_eq name r.name ≡ b → r.name ≡ name
-    → (if b then r.stack else stack_of racks name) ≡ r.stack
-met r racks name true is same = refl
-met r racks name false is same = absurd (let yes_it_is : bytes_eq name r.name ≡ true = (bytes_eq-Decides name r.name).1 (sym same) in cc)
+met : (r : Drive KeptReel) (drives : List (Drive KeptReel)) (name : List ℕ) (b : Bool) → bytes_eq name r.name ≡ b → r.name ≡ name
+    → (if b then r.stack else stack_of drives name) ≡ r.stack
+met r drives name true is same = refl
+met r drives name false is same = absurd (let yes_it_is : bytes_eq name r.name ≡ true = (bytes_eq-Decides name r.name).1 (sym same) in cc)
 
 -- no drive has the name
-stack_none : (racks : List (Rack KeptReel)) (name : List ℕ)
-    → ((k : ℕ) → k < length racks → (slice_index_or racks k (rack [] [])).name ≢ name) → stack_of racks name ≡ []
+stack_none : (drives : List (Drive KeptReel)) (name : List ℕ)
+    → ((k : ℕ) → k < length drives → (slice_index_or drives k (drive_with [] [])).name ≢ name) → stack_of drives name ≡ []
 stack_none [] name none = refl
-stack_none (r ∷ racks) name none =
-    passed_by r racks name (bytes_eq name r.name) refl (none 0 (omega arith))
-    ∙ stack_none racks name (λ k below. none (suc k) (omega (arith, below)))
+stack_none (r ∷ drives) name none =
+    passed_by r drives name (bytes_eq name r.name) refl (none 0 (omega arith))
+    ∙ stack_none drives name (λ k below. none (suc k) (omega (arith, below)))
 
 -- the first drive of the name
-stack_found : (racks : List (Rack KeptReel)) (name : List ℕ) (d : ℕ) → d < length racks → (slice_index_or racks d (rack [] [])).name ≡ name
-    → ((k : ℕ) → k < d → (slice_index_or racks k (rack [] [])).name ≢ name) → stack_of racks name ≡ (slice_index_or racks d (rack [] [])).stack
+stack_found : (drives : List (Drive KeptReel)) (name : List ℕ) (d : ℕ) → d < length drives → (slice_index_or drives d (drive_with [] [])).name ≡ name
+    → ((k : ℕ) → k < d → (slice_index_or drives k (drive_with [] [])).name ≢ name) → stack_of drives name ≡ (slice_index_or drives d (drive_with [] [])).stack
 stack_found [] name d inside is first = absurd (omega (arith, inside))
-stack_found (r ∷ racks) name zero inside is first = met r racks name (bytes_eq name r.name) refl is
-stack_found (r ∷ racks) name (suc d) inside is first =
-    passed_by r racks name (bytes_eq name r.name) refl (first 0 (omega arith))
-    ∙ stack_found racks name d (omega (arith, inside)) is (λ k below. first (suc k) (omega (arith, below)))
+stack_found (r ∷ drives) name zero inside is first = met r drives name (bytes_eq name r.name) refl is
+stack_found (r ∷ drives) name (suc d) inside is first =
+    passed_by r drives name (bytes_eq name r.name) refl (first 0 (omega arith))
+    ∙ stack_found drives name d (omega (arith, inside)) is (λ k below. first (suc k) (omega (arith, below)))
 
 -- the reels that are told of a drive
-pub told_stack : (name : List ℕ) (s : Shop) (told : Option (List (Slot KeptReel))) → TellsStack name s told → stack_of s.racks name ≡ unwrap_or told []
-told_stack name s None tells = stack_none s.racks name tells
+pub told_stack : (name : List ℕ) (s : TapeLibrary) (told : Option (List (ReelSlot KeptReel))) → TellsStack name s told → stack_of s.drives name ≡ unwrap_or told []
+told_stack name s None tells = stack_none s.drives name tells
 told_stack name s (Some reels) tells =
-    stack_found s.racks name tells.0 tells.1.0 tells.1.1 tells.1.2 ∙ sym tells.2
+    stack_found s.drives name tells.0 tells.1.0 tells.1.1 tells.1.2 ∙ sym tells.2
 
-pub names_at_rest : (slots : List (Slot TroubledTape)) → names_of (map rest_slot slots) ≡ names_of slots
+pub names_at_rest : (slots : List (ReelSlot TroubledTape)) → names_of (map rest_slot slots) ≡ names_of slots
 names_at_rest [] = refl
 names_at_rest (x ∷ slots) = ap (λ names. x.name ∷ names) (names_at_rest slots)
 
 -- the names of a stack, as they are told
-pub told_names : (name : List ℕ) (s : Shop) (told : Option (List (Slot KeptReel))) (slots : List (Slot TroubledTape)) → TellsStack name s told
-    → map rest_slot slots ≡ unwrap_or told [] → names_of slots ≡ names_of (stack_of s.racks name)
+pub told_names : (name : List ℕ) (s : TapeLibrary) (told : Option (List (ReelSlot KeptReel))) (slots : List (ReelSlot TroubledTape)) → TellsStack name s told
+    → map rest_slot slots ≡ unwrap_or told [] → names_of slots ≡ names_of (stack_of s.drives name)
 told_names name s told slots tells e = sym (names_at_rest slots) ∙ ap (λ l. names_of l) (e ∙ sym (told_stack name s told tells))
 
 -- one element more, after what was said of those before it

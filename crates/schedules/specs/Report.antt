@@ -4,7 +4,7 @@ use Rattle.std.specs.List.{flat_map}
 use Rattle.std.specs.Str.{bytes_eq}
 use Rattle.tape.specs.Tape.{PlainEntry}
 use Rattle.tape.specs.List.{bytes_of}
-use Rattle.drives.specs.Shop.{KeptReel, Slot, Rack, names_of}
+use Rattle.drives.specs.TapeLibrary.{KeptReel, ReelSlot, Drive, names_of}
 use Rattle.dumpdates.specs.Text.{written}
 use Rattle.tape_events.specs.World.{World, Count}
 use Rattle.tape_events.specs.First.{PlainDriveSpec}
@@ -29,15 +29,15 @@ abbrev pub names_text : List (List ℕ) → List ℕ
 names_text names = flat_map (λ name. codes " " ++ name) names
 
 -- the stack of the first drive of this name
-abbrev pub stack_of : List (Rack KeptReel) → List ℕ → List (Slot KeptReel)
+abbrev pub stack_of : List (Drive KeptReel) → List ℕ → List (ReelSlot KeptReel)
 stack_of [] name = []
-stack_of (rack ∷ racks) name = if bytes_eq name rack.name then rack.stack else stack_of racks name
+stack_of (drive ∷ all_drives) name = if bytes_eq name drive.name then drive.stack else stack_of all_drives name
 
 abbrev pub stack_line : World → List ℕ → List ℕ
-stack_line w device = codes "stack " ++ device ++ names_text (names_of (stack_of w.hall.shop.racks device)) ++ codes "\n"
+stack_line w device = codes "stack " ++ device ++ names_text (names_of (stack_of w.hall.library.drives device)) ++ codes "\n"
 
 abbrev pub bin_line : World → List ℕ
-bin_line w = codes "bin" ++ names_text (names_of w.hall.shop.bin) ++ codes "\n"
+bin_line w = codes "bin" ++ names_text (names_of w.hall.library.bin) ++ codes "\n"
 
 -- its run, volume, first block, how many blocks, and its reel
 abbrev pub count_line : Count → List ℕ

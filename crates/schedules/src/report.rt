@@ -1,7 +1,7 @@
 //! What a world has come to.
 ghost use Rattle.std.specs.Prelude.{◌≡◌, ◌++◌, [], codes, decimal, map, length, IfOk, OnOk};
 ghost use Rattle.std.specs.List.{flat_map};
-ghost use Rattle.drives.specs.Shop.{names_of};
+ghost use Rattle.drives.specs.TapeLibrary.{names_of};
 ghost use Rattle.dumpdates.specs.Text.{written};
 ghost use Rattle.tape_world.specs.Telling.{told_count};
 ghost use Rattle.schedules.specs.Drives.{plain_line};

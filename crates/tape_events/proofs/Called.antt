@@ -12,7 +12,7 @@ use Rattle.rmt_server.specs.TroubledServe.{TroubledReelStep}
 
 -- The drives are as they were, and the session has its drive open still, where its reel has this tape.
 pub record IsLeftWith (before after : Scene) (drive : ℕ) (reel : PlainReel) (t : Tape) : Type 0 where
-  pub shop : after.shop ≡ before.shop
+  pub library : after.library ≡ before.library
   pub session : after.session ≡ Online drive Both (plain_reel t reel.capacity)
 
 -- one call of the open reel
@@ -36,7 +36,7 @@ called trouble before request reply after drive reel was (e, access, x, answer, 
       replies = replies;
       device = subst (λ (y : PlainReel). DeviceStep y.capacity trouble y.tape (tape_request request) answer t) reels device;
       left = record {
-        shop = ap (λ (v : Scene). v.shop) is;
+        library = ap (λ (v : Scene). v.library) is;
         session = ap (λ (v : Scene). v.session) is ∙ ap (λ n. Online n access (plain_reel t x.capacity)) drives ∙ ap (λ a. Online drive a (plain_reel t x.capacity)) accesses
             ∙ ap (λ (y : PlainReel). Online drive Both (plain_reel t y.capacity)) reels;
       };

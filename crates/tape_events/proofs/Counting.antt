@@ -57,7 +57,7 @@ sends_counts false w k c payload step u (reader, has, is) = ap (λ (x : World). 
 finds_counts : (w : World) (k : ℕ) (trouble : Trouble) (s : Side) (found : Result (Option PlainRequest) WireFault) (rest : List ℕ) (u : World)
     → Finds w k trouble s found rest u → u.counts ≡ w.counts
 finds_counts w k trouble s (Ok None) rest u finds = absurd finds
-finds_counts w k trouble s (Ok (Some request)) rest u (reply, reached, shop, session, holders, unread, served, is) = ap (λ (x : World). x.counts) is
+finds_counts w k trouble s (Ok (Some request)) rest u (reply, reached, library, session, holders, unread, served, is) = ap (λ (x : World). x.counts) is
 finds_counts w k trouble s (Err fault) rest u is = ap (λ (x : World). x.counts) is
 
 forgotten_counts : (w : World) (o : Option ℕ) (c : Option Caller) → (record (forgotten_from (calm w) o) { caller = c }).counts ≡ w.counts

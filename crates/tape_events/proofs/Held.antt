@@ -5,7 +5,7 @@ use Rattle.std.proofs.lemmas.Bool.Decides.{eqb_tells}
 use Rattle.std.proofs.lemmas.List.{length-set}
 use Rattle.std.proofs.lemmas.Option.{same_Some}
 use Rattle.rmt_wire.specs.RequestReader.{held}
-use Rattle.drives.specs.Shop.{Shop}
+use Rattle.drives.specs.TapeLibrary.{TapeLibrary}
 use Rattle.rmt_server.specs.Hall.{Hall, Side, side}
 use Rattle.rmt_server.specs.Session.{PlainSession, scene}
 use Rattle.rmt_server.specs.Session.PlainSession.{Idle}
@@ -16,7 +16,7 @@ use Rattle.tape_events.specs.Changes.{side_of, with_side, ended_from, ended, all
 use Rattle.tape_events.specs.Steps.{Happens}
 use Rattle.tape_events.specs.Standing.{AreHeld}
 use Rattle.tape_events.proofs.Numbers.{set_is, set_here, set_other, with_here, with_other, numbered_first}
-use Rattle.tape_events.proofs.Served.{closed_racks, holders_length, comes_serves}
+use Rattle.tape_events.proofs.Served.{closed_drives, holders_length, comes_serves}
 pub use Rattle.tape_events.proofs.Sides.{side_there}
 use Rattle.tape_events.proofs.Sides.{Sits, sits_here, sits_other, joined_is, joined_was, KeepsOver, ended_by, all_ended_by}
 use Rattle.tape_events.proofs.HallMoves.{HallMove, leaves, joins, reads, serves, ends, restarts, arranges, hall_after}
@@ -47,7 +47,7 @@ cleared_own holders o d k is at = ap (λ x. slice_get (with_holder x 0 holders) 
 pub record Turns (h : Hall) (k : ℕ) (s : Side) (o : Option Side) (u : Hall) : Type 0 where
   pub sits : Sits h k s o u
   pub holders : u.holders ≡ with_holder (drive_of_side o) k (with_holder (drive_in s.session) 0 h.holders)
-  pub racks : length u.shop.racks ≡ length h.shop.racks
+  pub drives : length u.library.drives ≡ length h.library.drives
   pub free : (d : ℕ) → drive_of_side o ≡ Some d → slice_get (with_holder (drive_in s.session) 0 h.holders) d ≡ Some 0
 
 -- the holder of a drive that another has open stays
@@ -97,15 +97,15 @@ holds_from h k s (Some x) u (Some e) t a its j d at = elim (set_is (with_holder 
 
 pub turned_held : (h : Hall) (k : ℕ) (s : Side) (o : Option Side) (u : Hall) → Turns h k s o u → AreHeld h → AreHeld u
 turned_held h k s o u t a = record {
-  places = ap length t.holders ∙ holders_length (drive_of_side o) k _ ∙ holders_length (drive_in s.session) 0 h.holders ∙ a.places ∙ sym t.racks;
+  places = ap length t.holders ∙ holders_length (drive_of_side o) k _ ∙ holders_length (drive_in s.session) 0 h.holders ∙ a.places ∙ sym t.drives;
   opened = opened_turn h k s o u t a;
   holds = λ j d at. holds_from h k s o u (drive_of_side o) t a refl j d (ap (λ l. slice_get l d) (sym t.holders) ∙ at);
 }
 
 -- the same sides, by what they have open
-same_held : (h u : Hall) → u.sides ≡ h.sides → u.holders ≡ h.holders → length u.shop.racks ≡ length h.shop.racks → AreHeld h → AreHeld u
-same_held h u sides holders racks a = record {
-  places = ap length holders ∙ a.places ∙ sym racks;
+same_held : (h u : Hall) → u.sides ≡ h.sides → u.holders ≡ h.holders → length u.library.drives ≡ length h.library.drives → AreHeld h → AreHeld u
+same_held h u sides holders drives a = record {
+  places = ap length holders ∙ a.places ∙ sym drives;
   opened = λ k d s at drive. ap (λ l. slice_get l d) holders ∙ a.opened k d s (ap (λ ss. option_and_then (λ x. x) (numbered ss k)) (sym sides) ∙ at) drive;
   holds = λ k d at. (let x = a.holds k d (ap (λ l. slice_get l d) (sym holders) ∙ at) in
       (x.0, ap (λ ss. option_and_then (λ y. y) (numbered ss (suc k))) sides ∙ x.1, x.2));
@@ -113,14 +113,14 @@ same_held h u sides holders racks a = record {
 
 -- a side that only read more
 read_held : (h u : Hall) (k : ℕ) (s x : Side) → side_of h k ≡ Some s → x.session ≡ s.session → u.sides ≡ with_numbered h.sides k (Some x) → u.holders ≡ h.holders
-    → u.shop ≡ h.shop → AreHeld h → AreHeld u
-read_held h u k s x was session sides holders racks a =
+    → u.library ≡ h.library → AreHeld h → AreHeld u
+read_held h u k s x was session sides holders drives a =
     let there = side_there h k s was in
     let here : side_of u k ≡ Some x = ap (λ ss. option_and_then (λ y. y) (numbered ss k)) sides ∙ ap (option_and_then (λ y. y)) (with_here h.sides k (Some s) (Some x) there) in
     let beside : (j : ℕ) → (j ≡ k → ⊥) → side_of u j ≡ side_of h j
     = λ j other. ap (λ ss. option_and_then (λ y. y) (numbered ss j)) sides ∙ ap (option_and_then (λ y. y)) (with_other h.sides k j (Some x) other) in
     record {
-      places = ap length holders ∙ a.places ∙ sym (ap (λ (v : Shop). length v.racks) racks);
+      places = ap length holders ∙ a.places ∙ sym (ap (λ (v : TapeLibrary). length v.drives) drives);
       opened = λ j d y at drive. ap (λ l. slice_get l d) holders ∙ (elim (eqb_tells j k) [
         | inl (equal, same) ↦
             let its : x ≡ y = same_Some x y (sym here ∙ ap (side_of u) (sym same) ∙ at) in
@@ -151,7 +151,7 @@ over_held : KeepsOver AreHeld
 over_held h k s is a = turned_held h k s None _ record {
   sits = record { was = is; sides = refl };
   holders = refl;
-  racks = closed_racks h.shop s.session;
+  drives = closed_drives h.library s.session;
   free = λ d e. absurd cc;
 } a
 
@@ -181,17 +181,17 @@ hall_held : (h : Hall) (m : HallMove h) → AreHeld h → AreHeld (hall_after h 
 hall_held h leaves a = a
 hall_held h joins a = joined_held h a
 hall_held h (reads k s reached live unread) a = read_held h _ k s (side reached s.session) live refl refl refl refl a
-hall_held h (serves k s x shop holders opened live unread comes held) a =
-    let v = comes_serves h.holders (scene h.shop s.session) (scene shop x.session) opened a.places comes in
+hall_held h (serves k s x library holders opened live unread comes held) a =
+    let v = comes_serves h.holders (scene h.library s.session) (scene library x.session) opened a.places comes in
     turned_held h k s (Some x) _ record {
       sits = record { was = live; sides = refl };
       holders = held;
-      racks = v.racks;
+      drives = v.drives;
       free = λ d drive. free_then h.holders s.session d k (a.opened k d s live) (v.drive d drive);
     } a
 hall_held h (ends k) a = ended_by AreHeld over_held h k a
 hall_held h restarts a = all_ended_by AreHeld over_held h (length h.sides) a
-hall_held h (arranges d names within free) a = same_held h _ refl refl (length-set h.shop.racks d _) a
+hall_held h (arranges d names within free) a = same_held h _ refl refl (length-set h.library.drives d _) a
 
 pub held_moved : (w : World) (m : Move w) → AreHeld w.hall → AreHeld (moved w m).hall
 held_moved w m a = subst AreHeld (sym (hall_moved w m)) (hall_held w.hall (hall_move w m) a)

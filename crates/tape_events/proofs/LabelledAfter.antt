@@ -1,6 +1,6 @@
 -- Openings and counts of attempts, and what they wrote, whatever happens.
 use Rattle.std.proofs.Common.{List, refl, arith}
-use Rattle.drives.specs.Shop.{EachReelOnce}
+use Rattle.drives.specs.TapeLibrary.{EachReelOnce}
 use Rattle.tape_events.specs.World.{World}
 use Rattle.tape_events.specs.First.{PlainDriveSpec, first_world}
 use Rattle.tape_events.specs.Standing.{AreHeld}
@@ -43,7 +43,7 @@ earned_moved g h r w m held owned told single earned = quiet_earned w _ (quiet_m
 
 -- what each attempt wrote stands on its reel
 pub labelled_moved : OneReading → DroppedWrites → (w : World) (m : Move w) → AreHeld w.hall → AreHeld (moved w m).hall → AreLaid (moved w m).hall
-    → EachReelOnce (moved w m).hall.shop → AreTold w → AreOpened w → AreSingle w → AreLabelled w → AreLabelled (moved w m)
+    → EachReelOnce (moved w m).hall.library → AreTold w → AreOpened w → AreSingle w → AreLabelled w → AreLabelled (moved w m)
 labelled_moved g h w (serves v) held held_after laid_after once_after told opened single labelled =
     served_labelled g h w v held held_after laid_after once_after told opened single labelled
 labelled_moved g h w m held held_after laid_after once_after told opened single labelled = quiet_labelled w _ (quiet_moved w m tt held) labelled

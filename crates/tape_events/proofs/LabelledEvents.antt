@@ -123,9 +123,9 @@ joined_stay h k d y at on = elim (joined_is h k y at) [
 
 -- a side has read more
 read_stay : (h : Hall) (k : ℕ) (s : Side) (reached : RequestHeld) → side_of h k ≡ Some s
-    → SidesStay h (hall h.shop h.holders (with_numbered h.sides k (Some (side reached s.session))))
+    → SidesStay h (hall h.library h.holders (with_numbered h.sides k (Some (side reached s.session))))
 read_stay h k s reached live j d y at on =
-    let u = hall h.shop h.holders (with_numbered h.sides k (Some (side reached s.session))) in
+    let u = hall h.library h.holders (with_numbered h.sides k (Some (side reached s.session))) in
     elim (sits_is h k s (Some (side reached s.session)) u record { was = live; sides = refl } j y at) [
       | inl (same, mine) ↦ (s, ap (side_of h) same ∙ live, ap (λ (z : Side). z.session) (sym (same_Some (side reached s.session) y mine)))
       | inr (other, was) ↦ (y, was, refl)
@@ -140,7 +140,7 @@ over_stay base h k s is stay j d y at on = elim (sits_is h k s None (ended_from 
 
 -- what an event makes of the sides, and of what stands on reels, but for a request
 hall_sides : (h : Hall) (m : HallMove h) → IsNoRequest h m → SidesStay h (hall_after h m)
-hall_sides h (serves k s x shop holders opened live unread comes held) none = absurd none
+hall_sides h (serves k s x library holders opened live unread comes held) none = absurd none
 hall_sides h joins none = joined_stay h
 hall_sides h (reads k s reached live unread) none = read_stay h k s reached live
 hall_sides h (ends k) none = ended_by (SidesStay h) (over_stay h) h k (λ j d y at on. (y, at, refl))
@@ -148,11 +148,11 @@ hall_sides h restarts none = all_ended_by (SidesStay h) (over_stay h) h (length 
 hall_sides h m none = λ k d y at on. (y, at, refl)
 
 hall_stands : (h : Hall) (m : HallMove h) → IsNoRequest h m → AreHeld h → StoodIn h (hall_after h m)
-hall_stands h (serves k s x shop holders opened live unread comes held) none a = absurd none
+hall_stands h (serves k s x library holders opened live unread comes held) none a = absurd none
 hall_stands h leaves none a = λ name entries on. on
 hall_stands h joins none a = sides_stand h (with_side h) refl (joined_stay h)
 hall_stands h (reads k s reached live unread) none a =
-    sides_stand h (hall h.shop h.holders (with_numbered h.sides k (Some (side reached s.session)))) refl (read_stay h k s reached live)
+    sides_stand h (hall h.library h.holders (with_numbered h.sides k (Some (side reached s.session)))) refl (read_stay h k s reached live)
 hall_stands h (ends k) none a = held_ended_by (StoodIn h) (over_stands h) h k a (λ name entries on. on)
 hall_stands h restarts none a = held_all_ended_by (StoodIn h) (over_stands h) h (length h.sides) a (λ name entries on. on)
 hall_stands h (arranges d names within free) none a = arranged_stands h d names a free

@@ -8,8 +8,8 @@ use Rattle.std.proofs.lemmas.List.Sums.{sum_by-append, sum_by-cons}
 use Rattle.std.proofs.lemmas.Option.{same_Some}
 use Rattle.std.proofs.lemmas.Slice.Eq.{bytes_eq-Decides}
 use Rattle.tape.specs.Tape.{PlainEntry, entries_of}
-use Rattle.drives.specs.Shop.{KeptReel, Slot, Rack, rack, Shop, rack_at, with_rack, slots_in, EachReelOnce}
-use Rattle.drives.proofs.Shops.{bit, named, times_named, sum_by_with_rack}
+use Rattle.drives.specs.TapeLibrary.{KeptReel, ReelSlot, Drive, drive_with, TapeLibrary, drive_at, with_drive_at, slots_in, EachReelOnce}
+use Rattle.drives.proofs.Shops.{bit, named, times_named, sum_by_with_drive}
 use Rattle.rmt_server.specs.declared.access.Access.{Access}
 use Rattle.rmt_server.specs.Hall.{Hall, Side}
 use Rattle.rmt_server.specs.Session.{PlainReel}
@@ -18,12 +18,12 @@ use Rattle.rmt_server.specs.TroubledServe.{drive_in}
 use Rattle.tape_events.specs.Changes.{side_of, first_name}
 use Rattle.tape_events.specs.Standing.{IsFirstAway, online_drive_in, AreHeld, ReelLiesIn, ReelLiesOn, StandsOn}
 use Rattle.tape_events.specs.Kept.{AreLaid}
-use Rattle.tape_events.proofs.Laid.{rack_other, alone_at, drive_within}
+use Rattle.tape_events.proofs.Laid.{drive_other, alone_at, drive_within}
 use Rattle.tape_events.proofs.Named.{first_times}
 use Rattle.tape_events.proofs.Opened.{names_differ}
 
 -- a reel of that name lies there
-lies_times : (xs : List (Slot KeptReel)) (name : List ℕ) (entries : List PlainEntry) → ReelLiesIn xs name entries → 0 < sum_by (named name) xs
+lies_times : (xs : List (ReelSlot KeptReel)) (name : List ℕ) (entries : List PlainEntry) → ReelLiesIn xs name entries → 0 < sum_by (named name) xs
 lies_times [] name entries lies = absurd lies
 lies_times (x ∷ xs) name entries (inl here) =
     let one : named name x ≡ 1 = ap bit ((bytes_eq-Decides name x.name).1 (sym here.named)) in
@@ -34,14 +34,14 @@ lies_times (x ∷ xs) name entries (inr rest) =
     let all = sum_by-cons (named name) x xs in
     omega (arith, some, all)
 
-lies_within : (racks : List (Rack KeptReel)) (d : ℕ) (name : List ℕ) (entries : List PlainEntry) → ReelLiesIn (slice_index_or racks d (rack [] [])).stack name entries
-    → d < length racks
+lies_within : (drives : List (Drive KeptReel)) (d : ℕ) (name : List ℕ) (entries : List PlainEntry) → ReelLiesIn (slice_index_or drives d (drive_with [] [])).stack name entries
+    → d < length drives
 lies_within [] d name entries lies = absurd lies
-lies_within (r ∷ racks) zero name entries lies = omega arith
-lies_within (r ∷ racks) (suc d) name entries lies = let on = lies_within racks d name entries lies in omega (arith, on)
+lies_within (r ∷ drives) zero name entries lies = omega arith
+lies_within (r ∷ drives) (suc d) name entries lies = let on = lies_within drives d name entries lies in omega (arith, on)
 
 -- the first of a stack is away, and no other has its name
-away_alone : (xs : List (Slot KeptReel)) (name : List ℕ) (entries : List PlainEntry) → IsFirstAway xs → first_name xs ≡ name → sum_by (named name) xs ≤ 1
+away_alone : (xs : List (ReelSlot KeptReel)) (name : List ℕ) (entries : List PlainEntry) → IsFirstAway xs → first_name xs ≡ name → sum_by (named name) xs ≤ 1
     → ReelLiesIn xs name entries → ⊥
 away_alone [] name entries away is few lies = absurd lies
 away_alone (x ∷ xs) name entries away is few (inl here) = let clash = sym away.0 ∙ here.there in absurd cc
@@ -52,43 +52,43 @@ away_alone (x ∷ xs) name entries away is few (inr rest) =
     omega (arith, one, some, all, few)
 
 -- no reel of that name lies on a stack or in the bin
-lies_nowhere : (s : Shop) (drive : ℕ) (name : List ℕ) (entries : List PlainEntry) → EachReelOnce s → drive < length s.racks → IsFirstAway (rack_at s drive).stack
-    → first_name (rack_at s drive).stack ≡ name → ReelLiesOn s name entries → ⊥
+lies_nowhere : (s : TapeLibrary) (drive : ℕ) (name : List ℕ) (entries : List PlainEntry) → EachReelOnce s → drive < length s.drives → IsFirstAway (drive_at s drive).stack
+    → first_name (drive_at s drive).stack ≡ name → ReelLiesOn s name entries → ⊥
 lies_nowhere s drive name entries once within away is (inl (d, lies)) = elim (eqb_tells d drive) [
   | inl (equal, same) ↦
-      let whole = sum_by_with_rack (named name) s drive (rack [] []) within in
+      let whole = sum_by_with_drive (named name) s drive (drive_with [] []) within in
       let all = times_named name (slots_in s) in
       let few = once name in
-      away_alone (rack_at s drive).stack name entries away is (omega (arith, whole, all, few)) (subst (λ i. ReelLiesIn (rack_at s i).stack name entries) same lies)
+      away_alone (drive_at s drive).stack name entries away is (omega (arith, whole, all, few)) (subst (λ i. ReelLiesIn (drive_at s i).stack name entries) same lies)
   | inr (unequal, other) ↦
-      let t = with_rack s drive (rack [] []) in
-      let there = lies_within s.racks d name entries lies in
-      let still : rack_at t d ≡ rack_at s d = rack_other s.racks drive d (rack [] []) (rack [] []) other in
-      let one = sum_by_with_rack (named name) s drive (rack [] []) within in
-      let two = sum_by_with_rack (named name) t d (rack [] []) (let many = length-set s.racks drive (rack [] []) in omega (arith, there, many)) in
-      let its : sum_by (named name) (rack_at t d).stack ≡ sum_by (named name) (rack_at s d).stack = ap (λ (r : Rack KeptReel). sum_by (named name) r.stack) still in
-      let first : 0 < sum_by (named name) (rack_at s drive).stack = subst (λ n. 0 < sum_by (named n) (rack_at s drive).stack) is (first_times (rack_at s drive).stack away) in
-      let second = lies_times (rack_at s d).stack name entries lies in
+      let t = with_drive_at s drive (drive_with [] []) in
+      let there = lies_within s.drives d name entries lies in
+      let still : drive_at t d ≡ drive_at s d = drive_other s.drives drive d (drive_with [] []) (drive_with [] []) other in
+      let one = sum_by_with_drive (named name) s drive (drive_with [] []) within in
+      let two = sum_by_with_drive (named name) t d (drive_with [] []) (let many = length-set s.drives drive (drive_with [] []) in omega (arith, there, many)) in
+      let its : sum_by (named name) (drive_at t d).stack ≡ sum_by (named name) (drive_at s d).stack = ap (λ (r : Drive KeptReel). sum_by (named name) r.stack) still in
+      let first : 0 < sum_by (named name) (drive_at s drive).stack = subst (λ n. 0 < sum_by (named n) (drive_at s drive).stack) is (first_times (drive_at s drive).stack away) in
+      let second = lies_times (drive_at s d).stack name entries lies in
       let all = times_named name (slots_in s) in
       let few = once name in
       omega (arith, one, two, its, first, second, all, few)
 ]
 lies_nowhere s drive name entries once within away is (inr lies) =
-    let t = with_rack s drive (rack [] []) in
-    let one = sum_by_with_rack (named name) s drive (rack [] []) within in
-    let first : 0 < sum_by (named name) (rack_at s drive).stack = subst (λ n. 0 < sum_by (named n) (rack_at s drive).stack) is (first_times (rack_at s drive).stack away) in
+    let t = with_drive_at s drive (drive_with [] []) in
+    let one = sum_by_with_drive (named name) s drive (drive_with [] []) within in
+    let first : 0 < sum_by (named name) (drive_at s drive).stack = subst (λ n. 0 < sum_by (named n) (drive_at s drive).stack) is (first_times (drive_at s drive).stack away) in
     let second = lies_times s.bin name entries lies in
-    let parts = sum_by-append (named name) (flat_map (λ r. r.stack) t.racks) s.bin in
+    let parts = sum_by-append (named name) (flat_map (λ r. r.stack) t.drives) s.bin in
     let all = times_named name (slots_in s) in
     let few = once name in
     omega (arith, one, first, second, parts, all, few)
 
 -- what stands on the reel in a drive
 pub stands_one : (h : Hall) (k : ℕ) (s : Side) (drive : ℕ) (access : Access) (reel : PlainReel) (name : List ℕ) (entries : List PlainEntry) → side_of h k ≡ Some s
-    → s.session ≡ Online drive access reel → first_name (rack_at h.shop drive).stack ≡ name → AreHeld h → AreLaid h → EachReelOnce h.shop → StandsOn h name entries
+    → s.session ≡ Online drive access reel → first_name (drive_at h.library drive).stack ≡ name → AreHeld h → AreLaid h → EachReelOnce h.library → StandsOn h name entries
     → entries ≡ entries_of reel.tape
 stands_one h k s drive access reel name entries live online is a l once (inl lies) =
-    absurd (lies_nowhere h.shop drive name entries once (drive_within h k s drive a live (ap drive_in online)) (l.latched drive (k, s, live, ap online_drive_in online)) is lies)
+    absurd (lies_nowhere h.library drive name entries once (drive_within h k s drive a live (ap drive_in online)) (l.latched drive (k, s, live, ap online_drive_in online)) is lies)
 stands_one h k s drive access reel name entries live online is a l once (inr (j, y, at, (e, other, r, now, named, holds))) = elim (eqb_tells j k) [
   | inl (equal, same) ↦
       let its : y ≡ s = same_Some y s (sym at ∙ ap (side_of h) same ∙ live) in
@@ -98,6 +98,6 @@ stands_one h k s drive access reel name entries live online is a l once (inr (j,
   | inr (unequal, differ) ↦
       let apart : e ≢ drive
       = λ same. alone_at h k s drive a live (ap drive_in online) (j, differ, (y, at, ap drive_in now ∙ ap Some same)) in
-      absurd (names_differ h.shop e drive once apart (drive_within h j y e a at (ap drive_in now)) (l.latched e (j, y, at, ap online_drive_in now))
+      absurd (names_differ h.library e drive once apart (drive_within h j y e a at (ap drive_in now)) (l.latched e (j, y, at, ap online_drive_in now))
       (drive_within h k s drive a live (ap drive_in online)) (l.latched drive (k, s, live, ap online_drive_in online)) (named ∙ sym is))
 ]

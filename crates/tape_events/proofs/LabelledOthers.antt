@@ -92,12 +92,12 @@ pub others_labelled : (w : World) (v : Turn w) (j : ℕ) (d : Dumping) → j ≢
     → IsLabelled (turned w v) j d
 others_labelled w v j d other a b labelled label =
     let p = labelled label in
-    let h : Hall = hall v.shop v.holders (with_numbered w.hall.sides v.k (Some (side v.reached v.session))) in
+    let h : Hall = hall v.library v.holders (with_numbered w.hall.sides v.k (Some (side v.reached v.session))) in
     let sits : Sits w.hall v.k v.s (Some (side v.reached v.session)) h = record { was = v.live; sides = refl } in (
       p.0,
       p.1,
       λ reel (fault, (i, now, alone)).
-          (let at = opening_before w.opens j v.k i reel (opened_reel v.request v.shop v.session) other now in
+          (let at = opening_before w.opens j v.k i reel (opened_reel v.request v.library v.session) other now in
           still_written w (turned w v) j p.0 d d reel (same_notes d)
           record {
             stands = λ entries on.

@@ -27,7 +27,7 @@ marked_reads b o d step done marked = let clash = sym done.mark ∙ marked in ab
 pub marked_stands : (w : World) (v : Turn w) (l : Link) (d : Dumping) → IsServed w v l d → d.mark ≡ true → AreHeld w.hall → AreHeld (turned w v).hall → (b : Begun) (reel : List ℕ)
     → IsReelWritten w v.k b d reel → (entries : List PlainEntry) → StandsOn (turned w v).hall reel entries → entries ≡ attempt_written b.run b.payload d
 marked_stands w v l d p marked a c b reel was entries on =
-    let h : Hall = hall v.shop v.holders (with_numbered w.hall.sides v.k (Some (side v.reached v.session))) in
+    let h : Hall = hall v.library v.holders (with_numbered w.hall.sides v.k (Some (side v.reached v.session))) in
     let sits : Sits w.hall v.k v.s (Some (side v.reached v.session)) h = record { was = v.live; sides = refl } in
     elim (served_stands v.trouble w.hall.holders w.hall h v.k v.s (side v.reached v.session) v.request v.reply sits a c v.served.step reel entries
     on) [

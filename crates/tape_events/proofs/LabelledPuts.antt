@@ -53,7 +53,7 @@ write_tested : (trouble : Trouble) (before : Scene) (bytes : List ℕ) (reply : 
     (λ r. (reply ≡ refused r) × (after ≡ before)) → Puts before after drive reel (Record bytes ∷ []) (Write bytes) reply
 write_tested trouble before bytes reply after drive reel true test was (replies, is) =
     keeps (λ d. ap (λ r. noted_by d (Write bytes) r) replies) record {
-      shop = ap (λ (v : Scene). v.shop) is;
+      library = ap (λ (v : Scene). v.library) is;
       session = ap (λ (v : Scene). v.session) is ∙ was;
     }
 write_tested trouble before bytes reply after drive reel false test was done =

@@ -7,7 +7,7 @@ use Rattle.std.proofs.lemmas.Option.{same_Some}
 use Rattle.rmt_wire.specs.Counted.{raised}
 use Rattle.rmt_wire.specs.Request.{PlainRequest}
 use Rattle.rmt_wire.specs.Reply.{PlainReply}
-use Rattle.drives.specs.Shop.{Shop, rack_at}
+use Rattle.drives.specs.TapeLibrary.{TapeLibrary, drive_at}
 use Rattle.rmt_server.specs.Hall.{Side}
 use Rattle.rmt_server.specs.Session.{PlainSession}
 use Rattle.dump_client.specs.declared.step.Step.{Step}
@@ -54,7 +54,7 @@ quiet_single w u q opened single k l d at dump = elim (q.links.at k l at) [
 ]
 
 -- only an open opens a reel
-pub open_step : (b : Begun) (d : Dumping) (step : Step) (s : Shop) (session : PlainSession) (reel : List ℕ) → opened_reel (request_in b d step) s session ≡ Some reel → step ≡ Open
+pub open_step : (b : Begun) (d : Dumping) (step : Step) (s : TapeLibrary) (session : PlainSession) (reel : List ℕ) → opened_reel (request_in b d step) s session ≡ Some reel → step ≡ Open
 open_step b d Open s session reel is = refl
 open_step b d step s session reel is = absurd cc
 
@@ -76,8 +76,8 @@ carried_more d request reply few = ap raised (noted_same d request reply).carrie
 label_opened : (w : World) (v : Turn w) (l : Link) (d : Dumping) (p : IsServed w v l d) → AreOpened w → p.step ≡ Label → (reel : List ℕ) × Contains w.opens (opening v.k reel)
 label_opened w v l d p opened is =
     let on = subst (λ s. StandsFor s v.s.session) is (p.done.stands v.s refl) in
-    let name = first_name (rack_at w.hall.shop on.1.0).stack in
-    let last = opened.last v.k v.s name v.live (ap (written_reel w.hall.shop) on.1.1) in
+    let name = first_name (drive_at w.hall.library on.1.0).stack in
+    let last = opened.last v.k v.s name v.live (ap (written_reel w.hall.library) on.1.1) in
     (name, among_at w.opens last.0 (opening v.k name) last.1)
 
 label_some : (w : World) (v : Turn w) (l : Link) (d : Dumping) (p : IsServed w v l d) (b : Bool) → d.label ≡ b → AreOpened w → IsSingle w.opens v.k d
@@ -89,8 +89,8 @@ label_some w v l d p false test opened single labelled =
 
 -- an opening is one of those before, or that of the open
 was_opened : (w : World) (v : Turn w) (o : Opening) → Contains (turned w v).opens o
-    → Contains w.opens o ⊎ ((reel : List ℕ) × (opened_reel v.request v.shop v.session ≡ Some reel) × (o ≡ opening v.k reel))
-was_opened w v o among = opening_is w.opens v.k (opened_reel v.request v.shop v.session) o among
+    → Contains w.opens o ⊎ ((reel : List ℕ) × (opened_reel v.request v.library v.session ≡ Some reel) × (o ≡ opening v.k reel))
+was_opened w v o among = opening_is w.opens v.k (opened_reel v.request v.library v.session) o among
 
 -- the same by its place
 placed : (all : List Opening) (k : ℕ) (opened : Option (List ℕ)) (i : ℕ) (o : Opening) → numbered (all ++ option_to_list (option_map (opening k) opened)) i ≡ Some o
@@ -103,12 +103,12 @@ placed all k (Some reel) i o at = elim (pushed_is all (opening k reel) i o at) [
 
 pub was_placed_new : (w : World) (v : Turn w) (i : ℕ) (o : Opening) → numbered (turned w v).opens i ≡ Some o
     → (numbered w.opens i ≡ Some o)
-    ⊎ ((i ≡ suc (length w.opens)) × ((reel : List ℕ) × (opened_reel v.request v.shop v.session ≡ Some reel) × (o ≡ opening v.k reel)))
+    ⊎ ((i ≡ suc (length w.opens)) × ((reel : List ℕ) × (opened_reel v.request v.library v.session ≡ Some reel) × (o ≡ opening v.k reel)))
 was_placed_new w v i o at =
-    placed w.opens v.k (opened_reel v.request v.shop v.session) i o at
+    placed w.opens v.k (opened_reel v.request v.library v.session) i o at
 
 was_placed : (w : World) (v : Turn w) (i : ℕ) (o : Opening) → numbered (turned w v).opens i ≡ Some o
-    → (numbered w.opens i ≡ Some o) ⊎ ((i ≡ suc (length w.opens)) × ((reel : List ℕ) × (opened_reel v.request v.shop v.session ≡ Some reel)))
+    → (numbered w.opens i ≡ Some o) ⊎ ((i ≡ suc (length w.opens)) × ((reel : List ℕ) × (opened_reel v.request v.library v.session ≡ Some reel)))
 was_placed w v i o at = elim (was_placed_new w v i o at) [
   | inl before ↦ inl before
   | inr (last, (reel, is, new)) ↦ inr (last, (reel, is))
@@ -122,11 +122,11 @@ own_single w v l d p opened single = record {
 }
   where
     New : ℕ → Type 0
-    New i = (i ≡ suc (length w.opens)) × ((reel : List ℕ) × (opened_reel v.request v.shop v.session ≡ Some reel))
+    New i = (i ≡ suc (length w.opens)) × ((reel : List ℕ) × (opened_reel v.request v.library v.session ≡ Some reel))
 
-    nothing : (reel : List ℕ) → opened_reel v.request v.shop v.session ≡ Some reel → d.carried ≡ 0
+    nothing : (reel : List ℕ) → opened_reel v.request v.library v.session ≡ Some reel → d.carried ≡ 0
     nothing reel is =
-        let first = open_step p.b d p.step v.shop v.session reel (subst (λ r. opened_reel r v.shop v.session ≡ Some reel) p.asks is) in
+        let first = open_step p.b d p.step v.library v.session reel (subst (λ r. opened_reel r v.library v.session ≡ Some reel) p.asks is) in
         (subst (HasDone p.b.run (Some v.s) d) first p.done).carried
 
     both : (i j : ℕ) (o q : Opening) → (numbered w.opens i ≡ Some o) ⊎ New i → (numbered w.opens j ≡ Some q) ⊎ New j → o.connection ≡ v.k → q.connection ≡ v.k → i ≡ j

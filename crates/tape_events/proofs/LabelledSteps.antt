@@ -13,17 +13,17 @@ use Rattle.tape.specs.Trouble.{DeviceStep}
 use Rattle.tape.specs.declared.fault.TapeFault.TheVariants as faults
 use Rattle.tape.specs.declared.trouble.Trouble.{Trouble}
 use Rattle.drives.specs.declared.fault.DriveFault.TheVariants.{NoSuchDrive, Busy, NoReel, Device, OutOfMemory, NameTaken}
-use Rattle.drives.specs.Shop.{KeptReel, kept_reel, Slot, Rack, rack, Shop, rack_at, with_first, after_latch, after_offline, waiting_reel}
+use Rattle.drives.specs.TapeLibrary.{KeptReel, kept_reel, ReelSlot, Drive, drive_with, TapeLibrary, drive_at, with_first, after_latch, after_offline, waiting_reel}
 use Rattle.rmt_server.specs.declared.access.Access.{Access}
 use Rattle.rmt_server.specs.declared.access.Access.TheVariants.{Read as ReadOnly, Write as WriteOnly, Both}
 use Rattle.rmt_server.specs.Access.{access_of, writes}
 use Rattle.rmt_server.specs.Refusals.{refused}
-use Rattle.rmt_server.specs.Session.{PlainReel, plain_reel, PlainSession, Scene, scene, status_of, refusal, write_refusal, op_refusal, tape_request, closed, closed_shop, is_offline}
+use Rattle.rmt_server.specs.Session.{PlainReel, plain_reel, PlainSession, Scene, scene, status_of, refusal, write_refusal, op_refusal, tape_request, closed, closed_library, is_offline}
 use Rattle.rmt_server.specs.Session.PlainSession.{Idle, Offline, Online}
 use Rattle.rmt_server.specs.TroubledServe.{TroubledServeStep, TroubledOpens, TroubledReelStep, TroubledMoveStep, TroubledOpStep, TroubledDoneStep}
 use Rattle.tape_events.specs.Changes.{first_name, written_reel}
 use Rattle.tape_events.specs.Standing.{ReelLiesOn, HasInDrive}
-use Rattle.tape_events.proofs.Laid.{rack_same}
+use Rattle.tape_events.proofs.Laid.{drive_same}
 use Rattle.tape_events.proofs.LabelledFrame.{first_lies, latch_lies, closed_lies, moved_lies}
 
 -- it may change what stands on the tape
@@ -74,11 +74,11 @@ device_same request trouble capacity t u answer reads step = tape_same request c
 
 -- it stands on a reel that lies there, or on the reel that the session has in its drive
 abbrev pub StandsIn : Scene → List ℕ → List PlainEntry → Type 0
-StandsIn v name entries = ReelLiesOn v.shop name entries ⊎ HasInDrive v.shop v.session name entries
+StandsIn v name entries = ReelLiesOn v.library name entries ⊎ HasInDrive v.library v.session name entries
 
 -- the session may write on that reel, and the request asks for a write
 abbrev pub WritesOn : Scene → PlainRequest → List ℕ → Type 0
-WritesOn before request name = (is_write (tape_request request) ≡ true) × (written_reel before.shop before.session ≡ Some name)
+WritesOn before request name = (is_write (tape_request request) ≡ true) × (written_reel before.library before.session ≡ Some name)
 
 -- What stands on a reel after the request stood there before, or the request wrote on it.
 abbrev pub Stood : Scene → PlainRequest → Scene → Type 0
@@ -93,18 +93,18 @@ same_stood before request after is name entries stands = inl (subst (λ v. Stand
 abbrev MayWrite : PlainRequest → Access → Type 0
 MayWrite request access = is_write (tape_request request) ≡ true → writes access ≡ true
 
-written_online : (s : Shop) (session : PlainSession) (drive : ℕ) (access : Access) (reel : PlainReel) (name : List ℕ) → session ≡ Online drive access reel
-    → writes access ≡ true → first_name (rack_at s drive).stack ≡ name → written_reel s session ≡ Some name
+written_online : (s : TapeLibrary) (session : PlainSession) (drive : ℕ) (access : Access) (reel : PlainReel) (name : List ℕ) → session ≡ Online drive access reel
+    → writes access ≡ true → first_name (drive_at s drive).stack ≡ name → written_reel s session ≡ Some name
 written_online s session drive access reel name is may named =
-    ap (written_reel s) is ∙ ap (λ b. if b then Some (first_name (rack_at s drive).stack) else None) may ∙ ap Some named
+    ap (written_reel s) is ∙ ap (λ b. if b then Some (first_name (drive_at s drive).stack) else None) may ∙ ap Some named
 
 reel_now : (trouble : Trouble) (before : Scene) (request : PlainRequest) (drive : ℕ) (access : Access) (reel : PlainReel) (answer : TapeAnswer) (t : Tape) (b : Bool)
     (name : List ℕ) (entries : List PlainEntry) → is_write (tape_request request) ≡ b → MayWrite request access → before.session ≡ Online drive access reel
     → DeviceStep reel.capacity trouble reel.tape (tape_request request) answer t
-    → HasInDrive before.shop (Online drive access (plain_reel t reel.capacity)) name entries → StandsIn before name entries ⊎ WritesOn before request name
+    → HasInDrive before.library (Online drive access (plain_reel t reel.capacity)) name entries → StandsIn before name entries ⊎ WritesOn before request name
 reel_now trouble before request drive access reel answer t true name entries test may online device (e, other, r, is, named, holds) =
     let same : e ≡ drive = cc in
-    inr (test, written_online before.shop before.session drive access reel name online (may test) (ap (λ n. first_name (rack_at before.shop n).stack) (sym same) ∙ named))
+    inr (test, written_online before.library before.session drive access reel name online (may test) (ap (λ n. first_name (drive_at before.library n).stack) (sym same) ∙ named))
 reel_now trouble before request drive access reel answer t false name entries test may online device (e, other, r, is, named, holds) =
     let same : e ≡ drive = cc in
     let its : r ≡ plain_reel t reel.capacity = cc in
@@ -113,7 +113,7 @@ reel_now trouble before request drive access reel answer t false name entries te
       access,
       reel,
       online,
-      ap (λ n. first_name (rack_at before.shop n).stack) (sym same) ∙ named,
+      ap (λ n. first_name (drive_at before.library n).stack) (sym same) ∙ named,
       sym (device_same (tape_request request) trouble reel.capacity reel.tape t answer test device) ∙ sym (ap (λ (x : PlainReel). entries_of x.tape) its) ∙ holds,
     ))
 
@@ -123,19 +123,19 @@ reel_stood : (trouble : Trouble) (before : Scene) (request : PlainRequest) (repl
 reel_stood trouble before request reply after may (drive, access, reel, answer, t, online, device, replies, is) name entries stands =
     reel_stands (subst (λ v. StandsIn v name entries) is stands)
   where
-    reel_stands : StandsIn (scene before.shop (Online drive access (plain_reel t reel.capacity))) name entries → StandsIn before name entries ⊎ WritesOn before request name
+    reel_stands : StandsIn (scene before.library (Online drive access (plain_reel t reel.capacity))) name entries → StandsIn before name entries ⊎ WritesOn before request name
     reel_stands (inl lies) = inl (inl lies)
     reel_stands (inr has) =
         reel_now trouble before request drive access reel answer t (is_write (tape_request request)) name entries refl (may drive access reel online) online device has
 
 -- no reel is in the drive of a session that is not online
-idle_none : (s : Shop) (session : PlainSession) (name : List ℕ) (entries : List PlainEntry) → session ≡ Idle → HasInDrive s session name entries → ⊥
+idle_none : (s : TapeLibrary) (session : PlainSession) (name : List ℕ) (entries : List PlainEntry) → session ≡ Idle → HasInDrive s session name entries → ⊥
 idle_none s session name entries idle (drive, access, reel, online, named, holds) = let clash : Idle ≡ Online drive access reel = sym idle ∙ online in cc
 
-closed_stood : (before : Scene) (request : PlainRequest) (after : Scene) → after.shop ≡ closed_shop before.shop before.session → after.session ≡ Idle → Stood before request after
-closed_stood before request after shop idle name entries (inl lies) =
-    inl (closed_lies before.shop before.session name entries (subst (λ s. ReelLiesOn s name entries) shop lies))
-closed_stood before request after shop idle name entries (inr has) = absurd (idle_none after.shop after.session name entries idle has)
+closed_stood : (before : Scene) (request : PlainRequest) (after : Scene) → after.library ≡ closed_library before.library before.session → after.session ≡ Idle → Stood before request after
+closed_stood before request after library idle name entries (inl lies) =
+    inl (closed_lies before.library before.session name entries (subst (λ s. ReelLiesOn s name entries) library lies))
+closed_stood before request after library idle name entries (inr has) = absurd (idle_none after.library after.session name entries idle has)
 
 -- MTOFFL
 move_stood : (trouble : Trouble) (before : Scene) (request : PlainRequest) (count : ℕ) (reply : PlainReply) (after : Scene) → TroubledMoveStep trouble before count reply after
@@ -143,8 +143,8 @@ move_stood : (trouble : Trouble) (before : Scene) (request : PlainRequest) (coun
 move_stood trouble before request count reply after (drive, access, reel, Ok done, online, cause, replies, is) name entries stands =
     moved_stands (subst (λ v. StandsIn v name entries) is stands)
   where
-    moved_stands : StandsIn (scene (after_offline before.shop drive (entries_of reel.tape) reel.capacity) (Offline drive access)) name entries → StandsIn before name entries ⊎ WritesOn before request name
-    moved_stands (inl lies) = inl (elim (moved_lies before.shop drive (kept_reel (entries_of reel.tape) reel.capacity) name entries lies) [
+    moved_stands : StandsIn (scene (after_offline before.library drive (entries_of reel.tape) reel.capacity) (Offline drive access)) name entries → StandsIn before name entries ⊎ WritesOn before request name
+    moved_stands (inl lies) = inl (elim (moved_lies before.library drive (kept_reel (entries_of reel.tape) reel.capacity) name entries lies) [
       | inl on ↦ inl on
       | inr (named, holds) ↦ inr (drive, access, reel, online, named, holds)
     ])
@@ -160,42 +160,42 @@ move_stood trouble before request count reply after (drive, access, reel, Err wh
       access,
       reel,
       online,
-      ap (λ n. first_name (rack_at before.shop n).stack) (sym same) ∙ ap (λ s. first_name (rack_at s e).stack) (sym stay.0) ∙ named,
+      ap (λ n. first_name (drive_at before.library n).stack) (sym same) ∙ ap (λ s. first_name (drive_at s e).stack) (sym stay.0) ∙ named,
       sym (ap (λ (x : PlainReel). entries_of x.tape) its) ∙ holds,
     ))
 
 -- an open: what was open is laid back, and then a reel is latched
-first_name_with : (reel : Option KeptReel) (stack : List (Slot KeptReel)) → first_name (with_first reel stack) ≡ first_name stack
+first_name_with : (reel : Option KeptReel) (stack : List (ReelSlot KeptReel)) → first_name (with_first reel stack) ≡ first_name stack
 first_name_with reel [] = refl
 first_name_with reel (first ∷ rest) = refl
 
-latched_name : (s : Shop) (d : ℕ) → d < length s.racks → first_name (rack_at (after_latch s d) d).stack ≡ first_name (rack_at s d).stack
+latched_name : (s : TapeLibrary) (d : ℕ) → d < length s.drives → first_name (drive_at (after_latch s d) d).stack ≡ first_name (drive_at s d).stack
 latched_name s d within =
-    ap (λ (r : Rack KeptReel). first_name r.stack) (rack_same s.racks d (rack (rack_at s d).name (with_first None (rack_at s d).stack)) (rack [] []) within)
-    ∙ first_name_with None (rack_at s d).stack
+    ap (λ (r : Drive KeptReel). first_name r.stack) (drive_same s.drives d (drive_with (drive_at s d).name (with_first None (drive_at s d).stack)) (drive_with [] []) within)
+    ∙ first_name_with None (drive_at s d).stack
 
 latched_stood : (before : Scene) (request : PlainRequest) (after : Scene) (d : ℕ) (access : Access) (reel : PlainReel) (first : KeptReel)
-    → d < length (closed_shop before.shop before.session).racks → waiting_reel (closed_shop before.shop before.session) d ≡ Some first
-    → after.shop ≡ after_latch (closed_shop before.shop before.session) d → reel.tape ≡ tape [] first.entries → after.session ≡ Online d access reel
+    → d < length (closed_library before.library before.session).drives → waiting_reel (closed_library before.library before.session) d ≡ Some first
+    → after.library ≡ after_latch (closed_library before.library before.session) d → reel.tape ≡ tape [] first.entries → after.session ≡ Online d access reel
     → Stood before request after
-latched_stood before request after d access reel first within waits shop has is name entries (inl lies) =
-    inl (closed_lies before.shop before.session name entries
-    (latch_lies (closed_shop before.shop before.session) d name entries (subst (λ s. ReelLiesOn s name entries) shop lies)))
-latched_stood before request after d access reel first within waits shop has is name entries (inr (e, other, r, now, called, holds)) =
-    let s = closed_shop before.shop before.session in
+latched_stood before request after d access reel first within waits library has is name entries (inl lies) =
+    inl (closed_lies before.library before.session name entries
+    (latch_lies (closed_library before.library before.session) d name entries (subst (λ s. ReelLiesOn s name entries) library lies)))
+latched_stood before request after d access reel first within waits library has is name entries (inr (e, other, r, now, called, holds)) =
+    let s = closed_library before.library before.session in
     let both : Online e other r ≡ Online d access reel = sym now ∙ is in
     let same : e ≡ d = cc in
     let its : r ≡ reel = cc in
-    let its_name : first_name (rack_at s d).stack ≡ name
-    = sym (latched_name s d within) ∙ ap (λ n. first_name (rack_at (after_latch s d) n).stack) (sym same)
-    ∙ ap (λ v. first_name (rack_at v e).stack) (sym shop) ∙ called in
+    let its_name : first_name (drive_at s d).stack ≡ name
+    = sym (latched_name s d within) ∙ ap (λ n. first_name (drive_at (after_latch s d) n).stack) (sym same)
+    ∙ ap (λ v. first_name (drive_at v e).stack) (sym library) ∙ called in
     let its_entries : first.entries ≡ entries = sym (ap entries_of has) ∙ sym (ap (λ (x : PlainReel). entries_of x.tape) its) ∙ holds in
-    inl (closed_lies before.shop before.session name entries (inl (d, first_lies (rack_at s d).stack first name entries waits its_name its_entries)))
+    inl (closed_lies before.library before.session name entries (inl (d, first_lies (drive_at s d).stack first name entries waits its_name its_entries)))
 
 opens_stood : (trouble : Trouble) (holders : List ℕ) (before : Scene) (request : PlainRequest) (device : List ℕ) (access : Option Access) (reply : PlainReply) (after : Scene)
     → TroubledOpens trouble holders (closed before) device access reply after → Stood before request after
 opens_stood trouble holders before request device None reply after (replies, is) =
-    closed_stood before request after (ap (λ (v : Scene). v.shop) is) (ap (λ (v : Scene). v.session) is)
+    closed_stood before request after (ap (λ (v : Scene). v.library) is) (ap (λ (v : Scene). v.session) is)
 opens_stood trouble holders before request device (Some access) reply after (Ok opened, asked, (found, named, latch), cause, replies, is) =
     latched_stood before request after opened.0 access opened.1 latch.0 named.0 latch.1 latch.2 latch.3 is
 opens_stood trouble holders before request device (Some access) reply after (Err NoSuchDrive, asked, (named, same), cause, replies, is) = closed_stood before request after same is
@@ -257,7 +257,7 @@ op_stood false trouble before op count reply after may step = reel_stood trouble
 done_stood : (trouble : Trouble) (before : Scene) (request : PlainRequest) (reply : PlainReply) (after : Scene) → refusal (status_of before.session) request ≡ None
     → TroubledDoneStep trouble before request reply after → Stood before request after
 done_stood trouble before Close reply after none step =
-    closed_stood before Close after (ap (λ (v : Scene). v.shop) step.1) (ap (λ (v : Scene). v.session) step.1)
+    closed_stood before Close after (ap (λ (v : Scene). v.library) step.1) (ap (λ (v : Scene). v.session) step.1)
 done_stood trouble before (Write bytes) reply after none step =
     reel_stood trouble before (Write bytes) reply after
     (λ drive access reel is. online_may before.session drive access reel (Write bytes) is (λ x free. write_may x bytes free) none) step

@@ -11,7 +11,7 @@ use Rattle.rmt_wire.specs.RequestReader.{RequestHeld, Unread}
 use Rattle.rmt_wire.specs.ReplyReader.{ReplyHeld}
 use Rattle.rmt_wire.specs.declared.fault.WireFault.{WireFault}
 use Rattle.tape.specs.declared.trouble.Trouble.{Trouble}
-use Rattle.drives.specs.Shop.{Shop, IsDriveNamed}
+use Rattle.drives.specs.TapeLibrary.{TapeLibrary, IsDriveNamed}
 use Rattle.drives.specs.Arranging.{arranged}
 use Rattle.rmt_server.specs.Hall.{hall, Side, side}
 use Rattle.rmt_server.specs.Session.{PlainSession, scene}
@@ -63,17 +63,17 @@ pub record Turn (w : World) : Type 0 where
   pub rest : List ℕ
   pub reply : PlainReply
   pub reached : RequestHeld
-  pub shop : Shop
+  pub library : TapeLibrary
   pub session : PlainSession
   pub holders : List ℕ
   pub live : side_of w.hall k ≡ Some s
   pub unread : Unread s.reached bytes
   pub gives : Gives bytes (Ok (Some request)) rest
   pub left : Unread reached rest
-  pub served : TroubledServe trouble w.hall.holders k (scene w.hall.shop s.session) request reply (scene shop session) holders
+  pub served : TroubledServe trouble w.hall.holders k (scene w.hall.library s.session) request reply (scene library session) holders
 
 abbrev pub turned : (w : World) → Turn w → World
-turned w t = carried w t.k t.request t.reply t.reached t.shop t.session t.holders
+turned w t = carried w t.k t.request t.reply t.reached t.library t.session t.holders
 
 -- the client hears these bytes on one of its connections
 pub record Listens (w : World) : Type 0 where
@@ -177,7 +177,7 @@ pub data Move (w : World) : Type 0 where
   forgets : Back w → w.own ≡ None → Move w
   gives_up : Back w → (k : ℕ) → w.own ≡ Some k → Move w
   answers : (c : Caller) (answer : Answer) (reader : ReplyHeld) → w.caller ≡ Some c → c.at.stage ≡ Asking → Move w
-  arranges : (d : ℕ) (names : List (List ℕ)) → d < length w.hall.shop.racks → slice_index_or w.hall.holders d 0 ≡ 0 → Move w
+  arranges : (d : ℕ) (names : List (List ℕ)) → d < length w.hall.library.drives → slice_index_or w.hall.holders d 0 ≡ 0 → Move w
   joins : Move w
   enters : (c : Caller) → w.caller ≡ Some c → c.at.stage ≡ Finished → (IsRunEntered w c.number → ⊥) → Move w
   saves : (c : Caller) → w.caller ≡ Some c → MayBeKept w c → Move w
@@ -217,7 +217,7 @@ moved w (forgets x none) = record (calm w) { caller = back_caller w x }
 moved w (gives_up x k own) = record (given_up (calm w) k) { caller = back_caller w x }
 moved w (answers c answer reader there stage) =
     record (calm w) { caller = Some (caller c.number (standing c.at.run c.at.counts (stage_after answer)) reader); kept = kept_after answer w.kept }
-moved w (arranges d names within free) = record (calm w) { hall = hall (arranged w.hall.shop d names) w.hall.holders w.hall.sides }
+moved w (arranges d names within free) = record (calm w) { hall = hall (arranged w.hall.library d names) w.hall.holders w.hall.sides }
 moved w joins = joined (calm w) None
 moved w (enters c there stage not_yet) = recorded w c
 moved w (saves c there may) = record (calm w) { kept = Some (record { run = c.number; listed = c.at.counts }) }
@@ -227,8 +227,8 @@ abbrev pub hall_move : (w : World) → Move w → HallMove w.hall
 hall_move w (connects c there ready) = hall_moves.joins
 hall_move w (reaches k n s l reached live at grows) = hall_moves.reads k s reached live (grows.0.0 ++ take n l.toward, grows.1 grows.0.0 grows.0.1)
 hall_move w (serves t) =
-    hall_moves.serves t.k t.s (side t.reached t.session) t.shop t.holders (opened_reel t.request t.shop t.session) t.live (t.rest, t.left)
-    (step_comes t.trouble w.hall.holders (scene w.hall.shop t.s.session) t.request t.reply (scene t.shop t.session) t.served.step) t.served.held
+    hall_moves.serves t.k t.s (side t.reached t.session) t.library t.holders (opened_reel t.request t.library t.session) t.live (t.rest, t.left)
+    (step_comes t.trouble w.hall.holders (scene w.hall.library t.s.session) t.request t.reply (scene t.library t.session) t.served.step) t.served.held
 hall_move w (ends k) = hall_moves.ends k
 hall_move w restarts = hall_moves.restarts
 hall_move w (arranges d names within free) = hall_moves.arranges d names within free
@@ -305,14 +305,14 @@ sends_moves false w k c step b u block there stage own mine (reader, fed, is) =
 
 abbrev pub turn_of : (w : World) (k : ℕ) (trouble : Trouble) (s : Side) (request : PlainRequest) (bytes rest : List ℕ) (u : World) → side_of w.hall k ≡ Some s → Unread s.reached bytes
     → Gives bytes (Ok (Some request)) rest → Finds w k trouble s (Ok (Some request)) rest u → ServerTurn w k trouble u
-turn_of w k trouble s request bytes rest u live unread gives (reply, reached, shop, session, holders, left, served, is) = record {
+turn_of w k trouble s request bytes rest u live unread gives (reply, reached, library, session, holders, left, served, is) = record {
   s = s;
   request = request;
   bytes = bytes;
   rest = rest;
   reply = reply;
   reached = reached;
-  shop = shop;
+  library = library;
   session = session;
   holders = holders;
   live = live;
@@ -333,7 +333,7 @@ carries_turn w u k trouble c = record {
   rest = c.rest;
   reply = c.reply;
   reached = c.reached;
-  shop = c.shop;
+  library = c.library;
   session = c.session;
   holders = c.holders;
   live = c.live;
@@ -409,8 +409,8 @@ back_moves w None u kept is = forgets_moves w (gone kept) w.own u refl is
 back_moves w (Some z) u kept (b, at, reader, begun, over, is) = forgets_moves w (comes z b at reader kept begun over) w.own u refl is
 
 -- one drive has a name
-one_named : (shop : Shop) (name : List ℕ) (d e : ℕ) → IsDriveNamed name shop (Some d) → IsDriveNamed name shop (Some e) → d ≡ e
-one_named shop name d e one other = elim (eqb_tells d e) [
+one_named : (library : TapeLibrary) (name : List ℕ) (d e : ℕ) → IsDriveNamed name library (Some d) → IsDriveNamed name library (Some e) → d ≡ e
+one_named library name d e one other = elim (eqb_tells d e) [
   | inl (equal, same) ↦ same
   | inr (unequal, differ) ↦ absurd (elim (less_or_more d e differ) [
     | inl less ↦ other.2 d less one.1
@@ -437,7 +437,7 @@ happened w ServerRestart u (may, is) = (restarts, is)
 happened w ClientRestart u (may, back) = back_moves w w.kept u refl back
 happened w (Respond answer) u (may, (c, reader, there, stage, is)) = (answers c answer reader there stage, is)
 happened w (Arrange drive reels) u ((e, found, free, distinct, piled), (d, named, is)) =
-    (arranges d reels named.0 (subst (λ x. slice_index_or w.hall.holders x 0 ≡ 0) (one_named w.hall.shop drive e d found named) free), is)
+    (arranges d reels named.0 (subst (λ x. slice_index_or w.hall.holders x 0 ≡ 0) (one_named w.hall.library drive e d found named) free), is)
 happened w Stranger u (may, is) = (joins, is)
 happened w (Says k bytes) u ((x, (there, other), none), is) = (talks k x (says bytes) there none, is)
 happened w Enter u ((x, at, stage, not_yet), (c, there, is)) =

@@ -4,8 +4,8 @@ use Rattle.std.specs.List.{sum_by, list_any}
 use Rattle.std.proofs.lemmas.List.Sums.{sum_by-append, sum_by-cons}
 use Rattle.std.specs.Str.{bytes_eq}
 use Rattle.tape.specs.Tape.{entries_of}
-use Rattle.drives.specs.Shop.{KeptReel, kept_reel, Slot, slot, Rack, rack, Shop, shop, rack_at, with_rack, slots_in, names_of, names_in, times, with_first, at_first, to_bin}
-use Rattle.drives.proofs.Shops.{bit, named, times_named, sum_by_slots, sum_by_with_rack}
+use Rattle.drives.specs.TapeLibrary.{KeptReel, kept_reel, ReelSlot, slot, Drive, drive_with, TapeLibrary, library, drive_at, with_drive_at, slots_in, names_of, names_in, times, with_first, at_first, to_bin}
+use Rattle.drives.proofs.Shops.{bit, named, times_named, sum_by_slots, sum_by_with_drive}
 use Rattle.drives.specs.Arranging.{are_distinct}
 use Rattle.drives.proofs.Arranging.{times_arranged}
 use Rattle.std.specs.Prelude.{if◌then◌else◌, option_to_list}
@@ -18,14 +18,14 @@ use Rattle.rmt_wire.specs.Request.{PlainRequest}
 use Rattle.rmt_wire.specs.Request.PlainRequest.{Open}
 use Rattle.rmt_server.specs.Access.{writes}
 use Rattle.rmt_server.specs.Hall.{Hall, Side, side}
-use Rattle.rmt_server.specs.Session.{PlainSession, Scene, scene, closed_shop}
+use Rattle.rmt_server.specs.Session.{PlainSession, Scene, scene, closed_library}
 use Rattle.rmt_server.specs.Session.PlainSession.{Idle, Offline, Online}
 use Rattle.rmt_server.specs.TroubledServe.{drive_in}
 use Rattle.tape_events.specs.World.{World, Opening}
 use Rattle.tape_events.specs.Events.{PlainEvent}
 use Rattle.tape_events.specs.Changes.{side_of, first_name, written_reel, opened_reel, opening}
 use Rattle.tape_events.specs.Steps.{Happens}
-use Rattle.tape_events.specs.First.{PlainDriveSpec, AreGoodDrives, blank_rack, first_world}
+use Rattle.tape_events.specs.First.{PlainDriveSpec, AreGoodDrives, blank_drive, first_world}
 use Rattle.tape_events.specs.Standing.{IsFirstAway, online_drive_in, AreHeld, HasReel}
 use Rattle.tape_events.specs.Kept.{AreLaid}
 use Rattle.tape_events.specs.Naming.{SameNames, AreNamed}
@@ -38,12 +38,12 @@ use Rattle.tape_events.proofs.Moves as move
 use Rattle.tape_events.proofs.Moves.{Move, moved, hall_move, hall_moved, happened}
 
 -- a stack has the same names where its first reel is away or lies there
-first_names : (name : List ℕ) (reel : Option KeptReel) (stack : List (Slot KeptReel)) → sum_by (named name) (with_first reel stack) ≡ sum_by (named name) stack
+first_names : (name : List ℕ) (reel : Option KeptReel) (stack : List (ReelSlot KeptReel)) → sum_by (named name) (with_first reel stack) ≡ sum_by (named name) stack
 first_names name reel [] = refl
 first_names name reel (first ∷ rest) = sum_by-cons (named name) (slot first.name reel) rest ∙ sym (sum_by-cons (named name) first rest)
 
 -- and what is taken from it, with what is left
-taken_names : (name : List ℕ) (reel : KeptReel) (stack : List (Slot KeptReel))
+taken_names : (name : List ℕ) (reel : KeptReel) (stack : List (ReelSlot KeptReel))
     → sum_by (named name) (drop 1 stack) + sum_by (named name) (with_first (Some reel) (take 1 stack)) ≡ sum_by (named name) stack
 taken_names name reel [] = refl
 taken_names name reel (first ∷ rest) =
@@ -52,66 +52,66 @@ taken_names name reel (first ∷ rest) =
     omega (arith, one, all)
 
 -- names stay where sums of them do
-by_sums : (s u : Shop) → ((name : List ℕ) → sum_by (named name) (slots_in u) ≡ sum_by (named name) (slots_in s)) → SameNames s u
+by_sums : (s u : TapeLibrary) → ((name : List ℕ) → sum_by (named name) (slots_in u) ≡ sum_by (named name) (slots_in s)) → SameNames s u
 by_sums s u sums name = times_named name (slots_in u) ∙ sums name ∙ sym (times_named name (slots_in s))
 
-pub at_first_names : (s : Shop) (d : ℕ) (reel : Option KeptReel) → d < length s.racks → SameNames s (at_first s d reel)
+pub at_first_names : (s : TapeLibrary) (d : ℕ) (reel : Option KeptReel) → d < length s.drives → SameNames s (at_first s d reel)
 at_first_names s d reel within = by_sums s (at_first s d reel) (λ name.
-    (let r = rack_at s d in
-    let whole = sum_by_with_rack (named name) s d (rack r.name (with_first reel r.stack)) within in
+    (let r = drive_at s d in
+    let whole = sum_by_with_drive (named name) s d (drive_with r.name (with_first reel r.stack)) within in
     let part = first_names name reel r.stack in
     omega (arith, whole, part)))
 
-pub to_bin_names : (s : Shop) (d : ℕ) (reel : KeptReel) → d < length s.racks → SameNames s (to_bin s d reel)
+pub to_bin_names : (s : TapeLibrary) (d : ℕ) (reel : KeptReel) → d < length s.drives → SameNames s (to_bin s d reel)
 to_bin_names s d reel within = by_sums s (to_bin s d reel) (λ name.
-    (let r = rack_at s d in
-    let less = rack r.name (drop 1 r.stack) in
+    (let r = drive_at s d in
+    let less = drive_with r.name (drop 1 r.stack) in
     let put = with_first (Some reel) (take 1 r.stack) in
-    let whole = sum_by_with_rack (named name) s d less within in
-    let one = sum_by_slots (named name) (with_rack s d less) in
+    let whole = sum_by_with_drive (named name) s d less within in
+    let one = sum_by_slots (named name) (with_drive_at s d less) in
     let all = sum_by_slots (named name) (to_bin s d reel) in
     let bin = sum_by-append (named name) s.bin put in
     let part = taken_names name reel r.stack in
     omega (arith, whole, one, all, bin, part)))
 
 -- what was open is laid back
-closed_names : (h : Hall) (k : ℕ) (s : Side) → side_of h k ≡ Some s → AreHeld h → (session : PlainSession) → s.session ≡ session → SameNames h.shop (closed_shop h.shop session)
+closed_names : (h : Hall) (k : ℕ) (s : Side) → side_of h k ≡ Some s → AreHeld h → (session : PlainSession) → s.session ≡ session → SameNames h.library (closed_library h.library session)
 closed_names h k s was a Idle is = λ name. refl
 closed_names h k s was a (Offline drive access) is = λ name. refl
 closed_names h k s was a (Online drive access reel) is =
-    at_first_names h.shop drive (Some (kept_reel (entries_of reel.tape) reel.capacity)) (drive_within h k s drive a was (ap drive_in is))
+    at_first_names h.library drive (Some (kept_reel (entries_of reel.tape) reel.capacity)) (drive_within h k s drive a was (ap drive_in is))
 
 -- one request of a session
-comes_names : (holders : List ℕ) (h : Hall) (k : ℕ) (s : Side) (after : Scene) (opened : Option (List ℕ)) → side_of h k ≡ Some s → AreHeld h → Comes holders (scene h.shop s.session) after opened
-    → SameNames h.shop after.shop
-comes_names holders h k s after opened was a (stays shop session drive none) name = ap (λ (v : Shop). times name (names_in v)) shop
-comes_names holders h k s after opened was a (closes shop session none) name =
-    ap (λ (v : Shop). times name (names_in v)) shop ∙ closed_names h k s was a s.session refl name
-comes_names holders h k s after opened was a (opens drive access reel first within waits free shop session new) name =
-    ap (λ (v : Shop). times name (names_in v)) shop ∙ at_first_names (closed_shop h.shop s.session) drive None within name
+comes_names : (holders : List ℕ) (h : Hall) (k : ℕ) (s : Side) (after : Scene) (opened : Option (List ℕ)) → side_of h k ≡ Some s → AreHeld h → Comes holders (scene h.library s.session) after opened
+    → SameNames h.library after.library
+comes_names holders h k s after opened was a (stays library session drive none) name = ap (λ (v : TapeLibrary). times name (names_in v)) library
+comes_names holders h k s after opened was a (closes library session none) name =
+    ap (λ (v : TapeLibrary). times name (names_in v)) library ∙ closed_names h k s was a s.session refl name
+comes_names holders h k s after opened was a (opens drive access reel first within waits free library session new) name =
+    ap (λ (v : TapeLibrary). times name (names_in v)) library ∙ at_first_names (closed_library h.library s.session) drive None within name
     ∙ closed_names h k s was a s.session refl name
-comes_names holders h k s after opened was a (moves drive access reel online shop session none) name =
-    ap (λ (v : Shop). times name (names_in v)) shop
-    ∙ to_bin_names h.shop drive (kept_reel (entries_of reel.tape) reel.capacity) (drive_within h k s drive a was (ap drive_in online)) name
+comes_names holders h k s after opened was a (moves drive access reel online library session none) name =
+    ap (λ (v : TapeLibrary). times name (names_in v)) library
+    ∙ to_bin_names h.library drive (kept_reel (entries_of reel.tape) reel.capacity) (drive_within h k s drive a was (ap drive_in online)) name
 
 -- a side that is over
-over_names : (base : Shop) → KeepsHeldOver (λ h. SameNames base h.shop)
+over_names : (base : TapeLibrary) → KeepsHeldOver (λ h. SameNames base h.library)
 over_names base h k s is a same name = closed_names h k s is a s.session refl name ∙ same name
 
 -- each event
-hall_names : (h : Hall) (m : HallMove h) → AreHeld h → SameNames h.shop (hall_after h m).shop
-hall_names h (serves k s x shop holders opened live unread comes held) a = comes_names h.holders h k s (scene shop x.session) opened live a comes
-hall_names h (ends k) a = held_ended_by (λ u. SameNames h.shop u.shop) (over_names h.shop) h k a (λ name. refl)
-hall_names h restarts a = held_all_ended_by (λ u. SameNames h.shop u.shop) (over_names h.shop) h (length h.sides) a (λ name. refl)
-hall_names h (arranges d names within free) a = times_arranged h.shop d names within
+hall_names : (h : Hall) (m : HallMove h) → AreHeld h → SameNames h.library (hall_after h m).library
+hall_names h (serves k s x library holders opened live unread comes held) a = comes_names h.holders h k s (scene library x.session) opened live a comes
+hall_names h (ends k) a = held_ended_by (λ u. SameNames h.library u.library) (over_names h.library) h k a (λ name. refl)
+hall_names h restarts a = held_all_ended_by (λ u. SameNames h.library u.library) (over_names h.library) h (length h.sides) a (λ name. refl)
+hall_names h (arranges d names within free) a = times_arranged h.library d names within
 hall_names h m a = λ name. refl
 
-names_moved : (w : World) (m : Move w) → AreHeld w.hall → SameNames w.hall.shop (moved w m).hall.shop
-names_moved w m a = subst (λ (h : Hall). SameNames w.hall.shop h.shop) (sym (hall_moved w m)) (hall_names w.hall (hall_move w m) a)
+names_moved : (w : World) (m : Move w) → AreHeld w.hall → SameNames w.hall.library (moved w m).hall.library
+names_moved w m a = subst (λ (h : Hall). SameNames w.hall.library h.library) (sym (hall_moved w m)) (hall_names w.hall (hall_move w m) a)
 
-pub names_after : (w : World) (event : PlainEvent) (u : World) → Happens w event u → AreHeld w.hall → SameNames w.hall.shop u.hall.shop
+pub names_after : (w : World) (event : PlainEvent) (u : World) → Happens w event u → AreHeld w.hall → SameNames w.hall.library u.hall.library
 names_after w event u happens a =
-    let m = happened w event u happens in subst (λ (x : World). SameNames w.hall.shop x.hall.shop) (sym m.1) (names_moved w m.0 a)
+    let m = happened w event u happens in subst (λ (x : World). SameNames w.hall.library x.hall.library) (sym m.1) (names_moved w m.0 a)
 
 -- the openings, where one may have been added
 pub opening_is : (all : List Opening) (k : ℕ) (opened : Option (List ℕ)) (o : Opening) → Contains (all ++ option_to_list (option_map (opening k) opened)) o
@@ -123,18 +123,18 @@ opening_is all k (Some reel) o among = elim (Contains-push_cases all (opening k 
 ]
 
 -- the first reel of a stack is there
-pub first_times : (stack : List (Slot KeptReel)) → IsFirstAway stack → 0 < sum_by (named (first_name stack)) stack
+pub first_times : (stack : List (ReelSlot KeptReel)) → IsFirstAway stack → 0 < sum_by (named (first_name stack)) stack
 first_times [] away = absurd away
 first_times (first ∷ rest) away =
     let one : named first.name first ≡ 1 = ap bit ((bytes_eq-Decides first.name first.name).1 refl) in
     let all = sum_by-cons (named first.name) first rest in
     omega (arith, one, all)
 
-first_is_reel : (s : Shop) (d : ℕ) → d < length s.racks → IsFirstAway (rack_at s d).stack → HasReel s (first_name (rack_at s d).stack)
+first_is_reel : (s : TapeLibrary) (d : ℕ) → d < length s.drives → IsFirstAway (drive_at s d).stack → HasReel s (first_name (drive_at s d).stack)
 first_is_reel s d within away =
-    let name = first_name (rack_at s d).stack in
-    let part = sum_by_with_rack (named name) s d (rack [] []) within in
-    let some = first_times (rack_at s d).stack away in
+    let name = first_name (drive_at s d).stack in
+    let part = sum_by_with_drive (named name) s d (drive_with [] []) within in
+    let some = first_times (drive_at s d).stack away in
     let all = times_named name (slots_in s) in
     omega (arith, part, some, all)
 
@@ -143,53 +143,53 @@ written_if true name reel is = same_Some name reel is
 written_if false name reel is = absurd cc
 
 -- what a session that writes has open
-pub written_is : (s : Shop) (session : PlainSession) (reel : List ℕ) → written_reel s session ≡ Some reel
-    → (d : ℕ) × (online_drive_in session ≡ Some d) × (first_name (rack_at s d).stack ≡ reel)
+pub written_is : (s : TapeLibrary) (session : PlainSession) (reel : List ℕ) → written_reel s session ≡ Some reel
+    → (d : ℕ) × (online_drive_in session ≡ Some d) × (first_name (drive_at s d).stack ≡ reel)
 written_is s Idle reel is = absurd cc
 written_is s (Offline drive access) reel is = absurd cc
-written_is s (Online drive access r) reel is = (drive, refl, written_if (writes access) (first_name (rack_at s drive).stack) reel is)
+written_is s (Online drive access r) reel is = (drive, refl, written_if (writes access) (first_name (drive_at s drive).stack) reel is)
 
 -- the reel that was opened is there
-opened_is_reel : (h : Hall) (k : ℕ) (x : Side) (reel : List ℕ) → side_of h k ≡ Some x → AreHeld h → AreLaid h → written_reel h.shop x.session ≡ Some reel → HasReel h.shop reel
+opened_is_reel : (h : Hall) (k : ℕ) (x : Side) (reel : List ℕ) → side_of h k ≡ Some x → AreHeld h → AreLaid h → written_reel h.library x.session ≡ Some reel → HasReel h.library reel
 opened_is_reel h k x reel live a l is =
-    let w = written_is h.shop x.session reel is in
-    subst (HasReel h.shop) w.2 (first_is_reel h.shop w.0 (drive_within h k x w.0 a live (online_drive x.session w.0 w.1)) (l.latched w.0 (k, x, live, w.1)))
+    let w = written_is h.library x.session reel is in
+    subst (HasReel h.library) w.2 (first_is_reel h.library w.0 (drive_within h k x w.0 a live (online_drive x.session w.0 w.1)) (l.latched w.0 (k, x, live, w.1)))
 
 -- the names and the openings, after an event that made no opening, or one
-same_named : (w u : World) → SameNames w.hall.shop u.hall.shop → u.opens ≡ w.opens → AreNamed w → AreNamed u
+same_named : (w u : World) → SameNames w.hall.library u.hall.library → u.opens ≡ w.opens → AreNamed w → AreNamed u
 same_named w u same made n = record {
   once = λ name. subst (λ m. m ≤ 1) (sym (same name)) (n.once name);
   opened = λ o among. subst (λ m. 0 < m) (sym (same o.reel)) (n.opened o (subst (λ l. Contains l o) made among));
 }
 
-served_named : (w u : World) (k : ℕ) (opened : Option (List ℕ)) → SameNames w.hall.shop u.hall.shop → u.opens ≡ w.opens ++ option_to_list (option_map (opening k) opened)
-    → ((reel : List ℕ) → opened ≡ Some reel → HasReel u.hall.shop reel) → AreNamed w → AreNamed u
+served_named : (w u : World) (k : ℕ) (opened : Option (List ℕ)) → SameNames w.hall.library u.hall.library → u.opens ≡ w.opens ++ option_to_list (option_map (opening k) opened)
+    → ((reel : List ℕ) → opened ≡ Some reel → HasReel u.hall.library reel) → AreNamed w → AreNamed u
 served_named w u k opened same made new n = record {
   once = λ name. subst (λ m. m ≤ 1) (sym (same name)) (n.once name);
   opened = λ o among. elim (opening_is w.opens k opened o (subst (λ l. Contains l o) made among)) [
     | inl before ↦ subst (λ m. 0 < m) (sym (same o.reel)) (n.opened o before)
-    | inr (reel, is, its) ↦ subst (λ (z : Opening). HasReel u.hall.shop z.reel) (sym its) (new reel is)
+    | inr (reel, is, its) ↦ subst (λ (z : Opening). HasReel u.hall.library z.reel) (sym its) (new reel is)
   ];
 }
 
 -- the reel that a request opened is there
-open_reel : (request : PlainRequest) (s : Shop) (session : PlainSession) (reel : List ℕ) → opened_reel request s session ≡ Some reel → written_reel s session ≡ Some reel
+open_reel : (request : PlainRequest) (s : TapeLibrary) (session : PlainSession) (reel : List ℕ) → opened_reel request s session ≡ Some reel → written_reel s session ≡ Some reel
 open_reel (Open device mode) s session reel is = is
 open_reel request s session reel is = absurd cc
 
 pub comes_reel : (holders : List ℕ) (before after : Scene) (opened : Option (List ℕ)) → Comes holders before after opened → (reel : List ℕ) → opened ≡ Some reel
-    → written_reel after.shop after.session ≡ Some reel
-comes_reel holders before after opened (opens drive access r first within waits free shop session new) reel is = sym new ∙ is
-comes_reel holders before after opened (stays shop session drive none) reel is = let clash = sym none ∙ is in absurd cc
-comes_reel holders before after opened (closes shop session none) reel is = let clash = sym none ∙ is in absurd cc
-comes_reel holders before after opened (moves drive access r online shop session none) reel is = let clash = sym none ∙ is in absurd cc
+    → written_reel after.library after.session ≡ Some reel
+comes_reel holders before after opened (opens drive access r first within waits free library session new) reel is = sym new ∙ is
+comes_reel holders before after opened (stays library session drive none) reel is = let clash = sym none ∙ is in absurd cc
+comes_reel holders before after opened (closes library session none) reel is = let clash = sym none ∙ is in absurd cc
+comes_reel holders before after opened (moves drive access r online library session none) reel is = let clash = sym none ∙ is in absurd cc
 
 pub named_moved : (w : World) (m : Move w) → AreHeld w.hall → AreHeld (moved w m).hall → AreLaid (moved w m).hall → AreNamed w → AreNamed (moved w m)
 named_moved w (move.serves t) before a l n =
     let u = moved w (move.serves t) in
-    served_named w u t.k (opened_reel t.request t.shop t.session) (names_moved w (move.serves t) before) refl
+    served_named w u t.k (opened_reel t.request t.library t.session) (names_moved w (move.serves t) before) refl
     (λ reel new. opened_is_reel u.hall t.k (side t.reached t.session) reel (sits_here w.hall t.k t.s (Some (side t.reached t.session)) u.hall record { was = t.live; sides = refl }) a l
-    (open_reel t.request t.shop t.session reel new)) n
+    (open_reel t.request t.library t.session reel new)) n
 named_moved w m before a l n = same_named w _ (names_moved w m before) refl n
 
 both : (a b : Bool) → (a && b) ≡ true → (a ≡ true) × (b ≡ true)
@@ -233,7 +233,7 @@ distinct_once (n ∷ names) distinct name =
     let parts = both (not (list_any (bytes_eq n) names)) (are_distinct names) distinct in
     distinct_if name n names (bytes_eq name n) refl (turned (list_any (bytes_eq n) names) parts.0) (distinct_once names parts.1 name)
 
-names_more : (xs ys : List (Slot KeptReel)) → names_of (xs ++ ys) ≡ names_of xs ++ names_of ys
+names_more : (xs ys : List (ReelSlot KeptReel)) → names_of (xs ++ ys) ≡ names_of xs ++ names_of ys
 names_more [] ys = refl
 names_more (x ∷ xs) ys = ap (λ l. x.name ∷ l) (names_more xs ys)
 
@@ -241,18 +241,18 @@ blank_names : (capacity : ℕ) (names : List (List ℕ)) → names_of (map (λ n
 blank_names capacity [] = refl
 blank_names capacity (name ∷ names) = ap (λ l. name ∷ l) (blank_names capacity names)
 
-first_world_names : (drives : List PlainDriveSpec) → names_of (flat_map (λ (r : Rack KeptReel). r.stack) (map blank_rack drives)) ≡ flat_map (λ (d : PlainDriveSpec). d.reels) drives
+first_world_names : (drives : List PlainDriveSpec) → names_of (flat_map (λ (r : Drive KeptReel). r.stack) (map blank_drive drives)) ≡ flat_map (λ (d : PlainDriveSpec). d.reels) drives
 first_world_names [] = refl
 first_world_names (d ∷ drives) =
-    names_more (blank_rack d).stack (flat_map (λ (r : Rack KeptReel). r.stack) (map blank_rack drives))
-    ∙ ap (λ l. l ++ names_of (flat_map (λ (r : Rack KeptReel). r.stack) (map blank_rack drives))) (blank_names d.capacity d.reels)
+    names_more (blank_drive d).stack (flat_map (λ (r : Drive KeptReel). r.stack) (map blank_drive drives))
+    ∙ ap (λ l. l ++ names_of (flat_map (λ (r : Drive KeptReel). r.stack) (map blank_drive drives))) (blank_names d.capacity d.reels)
     ∙ ap (λ l. d.reels ++ l) (first_world_names drives)
 
 pub first_named : (drives : List PlainDriveSpec) → AreGoodDrives drives → AreNamed (first_world drives)
 first_named drives good = record {
   once = λ name.
-      (let all : names_in (first_world drives).hall.shop ≡ flat_map (λ (d : PlainDriveSpec). d.reels) drives
-      = ap (λ l. names_of l) (append-nil (flat_map (λ (r : Rack KeptReel). r.stack) (map blank_rack drives))) ∙ first_world_names drives in
+      (let all : names_in (first_world drives).hall.library ≡ flat_map (λ (d : PlainDriveSpec). d.reels) drives
+      = ap (λ l. names_of l) (append-nil (flat_map (λ (r : Drive KeptReel). r.stack) (map blank_drive drives))) ∙ first_world_names drives in
       subst (λ l. times name l ≤ 1) (sym all) (distinct_once (flat_map (λ (d : PlainDriveSpec). d.reels) drives) good.2 name));
   opened = λ o (k, within, is). absurd (omega (arith, within));
 }

@@ -6,11 +6,11 @@ use Rattle.rmt_wire.specs.Reply.{PlainReply}
 use Rattle.tape.specs.Tape.{entries_of}
 use Rattle.tape.specs.declared.trouble.Trouble.{Trouble}
 use Rattle.drives.specs.declared.fault.DriveFault.TheVariants.{NoSuchDrive, Busy, NoReel, Device, OutOfMemory, NameTaken}
-use Rattle.drives.specs.Shop.{KeptReel, after_latch, after_offline, waiting_reel}
+use Rattle.drives.specs.TapeLibrary.{KeptReel, after_latch, after_offline, waiting_reel}
 use Rattle.rmt_server.specs.declared.access.Access.{Access}
 use Rattle.rmt_server.specs.Access.{access_of}
 use Rattle.rmt_server.specs.Refusals.{refused}
-use Rattle.rmt_server.specs.Session.{PlainReel, PlainSession, Scene, status_of, refusal, closed, closed_shop, is_offline}
+use Rattle.rmt_server.specs.Session.{PlainReel, PlainSession, Scene, status_of, refusal, closed, closed_library, is_offline}
 use Rattle.rmt_server.specs.Session.PlainSession.{Idle, Offline, Online}
 use Rattle.rmt_server.specs.TroubledServe.{drive_in, with_holder, holder_of, TroubledServeStep, TroubledOpens, TroubledReelStep, TroubledMoveStep, TroubledOpStep, TroubledDoneStep}
 use Rattle.tape_events.specs.Changes.{written_reel, opened_reel}
@@ -25,27 +25,27 @@ use_of (Online drive access reel) = Some (drive, access)
 -- they are; or the reel that was open is laid back; or then the first reel of a free drive is latched; or the open reel is moved to
 -- the bin.
 pub data Comes (holders : List ℕ) (before after : Scene) (opened : Option (List ℕ)) : Type 0 where
-  stays : after.shop ≡ before.shop → use_of after.session ≡ use_of before.session → drive_in after.session ≡ drive_in before.session → opened ≡ None
+  stays : after.library ≡ before.library → use_of after.session ≡ use_of before.session → drive_in after.session ≡ drive_in before.session → opened ≡ None
       → Comes holders before after opened
-  closes : after.shop ≡ closed_shop before.shop before.session → after.session ≡ Idle → opened ≡ None → Comes holders before after opened
-  opens : (drive : ℕ) (access : Access) (reel : PlainReel) (first : KeptReel) → drive < length (closed_shop before.shop before.session).racks
-      → waiting_reel (closed_shop before.shop before.session) drive ≡ Some first → holder_of (with_holder (drive_in before.session) 0 holders) (Some drive) ≡ 0
-      → after.shop ≡ after_latch (closed_shop before.shop before.session) drive → after.session ≡ Online drive access reel
-      → opened ≡ written_reel after.shop after.session → Comes holders before after opened
+  closes : after.library ≡ closed_library before.library before.session → after.session ≡ Idle → opened ≡ None → Comes holders before after opened
+  opens : (drive : ℕ) (access : Access) (reel : PlainReel) (first : KeptReel) → drive < length (closed_library before.library before.session).drives
+      → waiting_reel (closed_library before.library before.session) drive ≡ Some first → holder_of (with_holder (drive_in before.session) 0 holders) (Some drive) ≡ 0
+      → after.library ≡ after_latch (closed_library before.library before.session) drive → after.session ≡ Online drive access reel
+      → opened ≡ written_reel after.library after.session → Comes holders before after opened
   moves : (drive : ℕ) (access : Access) (reel : PlainReel) → before.session ≡ Online drive access reel
-      → after.shop ≡ after_offline before.shop drive (entries_of reel.tape) reel.capacity → after.session ≡ Offline drive access
+      → after.library ≡ after_offline before.library drive (entries_of reel.tape) reel.capacity → after.session ≡ Offline drive access
       → opened ≡ None → Comes holders before after opened
 
 reel_comes : (holders : List ℕ) (trouble : Trouble) (before : Scene) (request : PlainRequest) (reply : PlainReply) (after : Scene) (opened : Option (List ℕ)) → opened ≡ None
     → TroubledReelStep trouble before request reply after → Comes holders before after opened
 reel_comes holders trouble before request reply after opened none (drive, access, reel, answer, t, online, device, replies, is) =
-    stays (ap (λ (v : Scene). v.shop) is) (ap (λ (v : Scene). use_of v.session) is ∙ sym (ap use_of online))
+    stays (ap (λ (v : Scene). v.library) is) (ap (λ (v : Scene). use_of v.session) is ∙ sym (ap use_of online))
     (ap (λ (v : Scene). drive_in v.session) is ∙ sym (ap drive_in online)) none
 
 move_comes : (holders : List ℕ) (trouble : Trouble) (before : Scene) (count : ℕ) (reply : PlainReply) (after : Scene) (opened : Option (List ℕ)) → opened ≡ None
     → TroubledMoveStep trouble before count reply after → Comes holders before after opened
 move_comes holders trouble before count reply after opened none (drive, access, reel, Ok done, online, cause, replies, is) =
-    moves drive access reel online (ap (λ (v : Scene). v.shop) is) (ap (λ (v : Scene). v.session) is) none
+    moves drive access reel online (ap (λ (v : Scene). v.library) is) (ap (λ (v : Scene). v.session) is) none
 move_comes holders trouble before count reply after opened none (drive, access, reel, Err why, online, cause, replies, (excused, stay, is)) =
     stays stay.0 (ap use_of is ∙ sym (ap use_of online)) (ap drive_in is ∙ sym (ap drive_in online)) none
 
@@ -55,7 +55,7 @@ op_comes holders true trouble before op count reply after opened none step = mov
 op_comes holders false trouble before op count reply after opened none step = reel_comes holders trouble before (Op op count) reply after opened none step
 
 close_comes : (holders : List ℕ) (before after : Scene) (opened : Option (List ℕ)) → opened ≡ None → after ≡ closed before → Comes holders before after opened
-close_comes holders before after opened none is = closes (ap (λ (v : Scene). v.shop) is) (ap (λ (v : Scene). v.session) is) none
+close_comes holders before after opened none is = closes (ap (λ (v : Scene). v.library) is) (ap (λ (v : Scene). v.session) is) none
 
 done_comes : (holders : List ℕ) (trouble : Trouble) (before : Scene) (request : PlainRequest) (reply : PlainReply) (after : Scene) (opened : Option (List ℕ)) → opened ≡ None
     → TroubledDoneStep trouble before request reply after → Comes holders before after opened
@@ -70,15 +70,15 @@ refused_comes None A B holders before after opened none some step = none step
 refused_comes (Some r) A B holders before after opened none some step = some r step
 
 same_comes : (holders : List ℕ) (before after : Scene) (opened : Option (List ℕ)) → opened ≡ None → after ≡ before → Comes holders before after opened
-same_comes holders before after opened none is = stays (ap (λ (v : Scene). v.shop) is) (ap (λ (v : Scene). use_of v.session) is) (ap (λ (v : Scene). drive_in v.session) is) none
+same_comes holders before after opened none is = stays (ap (λ (v : Scene). v.library) is) (ap (λ (v : Scene). use_of v.session) is) (ap (λ (v : Scene). drive_in v.session) is) none
 
 -- an open that latches nothing
-not_opened : (holders : List ℕ) (before after : Scene) → after.shop ≡ closed_shop before.shop before.session → after.session ≡ Idle → Comes holders before after (written_reel after.shop after.session)
-not_opened holders before after shop idle = closes shop idle (ap (written_reel after.shop) idle)
+not_opened : (holders : List ℕ) (before after : Scene) → after.library ≡ closed_library before.library before.session → after.session ≡ Idle → Comes holders before after (written_reel after.library after.session)
+not_opened holders before after library idle = closes library idle (ap (written_reel after.library) idle)
 
 opens_comes : (trouble : Trouble) (holders : List ℕ) (before : Scene) (device : List ℕ) (access : Option Access) (reply : PlainReply) (after : Scene)
-    → TroubledOpens trouble (with_holder (drive_in before.session) 0 holders) (closed before) device access reply after → Comes holders before after (written_reel after.shop after.session)
-opens_comes trouble holders before device None reply after (replies, is) = not_opened holders before after (ap (λ (v : Scene). v.shop) is) (ap (λ (v : Scene). v.session) is)
+    → TroubledOpens trouble (with_holder (drive_in before.session) 0 holders) (closed before) device access reply after → Comes holders before after (written_reel after.library after.session)
+opens_comes trouble holders before device None reply after (replies, is) = not_opened holders before after (ap (λ (v : Scene). v.library) is) (ap (λ (v : Scene). v.session) is)
 opens_comes trouble holders before device (Some access) reply after (Ok opened, asked, (found, named, latch), cause, replies, is) =
     opens opened.0 access opened.1 latch.0 named.0 latch.1 (ap (holder_of (with_holder (drive_in before.session) 0 holders)) (sym found) ∙ cause.0) latch.2 is refl
 opens_comes trouble holders before device (Some access) reply after (Err NoSuchDrive, asked, (named, same), cause, replies, is) = not_opened holders before after same is
@@ -97,6 +97,6 @@ other_comes holders trouble before request reply after opened none step =
     (λ r it. same_comes holders before after opened none it.1) step
 
 pub step_comes : (trouble : Trouble) (holders : List ℕ) (before : Scene) (request : PlainRequest) (reply : PlainReply) (after : Scene)
-    → TroubledServeStep trouble holders before request reply after → Comes holders before after (opened_reel request after.shop after.session)
+    → TroubledServeStep trouble holders before request reply after → Comes holders before after (opened_reel request after.library after.session)
 step_comes trouble holders before (Open device mode) reply after step = opens_comes trouble holders before device (access_of mode) reply after step
 step_comes trouble holders before request reply after step = other_comes holders trouble before request reply after None refl step

@@ -6,13 +6,13 @@ use Rattle.std.specs.List.{sum_by}
 use Rattle.std.proofs.lemmas.List.{append-nil, length-append, length-set}
 use Rattle.std.proofs.lemmas.Option.{same_Some}
 use Rattle.rmt_wire.specs.RequestReader.{held}
-use Rattle.drives.specs.Shop.{KeptReel, Rack, rack, Shop, rack_at, with_rack, slots_in, EachReelOnce}
+use Rattle.drives.specs.TapeLibrary.{KeptReel, Drive, drive_with, TapeLibrary, drive_at, with_drive_at, slots_in, EachReelOnce}
 use Rattle.drives.specs.Arranging.{arranged}
-use Rattle.drives.proofs.Shops.{named, times_named, sum_by_with_rack}
+use Rattle.drives.proofs.Shops.{named, times_named, sum_by_with_drive}
 use Rattle.rmt_server.specs.declared.access.Access.{Access}
 use Rattle.rmt_server.specs.Access.{writes}
 use Rattle.rmt_server.specs.Hall.{Hall, hall, Side, side}
-use Rattle.rmt_server.specs.Session.{PlainSession, Scene, scene, closed_shop}
+use Rattle.rmt_server.specs.Session.{PlainSession, Scene, scene, closed_library}
 use Rattle.rmt_server.specs.Session.PlainSession.{Idle, Offline, Online}
 use Rattle.rmt_server.specs.TroubledServe.{drive_in}
 use Rattle.tape_events.specs.World.{World, Opening, with_numbered}
@@ -25,7 +25,7 @@ use Rattle.tape_events.specs.Naming.{AreOpened}
 use Rattle.tape_events.proofs.Numbers.{no_number, length_changed, pushed_is, numbered_more, numbered_last, numbered_within, numbered_first}
 use Rattle.tape_events.proofs.Sides.{side_there, Sits, sits_here, sits_other, sits_is, joined_is}
 use Rattle.tape_events.proofs.Held.{KeepsHeldOver, held_ended_by, held_all_ended_by}
-use Rattle.tape_events.proofs.Laid.{IsOnlineElse, IsOpenElse, online_else, apart, alone_at, rack_other, drive_within, free_off, online_drive}
+use Rattle.tape_events.proofs.Laid.{IsOnlineElse, IsOpenElse, online_else, apart, alone_at, drive_other, drive_within, free_off, online_drive}
 use Rattle.tape_events.proofs.NamedRequests.{use_of, Comes, stays, closes, opens, moves, step_comes}
 use Rattle.tape_events.proofs.HallMoves.{HallMove, leaves, joins, reads, serves, ends, restarts, arranges, hall_after, IsNoRequest}
 use Rattle.tape_events.proofs.Moves as move
@@ -59,98 +59,98 @@ last_new all k reel = (
 
 -- of each session that may write, the last opening of its reel is its own
 abbrev AreLast : Hall → List Opening → Type 0
-AreLast h all = (k : ℕ) (s : Side) (reel : List ℕ) → side_of h k ≡ Some s → written_reel h.shop s.session ≡ Some reel → IsUnopenedSince all k reel
+AreLast h all = (k : ℕ) (s : Side) (reel : List ℕ) → side_of h k ≡ Some s → written_reel h.library s.session ≡ Some reel → IsUnopenedSince all k reel
 
 -- the reel that is written is told by the rack of its drive alone
-written_shop : (s t : Shop) (session : PlainSession) (d : ℕ) → online_drive_in session ≡ Some d → rack_at s d ≡ rack_at t d → written_reel s session ≡ written_reel t session
-written_shop s t Idle d on same = refl
-written_shop s t (Offline drive access) d on same = refl
-written_shop s t (Online drive access reel) d on same =
+written_library : (s t : TapeLibrary) (session : PlainSession) (d : ℕ) → online_drive_in session ≡ Some d → drive_at s d ≡ drive_at t d → written_reel s session ≡ written_reel t session
+written_library s t Idle d on same = refl
+written_library s t (Offline drive access) d on same = refl
+written_library s t (Online drive access reel) d on same =
     let its = same_Some drive d on in
-    ap (λ (r : Rack KeptReel). if writes access then Some (first_name r.stack) else None) (ap (rack_at s) its ∙ same ∙ ap (rack_at t) (sym its))
+    ap (λ (r : Drive KeptReel). if writes access then Some (first_name r.stack) else None) (ap (drive_at s) its ∙ same ∙ ap (drive_at t) (sym its))
 
 -- and by the drive and what it was opened for
-abbrev written_by : Shop → Option (ℕ × Access) → Option (List ℕ)
+abbrev written_by : TapeLibrary → Option (ℕ × Access) → Option (List ℕ)
 written_by s None = None
-written_by s (Some (drive, access)) = if writes access then Some (first_name (rack_at s drive).stack) else None
+written_by s (Some (drive, access)) = if writes access then Some (first_name (drive_at s drive).stack) else None
 
-written_use : (s : Shop) (session : PlainSession) → written_reel s session ≡ written_by s (use_of session)
+written_use : (s : TapeLibrary) (session : PlainSession) → written_reel s session ≡ written_by s (use_of session)
 written_use s Idle = refl
 written_use s (Offline drive access) = refl
 written_use s (Online drive access reel) = refl
 
 -- One side turns, where the racks of the others' drives stay, and a reel that was opened is none of theirs.
 turn_last : (h u : Hall) (k : ℕ) (s : Side) (o : Option Side) (all : List Opening) (opened : Option (List ℕ)) → Sits h k s o u
-    → ((d : ℕ) → IsOnlineElse h k d → rack_at u.shop d ≡ rack_at h.shop d)
-    → ((d : ℕ) → IsOnlineElse h k d → (r : List ℕ) → opened ≡ Some r → r ≢ first_name (rack_at u.shop d).stack)
-    → ((x : Side) (reel : List ℕ) → o ≡ Some x → written_reel u.shop x.session ≡ Some reel → IsUnopenedSince (all ++ option_to_list (option_map (opening k) opened)) k reel)
+    → ((d : ℕ) → IsOnlineElse h k d → drive_at u.library d ≡ drive_at h.library d)
+    → ((d : ℕ) → IsOnlineElse h k d → (r : List ℕ) → opened ≡ Some r → r ≢ first_name (drive_at u.library d).stack)
+    → ((x : Side) (reel : List ℕ) → o ≡ Some x → written_reel u.library x.session ≡ Some reel → IsUnopenedSince (all ++ option_to_list (option_map (opening k) opened)) k reel)
     → AreLast h all → AreLast u (all ++ option_to_list (option_map (opening k) opened))
-turn_last h u k s o all opened t racks differs own l j x reel at written = elim (sits_is h k s o u t j x at) [
+turn_last h u k s o all opened t all_drives differs own l j x reel at written = elim (sits_is h k s o u t j x at) [
   | inl (same, mine) ↦ subst (λ m. IsUnopenedSince (all ++ option_to_list (option_map (opening k) opened)) m reel) (sym same) (own x reel mine written)
   | inr (other, was) ↦
-      let w = written_is u.shop x.session reel written in
+      let w = written_is u.library x.session reel written in
       let elsewhere : IsOnlineElse h k w.0 = (j, other, (x, was, w.1)) in
-      let before : written_reel h.shop x.session ≡ Some reel = sym (written_shop u.shop h.shop x.session w.0 w.1 (racks w.0 elsewhere)) ∙ written in
+      let before : written_reel h.library x.session ≡ Some reel = sym (written_library u.library h.library x.session w.0 w.1 (all_drives w.0 elsewhere)) ∙ written in
       last_stays all j k reel opened (λ r is same. differs w.0 elsewhere r is (same ∙ sym w.2)) (l j x reel was before)
 ]
 
 -- the same where nothing was opened
 quiet_last : (h u : Hall) (k : ℕ) (s : Side) (o : Option Side) (all : List Opening) → Sits h k s o u
-    → ((d : ℕ) → IsOnlineElse h k d → rack_at u.shop d ≡ rack_at h.shop d)
-    → ((x : Side) (reel : List ℕ) → o ≡ Some x → written_reel u.shop x.session ≡ Some reel → IsUnopenedSince all k reel)
+    → ((d : ℕ) → IsOnlineElse h k d → drive_at u.library d ≡ drive_at h.library d)
+    → ((x : Side) (reel : List ℕ) → o ≡ Some x → written_reel u.library x.session ≡ Some reel → IsUnopenedSince all k reel)
     → AreLast h all → AreLast u all
-quiet_last h u k s o all t racks own l =
-    subst (AreLast u) (append-nil all) (turn_last h u k s o all None t racks (λ d elsewhere r is. absurd cc)
+quiet_last h u k s o all t all_drives own l =
+    subst (AreLast u) (append-nil all) (turn_last h u k s o all None t all_drives (λ d elsewhere r is. absurd cc)
     (λ x reel is written. subst (λ m. IsUnopenedSince m k reel) (sym (append-nil all)) (own x reel is written)) l)
 
 -- the racks of drives that others have open
 pub closed_else : (h : Hall) (k : ℕ) (s : Side) → side_of h k ≡ Some s → AreHeld h → (session : PlainSession) → s.session ≡ session → (d : ℕ) → IsOpenElse h k d
-    → rack_at (closed_shop h.shop session) d ≡ rack_at h.shop d
+    → drive_at (closed_library h.library session) d ≡ drive_at h.library d
 closed_else h k s was a Idle is d elsewhere = refl
 closed_else h k s was a (Offline drive access) is d elsewhere = refl
 closed_else h k s was a (Online drive access reel) is d elsewhere =
-    rack_other h.shop.racks drive d _ (rack [] []) (λ same. alone_at h k s drive a was (ap drive_in is) (subst (IsOpenElse h k) same elsewhere))
+    drive_other h.library.drives drive d _ (drive_with [] []) (λ same. alone_at h k s drive a was (ap drive_in is) (subst (IsOpenElse h k) same elsewhere))
 
 pub comes_else : (holders : List ℕ) (h : Hall) (k : ℕ) (s : Side) (after : Scene) (opened : Option (List ℕ)) → side_of h k ≡ Some s → AreHeld h
-    → ((d : ℕ) → IsOpenElse h k d → drive_in after.session ≡ Some d → ⊥) → Comes holders (scene h.shop s.session) after opened
-    → (d : ℕ) → IsOpenElse h k d → rack_at after.shop d ≡ rack_at h.shop d
-comes_else holders h k s after opened was a apart (stays shop session drive none) d elsewhere = ap (λ (v : Shop). rack_at v d) shop
-comes_else holders h k s after opened was a apart (closes shop session none) d elsewhere =
-    ap (λ (v : Shop). rack_at v d) shop ∙ closed_else h k s was a s.session refl d elsewhere
-comes_else holders h k s after opened was a apart (opens drive access reel first within waits free shop session new) d elsewhere =
-    ap (λ (v : Shop). rack_at v d) shop
-    ∙ rack_other (closed_shop h.shop s.session).racks drive d _ (rack [] []) (λ same. apart d elsewhere (ap drive_in session ∙ ap Some (sym same)))
+    → ((d : ℕ) → IsOpenElse h k d → drive_in after.session ≡ Some d → ⊥) → Comes holders (scene h.library s.session) after opened
+    → (d : ℕ) → IsOpenElse h k d → drive_at after.library d ≡ drive_at h.library d
+comes_else holders h k s after opened was a apart (stays library session drive none) d elsewhere = ap (λ (v : TapeLibrary). drive_at v d) library
+comes_else holders h k s after opened was a apart (closes library session none) d elsewhere =
+    ap (λ (v : TapeLibrary). drive_at v d) library ∙ closed_else h k s was a s.session refl d elsewhere
+comes_else holders h k s after opened was a apart (opens drive access reel first within waits free library session new) d elsewhere =
+    ap (λ (v : TapeLibrary). drive_at v d) library
+    ∙ drive_other (closed_library h.library s.session).drives drive d _ (drive_with [] []) (λ same. apart d elsewhere (ap drive_in session ∙ ap Some (sym same)))
     ∙ closed_else h k s was a s.session refl d elsewhere
-comes_else holders h k s after opened was a apart (moves drive access reel online shop session none) d elsewhere =
-    ap (λ (v : Shop). rack_at v d) shop
-    ∙ rack_other h.shop.racks drive d _ (rack [] []) (λ same. alone_at h k s drive a was (ap drive_in online) (subst (IsOpenElse h k) same elsewhere))
+comes_else holders h k s after opened was a apart (moves drive access reel online library session none) d elsewhere =
+    ap (λ (v : TapeLibrary). drive_at v d) library
+    ∙ drive_other h.library.drives drive d _ (drive_with [] []) (λ same. alone_at h k s drive a was (ap drive_in online) (subst (IsOpenElse h k) same elsewhere))
 
 -- what the session itself may write on then, it could before, or it was opened
-pub comes_own : (holders : List ℕ) (before after : Scene) (opened : Option (List ℕ)) (reel : List ℕ) → Comes holders before after opened → written_reel after.shop after.session ≡ Some reel
-    → ((written_reel before.shop before.session ≡ Some reel) × (opened ≡ None)) ⊎ (opened ≡ Some reel)
-comes_own holders before after opened reel (stays shop session drive none) written =
+pub comes_own : (holders : List ℕ) (before after : Scene) (opened : Option (List ℕ)) (reel : List ℕ) → Comes holders before after opened → written_reel after.library after.session ≡ Some reel
+    → ((written_reel before.library before.session ≡ Some reel) × (opened ≡ None)) ⊎ (opened ≡ Some reel)
+comes_own holders before after opened reel (stays library session drive none) written =
     inl (
-      written_use before.shop before.session ∙ ap (written_by before.shop) (sym session) ∙ ap (λ (v : Shop). written_by v (use_of after.session)) (sym shop)
-          ∙ sym (written_use after.shop after.session) ∙ written,
+      written_use before.library before.session ∙ ap (written_by before.library) (sym session) ∙ ap (λ (v : TapeLibrary). written_by v (use_of after.session)) (sym library)
+          ∙ sym (written_use after.library after.session) ∙ written,
       none,
     )
-comes_own holders before after opened reel (closes shop session none) written = let clash = sym (ap (written_reel after.shop) session) ∙ written in absurd cc
-comes_own holders before after opened reel (opens drive access r first within waits free shop session new) written = inr (new ∙ written)
-comes_own holders before after opened reel (moves drive access r online shop session none) written = let clash = sym (ap (written_reel after.shop) session) ∙ written in absurd cc
+comes_own holders before after opened reel (closes library session none) written = let clash = sym (ap (written_reel after.library) session) ∙ written in absurd cc
+comes_own holders before after opened reel (opens drive access r first within waits free library session new) written = inr (new ∙ written)
+comes_own holders before after opened reel (moves drive access r online library session none) written = let clash = sym (ap (written_reel after.library) session) ∙ written in absurd cc
 
 -- two reels that are away have two names
-pub names_differ : (s : Shop) (d e : ℕ) → EachReelOnce s → d ≢ e → d < length s.racks → IsFirstAway (rack_at s d).stack → e < length s.racks → IsFirstAway (rack_at s e).stack
-    → first_name (rack_at s d).stack ≢ first_name (rack_at s e).stack
+pub names_differ : (s : TapeLibrary) (d e : ℕ) → EachReelOnce s → d ≢ e → d < length s.drives → IsFirstAway (drive_at s d).stack → e < length s.drives → IsFirstAway (drive_at s e).stack
+    → first_name (drive_at s d).stack ≢ first_name (drive_at s e).stack
 names_differ s d e once other here away there gone same =
-    let name = first_name (rack_at s d).stack in
-    let t = with_rack s d (rack [] []) in
-    let still : rack_at t e ≡ rack_at s e = rack_other s.racks d e (rack [] []) (rack [] []) (λ is. other (sym is)) in
-    let one = sum_by_with_rack (named name) s d (rack [] []) here in
-    let two = sum_by_with_rack (named name) t e (rack [] []) (let many = length-set s.racks d (rack [] []) in omega (arith, there, many)) in
-    let its : sum_by (named name) (rack_at t e).stack ≡ sum_by (named name) (rack_at s e).stack = ap (λ (r : Rack KeptReel). sum_by (named name) r.stack) still in
-    let first = first_times (rack_at s d).stack away in
-    let second : 0 < sum_by (named name) (rack_at s e).stack
-    = subst (λ n. 0 < sum_by (named n) (rack_at s e).stack) (sym same) (first_times (rack_at s e).stack gone) in
+    let name = first_name (drive_at s d).stack in
+    let t = with_drive_at s d (drive_with [] []) in
+    let still : drive_at t e ≡ drive_at s e = drive_other s.drives d e (drive_with [] []) (drive_with [] []) (λ is. other (sym is)) in
+    let one = sum_by_with_drive (named name) s d (drive_with [] []) here in
+    let two = sum_by_with_drive (named name) t e (drive_with [] []) (let many = length-set s.drives d (drive_with [] []) in omega (arith, there, many)) in
+    let its : sum_by (named name) (drive_at t e).stack ≡ sum_by (named name) (drive_at s e).stack = ap (λ (r : Drive KeptReel). sum_by (named name) r.stack) still in
+    let first = first_times (drive_at s d).stack away in
+    let second : 0 < sum_by (named name) (drive_at s e).stack
+    = subst (λ n. 0 < sum_by (named n) (drive_at s e).stack) (sym same) (first_times (drive_at s e).stack gone) in
     let all = times_named name (slots_in s) in
     let few = once name in
     omega (arith, one, two, its, first, second, all, few)
@@ -165,34 +165,34 @@ over_last all h k s is a l =
 joined_last : (h : Hall) (all : List Opening) → AreLast h all → AreLast (with_side h) all
 joined_last h all l k s reel at written = elim (joined_is h k s at) [
   | inl before ↦ l k s reel before written
-  | inr new ↦ (let clash : written_reel h.shop Idle ≡ Some reel = ap (λ (z : Side). written_reel h.shop z.session) new ∙ written in absurd cc)
+  | inr new ↦ (let clash : written_reel h.library Idle ≡ Some reel = ap (λ (z : Side). written_reel h.library z.session) new ∙ written in absurd cc)
 ]
 
 -- an operator's order
 arranged_last : (h : Hall) (d : ℕ) (names : List (List ℕ)) (all : List Opening) → AreHeld h → slice_index_or h.holders d 0 ≡ 0 → AreLast h all
-    → AreLast (hall (arranged h.shop d names) h.holders h.sides) all
+    → AreLast (hall (arranged h.library d names) h.holders h.sides) all
 arranged_last h d names all a free l k s reel at written =
-    let w = written_is (arranged h.shop d names) s.session reel written in
+    let w = written_is (arranged h.library d names) s.session reel written in
     let other : w.0 ≢ d = λ same. free_off h d a free (k, s, at, w.1 ∙ ap Some same) in
-    l k s reel at (sym (written_shop (arranged h.shop d names) h.shop s.session w.0 w.1 (rack_other h.shop.racks d w.0 _ (rack [] []) other)) ∙ written)
+    l k s reel at (sym (written_library (arranged h.library d names) h.library s.session w.0 w.1 (drive_other h.library.drives d w.0 _ (drive_with [] []) other)) ∙ written)
 
 -- one request of a session
-served_last : (holders : List ℕ) (h u : Hall) (k : ℕ) (s x : Side) (all : List Opening) (opened : Option (List ℕ)) → Sits h k s (Some x) u → Comes holders (scene h.shop s.session) (scene u.shop x.session) opened
-    → AreHeld h → AreHeld u → AreLaid u → EachReelOnce u.shop → AreLast h all → AreLast u (all ++ option_to_list (option_map (opening k) opened))
+served_last : (holders : List ℕ) (h u : Hall) (k : ℕ) (s x : Side) (all : List Opening) (opened : Option (List ℕ)) → Sits h k s (Some x) u → Comes holders (scene h.library s.session) (scene u.library x.session) opened
+    → AreHeld h → AreHeld u → AreLaid u → EachReelOnce u.library → AreLast h all → AreLast u (all ++ option_to_list (option_map (opening k) opened))
 served_last holders h u k s x all opened t comes a b laid once l =
     let here : side_of u k ≡ Some x = sits_here h k s (Some x) u t in
     let there : (d : ℕ) → IsOnlineElse h k d → IsOnlineElse u k d
     = λ d (j, other, (y, at, on)). (j, other, (y, sits_other h k j s (Some x) u t other ∙ at, on)) in
-    turn_last h u k s (Some x) all opened t (λ d elsewhere. comes_else holders h k s (scene u.shop x.session) opened t.was a (apart h u k s x t b) comes d (online_else h k d elsewhere))
+    turn_last h u k s (Some x) all opened t (λ d elsewhere. comes_else holders h k s (scene u.library x.session) opened t.was a (apart h u k s x t b) comes d (online_else h k d elsewhere))
     (λ d elsewhere r is same. (
-    let w = written_is u.shop x.session r (comes_reel holders (scene h.shop s.session) (scene u.shop x.session) opened comes r is) in
+    let w = written_is u.library x.session r (comes_reel holders (scene h.library s.session) (scene u.library x.session) opened comes r is) in
     let other : w.0 ≢ d = λ e. apart h u k s x t b d (online_else h k d elsewhere) (online_drive x.session d (w.1 ∙ ap Some e)) in
     let (j, unlike, (y, at, on)) = there d elsewhere in
-    names_differ u.shop w.0 d once other (drive_within u k x w.0 b here (online_drive x.session w.0 w.1)) (laid.latched w.0 (k, x, here, w.1))
+    names_differ u.library w.0 d once other (drive_within u k x w.0 b here (online_drive x.session w.0 w.1)) (laid.latched w.0 (k, x, here, w.1))
     (drive_within u j y d b at (online_drive y.session d on)) (laid.latched d (j, y, at, on)) (w.2 ∙ same)))
     (λ y reel same written. (
-    let its : written_reel u.shop x.session ≡ Some reel = ap (λ (z : Side). written_reel u.shop z.session) (same_Some x y same) ∙ written in
-    elim (comes_own holders (scene h.shop s.session) (scene u.shop x.session) opened reel comes its) [
+    let its : written_reel u.library x.session ≡ Some reel = ap (λ (z : Side). written_reel u.library z.session) (same_Some x y same) ∙ written in
+    elim (comes_own holders (scene h.library s.session) (scene u.library x.session) opened reel comes its) [
       | inl (before, none) ↦ last_stays all k k reel opened (λ r is. (let clash = sym none ∙ is in absurd cc)) (l k s reel t.was before)
       | inr new ↦ subst (λ o. IsUnopenedSince (all ++ option_to_list (option_map (opening k) o)) k reel) (sym new) (last_new all k reel)
     ]))
@@ -220,26 +220,26 @@ served_there w u k s opened live made links t n o among = elim (opening_is w.ope
 
 -- each event
 hall_last : (h : Hall) (m : HallMove h) (all : List Opening) → IsNoRequest h m → AreHeld h → AreLast h all → AreLast (hall_after h m) all
-hall_last h (serves k s x shop holders opened live unread comes held) all none a l = absurd none
+hall_last h (serves k s x library holders opened live unread comes held) all none a l = absurd none
 hall_last h leaves all none a l = l
 hall_last h joins all none a l = joined_last h all l
 hall_last h (reads k s reached live unread) all none a l =
-    quiet_last h (hall h.shop h.holders (with_numbered h.sides k (Some (side reached s.session)))) k s (Some (side reached s.session)) all record { was = live; sides = refl }
+    quiet_last h (hall h.library h.holders (with_numbered h.sides k (Some (side reached s.session)))) k s (Some (side reached s.session)) all record { was = live; sides = refl }
     (λ d elsewhere. refl)
-    (λ y reel same written. l k s reel live (ap (λ (z : Side). written_reel h.shop z.session) (same_Some (side reached s.session) y same) ∙ written)) l
+    (λ y reel same written. l k s reel live (ap (λ (z : Side). written_reel h.library z.session) (same_Some (side reached s.session) y same) ∙ written)) l
 hall_last h (ends k) all none a l = held_ended_by (λ u. AreLast u all) (over_last all) h k a l
 hall_last h restarts all none a l = held_all_ended_by (λ u. AreLast u all) (over_last all) h (length h.sides) a l
 hall_last h (arranges d names within free) all none a l = arranged_last h d names all a free l
 
-pub opened_moved : (w : World) (m : Move w) → AreTidy w → AreHeld w.hall → AreHeld (moved w m).hall → AreLaid (moved w m).hall → EachReelOnce (moved w m).hall.shop → AreOpened w
+pub opened_moved : (w : World) (m : Move w) → AreTidy w → AreHeld w.hall → AreHeld (moved w m).hall → AreLaid (moved w m).hall → EachReelOnce (moved w m).hall.library → AreOpened w
     → AreOpened (moved w m)
 opened_moved w (move.serves t) tidy a b l once n =
     let u = moved w (move.serves t) in
-    let o = opened_reel t.request t.shop t.session in
+    let o = opened_reel t.request t.library t.session in
     record {
       there = served_there w u t.k t.s o t.live refl (length_changed (answered t.request t.reply) w.links t.k) tidy n;
       last = served_last w.hall.holders w.hall u.hall t.k t.s (side t.reached t.session) w.opens o record { was = t.live; sides = refl }
-          (step_comes t.trouble w.hall.holders (scene w.hall.shop t.s.session) t.request t.reply (scene t.shop t.session) t.served.step) a b l once n.last;
+          (step_comes t.trouble w.hall.holders (scene w.hall.library t.s.session) t.request t.reply (scene t.library t.session) t.served.step) a b l once n.last;
     }
 opened_moved w m tidy a b l once n = record {
   there = same_there w (moved w m) refl (links_more w m) n;

@@ -34,9 +34,9 @@ hall_read : (h : Hall) (m : HallMove h) → AreRead h → AreRead (hall_after h 
 hall_read h leaves r = r
 hall_read h joins r = joined_read h r
 hall_read h (reads k s reached live unread) r =
-    another_read h (hall h.shop h.holders (with_numbered h.sides k (Some (side reached s.session)))) k s (side reached s.session) record { was = live; sides = refl } unread r
-hall_read h (serves k s x shop holders opened live unread comes held) r =
-    another_read h (hall shop holders (with_numbered h.sides k (Some x))) k s x record { was = live; sides = refl } unread r
+    another_read h (hall h.library h.holders (with_numbered h.sides k (Some (side reached s.session)))) k s (side reached s.session) record { was = live; sides = refl } unread r
+hall_read h (serves k s x library holders opened live unread comes held) r =
+    another_read h (hall library holders (with_numbered h.sides k (Some x))) k s x record { was = live; sides = refl } unread r
 hall_read h (ends k) r = ended_by AreRead over_read h k r
 hall_read h restarts r = all_ended_by AreRead over_read h (length h.sides) r
 hall_read h (arranges d names within free) r = r

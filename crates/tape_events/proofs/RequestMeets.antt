@@ -11,13 +11,13 @@ use Rattle.tape.specs.declared.trouble.Trouble.{Trouble}
 use Rattle.tape.specs.Tape.{entries_of}
 use Rattle.drives.specs.declared.fault.DriveFault.{DriveFault}
 use Rattle.drives.specs.declared.fault.DriveFault.TheVariants.{NoSuchDrive, Busy, NoReel, Device, OutOfMemory, NameTaken}
-use Rattle.drives.specs.Shop.{Shop, shop, KeptReel, kept_reel, Slot, Rack, rack, rack_at, with_first, at_first}
+use Rattle.drives.specs.TapeLibrary.{TapeLibrary, library, KeptReel, kept_reel, ReelSlot, Drive, drive_with, drive_at, with_first, at_first}
 use Rattle.drives.specs.Opening.{OpenStep}
 use Rattle.rmt_server.specs.declared.access.Access.{Access}
 use Rattle.rmt_server.specs.Access.{access_of}
 use Rattle.rmt_server.specs.Refusals.{refused}
 use Rattle.rmt_server.specs.Hall.{Hall, hall, Side, side}
-use Rattle.rmt_server.specs.Session.{PlainReel, PlainSession, Scene, scene, status_of, refusal as check, closed, closed_shop, is_offline}
+use Rattle.rmt_server.specs.Session.{PlainReel, PlainSession, Scene, scene, status_of, refusal as check, closed, closed_library, is_offline}
 use Rattle.rmt_server.specs.Session.Status.{NothingOpen}
 use Rattle.rmt_server.specs.Session.PlainSession.{Idle, Offline, Online}
 use Rattle.rmt_server.specs.TroubledServe.{drive_in, with_holder, holder_of, TroubledServeStep, TroubledOpens, TroubledReelStep, TroubledMoveStep, TroubledOpStep, TroubledDoneStep}
@@ -29,7 +29,7 @@ use Rattle.tape_events.specs.Steps.{Happens}
 use Rattle.tape_events.specs.Sending.{IsLinkSent, AreTold}
 use Rattle.tape_events.specs.Serving.{ServerTurn, IsNextSent, is_open, undone, undone_holders, Refuses, IsRefused, ChangesAt, Meets, refusal, own, free, OthersStay}
 use Rattle.tape_events.proofs.Sides.{Sits, sits_other}
-use Rattle.tape_events.proofs.Laid.{apart, rack_other}
+use Rattle.tape_events.proofs.Laid.{apart, drive_other}
 use Rattle.tape_events.proofs.NamedRequests.{step_comes}
 use Rattle.tape_events.proofs.Opened.{comes_else}
 use Rattle.tape_events.proofs.SentWire.{OneReading, DroppedWrites}
@@ -39,7 +39,7 @@ use Rattle.tape_events.proofs.Moves.{Turn}
 pub carries_happens : (w u : World) (k : ℕ) (trouble : Trouble) → ServerTurn w k trouble u → Happens w (Serve k trouble) u
 carries_happens w u k trouble c = (
   (c.s, Ok (Some c.request), c.live, (c.bytes, c.rest, c.unread, c.gives, λ none. cc)),
-  (c.s, Ok (Some c.request), c.bytes, c.rest, c.live, c.unread, c.gives, (c.reply, c.reached, c.shop, c.session, c.holders, c.left, c.served, c.is)),
+  (c.s, Ok (Some c.request), c.bytes, c.rest, c.live, c.unread, c.gives, (c.reply, c.reached, c.library, c.session, c.holders, c.left, c.served, c.is)),
 )
 
 -- it is the one that was sent and not carried out
@@ -83,23 +83,23 @@ refuses_other session (Open device mode) reply is answer = absurd cc
 refuses_other session request reply is answer = answer
 
 -- nothing is changed, or one rack
-same_at : (d : ℕ) (s t : Shop) → t ≡ s → ChangesAt d s t
+same_at : (d : ℕ) (s t : TapeLibrary) → t ≡ s → ChangesAt d s t
 same_at d s t is = record {
-  stacks = λ e other. ap (λ (v : Shop). rack_at v e) is;
+  stacks = λ e other. ap (λ (v : TapeLibrary). drive_at v e) is;
   added = [];
-  bin = ap (λ (v : Shop). v.bin) is ∙ sym (append-nil s.bin);
+  bin = ap (λ (v : TapeLibrary). v.bin) is ∙ sym (append-nil s.bin);
 }
 
-rack_at_only : (d : ℕ) (s : Shop) (r : Rack KeptReel) (added : List (Slot KeptReel)) → ChangesAt d s (shop (slice_set s.racks d r) (s.bin ++ added))
-rack_at_only d s r added = record { stacks = λ e other. rack_other s.racks d e r (rack [] []) other; added = added; bin = refl }
+drive_at_only : (d : ℕ) (s : TapeLibrary) (r : Drive KeptReel) (added : List (ReelSlot KeptReel)) → ChangesAt d s (library (slice_set s.drives d r) (s.bin ++ added))
+drive_at_only d s r added = record { stacks = λ e other. drive_other s.drives d e r (drive_with [] []) other; added = added; bin = refl }
 
-first_at : (d : ℕ) (s : Shop) (reel : Option KeptReel) → ChangesAt d s (at_first s d reel)
-first_at d s reel = subst (λ bin. ChangesAt d s (shop (at_first s d reel).racks bin)) (append-nil s.bin) (rack_at_only d s (rack (rack_at s d).name (with_first reel (rack_at s d).stack)) [])
+first_at : (d : ℕ) (s : TapeLibrary) (reel : Option KeptReel) → ChangesAt d s (at_first s d reel)
+first_at d s reel = subst (λ bin. ChangesAt d s (library (at_first s d reel).drives bin)) (append-nil s.bin) (drive_at_only d s (drive_with (drive_at s d).name (with_first reel (drive_at s d).stack)) [])
 
 -- What a request that is no open makes of drives and session, where no check refuses it: nothing changes but at the open drive, and
 -- no other is open afterwards.
 record AtOwn (d : ℕ) (before after : Scene) : Type 0 where
-  changes : ChangesAt d before.shop after.shop
+  changes : ChangesAt d before.library after.library
   drive : (e : ℕ) → drive_in after.session ≡ Some e → e ≡ d
 
 same_drive : (d : ℕ) (before after : Scene) → drive_in before.session ≡ Some d → drive_in after.session ≡ drive_in before.session → (e : ℕ) → drive_in after.session ≡ Some e → e ≡ d
@@ -108,7 +108,7 @@ same_drive d before after mine same e is = same_Some e d (sym is ∙ same ∙ mi
 reel_at : (d : ℕ) (trouble : Trouble) (before : Scene) (request : PlainRequest) (reply : PlainReply) (after : Scene) → drive_in before.session ≡ Some d
     → TroubledReelStep trouble before request reply after → AtOwn d before after
 reel_at d trouble before request reply after mine (drive, access, reel, answer, t, online, device, replies, is) = record {
-  changes = same_at d before.shop after.shop (ap (λ (v : Scene). v.shop) is);
+  changes = same_at d before.library after.library (ap (λ (v : Scene). v.library) is);
   drive = same_drive d before after mine (ap (λ (v : Scene). drive_in v.session) is ∙ sym (ap drive_in online));
 }
 
@@ -116,13 +116,13 @@ move_at : (d : ℕ) (trouble : Trouble) (before : Scene) (count : ℕ) (reply : 
     → TroubledMoveStep trouble before count reply after → AtOwn d before after
 move_at d trouble before count reply after mine (drive, access, reel, Ok done, online, cause, replies, is) =
     let its : drive ≡ d = same_Some drive d (sym (ap drive_in online) ∙ mine) in record {
-      changes = subst (λ e. ChangesAt e before.shop after.shop) its (subst (ChangesAt drive before.shop) (sym (ap (λ (v : Scene). v.shop) is))
-          (rack_at_only drive before.shop (rack (rack_at before.shop drive).name (drop 1 (rack_at before.shop drive).stack))
-          (with_first (Some (kept_reel (entries_of reel.tape) reel.capacity)) (take 1 (rack_at before.shop drive).stack))));
+      changes = subst (λ e. ChangesAt e before.library after.library) its (subst (ChangesAt drive before.library) (sym (ap (λ (v : Scene). v.library) is))
+          (drive_at_only drive before.library (drive_with (drive_at before.library drive).name (drop 1 (drive_at before.library drive).stack))
+          (with_first (Some (kept_reel (entries_of reel.tape) reel.capacity)) (take 1 (drive_at before.library drive).stack))));
       drive = same_drive d before after mine (ap (λ (v : Scene). drive_in v.session) is ∙ sym (ap drive_in online));
     }
 move_at d trouble before count reply after mine (drive, access, reel, Err why, online, cause, replies, (excused, stay, is)) = record {
-  changes = same_at d before.shop after.shop stay.0;
+  changes = same_at d before.library after.library stay.0;
   drive = same_drive d before after mine (ap drive_in is ∙ sym (ap drive_in online));
 }
 
@@ -131,16 +131,16 @@ op_at : (d : ℕ) (offline : Bool) (trouble : Trouble) (before : Scene) (op coun
 op_at d true trouble before op count reply after mine step = move_at d trouble before count reply after mine step
 op_at d false trouble before op count reply after mine step = reel_at d trouble before (Op op count) reply after mine step
 
-closed_at : (d : ℕ) (s : Shop) (session : PlainSession) → drive_in session ≡ Some d → ChangesAt d s (closed_shop s session)
+closed_at : (d : ℕ) (s : TapeLibrary) (session : PlainSession) → drive_in session ≡ Some d → ChangesAt d s (closed_library s session)
 closed_at d s Idle mine = absurd cc
 closed_at d s (Offline drive access) mine = same_at d s s refl
 closed_at d s (Online drive access reel) mine =
-    subst (λ e. ChangesAt e s (closed_shop s (Online drive access reel))) (same_Some drive d mine) (first_at drive s (Some (kept_reel (entries_of reel.tape) reel.capacity)))
+    subst (λ e. ChangesAt e s (closed_library s (Online drive access reel))) (same_Some drive d mine) (first_at drive s (Some (kept_reel (entries_of reel.tape) reel.capacity)))
 
 done_at : (d : ℕ) (trouble : Trouble) (before : Scene) (request : PlainRequest) (reply : PlainReply) (after : Scene) → drive_in before.session ≡ Some d
     → TroubledDoneStep trouble before request reply after → AtOwn d before after
 done_at d trouble before Close reply after mine step =
-    subst (AtOwn d before) (sym step.1) (record { changes = closed_at d before.shop before.session mine; drive = λ e is. absurd cc })
+    subst (AtOwn d before) (sym step.1) (record { changes = closed_at d before.library before.session mine; drive = λ e is. absurd cc })
 done_at d trouble before (Op op count) reply after mine step = op_at d (is_offline op) trouble before op count reply after mine step
 done_at d trouble before request reply after mine step = reel_at d trouble before request reply after mine step
 
@@ -162,21 +162,21 @@ held_other request session holders is = refl
 record Leaves (w : World) (k : ℕ) (s : Side) (u : World) (after : Scene) : Type 0 where
   kept : AreHeld w.hall
   live : side_of w.hall k ≡ Some s
-  left : u.hall.shop ≡ after.shop
+  left : u.hall.library ≡ after.library
   held : u.hall.holders ≡ with_holder (drive_in after.session) k (with_holder (drive_in s.session) 0 w.hall.holders)
 
 -- the scene afterwards, by its parts
-left_scene : (w : World) (k : ℕ) (s : Side) (u : World) (after : Scene) (s' : Shop) (session : PlainSession) → Leaves w k s u after → after.shop ≡ s' → after.session ≡ session
-    → scene u.hall.shop after.session ≡ scene s' session
-left_scene w k s u after s' session l same is = ap (λ (v : Shop). scene v after.session) (l.left ∙ same) ∙ ap (scene s') is
+left_scene : (w : World) (k : ℕ) (s : Side) (u : World) (after : Scene) (s' : TapeLibrary) (session : PlainSession) → Leaves w k s u after → after.library ≡ s' → after.session ≡ session
+    → scene u.hall.library after.session ≡ scene s' session
+left_scene w k s u after s' session l same is = ap (λ (v : TapeLibrary). scene v after.session) (l.left ∙ same) ∙ ap (scene s') is
 
 check_refuses : (w : World) (k : ℕ) (s : Side) (u : World) (request : PlainRequest) (reply : PlainReply) (after : Scene) → Leaves w k s u after
-    → is_open request ≡ false → MatchOption (check (status_of s.session) request) ⊥ (λ why. reply ≡ refused why) → after ≡ scene w.hall.shop s.session
+    → is_open request ≡ false → MatchOption (check (status_of s.session) request) ⊥ (λ why. reply ≡ refused why) → after ≡ scene w.hall.library s.session
     → IsRefused w s.session request reply u after.session
 check_refuses w k s u request reply after l is answer same = record {
   answer = refuses_other s.session request reply is answer;
-  same = left_scene w k s u after w.hall.shop s.session l (ap (λ (v : Scene). v.shop) same) (ap (λ (v : Scene). v.session) same)
-      ∙ sym (undone_other request (scene w.hall.shop s.session) is);
+  same = left_scene w k s u after w.hall.library s.session l (ap (λ (v : Scene). v.library) same) (ap (λ (v : Scene). v.session) same)
+      ∙ sym (undone_other request (scene w.hall.library s.session) is);
   held = l.held ∙ ap (λ (v : Scene). with_holder (drive_in v.session) k (with_holder (drive_in s.session) 0 w.hall.holders)) same
       ∙ taken_again w.hall.holders (drive_in s.session) k (λ d mine. l.kept.opened k d s l.live mine)
       ∙ sym (held_other request s.session w.hall.holders is);
@@ -184,20 +184,20 @@ check_refuses w k s u request reply after l is answer same = record {
 
 other_meets : (w : World) (k : ℕ) (s : Side) (u : World) (request : PlainRequest) (reply : PlainReply) (after : Scene) (trouble : Trouble) → Leaves w k s u after
     → is_open request ≡ false
-    → MatchOption (check (status_of s.session) request) (TroubledDoneStep trouble (scene w.hall.shop s.session) request reply after)
-    (λ r. (reply ≡ refused r) × (after ≡ scene w.hall.shop s.session)) → Meets w k s.session request reply u after.session
+    → MatchOption (check (status_of s.session) request) (TroubledDoneStep trouble (scene w.hall.library s.session) request reply after)
+    (λ r. (reply ≡ refused r) × (after ≡ scene w.hall.library s.session)) → Meets w k s.session request reply u after.session
 other_meets w k s u request reply after trouble l is step =
-    elim (checked (TroubledDoneStep trouble (scene w.hall.shop s.session) request reply after) (after ≡ scene w.hall.shop s.session) (λ r. reply ≡ refused r)
+    elim (checked (TroubledDoneStep trouble (scene w.hall.library s.session) request reply after) (after ≡ scene w.hall.library s.session) (λ r. reply ≡ refused r)
     (check (status_of s.session) request) step) [
       | inl (none, done) ↦
           let d = has_drive s.session request is none in
-          let its = done_at d.0 trouble (scene w.hall.shop s.session) request reply after d.1 done in
-          own d.0 is none d.1 (l.kept.opened k d.0 s l.live d.1) its.drive (subst (ChangesAt d.0 w.hall.shop) (sym l.left) its.changes)
+          let its = done_at d.0 trouble (scene w.hall.library s.session) request reply after d.1 done in
+          own d.0 is none d.1 (l.kept.opened k d.0 s l.live d.1) its.drive (subst (ChangesAt d.0 w.hall.library) (sym l.left) its.changes)
       | inr (answer, same) ↦ refusal (check_refuses w k s u request reply after l is answer same)
     ]
 
 -- an open that latches nothing leaves the reels
-not_latched : (device : List ℕ) (asked : Option ℕ) (why : DriveFault) (s now : Shop)
+not_latched : (device : List ℕ) (asked : Option ℕ) (why : DriveFault) (s now : TapeLibrary)
     → OpenStep {R = PlainReel} (λ reel t. reel.tape ≡ t) (λ reel. reel.capacity) device asked (Err why) s now → now ≡ s
 not_latched device asked NoSuchDrive s now (named, same) = same
 not_latched device asked (Busy n) s now (e, found, named, same) = same
@@ -207,28 +207,28 @@ not_latched device asked OutOfMemory s now (e, found, named, latch) = latch.1
 not_latched device asked NameTaken s now (e, found, named, latch) = latch.1
 
 open_refused : (w : World) (k : ℕ) (s : Side) (u : World) (device : List ℕ) (mode n : ℕ) (text : List ℕ) (reply : PlainReply) (after : Scene) → Leaves w k s u after
-    → reply ≡ Error n text → after.shop ≡ closed_shop w.hall.shop s.session → after.session ≡ Idle
+    → reply ≡ Error n text → after.library ≡ closed_library w.hall.library s.session → after.session ≡ Idle
     → IsRefused w s.session (Open device mode) reply u after.session
 open_refused w k s u device mode n text reply after l answer same idle = record {
   answer = (n, text, answer);
-  same = left_scene w k s u after (closed_shop w.hall.shop s.session) Idle l same idle;
+  same = left_scene w k s u after (closed_library w.hall.library s.session) Idle l same idle;
   held = l.held ∙ ap (λ x. with_holder (drive_in x) k (with_holder (drive_in s.session) 0 w.hall.holders)) idle;
 }
 
 open_meets : (w : World) (k : ℕ) (s : Side) (u : World) (device : List ℕ) (mode : ℕ) (access : Option Access) (reply : PlainReply) (after : Scene) (trouble : Trouble)
     → Leaves w k s u after
-    → TroubledOpens trouble (with_holder (drive_in s.session) 0 w.hall.holders) (closed (scene w.hall.shop s.session)) device access reply after
+    → TroubledOpens trouble (with_holder (drive_in s.session) 0 w.hall.holders) (closed (scene w.hall.library s.session)) device access reply after
     → Meets w k s.session (Open device mode) reply u after.session
 open_meets w k s u device mode None reply after trouble l (replies, same) =
-    refusal (open_refused w k s u device mode _ _ reply after l replies (ap (λ (v : Scene). v.shop) same) (ap (λ (v : Scene). v.session) same))
+    refusal (open_refused w k s u device mode _ _ reply after l replies (ap (λ (v : Scene). v.library) same) (ap (λ (v : Scene). v.session) same))
 open_meets w k s u device mode (Some access) reply after trouble l (Ok opened, asked, (found, named, latch), (none, quiet), replies, now) =
     free opened.0 refl replies (ap drive_in now) (ap (holder_of (with_holder (drive_in s.session) 0 w.hall.holders)) (sym found) ∙ none)
-    (subst (ChangesAt opened.0 (closed_shop w.hall.shop s.session)) (sym (l.left ∙ latch.2)) (first_at opened.0 (closed_shop w.hall.shop s.session) None))
+    (subst (ChangesAt opened.0 (closed_library w.hall.library s.session)) (sym (l.left ∙ latch.2)) (first_at opened.0 (closed_library w.hall.library s.session) None))
 open_meets w k s u device mode (Some access) reply after trouble l (Err why, asked, step, cause, replies, now) =
-    refusal (open_refused w k s u device mode _ _ reply after l replies (not_latched device asked why (closed_shop w.hall.shop s.session) after.shop step) now)
+    refusal (open_refused w k s u device mode _ _ reply after l replies (not_latched device asked why (closed_library w.hall.library s.session) after.library step) now)
 
 step_meets : (w : World) (k : ℕ) (s : Side) (u : World) (request : PlainRequest) (reply : PlainReply) (after : Scene) (trouble : Trouble) → Leaves w k s u after
-    → TroubledServeStep trouble w.hall.holders (scene w.hall.shop s.session) request reply after → Meets w k s.session request reply u after.session
+    → TroubledServeStep trouble w.hall.holders (scene w.hall.library s.session) request reply after → Meets w k s.session request reply u after.session
 step_meets w k s u (Open device mode) reply after trouble l step = open_meets w k s u device mode (access_of mode) reply after trouble l step
 step_meets w k s u request reply after trouble l step = other_meets w k s u request reply after trouble l refl step
 
@@ -236,18 +236,18 @@ step_meets w k s u request reply after trouble l step = other_meets w k s u requ
 pub stale_requests : (w u : World) (k : ℕ) (trouble : Trouble) (c : ServerTurn w k trouble u) → AreHeld w.hall → AreHeld u.hall
     → Meets w k c.s.session c.request c.reply u c.session × OthersStay w k u
 stale_requests w u k trouble c a b =
-    let h : Hall = hall c.shop c.holders (with_numbered w.hall.sides k (Some (side c.reached c.session))) in
+    let h : Hall = hall c.library c.holders (with_numbered w.hall.sides k (Some (side c.reached c.session))) in
     let is : u.hall ≡ h = ap (λ (x : World). x.hall) c.is in
     let sits : Sits w.hall k c.s (Some (side c.reached c.session)) h = record { was = c.live; sides = refl } in (
-      step_meets w k c.s u c.request c.reply (scene c.shop c.session) trouble
-          (record { kept = a; live = c.live; left = ap (λ (x : Hall). x.shop) is; held = ap (λ (x : Hall). x.holders) is ∙ c.served.held }) c.served.step,
+      step_meets w k c.s u c.request c.reply (scene c.library c.session) trouble
+          (record { kept = a; live = c.live; left = ap (λ (x : Hall). x.library) is; held = ap (λ (x : Hall). x.holders) is ∙ c.served.held }) c.served.step,
       λ j d y other one has.
           (let still : side_of u.hall j ≡ Some y = ap (λ x. side_of x j) is ∙ sits_other w.hall k j c.s (Some (side c.reached c.session)) h sits other ∙ one in (
             still,
             b.opened j d y still has,
-            ap (λ (x : Hall). rack_at x.shop d) is
-                ∙ comes_else w.hall.holders w.hall k c.s (scene c.shop c.session) _ c.live a
+            ap (λ (x : Hall). drive_at x.library d) is
+                ∙ comes_else w.hall.holders w.hall k c.s (scene c.library c.session) _ c.live a
                 (apart w.hall h k c.s (side c.reached c.session) sits (subst AreHeld is b))
-                (step_comes trouble w.hall.holders (scene w.hall.shop c.s.session) c.request c.reply (scene c.shop c.session) c.served.step) d (j, other, (y, one, has)),
+                (step_comes trouble w.hall.holders (scene w.hall.library c.s.session) c.request c.reply (scene c.library c.session) c.served.step) d (j, other, (y, one, has)),
           )),
     )

@@ -11,7 +11,7 @@ use Rattle.rmt_wire.specs.RequestReader.{RequestHeld, Unread}
 use Rattle.rmt_wire.specs.declared.errno.TheConstants.{EIO}
 use Rattle.rmt_wire.specs.declared.mtio.TheConstants.{MTWEOF}
 use Rattle.tape.specs.declared.trouble.Trouble.{Trouble}
-use Rattle.drives.specs.Shop.{Shop}
+use Rattle.drives.specs.TapeLibrary.{TapeLibrary}
 use Rattle.rmt_server.specs.Hall.{Side, side}
 use Rattle.rmt_server.specs.Session.{PlainSession, scene}
 use Rattle.rmt_server.specs.TroubledServe.{TroubledServeStep}
@@ -125,47 +125,47 @@ serve_sent g h begun s l d bytes rest found reply reached session (inr (b, step,
     inl ((serve_pending g h b s l.toward d step bytes rest found reply reached session p unread gives left).1)
 
 -- the reply to each step, and where it leads
-pub served_leads : ReplyTexts → (old : Standing) (payload : List (List ℕ)) (trouble : Trouble) (holders : List ℕ) (shop shop' : Shop) (s : Side) (reached : RequestHeld)
+pub served_leads : ReplyTexts → (old : Standing) (payload : List (List ℕ)) (trouble : Trouble) (holders : List ℕ) (library library' : TapeLibrary) (s : Side) (reached : RequestHeld)
     (session : PlainSession) (d : Dumping) (step : Step) (reply : PlainReply) → IsRun old.run → HasDone old.run (Some s) d step → d.carried + 1 < 2 ^ 64
     → SpellsRequest (request_text (request_of old.run payload d.volume d.first step)) (request_of old.run payload d.volume d.first step)
-    → TroubledServeStep trouble holders (scene shop s.session) (request_of old.run payload d.volume d.first step) reply (scene shop' session)
+    → TroubledServeStep trouble holders (scene library s.session) (request_of old.run payload d.volume d.first step) reply (scene library' session)
     → IsBrief (wanted_of step) reply × LeadsFrom (Some (side reached session)) old d (noted (request_of old.run payload d.volume d.first step) reply d) step reply
-served_leads t old payload trouble holders shop shop' s reached session d Open reply good h few spelled step =
-    let r = open_first trouble holders (scene shop s.session) old.run.device reply (scene shop' session) step in
+served_leads t old payload trouble holders library library' s reached session d Open reply good h few spelled step =
+    let r = open_first trouble holders (scene library s.session) old.run.device reply (scene library' session) step in
     (plain_brief t reply r.0, open_leads old s (side reached session) d old.run.device reply h few r.1)
-served_leads t old payload trouble holders shop shop' s reached session d (Operation Rewind) reply good h few spelled step =
+served_leads t old payload trouble holders library library' s reached session d (Operation Rewind) reply good h few spelled step =
     let on = h.stands s refl in
-    let r = rewind_first trouble holders (scene shop s.session) reply (scene shop' session) on.1.0 on.0 on.1.1 step in
+    let r = rewind_first trouble holders (scene library s.session) reply (scene library' session) on.1.0 on.0 on.1.1 step in
     (plain_brief t reply r.0, rewind_leads old s (side reached session) d reply h few r.1)
-served_leads t old payload trouble holders shop shop' s reached session d Look reply good h few spelled step =
+served_leads t old payload trouble holders library library' s reached session d Look reply good h few spelled step =
     let on = h.stands s refl in
-    let r = look_online trouble holders (scene shop s.session) reply (scene shop' session) on.1.0 on.0 on.1.1 step in
+    let r = look_online trouble holders (scene library s.session) reply (scene library' session) on.1.0 on.0 on.1.1 step in
     (shown_brief t reply r.0, look_leads old s (side reached session) d reply h few r.1)
-served_leads t old payload trouble holders shop shop' s reached session d (Operation RewindAgain) reply good h few spelled step =
+served_leads t old payload trouble holders library library' s reached session d (Operation RewindAgain) reply good h few spelled step =
     let on = h.stands s refl in
-    let r = rewind_first trouble holders (scene shop s.session) reply (scene shop' session) on.1.0 on.0 on.1.1 step in
+    let r = rewind_first trouble holders (scene library s.session) reply (scene library' session) on.1.0 on.0 on.1.1 step in
     (plain_brief t reply r.0, again_leads old s (side reached session) d reply h few r.1)
-served_leads t old payload trouble holders shop shop' s reached session d Label reply good h few spelled step =
+served_leads t old payload trouble holders library library' s reached session d Label reply good h few spelled step =
     let on = h.stands s refl in
     let limit = spelled.2 in
-    let r = write_online trouble holders (scene shop s.session) (label old.run d.volume d.first) reply (scene shop' session) on.1.0 on.0 (omega (arith, limit)) on.1.1 step in
+    let r = write_online trouble holders (scene library s.session) (label old.run d.volume d.first) reply (scene library' session) on.1.0 on.0 (omega (arith, limit)) on.1.1 step in
     (plain_brief t reply r.0, label_leads old s (side reached session) d (label old.run d.volume d.first) reply h few r.1)
-served_leads t old payload trouble holders shop shop' s reached session d (Block number) reply good h few spelled step =
+served_leads t old payload trouble holders library library' s reached session d (Block number) reply good h few spelled step =
     let on = h.stands s refl in
     let limit = spelled.2 in
-    let r = write_online trouble holders (scene shop s.session) (get_or payload number []) reply (scene shop' session) on.1.0 on.0 (omega (arith, limit)) on.1.1 step in
+    let r = write_online trouble holders (scene library s.session) (get_or payload number []) reply (scene library' session) on.1.0 on.0 (omega (arith, limit)) on.1.1 step in
     (plain_brief t reply r.0, block_leads old s (side reached session) d number (get_or payload number []) reply good h few r.1)
-served_leads t old payload trouble holders shop shop' s reached session d (Operation (Mark next)) reply good h few spelled step =
+served_leads t old payload trouble holders library library' s reached session d (Operation (Mark next)) reply good h few spelled step =
     let on = h.stands s refl in
-    let r = marks_online trouble holders (scene shop s.session) reply (scene shop' session) on.1.0 on.0 on.1.1 step in
+    let r = marks_online trouble holders (scene library s.session) reply (scene library' session) on.1.0 on.0 on.1.1 step in
     (plain_brief t reply r.0, mark_leads old s (side reached session) d next reply h few r.1)
-served_leads t old payload trouble holders shop shop' s reached session d (Operation (Unload next)) reply good h few spelled step =
+served_leads t old payload trouble holders library library' s reached session d (Operation (Unload next)) reply good h few spelled step =
     let on = h.stands s refl in
-    let r = unload_away trouble holders (scene shop s.session) reply (scene shop' session) on.1.0 on.0 on.1.1 step in
+    let r = unload_away trouble holders (scene library s.session) reply (scene library' session) on.1.0 on.0 on.1.1 step in
     (plain_brief t reply r.0, unload_leads old s (side reached session) d next reply h few r.1)
-served_leads t old payload trouble holders shop shop' s reached session d Close reply good h few spelled step =
+served_leads t old payload trouble holders library library' s reached session d Close reply good h few spelled step =
     let on = h.stands s refl in (
-      plain_brief t reply (close_plain trouble holders (scene shop s.session) reply (scene shop' session) on.0 on.1 step),
+      plain_brief t reply (close_plain trouble holders (scene library s.session) reply (scene library' session) on.0 on.1 step),
       close_leads old (side reached session) d (noted CloseDevice reply d) reply,
     )
 
@@ -186,20 +186,20 @@ at_checkpoint o old d noted step reply first leads = leads
 
 -- the client's own connection, at which it waits
 asked_replied : ReplyTexts → OneReading → DroppedWrites → (b : Begun) (s : Side) (l : Link) (c : Caller) (d : Dumping) (step : Step) (bytes rest : List ℕ) (found : PlainRequest)
-    (reply : PlainReply) (reached : RequestHeld) (trouble : Trouble) (holders : List ℕ) (shop shop' : Shop) (session : PlainSession) → IsRun b.run → b.run ≡ c.at.run
+    (reply : PlainReply) (reached : RequestHeld) (trouble : Trouble) (holders : List ℕ) (library library' : TapeLibrary) (session : PlainSession) → IsRun b.run → b.run ≡ c.at.run
     → d.first ≡ (attempt_at step c.at.counts).1 → IsStepAsked b (Some s) l c d step → Unread s.reached bytes → Gives bytes (Ok (Some found)) rest → Unread reached rest
-    → TroubledServeStep trouble holders (scene shop s.session) found reply (scene shop' session)
+    → TroubledServeStep trouble holders (scene library s.session) found reply (scene library' session)
     → IsStepReplied b (Some (side reached session)) (answered found reply l) c (noted found reply d) step
-asked_replied t g h b s l c d step bytes rest found reply reached trouble holders shop shop' session good run first a unread gives left served =
+asked_replied t g h b s l c d step bytes rest found reply reached trouble holders library library' session good run first a unread gives left served =
     let p = a.pending in
     let done = serve_pending g h b s l.toward d step bytes rest found reply reached session p unread gives left in
     let sent = p.sent in
     let few = p.few in
-    let led = served_leads t c.at b.payload trouble holders shop shop' s reached session d step reply (subst IsRun run good)
+    let led = served_leads t c.at b.payload trouble holders library library' s reached session d step reply (subst IsRun run good)
     (subst (λ r. HasDone r (Some s) d step) run p.done) (omega (arith, sent, few))
     (subst (λ r. SpellsRequest (request_text (request_of r b.payload d.volume d.first step)) (request_of r b.payload d.volume d.first step)) run p.spelled)
-    (subst (λ r. TroubledServeStep trouble holders (scene shop s.session) (request_of r b.payload d.volume d.first step) reply (scene shop' session)) run
-    (subst (λ r. TroubledServeStep trouble holders (scene shop s.session) r reply (scene shop' session)) done.0 served)) in
+    (subst (λ r. TroubledServeStep trouble holders (scene library s.session) (request_of r b.payload d.volume d.first step) reply (scene library' session)) run
+    (subst (λ r. TroubledServeStep trouble holders (scene library s.session) r reply (scene library' session)) done.0 served)) in
     let leads : LeadsOn b.run (Some (side reached session)) c.at (noted found reply d) step reply
     = subst (λ r. LeadsOn b.run (Some (side reached session)) c.at (noted r reply d) step reply) (sym done.0)
     (subst (λ r. LeadsOn r (Some (side reached session)) c.at (noted (request_of r b.payload d.volume d.first step) reply d) step reply) (sym run)
@@ -229,18 +229,18 @@ noted_attempt begun c d step b found reply a =
     }
 
 pub serve_told : ReplyTexts → OneReading → DroppedWrites → (begun : List Begun) (stage : Stage) (s : Side) (l : Link) (c : Caller) (d : Dumping) (bytes rest : List ℕ)
-    (found : PlainRequest) (reply : PlainReply) (reached : RequestHeld) (trouble : Trouble) (holders : List ℕ) (shop shop' : Shop) (session : PlainSession)
+    (found : PlainRequest) (reply : PlainReply) (reached : RequestHeld) (trouble : Trouble) (holders : List ℕ) (library library' : TapeLibrary) (session : PlainSession)
     → ((n : ℕ) (b : Begun) → numbered begun n ≡ Some b → IsGood b) → IsLinkToldAt stage begun (Some s) l c d → Unread s.reached bytes → Gives bytes (Ok (Some found)) rest
-    → Unread reached rest → TroubledServeStep trouble holders (scene shop s.session) found reply (scene shop' session)
+    → Unread reached rest → TroubledServeStep trouble holders (scene library s.session) found reply (scene library' session)
     → IsLinkToldAt stage begun (Some (side reached session)) (answered found reply l) c (noted found reply d)
-serve_told t g h begun (ToSend step) s l c d bytes rest found reply reached trouble holders shop shop' session good (b, attempt, turn) unread gives left served =
+serve_told t g h begun (ToSend step) s l c d bytes rest found reply reached trouble holders library library' session good (b, attempt, turn) unread gives left served =
     absurd (nothing_there h s l.toward bytes rest found turn.settled.unserved unread gives)
-serve_told t g h begun (Waiting step) s l c d bytes rest found reply reached trouble holders shop shop' session good (b, attempt, inl asked) unread gives left served = (
+serve_told t g h begun (Waiting step) s l c d bytes rest found reply reached trouble holders library library' session good (b, attempt, inl asked) unread gives left served = (
   b,
   noted_attempt begun c d step b found reply attempt,
-  inr (asked_replied t g h b s l c d step bytes rest found reply reached trouble holders shop shop' session (good d.run b attempt.begun_as).run attempt.run attempt.first asked
+  inr (asked_replied t g h b s l c d step bytes rest found reply reached trouble holders library library' session (good d.run b attempt.begun_as).run attempt.run attempt.first asked
       unread gives left served),
 )
-serve_told t g h begun (Waiting step) s l c d bytes rest found reply reached trouble holders shop shop' session good (b, attempt, inr replied) unread gives left served =
+serve_told t g h begun (Waiting step) s l c d bytes rest found reply reached trouble holders library library' session good (b, attempt, inr replied) unread gives left served =
     absurd (nothing_there h s l.toward bytes rest found replied.settled.unserved unread gives)
-serve_told t g h begun stage s l c d bytes rest found reply reached trouble holders shop shop' session good told unread gives left served = tt
+serve_told t g h begun stage s l c d bytes rest found reply reached trouble holders library library' session good told unread gives left served = tt

@@ -9,7 +9,7 @@ use Rattle.rmt_wire.specs.RequestParts.{Gives, HasFault}
 use Rattle.rmt_wire.specs.RequestReader.{RequestHeld, Unread}
 use Rattle.rmt_wire.specs.Reply.{PlainReply, reply_text}
 use Rattle.rmt_wire.specs.declared.fault.WireFault.{WireFault}
-use Rattle.drives.specs.Shop.{Shop}
+use Rattle.drives.specs.TapeLibrary.{TapeLibrary}
 use Rattle.rmt_server.specs.Hall.{Side, side}
 use Rattle.rmt_server.specs.Session.{PlainSession, scene}
 use Rattle.rmt_server.specs.TroubledServe.{TroubledServe}
@@ -93,7 +93,7 @@ record Carries (w u : World) (k : ℕ) (c : Caller) (l : Link) (d : Dumping) (b 
   request : PlainRequest
   reply : PlainReply
   reached : RequestHeld
-  shop : Shop
+  library : TapeLibrary
   session : PlainSession
   holders : List ℕ
   bytes : List ℕ
@@ -101,14 +101,14 @@ record Carries (w u : World) (k : ℕ) (c : Caller) (l : Link) (d : Dumping) (b 
   unread : Unread s.reached bytes
   gives : Gives bytes (Ok (Some request)) rest
   left : Unread reached rest
-  served : TroubledServe NoTrouble w.hall.holders k (scene w.hall.shop s.session) request reply (scene shop session) holders
-  is : u ≡ carried w k request reply reached shop session holders
+  served : TroubledServe NoTrouble w.hall.holders k (scene w.hall.library s.session) request reply (scene library session) holders
+  is : u ≡ carried w k request reply reached library session holders
 
 -- the bin before a step
 pub before_bin : (drive : PlainDriveSpec) (t : Stock) (k : ℕ) (b : Begun) (d : Dumping) (session : PlainSession) (step : Step) → StandsBefore step drive t k b d session
-    → t.shop.bin ≡ volume_slots drive t
-before_bin drive t k b d session Open q = ap (λ (x : Shop). x.bin) q.0.shop
-before_bin drive t k b d session step q = ap (λ (x : Shop). x.bin) q.shop
+    → t.library.bin ≡ volume_slots drive t
+before_bin drive t k b d session Open q = ap (λ (x : TapeLibrary). x.bin) q.0.library
+before_bin drive t k b d session step q = ap (λ (x : TapeLibrary). x.bin) q.library
 
 carried_smooth : OneReading → DroppedWrites → (drive : PlainDriveSpec) (w u : World) (k : ℕ) (c : Caller) (l : Link) (d : Dumping) (b : Begun) (s : Side) (step : Step) → IsWorldKept w → IsSmooth drive w
     → IsStepUnanswered drive w (attempt_on k b d s.session) l step → Carries w u k c l d b s step → IsSmooth drive u
@@ -116,15 +116,15 @@ carried_smooth g h drive w u k c l d b s step kept sm un v =
     let p = v.asked.pending in
     let all = serve_pending g h b s l.toward d step v.bytes v.rest v.request v.reply v.reached v.session p v.unread v.gives v.left in
     let good = kept.told.good d.run b v.own.begun in
-    let served : TroubledServe NoTrouble w.hall.holders k (scene w.hall.shop s.session) (request_in b d step) v.reply (scene v.shop v.session) v.holders
-    = subst (λ r. TroubledServe NoTrouble w.hall.holders k (scene w.hall.shop s.session) r v.reply (scene v.shop v.session) v.holders) all.0 v.served in
+    let served : TroubledServe NoTrouble w.hall.holders k (scene w.hall.library s.session) (request_in b d step) v.reply (scene v.library v.session) v.holders
+    = subst (λ r. TroubledServe NoTrouble w.hall.holders k (scene w.hall.library s.session) r v.reply (scene v.library v.session) v.holders) all.0 v.served in
     let few = (let sent = p.sent in let many = p.few in let limit : d.carried + 1 ≡ d.sent = omega (arith, sent) in subst (λ n. suc n ≤ 18446744073709551616) (sym limit) many) in
     let brief : IsBrief (wanted_of step) v.reply
-    = (served_leads reply_texts (standing b.run [] Ready) b.payload NoTrouble w.hall.holders w.hall.shop v.shop s v.reached v.session d step v.reply good.run p.done few p.spelled
+    = (served_leads reply_texts (standing b.run [] Ready) b.payload NoTrouble w.hall.holders w.hall.library v.library s v.reached v.session d step v.reply good.run p.done few p.spelled
     served.step).0 in
-    let leads : Leads drive (stock_then (stock_of w) k v.request v.shop v.session v.holders) (attempt_on k b (noted v.request v.reply d) v.session) c.at step v.reply
-    = subst (λ r. Leads drive (stock_then (stock_of w) k r v.shop v.session v.holders) (attempt_on k b (noted r v.reply d) v.session) c.at step v.reply) (sym all.0)
-    (step_leads drive (stock_of w) k c.at b d s step v.reply v.shop v.session v.holders record {
+    let leads : Leads drive (stock_then (stock_of w) k v.request v.library v.session v.holders) (attempt_on k b (noted v.request v.reply d) v.session) c.at step v.reply
+    = subst (λ r. Leads drive (stock_then (stock_of w) k r v.library v.session v.holders) (attempt_on k b (noted r v.reply d) v.session) c.at step v.reply) (sym all.0)
+    (step_leads drive (stock_of w) k c.at b d s step v.reply v.library v.session v.holders record {
       run = v.attempt.run;
       lawful = kept.lawful c v.caller;
       good = good.run;
@@ -133,8 +133,8 @@ carried_smooth g h drive w u k c l d b s step kept sm un v =
       first = v.attempt.first;
       done = p.done;
     } un.stands served) in
-    let bins = served_bin NoTrouble w.hall.holders (scene w.hall.shop s.session) (request_in b d step) v.reply (scene v.shop v.session) served.step in
-    let x : World = carried w k v.request v.reply v.reached v.shop v.session v.holders in
+    let bins = served_bin NoTrouble w.hall.holders (scene w.hall.library s.session) (request_in b d step) v.reply (scene v.library v.session) served.step in
+    let x : World = carried w k v.request v.reply v.reached v.library v.session v.holders in
     let y : Side = side v.reached v.session in
     let live : side_of x.hall k ≡ Some y = turned_here w x k s (Some y) v.own.live refl in
     let way : [] ++ sent_on l.cut l.back (reply_text v.reply) ≡ reply_text v.reply
@@ -199,7 +199,7 @@ found_smooth g h drive w u k c l d b s step found bytes rest kept sm there stage
 found_smooth g h drive w u k c l d b s step (Ok None) bytes rest kept sm there stage own un (b', attempt, inl asked) unread gives finds = absurd finds
 found_smooth g h drive w u k c l d b s step (Err fault) bytes rest kept sm there stage own un (b', attempt, inl asked) unread gives finds =
     absurd (pending_no_fault g h b' s l.toward d step bytes rest fault asked.pending unread gives)
-found_smooth g h drive w u k c l d b s step (Ok (Some request)) bytes rest kept sm there stage own un (b', attempt, inl asked) unread gives (reply, reached, shop, session, holders, left, served, is) =
+found_smooth g h drive w u k c l d b s step (Ok (Some request)) bytes rest kept sm there stage own un (b', attempt, inl asked) unread gives (reply, reached, library, session, holders, left, served, is) =
     let same : b' ≡ b = same_Some b' b (sym attempt.begun_as ∙ own.begun) in
     carried_smooth g h drive w u k c l d b s step kept sm un record {
       caller = there;
@@ -210,7 +210,7 @@ found_smooth g h drive w u k c l d b s step (Ok (Some request)) bytes rest kept 
       request = request;
       reply = reply;
       reached = reached;
-      shop = shop;
+      library = library;
       session = session;
       holders = holders;
       bytes = bytes;

@@ -4,7 +4,7 @@ use Rattle.std.specs.Prelude.{option_map, option_and_then}
 use Rattle.std.proofs.lemmas.Option.{same_Some}
 use Rattle.rmt_wire.specs.RequestReader.{RequestHeld, held}
 use Rattle.rmt_wire.specs.ReplyReader.{ReplyHeld}
-use Rattle.drives.specs.Shop.{kept_reel, slot}
+use Rattle.drives.specs.TapeLibrary.{kept_reel, slot}
 use Rattle.rmt_server.specs.Hall.{Side, side}
 use Rattle.rmt_server.specs.Session.{PlainSession}
 use Rattle.rmt_server.specs.Session.PlainSession.{Idle}
@@ -59,7 +59,7 @@ begun_smooth drive w run payload reader kept sm none =
       clients = sm.clients;
       still = sm.still;
       reels = sm.reels;
-      stands = record { shop = free.shop ∙ ap (λ l. one_drive drive (blanks drive (names_left drive (stock_of w))) l) (same_volumes drive w b kept); holders = free.holders };
+      stands = record { library = free.library ∙ ap (λ l. one_drive drive (blanks drive (names_left drive (stock_of w))) l) (same_volumes drive w b kept); holders = free.holders };
       failure = λ volume fault is. absurd cc;
     }
 
@@ -117,7 +117,7 @@ sent_latched drive t k b d session q = record {
   name = q.name;
   others = q.others;
   next = q.next;
-  shop = q.shop;
+  library = q.library;
   holders = q.holders;
   online = q.online;
   opened = q.opened;

@@ -5,7 +5,7 @@ use Rattle.std.proofs.lemmas.List.{append-nil, map-append}
 use Rattle.std.proofs.lemmas.Option.{same_Some}
 use Rattle.rmt_wire.specs.Reply.{reply_text}
 use Rattle.rmt_wire.specs.ReplyReader.{ReplyHeld}
-use Rattle.drives.specs.Shop.{kept_reel, slot}
+use Rattle.drives.specs.TapeLibrary.{kept_reel, slot}
 use Rattle.rmt_server.specs.Hall.{Side}
 use Rattle.dump_client.specs.Standing.{Standing, checkpoint_of, count_to, counted_to, FedAt}
 use Rattle.dump_client.specs.Client.{HasFedAt, unanswered}
@@ -159,7 +159,7 @@ counts_now drive w k n c l d b s step at reader kept sm own attempt other stage 
     ∙ ap (λ entries. slot (reel_opened_by k w.opens) (Some (kept_reel entries drive.capacity))) whole in
     let off : IsOffline drive (with_counts (stock_of w) (w.counts ++ x ∷ [])) k s.session
     = record {
-      shop = q.shop
+      library = q.library
           ∙ ap (λ names. one_drive drive (blanks drive names)
           (volume_slots drive (stock_of w) ++ slot q.name (Some (kept_reel (whole_volume b.run b.payload d.volume d.first d.blocks) drive.capacity)) ∷ []))
           (sym (ap (λ m. drop m drive.reels) size ∙ below.1))
@@ -215,13 +215,13 @@ is_over drive w u k n l d b s sm own served hall links begun counts stands failu
 -- it failed
 has_failed : (drive : PlainDriveSpec) (w : World) (k n : ℕ) (c : Caller) (l : Link) (d : Dumping) (b : Begun) (s : Side) (step : Step) (at : Standing) (reader : ReplyHeld) (fault : AttemptFault)
     → IsSmooth drive w → IsOwnLink w k l d b s → AreUnserved (side_of w.hall k) l.toward [] → at.stage ≡ Asking → at.counts ≡ c.at.counts → b.run ≡ at.run
-    → IsFaultlessFailure drive.capacity b.run fault → w.hall.shop.bin ≡ volume_slots drive (stock_of w) → IsSmooth drive (heard w k n c at reader (moved.Failed fault))
+    → IsFaultlessFailure drive.capacity b.run fault → w.hall.library.bin ≡ volume_slots drive (stock_of w) → IsSmooth drive (heard w k n c at reader (moved.Failed fault))
 has_failed drive w k n c l d b s step at reader fault sm own served stage same run why bin =
     let u : World = heard w k n c at reader (moved.Failed fault) in
     let counts = none_counted w c.number k c.at at same in
     is_over drive w u k n l d b s sm own served refl refl refl counts
     (subst (λ x. ReelsStandAt x drive u (caller c.number at reader)) (sym stage)
-    (subst (λ cs. w.hall.shop.bin ≡ volume_slots drive (with_counts (stock_of w) cs)) (sym counts) bin))
+    (subst (λ cs. w.hall.library.bin ≡ volume_slots drive (with_counts (stock_of w) cs)) (sym counts) bin))
     (λ volume other is. (
       caller c.number at reader,
       refl,
@@ -289,7 +289,7 @@ waits_on drive w k n c l d b s step at reader bytes sm own a was same text has =
         reply = a.reply;
         text = sym text;
         brief = a.brief;
-        bin = (a.bin.0, subst (λ cs. w.hall.shop.bin ≡ volume_slots drive (with_counts (stock_of w) cs) ++ a.bin.0) (sym counts) a.bin.1);
+        bin = (a.bin.0, subst (λ cs. w.hall.library.bin ≡ volume_slots drive (with_counts (stock_of w) cs) ++ a.bin.0) (sym counts) a.bin.1);
         leads = subst (λ x. Leads drive (stock_of u) (attempt_on k b d s.session) x step a.reply) (sym same)
             (subst (λ cs. Leads drive (with_counts (stock_of w) cs) (attempt_on k b d s.session) c.at step a.reply) (sym counts) a.leads);
       },

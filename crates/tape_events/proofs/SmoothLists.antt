@@ -5,7 +5,7 @@ use Rattle.std.proofs.lemmas.List.Elements.{Contains-append_right, Contains-appe
 use Rattle.std.proofs.lemmas.Bool.Decides.{eqb_tells}
 use Rattle.std.proofs.lemmas.Option.{same_Some}
 use Rattle.tape.specs.Tape.PlainEntry.{Record}
-use Rattle.drives.specs.Shop.{names_of}
+use Rattle.drives.specs.TapeLibrary.{names_of}
 use Rattle.tape_events.specs.World.{Begun, Count, Opening}
 use Rattle.tape_events.specs.Changes.{opening, reel_opened_by}
 use Rattle.tape_events.specs.Written.{block_records}

@@ -6,8 +6,8 @@ use Rattle.std.proofs.lemmas.List.Sums.{sum_by-append, sum_by-cons}
 use Rattle.std.proofs.lemmas.Option.{same_Some}
 use Rattle.std.proofs.lemmas.Slice.Eq.{bytes_eq-Decides}
 use Rattle.tape.specs.Tape.{PlainEntry}
-use Rattle.drives.specs.Shop.{KeptReel, kept_reel, Slot, Rack, rack, Shop, rack_at, with_rack, slots_in, EachReelOnce, names_of}
-use Rattle.drives.proofs.Shops.{bit, named, times_named, sum_by_with_rack}
+use Rattle.drives.specs.TapeLibrary.{KeptReel, kept_reel, ReelSlot, Drive, drive_with, TapeLibrary, drive_at, with_drive_at, slots_in, EachReelOnce, names_of}
+use Rattle.drives.proofs.Shops.{bit, named, times_named, sum_by_with_drive}
 use Rattle.rmt_server.specs.Hall.{Hall}
 use Rattle.dump_client.specs.declared.stage.Stage.{Stage}
 use Rattle.dump_client.specs.declared.stage.Stage.TheVariants.{Ready, ToSend, Waiting, Asking, Finished, Abandoned}
@@ -35,7 +35,7 @@ first_smooth drive = record {
   clients = λ j l at. absurd (no_number j l at);
   still = λ j l at not_own. absurd (no_number j l at);
   reels = refl;
-  stands = record { shop = refl; holders = refl };
+  stands = record { library = refl; holders = refl };
   failure = λ volume fault is. absurd cc;
 }
 
@@ -73,23 +73,23 @@ runs_smooth g drive first w all kept sm whole (one_more {events = events} {befor
     (kept_after g before w event was.0 happens, smooth_after g drive before w event was.0 was.1 parts.1 happens)
 
 -- the reels of the counts come first in the bin
-bin_at : (drive : PlainDriveSpec) (w : World) (c : Caller) (stage : Stage) → ReelsStandAt stage drive w c → Behind (volume_slots drive (stock_of w)) w.hall.shop.bin
+bin_at : (drive : PlainDriveSpec) (w : World) (c : Caller) (stage : Stage) → ReelsStandAt stage drive w c → Behind (volume_slots drive (stock_of w)) w.hall.library.bin
 bin_at drive w c (ToSend step) (k, l, d, b, s, own, stands) =
-    same_bin (volume_slots drive (stock_of w)) w.hall.shop.bin (before_bin drive (stock_of w) k b d s.session step stands)
+    same_bin (volume_slots drive (stock_of w)) w.hall.library.bin (before_bin drive (stock_of w) k b d s.session step stands)
 bin_at drive w c (Waiting step) (k, l, d, b, s, own, inl un) =
-    same_bin (volume_slots drive (stock_of w)) w.hall.shop.bin (before_bin drive (stock_of w) k b d s.session step un.stands)
+    same_bin (volume_slots drive (stock_of w)) w.hall.library.bin (before_bin drive (stock_of w) k b d s.session step un.stands)
 bin_at drive w c (Waiting step) (k, l, d, b, s, own, inr done) = done.bin
-bin_at drive w c Ready free = same_bin (volume_slots drive (stock_of w)) w.hall.shop.bin (ap (λ (x : Shop). x.bin) free.shop)
-bin_at drive w c Finished free = same_bin (volume_slots drive (stock_of w)) w.hall.shop.bin (ap (λ (x : Shop). x.bin) free.shop)
-bin_at drive w c Asking bin = same_bin (volume_slots drive (stock_of w)) w.hall.shop.bin bin
+bin_at drive w c Ready free = same_bin (volume_slots drive (stock_of w)) w.hall.library.bin (ap (λ (x : TapeLibrary). x.bin) free.library)
+bin_at drive w c Finished free = same_bin (volume_slots drive (stock_of w)) w.hall.library.bin (ap (λ (x : TapeLibrary). x.bin) free.library)
+bin_at drive w c Asking bin = same_bin (volume_slots drive (stock_of w)) w.hall.library.bin bin
 bin_at drive w c Abandoned never = absurd never
 
-bin_with : (drive : PlainDriveSpec) (w : World) (o : Option Caller) → StandsWith o drive w → Behind (volume_slots drive (stock_of w)) w.hall.shop.bin
-bin_with drive w None free = same_bin (volume_slots drive (stock_of w)) w.hall.shop.bin (ap (λ (x : Shop). x.bin) free.shop)
+bin_with : (drive : PlainDriveSpec) (w : World) (o : Option Caller) → StandsWith o drive w → Behind (volume_slots drive (stock_of w)) w.hall.library.bin
+bin_with drive w None free = same_bin (volume_slots drive (stock_of w)) w.hall.library.bin (ap (λ (x : TapeLibrary). x.bin) free.library)
 bin_with drive w (Some c) stands = bin_at drive w c c.at.stage stands
 
 -- the reel of a count lies there with its volume
-count_lies : (capacity : ℕ) (begun : List Begun) (counts : List Count) (more : List (Slot KeptReel)) (i : ℕ) (x : Count) (b : Begun) → slice_get counts i ≡ Some x
+count_lies : (capacity : ℕ) (begun : List Begun) (counts : List Count) (more : List (ReelSlot KeptReel)) (i : ℕ) (x : Count) (b : Begun) → slice_get counts i ≡ Some x
     → numbered begun x.run ≡ Some b → ReelLiesIn (map (volume_slot capacity begun) counts ++ more) x.reel (whole_volume b.run b.payload x.volume x.first x.count)
 count_lies capacity begun [] more i x b at is = absurd cc
 count_lies capacity begun (y ∷ counts) more zero x b at is =
@@ -103,7 +103,7 @@ count_lies capacity begun (y ∷ counts) more zero x b at is =
 count_lies capacity begun (y ∷ counts) more (suc i) x b at is = inr (count_lies capacity begun counts more i x b at is)
 
 -- a reel of that name lies there
-lies_named : (xs : List (Slot KeptReel)) (name : List ℕ) (entries : List PlainEntry) → ReelLiesIn xs name entries → 0 < sum_by (named name) xs
+lies_named : (xs : List (ReelSlot KeptReel)) (name : List ℕ) (entries : List PlainEntry) → ReelLiesIn xs name entries → 0 < sum_by (named name) xs
 lies_named [] name entries lies = absurd lies
 lies_named (x ∷ xs) name entries (inl here) =
     let one : named name x ≡ 1 = ap bit ((bytes_eq-Decides name x.name).1 (sym here.named)) in
@@ -115,7 +115,7 @@ lies_named (x ∷ xs) name entries (inr rest) =
     omega (arith, some, all)
 
 -- no two reels of one name lie there
-one_lies : (xs : List (Slot KeptReel)) (name : List ℕ) (entries other : List PlainEntry) → sum_by (named name) xs ≤ 1 → ReelLiesIn xs name entries → ReelLiesIn xs name other
+one_lies : (xs : List (ReelSlot KeptReel)) (name : List ℕ) (entries other : List PlainEntry) → sum_by (named name) xs ≤ 1 → ReelLiesIn xs name entries → ReelLiesIn xs name other
     → other ≡ entries
 one_lies [] name entries other few one two = absurd one
 one_lies (x ∷ xs) name entries other few (inl one) (inl two) =
@@ -135,35 +135,35 @@ one_lies (x ∷ xs) name entries other few (inr one) (inr two) =
     let all = sum_by-cons (named name) x xs in
     one_lies xs name entries other (omega (arith, all, few)) one two
 
-rack_there : (racks : List (Rack KeptReel)) (d : ℕ) (name : List ℕ) (entries : List PlainEntry) → ReelLiesIn (slice_index_or racks d (rack [] [])).stack name entries → d < length racks
-rack_there [] d name entries lies = absurd lies
-rack_there (r ∷ racks) zero name entries lies = omega arith
-rack_there (r ∷ racks) (suc d) name entries lies = let on = rack_there racks d name entries lies in omega (arith, on)
+drive_there : (drives : List (Drive KeptReel)) (d : ℕ) (name : List ℕ) (entries : List PlainEntry) → ReelLiesIn (slice_index_or drives d (drive_with [] [])).stack name entries → d < length drives
+drive_there [] d name entries lies = absurd lies
+drive_there (r ∷ drives) zero name entries lies = omega arith
+drive_there (r ∷ drives) (suc d) name entries lies = let on = drive_there drives d name entries lies in omega (arith, on)
 
 -- what lies in the bin stands nowhere else
-bin_alone : (h : Hall) (name : List ℕ) (entries other : List PlainEntry) → AreHeld h → AreLaid h → EachReelOnce h.shop → ReelLiesIn h.shop.bin name entries → StandsOn h name other
+bin_alone : (h : Hall) (name : List ℕ) (entries other : List PlainEntry) → AreHeld h → AreLaid h → EachReelOnce h.library → ReelLiesIn h.library.bin name entries → StandsOn h name other
     → other ≡ entries
 bin_alone h name entries other held laid once lies (inl (inl (d, two))) =
-    let t = with_rack h.shop d (rack [] []) in
-    let one = sum_by_with_rack (named name) h.shop d (rack [] []) (rack_there h.shop.racks d name other two) in
-    let first = lies_named (rack_at h.shop d).stack name other two in
-    let second = lies_named h.shop.bin name entries lies in
-    let parts = sum_by-append (named name) (flat_map (λ r. r.stack) t.racks) h.shop.bin in
-    let all = times_named name (slots_in h.shop) in
+    let t = with_drive_at h.library d (drive_with [] []) in
+    let one = sum_by_with_drive (named name) h.library d (drive_with [] []) (drive_there h.library.drives d name other two) in
+    let first = lies_named (drive_at h.library d).stack name other two in
+    let second = lies_named h.library.bin name entries lies in
+    let parts = sum_by-append (named name) (flat_map (λ r. r.stack) t.drives) h.library.bin in
+    let all = times_named name (slots_in h.library) in
     let few = once name in
     absurd (omega (arith, one, first, second, parts, all, few))
 bin_alone h name entries other held laid once lies (inl (inr two)) =
-    let parts = sum_by-append (named name) (flat_map (λ r. r.stack) h.shop.racks) h.shop.bin in
-    let all = times_named name (slots_in h.shop) in
+    let parts = sum_by-append (named name) (flat_map (λ r. r.stack) h.library.drives) h.library.bin in
+    let all = times_named name (slots_in h.library) in
     let few = once name in
-    one_lies h.shop.bin name entries other (omega (arith, parts, all, few)) lies two
+    one_lies h.library.bin name entries other (omega (arith, parts, all, few)) lies two
 bin_alone h name entries other held laid once lies (inr (k, s, at, (drive, access, reel, online, first, holds))) =
     sym holds ∙ sym (stands_one h k s drive access reel name entries at online first held laid once (inl (inr lies)))
 
 between_names : (drive : PlainDriveSpec) (w : World) (c : Caller) (stage : Stage) → is_between stage ≡ true → ReelsStandAt stage drive w c
-    → names_of w.hall.shop.bin ≡ map (λ (x : Count). x.reel) w.counts
-between_names drive w c Ready is free = ap (λ (x : Shop). names_of x.bin) free.shop ∙ slot_names drive.capacity w.begun w.counts
-between_names drive w c Finished is free = ap (λ (x : Shop). names_of x.bin) free.shop ∙ slot_names drive.capacity w.begun w.counts
+    → names_of w.hall.library.bin ≡ map (λ (x : Count). x.reel) w.counts
+between_names drive w c Ready is free = ap (λ (x : TapeLibrary). names_of x.bin) free.library ∙ slot_names drive.capacity w.begun w.counts
+between_names drive w c Finished is free = ap (λ (x : TapeLibrary). names_of x.bin) free.library ∙ slot_names drive.capacity w.begun w.counts
 between_names drive w c stage is stands = absurd cc
 
 -- the volumes are in order

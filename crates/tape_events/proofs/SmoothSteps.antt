@@ -9,7 +9,7 @@ use Rattle.rmt_wire.specs.Request.{PlainRequest}
 use Rattle.rmt_wire.specs.Request.PlainRequest.{Open as OpenDevice, Write, Read, Op, Close as CloseDevice}
 use Rattle.rmt_wire.specs.Reply.{PlainReply}
 use Rattle.rmt_wire.specs.declared.mtio.TheConstants.{MTOFFL, MTREW, MTWEOF}
-use Rattle.drives.specs.Shop.{Shop, rack_at}
+use Rattle.drives.specs.TapeLibrary.{TapeLibrary, drive_at}
 use Rattle.rmt_server.specs.declared.access.Access.TheVariants.{Both}
 use Rattle.rmt_server.specs.Hall.{Side}
 use Rattle.rmt_server.specs.Session.{plain_reel, PlainSession, Scene, scene}
@@ -61,16 +61,16 @@ pub record Attempt (t : Stock) (k : ℕ) (old : Standing) (b : Begun) (d : Dumpi
   pub done : HasDone b.run (Some s) d step
 
 -- the openings once the request was carried out
-abbrev pub opens_then : Stock → ℕ → PlainRequest → Shop → PlainSession → List Opening
-opens_then t k request shop session = t.opens ++ option_to_list (option_map (opening k) (opened_reel request shop session))
+abbrev pub opens_then : Stock → ℕ → PlainRequest → TapeLibrary → PlainSession → List Opening
+opens_then t k request library session = t.opens ++ option_to_list (option_map (opening k) (opened_reel request library session))
 
 -- and where reels are then
-abbrev pub stock_then : Stock → ℕ → PlainRequest → Shop → PlainSession → List ℕ → Stock
-stock_then t k request shop session holders = then_stock t shop holders (opens_then t k request shop session)
+abbrev pub stock_then : Stock → ℕ → PlainRequest → TapeLibrary → PlainSession → List ℕ → Stock
+stock_then t k request library session holders = then_stock t library holders (opens_then t k request library session)
 
 -- it is served by the only drive
-abbrev Served : Stock → ℕ → PlainSession → PlainRequest → PlainReply → Shop → PlainSession → List ℕ → Type 0
-Served t k session request reply shop after holders = TroubledServe NoTrouble t.holders k (scene t.shop session) request reply (scene shop after) holders
+abbrev Served : Stock → ℕ → PlainSession → PlainRequest → PlainReply → TapeLibrary → PlainSession → List ℕ → Type 0
+Served t k session request reply library after holders = TroubledServe NoTrouble t.holders k (scene t.library session) request reply (scene library after) holders
 
 -- the drive is still held
 still_held : (t : Stock) (k : ℕ) (session after : PlainSession) (holders : List ℕ) → t.holders ≡ k ∷ [] → drive_in session ≡ Some 0 → drive_in after ≡ Some 0
@@ -80,169 +80,169 @@ still_held t k session after holders mine before now held =
     ∙ ap (λ l. slice_set (slice_set l 0 0) 0 k) mine
 
 -- the request of one whose reel is in the drive
-latched_step : (drive : PlainDriveSpec) (t : Stock) (k : ℕ) (b : Begun) (d : Dumping) (session after : PlainSession) (request : PlainRequest) (reply : PlainReply) (shop : Shop)
-    (holders : List ℕ) → IsLatched drive t k b d session → Served t k session request reply shop after holders
-    → TroubledServeStep NoTrouble t.holders (scene t.shop (Online 0 Both (plain_reel (tape (attempt_written b.run b.payload d) []) drive.capacity))) request reply (scene shop after)
-latched_step drive t k b d session after request reply shop holders q served =
-    subst (λ s. TroubledServeStep NoTrouble t.holders (scene t.shop s) request reply (scene shop after)) q.online served.step
+latched_step : (drive : PlainDriveSpec) (t : Stock) (k : ℕ) (b : Begun) (d : Dumping) (session after : PlainSession) (request : PlainRequest) (reply : PlainReply) (library : TapeLibrary)
+    (holders : List ℕ) → IsLatched drive t k b d session → Served t k session request reply library after holders
+    → TroubledServeStep NoTrouble t.holders (scene t.library (Online 0 Both (plain_reel (tape (attempt_written b.run b.payload d) []) drive.capacity))) request reply (scene library after)
+latched_step drive t k b d session after request reply library holders q served =
+    subst (λ s. TroubledServeStep NoTrouble t.holders (scene t.library s) request reply (scene library after)) q.online served.step
 
-latched_held : (drive : PlainDriveSpec) (t : Stock) (k : ℕ) (b : Begun) (d : Dumping) (session after : PlainSession) (request : PlainRequest) (reply : PlainReply) (shop : Shop)
-    (holders : List ℕ) → (q : IsLatched drive t k b d session) → Served t k session request reply shop after holders → drive_in after ≡ Some 0 → holders ≡ k ∷ []
-latched_held drive t k b d session after request reply shop holders q served now =
+latched_held : (drive : PlainDriveSpec) (t : Stock) (k : ℕ) (b : Begun) (d : Dumping) (session after : PlainSession) (request : PlainRequest) (reply : PlainReply) (library : TapeLibrary)
+    (holders : List ℕ) → (q : IsLatched drive t k b d session) → Served t k session request reply library after holders → drive_in after ≡ Some 0 → holders ≡ k ∷ []
+latched_held drive t k b d session after request reply library holders q served now =
     still_held t k session after holders q.holders (ap drive_in q.online) now served.held
 
 -- the reel's name stands among the openings
 still_opened : (opens more : List Opening) (x : Opening) → Contains opens x → Contains (opens ++ more) x
 still_opened opens more x among = Contains-append_left opens more x among
 
-write_online : (shop : Shop) (capacity : ℕ) (before : List PlainEntry) (bytes : List ℕ) (reply : PlainReply) (after : Scene) → Writes shop capacity before bytes reply after
+write_online : (library : TapeLibrary) (capacity : ℕ) (before : List PlainEntry) (bytes : List ℕ) (reply : PlainReply) (after : Scene) → Writes library capacity before bytes reply after
     → drive_in after.session ≡ Some 0
-write_online shop capacity before bytes reply after (wrote fits replies online) = ap (λ (v : Scene). drive_in v.session) online
-write_online shop capacity before bytes reply after (full tight replies online) = ap (λ (v : Scene). drive_in v.session) online
-write_online shop capacity before bytes reply after (scarce few online) = ap (λ (v : Scene). drive_in v.session) online
+write_online library capacity before bytes reply after (wrote fits replies online) = ap (λ (v : Scene). drive_in v.session) online
+write_online library capacity before bytes reply after (full tight replies online) = ap (λ (v : Scene). drive_in v.session) online
+write_online library capacity before bytes reply after (scarce few online) = ap (λ (v : Scene). drive_in v.session) online
 
-open_step : (drive : PlainDriveSpec) (t : Stock) (k : ℕ) (old : Standing) (b : Begun) (d : Dumping) (s : Side) (reply : PlainReply) (shop : Shop) (session : PlainSession) (holders : List ℕ)
-    → Attempt t k old b d s Open → StandsBefore Open drive t k b d s.session → Served t k s.session (request_in b d Open) reply shop session holders
-    → Leads drive (stock_then t k (request_in b d Open) shop session holders) (attempt_on k b (noted (request_in b d Open) reply d) session) old Open reply
-open_step drive t k old b d s reply shop session holders a (free, idle) served =
-    let r = serve_open drive (names_left drive t) (volume_slots drive t) b.run.device reply (scene shop session)
+open_step : (drive : PlainDriveSpec) (t : Stock) (k : ℕ) (old : Standing) (b : Begun) (d : Dumping) (s : Side) (reply : PlainReply) (library : TapeLibrary) (session : PlainSession) (holders : List ℕ)
+    → Attempt t k old b d s Open → StandsBefore Open drive t k b d s.session → Served t k s.session (request_in b d Open) reply library session holders
+    → Leads drive (stock_then t k (request_in b d Open) library session holders) (attempt_on k b (noted (request_in b d Open) reply d) session) old Open reply
+open_step drive t k old b d s reply library session holders a (free, idle) served =
+    let r = serve_open drive (names_left drive t) (volume_slots drive t) b.run.device reply (scene library session)
     (subst (λ h. TroubledServeStep NoTrouble h (scene (one_drive drive (blanks drive (names_left drive t)) (volume_slots drive t)) Idle) (OpenDevice b.run.device 2) reply
-    (scene shop session)) free.holders
-    (subst (λ x. TroubledServeStep NoTrouble t.holders (scene x Idle) (OpenDevice b.run.device 2) reply (scene shop session)) free.shop
-    (subst (λ x. TroubledServeStep NoTrouble t.holders (scene t.shop x) (OpenDevice b.run.device 2) reply (scene shop session)) idle served.step))) in
+    (scene library session)) free.holders
+    (subst (λ x. TroubledServeStep NoTrouble t.holders (scene x Idle) (OpenDevice b.run.device 2) reply (scene library session)) free.library
+    (subst (λ x. TroubledServeStep NoTrouble t.holders (scene t.library x) (OpenDevice b.run.device 2) reply (scene library session)) idle served.step))) in
     elim r [
       | inl q ↦ (
-          let named : opened_reel (OpenDevice b.run.device 2) shop session ≡ Some q.name
-          = ap (written_reel shop) q.session ∙ ap (λ (x : Shop). Some (first_name (rack_at x 0).stack)) q.shop in
-          let more : opens_then t k (OpenDevice b.run.device 2) shop session ≡ t.opens ++ opening k q.name ∷ []
+          let named : opened_reel (OpenDevice b.run.device 2) library session ≡ Some q.name
+          = ap (written_reel library) q.session ∙ ap (λ (x : TapeLibrary). Some (first_name (drive_at x 0).stack)) q.library in
+          let more : opens_then t k (OpenDevice b.run.device 2) library session ≡ t.opens ++ opening k q.name ∷ []
           = ap (λ o. t.opens ++ option_to_list (option_map (opening k) o)) named in
           let mine : holders ≡ k ∷ []
           = served.held ∙ ap (λ x. with_holder (drive_in x) k (with_holder (drive_in s.session) 0 t.holders)) q.session
           ∙ ap (λ x. slice_set (with_holder (drive_in x) 0 t.holders) 0 k) idle ∙ ap (λ l. slice_set l 0 k) free.holders in
-          opened_leads drive t k old b d b.run.device (Some s) reply (scene shop session) holders (opens_then t k (OpenDevice b.run.device 2) shop session) a.done mine q
+          opened_leads drive t k old b d b.run.device (Some s) reply (scene library session) holders (opens_then t k (OpenDevice b.run.device 2) library session) a.done mine q
           (subst (λ l. Contains l (opening k q.name)) (sym more) (Contains-push t.opens (opening k q.name))))
-      | inr q ↦ refused_leads drive t k old b d b.run.device (one_drive drive (blanks drive (names_left drive t)) (volume_slots drive t)) reply (scene shop session) holders
-          (opens_then t k (OpenDevice b.run.device 2) shop session) q refl
+      | inr q ↦ refused_leads drive t k old b d b.run.device (one_drive drive (blanks drive (names_left drive t)) (volume_slots drive t)) reply (scene library session) holders
+          (opens_then t k (OpenDevice b.run.device 2) library session) q refl
     ]
 
 -- a step before the label, at a reel that is blank
-blank_step : (drive : PlainDriveSpec) (t : Stock) (k : ℕ) (b : Begun) (d : Dumping) (session after : PlainSession) (request : PlainRequest) (reply : PlainReply) (shop : Shop)
-    (holders : List ℕ) → d.label ≡ false → d.blocks ≡ 0 → d.mark ≡ false → IsLatched drive t k b d session → Served t k session request reply shop after holders
-    → TroubledServeStep NoTrouble t.holders (scene t.shop (Online 0 Both (plain_reel (tape [] []) drive.capacity))) request reply (scene shop after)
-blank_step drive t k b d session after request reply shop holders none few bare q served =
-    subst (λ l. TroubledServeStep NoTrouble t.holders (scene t.shop (Online 0 Both (plain_reel (tape l []) drive.capacity))) request reply (scene shop after))
-    (nothing_written b d none few bare) (latched_step drive t k b d session after request reply shop holders q served)
+blank_step : (drive : PlainDriveSpec) (t : Stock) (k : ℕ) (b : Begun) (d : Dumping) (session after : PlainSession) (request : PlainRequest) (reply : PlainReply) (library : TapeLibrary)
+    (holders : List ℕ) → d.label ≡ false → d.blocks ≡ 0 → d.mark ≡ false → IsLatched drive t k b d session → Served t k session request reply library after holders
+    → TroubledServeStep NoTrouble t.holders (scene t.library (Online 0 Both (plain_reel (tape [] []) drive.capacity))) request reply (scene library after)
+blank_step drive t k b d session after request reply library holders none few bare q served =
+    subst (λ l. TroubledServeStep NoTrouble t.holders (scene t.library (Online 0 Both (plain_reel (tape l []) drive.capacity))) request reply (scene library after))
+    (nothing_written b d none few bare) (latched_step drive t k b d session after request reply library holders q served)
 
 -- the drive is held still by one whose reel is in it
-online_held : (drive : PlainDriveSpec) (t : Stock) (k : ℕ) (b : Begun) (d : Dumping) (session after : PlainSession) (request : PlainRequest) (reply : PlainReply) (shop : Shop)
-    (holders : List ℕ) → IsLatched drive t k b d session → Served t k session request reply shop after holders → IsOnline t.shop drive.capacity (tape [] []) (scene shop after)
+online_held : (drive : PlainDriveSpec) (t : Stock) (k : ℕ) (b : Begun) (d : Dumping) (session after : PlainSession) (request : PlainRequest) (reply : PlainReply) (library : TapeLibrary)
+    (holders : List ℕ) → IsLatched drive t k b d session → Served t k session request reply library after holders → IsOnline t.library drive.capacity (tape [] []) (scene library after)
     → holders ≡ k ∷ []
-online_held drive t k b d session after request reply shop holders q served online =
-    latched_held drive t k b d session after request reply shop holders q served (ap (λ (v : Scene). drive_in v.session) online)
+online_held drive t k b d session after request reply library holders q served online =
+    latched_held drive t k b d session after request reply library holders q served (ap (λ (v : Scene). drive_in v.session) online)
 
-rewind_step : (drive : PlainDriveSpec) (t : Stock) (k : ℕ) (old : Standing) (b : Begun) (d : Dumping) (s : Side) (reply : PlainReply) (shop : Shop) (session : PlainSession) (holders : List ℕ)
-    → Attempt t k old b d s (Operation Rewind) → IsLatched drive t k b d s.session → Served t k s.session (request_in b d (Operation Rewind)) reply shop session holders
-    → Leads drive (stock_then t k (request_in b d (Operation Rewind)) shop session holders) (attempt_on k b (noted (request_in b d (Operation Rewind)) reply d) session) old (Operation Rewind) reply
-rewind_step drive t k old b d s reply shop session holders a q served =
-    let r = serve_rewind t.shop drive.capacity reply t.holders (scene shop session)
-    (blank_step drive t k b d s.session session (Op MTREW 1) reply shop holders a.done.label a.done.blocks a.done.mark q served) in
-    rewound_leads drive t k old b d (Some s) s.session reply (scene shop session) holders (opens_then t k (Op MTREW 1) shop session) a.done
-    (online_held drive t k b d s.session session (Op MTREW 1) reply shop holders q served r.1) q (still_opened t.opens [] (opening k q.name) q.opened) r
+rewind_step : (drive : PlainDriveSpec) (t : Stock) (k : ℕ) (old : Standing) (b : Begun) (d : Dumping) (s : Side) (reply : PlainReply) (library : TapeLibrary) (session : PlainSession) (holders : List ℕ)
+    → Attempt t k old b d s (Operation Rewind) → IsLatched drive t k b d s.session → Served t k s.session (request_in b d (Operation Rewind)) reply library session holders
+    → Leads drive (stock_then t k (request_in b d (Operation Rewind)) library session holders) (attempt_on k b (noted (request_in b d (Operation Rewind)) reply d) session) old (Operation Rewind) reply
+rewind_step drive t k old b d s reply library session holders a q served =
+    let r = serve_rewind t.library drive.capacity reply t.holders (scene library session)
+    (blank_step drive t k b d s.session session (Op MTREW 1) reply library holders a.done.label a.done.blocks a.done.mark q served) in
+    rewound_leads drive t k old b d (Some s) s.session reply (scene library session) holders (opens_then t k (Op MTREW 1) library session) a.done
+    (online_held drive t k b d s.session session (Op MTREW 1) reply library holders q served r.1) q (still_opened t.opens [] (opening k q.name) q.opened) r
 
-again_step : (drive : PlainDriveSpec) (t : Stock) (k : ℕ) (old : Standing) (b : Begun) (d : Dumping) (s : Side) (reply : PlainReply) (shop : Shop) (session : PlainSession) (holders : List ℕ)
-    → Attempt t k old b d s (Operation RewindAgain) → IsLatched drive t k b d s.session → Served t k s.session (request_in b d (Operation RewindAgain)) reply shop session holders
-    → Leads drive (stock_then t k (request_in b d (Operation RewindAgain)) shop session holders) (attempt_on k b (noted (request_in b d (Operation RewindAgain)) reply d) session) old
+again_step : (drive : PlainDriveSpec) (t : Stock) (k : ℕ) (old : Standing) (b : Begun) (d : Dumping) (s : Side) (reply : PlainReply) (library : TapeLibrary) (session : PlainSession) (holders : List ℕ)
+    → Attempt t k old b d s (Operation RewindAgain) → IsLatched drive t k b d s.session → Served t k s.session (request_in b d (Operation RewindAgain)) reply library session holders
+    → Leads drive (stock_then t k (request_in b d (Operation RewindAgain)) library session holders) (attempt_on k b (noted (request_in b d (Operation RewindAgain)) reply d) session) old
     (Operation RewindAgain) reply
-again_step drive t k old b d s reply shop session holders a q served =
-    let r = serve_rewind t.shop drive.capacity reply t.holders (scene shop session)
-    (blank_step drive t k b d s.session session (Op MTREW 1) reply shop holders a.done.label a.done.blocks a.done.mark q served) in
-    again_leads drive t k old b d (Some s) s.session reply (scene shop session) holders (opens_then t k (Op MTREW 1) shop session) a.done
-    (online_held drive t k b d s.session session (Op MTREW 1) reply shop holders q served r.1) q (still_opened t.opens [] (opening k q.name) q.opened) r
+again_step drive t k old b d s reply library session holders a q served =
+    let r = serve_rewind t.library drive.capacity reply t.holders (scene library session)
+    (blank_step drive t k b d s.session session (Op MTREW 1) reply library holders a.done.label a.done.blocks a.done.mark q served) in
+    again_leads drive t k old b d (Some s) s.session reply (scene library session) holders (opens_then t k (Op MTREW 1) library session) a.done
+    (online_held drive t k b d s.session session (Op MTREW 1) reply library holders q served r.1) q (still_opened t.opens [] (opening k q.name) q.opened) r
 
-look_step : (drive : PlainDriveSpec) (t : Stock) (k : ℕ) (old : Standing) (b : Begun) (d : Dumping) (s : Side) (reply : PlainReply) (shop : Shop) (session : PlainSession) (holders : List ℕ)
-    → Attempt t k old b d s Look → IsLatched drive t k b d s.session → Served t k s.session (request_in b d Look) reply shop session holders
-    → Leads drive (stock_then t k (request_in b d Look) shop session holders) (attempt_on k b (noted (request_in b d Look) reply d) session) old Look reply
-look_step drive t k old b d s reply shop session holders a q served =
-    let r = serve_look t.shop drive.capacity reply t.holders (scene shop session)
-    (blank_step drive t k b d s.session session (Read label_bytes) reply shop holders a.done.label a.done.blocks a.done.mark q served) in
-    look_leads drive t k old b d (Some s) s.session reply (scene shop session) holders (opens_then t k (Read label_bytes) shop session) a.done
-    (online_held drive t k b d s.session session (Read label_bytes) reply shop holders q served r.1) q (still_opened t.opens [] (opening k q.name) q.opened) r
+look_step : (drive : PlainDriveSpec) (t : Stock) (k : ℕ) (old : Standing) (b : Begun) (d : Dumping) (s : Side) (reply : PlainReply) (library : TapeLibrary) (session : PlainSession) (holders : List ℕ)
+    → Attempt t k old b d s Look → IsLatched drive t k b d s.session → Served t k s.session (request_in b d Look) reply library session holders
+    → Leads drive (stock_then t k (request_in b d Look) library session holders) (attempt_on k b (noted (request_in b d Look) reply d) session) old Look reply
+look_step drive t k old b d s reply library session holders a q served =
+    let r = serve_look t.library drive.capacity reply t.holders (scene library session)
+    (blank_step drive t k b d s.session session (Read label_bytes) reply library holders a.done.label a.done.blocks a.done.mark q served) in
+    look_leads drive t k old b d (Some s) s.session reply (scene library session) holders (opens_then t k (Read label_bytes) library session) a.done
+    (online_held drive t k b d s.session session (Read label_bytes) reply library holders q served r.1) q (still_opened t.opens [] (opening k q.name) q.opened) r
 
-label_step : (drive : PlainDriveSpec) (t : Stock) (k : ℕ) (old : Standing) (b : Begun) (d : Dumping) (s : Side) (reply : PlainReply) (shop : Shop) (session : PlainSession) (holders : List ℕ)
+label_step : (drive : PlainDriveSpec) (t : Stock) (k : ℕ) (old : Standing) (b : Begun) (d : Dumping) (s : Side) (reply : PlainReply) (library : TapeLibrary) (session : PlainSession) (holders : List ℕ)
     → Attempt t k old b d s Label → IsLatched drive t k b d s.session → length (label b.run d.volume d.first) ≡ label_bytes
-    → Served t k s.session (request_in b d Label) reply shop session holders
-    → Leads drive (stock_then t k (request_in b d Label) shop session holders) (attempt_on k b (noted (request_in b d Label) reply d) session) old Label reply
-label_step drive t k old b d s reply shop session holders a q size served =
+    → Served t k s.session (request_in b d Label) reply library session holders
+    → Leads drive (stock_then t k (request_in b d Label) library session holders) (attempt_on k b (noted (request_in b d Label) reply d) session) old Label reply
+label_step drive t k old b d s reply library session holders a q size served =
     let bytes = label b.run d.volume d.first in
-    let r = serve_write t.shop drive.capacity (attempt_written b.run b.payload d) bytes reply t.holders (scene shop session) (omega (arith, size)) (omega (arith, size))
-    (latched_step drive t k b d s.session session (Write bytes) reply shop holders q served) in
-    label_leads drive t k old b d (Some s) s.session reply (scene shop session) holders (opens_then t k (Write bytes) shop session) a.done
-    (latched_held drive t k b d s.session session (Write bytes) reply shop holders q served
-    (write_online t.shop drive.capacity (attempt_written b.run b.payload d) bytes reply (scene shop session) r)) q (still_opened t.opens [] (opening k q.name) q.opened) size r
+    let r = serve_write t.library drive.capacity (attempt_written b.run b.payload d) bytes reply t.holders (scene library session) (omega (arith, size)) (omega (arith, size))
+    (latched_step drive t k b d s.session session (Write bytes) reply library holders q served) in
+    label_leads drive t k old b d (Some s) s.session reply (scene library session) holders (opens_then t k (Write bytes) library session) a.done
+    (latched_held drive t k b d s.session session (Write bytes) reply library holders q served
+    (write_online t.library drive.capacity (attempt_written b.run b.payload d) bytes reply (scene library session) r)) q (still_opened t.opens [] (opening k q.name) q.opened) size r
 
-block_step : (drive : PlainDriveSpec) (t : Stock) (k : ℕ) (old : Standing) (b : Begun) (d : Dumping) (s : Side) (number : ℕ) (reply : PlainReply) (shop : Shop) (session : PlainSession)
+block_step : (drive : PlainDriveSpec) (t : Stock) (k : ℕ) (old : Standing) (b : Begun) (d : Dumping) (s : Side) (number : ℕ) (reply : PlainReply) (library : TapeLibrary) (session : PlainSession)
     (holders : List ℕ) → Attempt t k old b d s (Block number) → IsLatched drive t k b d s.session → length (label b.run d.volume d.first) ≡ label_bytes
-    → Served t k s.session (request_in b d (Block number)) reply shop session holders
-    → Leads drive (stock_then t k (request_in b d (Block number)) shop session holders) (attempt_on k b (noted (request_in b d (Block number)) reply d) session) old (Block number) reply
-block_step drive t k old b d s number reply shop session holders a q label_size served =
+    → Served t k s.session (request_in b d (Block number)) reply library session holders
+    → Leads drive (stock_then t k (request_in b d (Block number)) library session holders) (attempt_on k b (noted (request_in b d (Block number)) reply d) session) old (Block number) reply
+block_step drive t k old b d s number reply library session holders a q label_size served =
     let bytes = get_or b.payload number [] in
     let below = a.done.blocks.1 in
     let size = a.whole number below in
     let least = a.good.block_bytes.0 in
     let most = a.good.block_bytes.1 in
-    let r = serve_write t.shop drive.capacity (attempt_written b.run b.payload d) bytes reply t.holders (scene shop session) (omega (arith, size, least)) (omega (arith, size, most))
-    (latched_step drive t k b d s.session session (Write bytes) reply shop holders q served) in
-    block_leads drive t k old b d (Some s) s.session number reply (scene shop session) holders (opens_then t k (Write bytes) shop session) a.done
-    (latched_held drive t k b d s.session session (Write bytes) reply shop holders q served
-    (write_online t.shop drive.capacity (attempt_written b.run b.payload d) bytes reply (scene shop session) r)) q (still_opened t.opens [] (opening k q.name) q.opened)
+    let r = serve_write t.library drive.capacity (attempt_written b.run b.payload d) bytes reply t.holders (scene library session) (omega (arith, size, least)) (omega (arith, size, most))
+    (latched_step drive t k b d s.session session (Write bytes) reply library holders q served) in
+    block_leads drive t k old b d (Some s) s.session number reply (scene library session) holders (opens_then t k (Write bytes) library session) a.done
+    (latched_held drive t k b d s.session session (Write bytes) reply library holders q served
+    (write_online t.library drive.capacity (attempt_written b.run b.payload d) bytes reply (scene library session) r)) q (still_opened t.opens [] (opening k q.name) q.opened)
     a.good a.run a.first size label_size r
 
-mark_step : (drive : PlainDriveSpec) (t : Stock) (k : ℕ) (old : Standing) (b : Begun) (d : Dumping) (s : Side) (next : ℕ) (reply : PlainReply) (shop : Shop) (session : PlainSession)
-    (holders : List ℕ) → Attempt t k old b d s (Operation (Mark next)) → IsLatched drive t k b d s.session → Served t k s.session (request_in b d (Operation (Mark next))) reply shop session holders
-    → Leads drive (stock_then t k (request_in b d (Operation (Mark next))) shop session holders) (attempt_on k b (noted (request_in b d (Operation (Mark next))) reply d) session) old (Operation (Mark next)) reply
-mark_step drive t k old b d s next reply shop session holders a q served =
-    let r = serve_mark t.shop drive.capacity (attempt_written b.run b.payload d) reply t.holders (scene shop session) (q.room a.done.label a.done.mark)
-    (latched_step drive t k b d s.session session (Op MTWEOF 1) reply shop holders q served) in
+mark_step : (drive : PlainDriveSpec) (t : Stock) (k : ℕ) (old : Standing) (b : Begun) (d : Dumping) (s : Side) (next : ℕ) (reply : PlainReply) (library : TapeLibrary) (session : PlainSession)
+    (holders : List ℕ) → Attempt t k old b d s (Operation (Mark next)) → IsLatched drive t k b d s.session → Served t k s.session (request_in b d (Operation (Mark next))) reply library session holders
+    → Leads drive (stock_then t k (request_in b d (Operation (Mark next))) library session holders) (attempt_on k b (noted (request_in b d (Operation (Mark next))) reply d) session) old (Operation (Mark next)) reply
+mark_step drive t k old b d s next reply library session holders a q served =
+    let r = serve_mark t.library drive.capacity (attempt_written b.run b.payload d) reply t.holders (scene library session) (q.room a.done.label a.done.mark)
+    (latched_step drive t k b d s.session session (Op MTWEOF 1) reply library holders q served) in
     let on : drive_in session ≡ Some 0 = elim r [
       | inl (replies, online) ↦ ap (λ (v : Scene). drive_in v.session) online
       | inr (few, online) ↦ ap (λ (v : Scene). drive_in v.session) online
     ] in
-    mark_leads drive t k old b d (Some s) s.session next reply (scene shop session) holders (opens_then t k (Op MTWEOF 1) shop session) a.done
-    (latched_held drive t k b d s.session session (Op MTWEOF 1) reply shop holders q served on) q (still_opened t.opens [] (opening k q.name) q.opened) r
+    mark_leads drive t k old b d (Some s) s.session next reply (scene library session) holders (opens_then t k (Op MTWEOF 1) library session) a.done
+    (latched_held drive t k b d s.session session (Op MTWEOF 1) reply library holders q served on) q (still_opened t.opens [] (opening k q.name) q.opened) r
 
-unload_step : (drive : PlainDriveSpec) (t : Stock) (k : ℕ) (old : Standing) (b : Begun) (d : Dumping) (s : Side) (next : ℕ) (reply : PlainReply) (shop : Shop) (session : PlainSession)
-    (holders : List ℕ) → Attempt t k old b d s (Operation (Unload next)) → IsLatched drive t k b d s.session → Served t k s.session (request_in b d (Operation (Unload next))) reply shop session holders
-    → Leads drive (stock_then t k (request_in b d (Operation (Unload next))) shop session holders) (attempt_on k b (noted (request_in b d (Operation (Unload next))) reply d) session) old (Operation (Unload next)) reply
-unload_step drive t k old b d s next reply shop session holders a q served =
-    unload_leads drive t k old b d (Some s) s.session next reply (scene shop session) holders (opens_then t k (Op MTOFFL 1) shop session) a.done
-    (λ off. latched_held drive t k b d s.session session (Op MTOFFL 1) reply shop holders q served (ap drive_in off)) q (still_opened t.opens [] (opening k q.name) q.opened)
-    (serve_unload drive (blanks drive q.others) (volume_slots drive t) q.name (attempt_written b.run b.payload d) reply t.holders (scene shop session)
-    (subst (λ x. TroubledServeStep NoTrouble t.holders (scene x (Online 0 Both (plain_reel (tape (attempt_written b.run b.payload d) []) drive.capacity))) (Op MTOFFL 1) reply (scene shop session))
-    q.shop (latched_step drive t k b d s.session session (Op MTOFFL 1) reply shop holders q served)))
+unload_step : (drive : PlainDriveSpec) (t : Stock) (k : ℕ) (old : Standing) (b : Begun) (d : Dumping) (s : Side) (next : ℕ) (reply : PlainReply) (library : TapeLibrary) (session : PlainSession)
+    (holders : List ℕ) → Attempt t k old b d s (Operation (Unload next)) → IsLatched drive t k b d s.session → Served t k s.session (request_in b d (Operation (Unload next))) reply library session holders
+    → Leads drive (stock_then t k (request_in b d (Operation (Unload next))) library session holders) (attempt_on k b (noted (request_in b d (Operation (Unload next))) reply d) session) old (Operation (Unload next)) reply
+unload_step drive t k old b d s next reply library session holders a q served =
+    unload_leads drive t k old b d (Some s) s.session next reply (scene library session) holders (opens_then t k (Op MTOFFL 1) library session) a.done
+    (λ off. latched_held drive t k b d s.session session (Op MTOFFL 1) reply library holders q served (ap drive_in off)) q (still_opened t.opens [] (opening k q.name) q.opened)
+    (serve_unload drive (blanks drive q.others) (volume_slots drive t) q.name (attempt_written b.run b.payload d) reply t.holders (scene library session)
+    (subst (λ x. TroubledServeStep NoTrouble t.holders (scene x (Online 0 Both (plain_reel (tape (attempt_written b.run b.payload d) []) drive.capacity))) (Op MTOFFL 1) reply (scene library session))
+    q.library (latched_step drive t k b d s.session session (Op MTOFFL 1) reply library holders q served)))
 
-close_step : (drive : PlainDriveSpec) (t : Stock) (k : ℕ) (old : Standing) (b : Begun) (d : Dumping) (s : Side) (reply : PlainReply) (shop : Shop) (session : PlainSession) (holders : List ℕ)
-    → IsOffline drive t k s.session → Served t k s.session (request_in b d Close) reply shop session holders
-    → Leads drive (stock_then t k (request_in b d Close) shop session holders) (attempt_on k b (noted (request_in b d Close) reply d) session) old Close reply
-close_step drive t k old b d s reply shop session holders q served =
-    let r = serve_close t.shop reply t.holders (scene shop session)
-    (subst (λ x. TroubledServeStep NoTrouble t.holders (scene t.shop x) CloseDevice reply (scene shop session)) q.offline served.step) in
+close_step : (drive : PlainDriveSpec) (t : Stock) (k : ℕ) (old : Standing) (b : Begun) (d : Dumping) (s : Side) (reply : PlainReply) (library : TapeLibrary) (session : PlainSession) (holders : List ℕ)
+    → IsOffline drive t k s.session → Served t k s.session (request_in b d Close) reply library session holders
+    → Leads drive (stock_then t k (request_in b d Close) library session holders) (attempt_on k b (noted (request_in b d Close) reply d) session) old Close reply
+close_step drive t k old b d s reply library session holders q served =
+    let r = serve_close t.library reply t.holders (scene library session)
+    (subst (λ x. TroubledServeStep NoTrouble t.holders (scene t.library x) CloseDevice reply (scene library session)) q.offline served.step) in
     let free : holders ≡ 0 ∷ []
     = served.held ∙ ap (λ (v : Scene). with_holder (drive_in v.session) k (with_holder (drive_in s.session) 0 t.holders)) r.1
     ∙ ap (λ x. with_holder (drive_in x) 0 t.holders) q.offline ∙ ap (λ l. slice_set l 0 0) q.holders in
-    close_leads drive t k old b d s.session reply (scene shop session) holders (opens_then t k CloseDevice shop session) free q r
+    close_leads drive t k old b d s.session reply (scene library session) holders (opens_then t k CloseDevice library session) free q r
 
 -- Where the reply to the request leads, by its step.
-pub step_leads : (drive : PlainDriveSpec) (t : Stock) (k : ℕ) (old : Standing) (b : Begun) (d : Dumping) (s : Side) (step : Step) (reply : PlainReply) (shop : Shop) (session : PlainSession)
-    (holders : List ℕ) → Attempt t k old b d s step → StandsBefore step drive t k b d s.session → Served t k s.session (request_in b d step) reply shop session holders
-    → Leads drive (stock_then t k (request_in b d step) shop session holders) (attempt_on k b (noted (request_in b d step) reply d) session) old step reply
-step_leads drive t k old b d s Open reply shop session holders a stands served = open_step drive t k old b d s reply shop session holders a stands served
-step_leads drive t k old b d s (Operation Rewind) reply shop session holders a stands served = rewind_step drive t k old b d s reply shop session holders a stands served
-step_leads drive t k old b d s Look reply shop session holders a stands served = look_step drive t k old b d s reply shop session holders a stands served
-step_leads drive t k old b d s (Operation RewindAgain) reply shop session holders a stands served = again_step drive t k old b d s reply shop session holders a stands served
-step_leads drive t k old b d s Label reply shop session holders a stands served =
-    label_step drive t k old b d s reply shop session holders a stands (its_label old b d a.run a.volume a.first a.lawful) served
-step_leads drive t k old b d s (Block number) reply shop session holders a stands served =
-    block_step drive t k old b d s number reply shop session holders a stands (its_label old b d a.run a.volume a.first a.lawful) served
-step_leads drive t k old b d s (Operation (Mark next)) reply shop session holders a stands served = mark_step drive t k old b d s next reply shop session holders a stands served
-step_leads drive t k old b d s (Operation (Unload next)) reply shop session holders a stands served = unload_step drive t k old b d s next reply shop session holders a stands served
-step_leads drive t k old b d s Close reply shop session holders a stands served = close_step drive t k old b d s reply shop session holders stands served
+pub step_leads : (drive : PlainDriveSpec) (t : Stock) (k : ℕ) (old : Standing) (b : Begun) (d : Dumping) (s : Side) (step : Step) (reply : PlainReply) (library : TapeLibrary) (session : PlainSession)
+    (holders : List ℕ) → Attempt t k old b d s step → StandsBefore step drive t k b d s.session → Served t k s.session (request_in b d step) reply library session holders
+    → Leads drive (stock_then t k (request_in b d step) library session holders) (attempt_on k b (noted (request_in b d step) reply d) session) old step reply
+step_leads drive t k old b d s Open reply library session holders a stands served = open_step drive t k old b d s reply library session holders a stands served
+step_leads drive t k old b d s (Operation Rewind) reply library session holders a stands served = rewind_step drive t k old b d s reply library session holders a stands served
+step_leads drive t k old b d s Look reply library session holders a stands served = look_step drive t k old b d s reply library session holders a stands served
+step_leads drive t k old b d s (Operation RewindAgain) reply library session holders a stands served = again_step drive t k old b d s reply library session holders a stands served
+step_leads drive t k old b d s Label reply library session holders a stands served =
+    label_step drive t k old b d s reply library session holders a stands (its_label old b d a.run a.volume a.first a.lawful) served
+step_leads drive t k old b d s (Block number) reply library session holders a stands served =
+    block_step drive t k old b d s number reply library session holders a stands (its_label old b d a.run a.volume a.first a.lawful) served
+step_leads drive t k old b d s (Operation (Mark next)) reply library session holders a stands served = mark_step drive t k old b d s next reply library session holders a stands served
+step_leads drive t k old b d s (Operation (Unload next)) reply library session holders a stands served = unload_step drive t k old b d s next reply library session holders a stands served
+step_leads drive t k old b d s Close reply library session holders a stands served = close_step drive t k old b d s reply library session holders stands served

@@ -91,9 +91,9 @@ reply_is : OneReply → (w : World) (v : Turn w) (c : Caller) (l : Link) (d : Du
 reply_is g w v c l d progress new a =
     let is = step_is w v c l d progress new a in
     let on = subst (λ s. StandsFor s v.s.session) is.1 (a.served.done.stands v.s refl) in
-    let served = subst (λ q. TroubledServeStep v.trouble w.hall.holders (scene w.hall.shop v.s.session) q v.reply (scene v.shop v.session))
+    let served = subst (λ q. TroubledServeStep v.trouble w.hall.holders (scene w.hall.library v.s.session) q v.reply (scene v.library v.session))
     (a.served.asks ∙ ap (request_in a.served.b d) is.1) v.served.step in
-    let shown = look_online v.trouble w.hall.holders (scene w.hall.shop v.s.session) v.reply (scene v.shop v.session) on.1.0 on.0 on.1.1 served in
+    let shown = look_online v.trouble w.hall.holders (scene w.hall.library v.s.session) v.reply (scene v.library v.session) on.1.0 on.0 on.1.1 served in
     let mine = shown_brief reply_texts v.reply shown.0 in
     let its : IsBrief (DataUpTo label_bytes) a.reply = subst (λ s. IsBrief (wanted_of s) a.reply) is.0 a.brief in
     (g (DataUpTo label_bytes) (reply_text v.reply) [] v.reply a.reply mine.spelled
@@ -113,7 +113,7 @@ shows_both run at reply (inr (shown, data_is, counted)) bytes is none =
 answered_past : OneReply → (w : World) (v : Turn w) (c : Caller) (l : Link) (d : Dumping) (progress : Progress) (new : Standing) (x : Count) → Grounds w
     → HasLawful w → IsAnswered w v c l d progress new → Contains w.counts x → IsSpared w x → HasOpenedSince w x v.k ⊎ ((v.k ≡ v.k) × OpensNow w v) → ⊥
 answered_past g w v c l d progress new x k lawful a counted spared (inr (same, (reel, opened))) =
-    let first = open_step a.served.b d a.served.step v.shop v.session reel (subst (λ q. opened_reel q v.shop v.session ≡ Some reel) a.served.asks opened) in
+    let first = open_step a.served.b d a.served.step v.library v.session reel (subst (λ q. opened_reel q v.library v.session ≡ Some reel) a.served.asks opened) in
     let clash : Look ≡ Open = sym (step_is w v c l d progress new a).1 ∙ first in
     cc
 answered_past g w v c l d progress new x k lawful a counted spared (inl since) =

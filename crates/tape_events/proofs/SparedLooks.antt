@@ -11,7 +11,7 @@ use Rattle.tape.specs.Tape.PlainEntry.{Record}
 use Rattle.tape.specs.Tape.TapeAnswer.{Done as Did, Gave, Fault}
 use Rattle.tape.specs.Trouble.{DeviceStep}
 use Rattle.tape.specs.declared.trouble.Trouble.{Trouble}
-use Rattle.drives.specs.Shop.{rack_at}
+use Rattle.drives.specs.TapeLibrary.{drive_at}
 use Rattle.rmt_server.specs.declared.access.Access.TheVariants.{Both}
 use Rattle.rmt_server.specs.Refusals.{number_of, text_of, refused, tape_refusal}
 use Rattle.rmt_server.specs.Session.{PlainReel, Scene, scene, status_of, refusal, tape_request, reel_reply}
@@ -121,10 +121,10 @@ record IsCountedThere (w : World) (v : Turn w) (c : Caller) (x : Count) : Type 0
 
 -- the session's reel is that of the count
 its_reel : (w : World) (v : Turn w) (c : Caller) (x : Count) → Grounds w → (g : IsLooking w v c x) → (drive : ℕ) (reel : PlainReel)
-    → v.s.session ≡ Online drive Both reel → first_name (rack_at w.hall.shop drive).stack ≡ x.reel
+    → v.s.session ≡ Online drive Both reel → first_name (drive_at w.hall.library drive).stack ≡ x.reel
 its_reel w v c x k g drive reel online =
-    let name = first_name (rack_at w.hall.shop drive).stack in
-    let last = k.opened.last v.k v.s name v.live (ap (written_reel w.hall.shop) online) in
+    let name = first_name (drive_at w.hall.library drive).stack in
+    let last = k.opened.last v.k v.s name v.live (ap (written_reel w.hall.library) online) in
     let (i, m, place, less, opened) = g.since in
     one_reel w.opens v.k g.d (k.single v.k g.l g.d g.at g.dump) (opening v.k name) (opening v.k x.reel) (among_at w.opens last.0 (opening v.k name) last.1)
     (among_at w.opens m (opening v.k x.reel) opened) refl refl
@@ -171,14 +171,14 @@ pub look_finds : (w : World) (v : Turn w) (c : Caller) (x : Count) → Grounds w
 look_finds w v c x k g =
     let t = counted_there w v c x k g in
     let asks : v.request ≡ Read label_bytes = g.served.asks ∙ ap (request_in g.served.b g.d) g.look in
-    let step = subst (λ r. TroubledServeStep v.trouble w.hall.holders (scene w.hall.shop v.s.session) r v.reply (scene v.shop v.session)) asks v.served.step in
+    let step = subst (λ r. TroubledServeStep v.trouble w.hall.holders (scene w.hall.library v.s.session) r v.reply (scene v.library v.session)) asks v.served.step in
     let (z, among, volume, first) = t.has in
     let before = before_checkpoint c.at.run 1 0 c.at.counts z g.lawful.counts among in
     let most = (few_volumes c.at.run 1 0 c.at.counts (omega arith) (omega arith) g.lawful.counts).0 in
     let limit = g.lawful.run.blocks in
     let few = t.few in
     let all = label_whole c.at.run x.volume x.first g.lawful.run (omega (arith, volume, before, most, limit)) (omega (arith, few, limit)) in
-    elim (look_shows v.trouble w.hall.holders (scene w.hall.shop v.s.session) v.reply (scene v.shop v.session) t.drive t.reel
+    elim (look_shows v.trouble w.hall.holders (scene w.hall.library v.s.session) v.reply (scene v.library v.session) t.drive t.reel
     (label c.at.run x.volume x.first) t.rest t.online t.first
     step) [
       | inl error ↦ inl error

@@ -4,7 +4,7 @@ use Rattle.std.specs.Prelude.{option_to_list}
 use Rattle.std.specs.Option.{option_map}
 use Rattle.std.proofs.lemmas.List.{append-nil}
 use Rattle.std.proofs.lemmas.Option.{same_Some}
-use Rattle.drives.specs.Shop.{Shop}
+use Rattle.drives.specs.TapeLibrary.{TapeLibrary}
 use Rattle.rmt_server.specs.Session.{PlainSession}
 use Rattle.dump_run.specs.declared.count.VolumeCount.{VolumeCount}
 use Rattle.dump_client.specs.declared.step.Step.{Step}
@@ -74,7 +74,7 @@ own_place w v earned after single x counted i at =
 
 -- the request opens a reel for writing
 abbrev pub OpensNow : (w : World) → Turn w → Type 0
-OpensNow w v = (reel : List ℕ) × (opened_reel v.request v.shop v.session ≡ Some reel)
+OpensNow w v = (reel : List ℕ) × (opened_reel v.request v.library v.session ≡ Some reel)
 
 -- who opened the reel since had done so, or opens it now
 pub served_since : (w : World) (v : Turn w) (x : Count) (k : ℕ)
@@ -86,7 +86,7 @@ served_since w v x k own (i, m, place, less, opened) = elim (was_placed_new w v 
 ]
 
 -- a write comes after the look
-write_step : (b : Begun) (d : Dumping) (step : Step) (next : ℕ) (s : Shop) (session : PlainSession) (reel : List ℕ)
+write_step : (b : Begun) (d : Dumping) (step : Step) (next : ℕ) (s : TapeLibrary) (session : PlainSession) (reel : List ℕ)
     → reel_written (request_in b d step) s session ≡ Some reel → 3 < steps_len b.run d.first next step
 write_step b d Open next s session reel is = absurd cc
 write_step b d (Operation Rewind) next s session reel is = absurd cc
@@ -99,13 +99,13 @@ write_step b d (Operation (Unload end)) next s session reel is = omega arith
 write_step b d Close next s session reel is = omega arith
 
 pub served_late : OneReading → DroppedWrites → (w : World) (v : Turn w) → AreTold w → AreLateWriters w → AreLateWriters (turned w v)
-served_late g h w v told late y d among (l, at, dump) = by_writing (writing_is w.writings v.k (length w.opens) (reel_written v.request v.shop v.session) y
+served_late g h w v told late y d among (l, at, dump) = by_writing (writing_is w.writings v.k (length w.opens) (reel_written v.request v.library v.session) y
     among)
   where
     more : (x : Link) (e : Dumping) → (p : IsServed w v x e) → d ≡ noted v.request v.reply e → d.carried ≡ e.carried + 1
     more x e p new = ap (λ (z : Dumping). z.carried) new ∙ carried_more e v.request v.reply p.few
 
-    by_writing : Contains w.writings y ⊎ ((reel : List ℕ) × (reel_written v.request v.shop v.session ≡ Some reel) × (y ≡ writing v.k (length w.opens) reel))
+    by_writing : Contains w.writings y ⊎ ((reel : List ℕ) × (reel_written v.request v.library v.session ≡ Some reel) × (y ≡ writing v.k (length w.opens) reel))
         → looked_requests < d.carried
     by_writing (inl before) = elim (served_dump w v y.connection l d at dump) [
       | inl (same, (x, e, was, its, new)) ↦ (
@@ -117,7 +117,7 @@ served_late g h w v told late y d among (l, at, dump) = by_writing (writing_is w
     by_writing (inr (reel, is, new)) = elim (served_dump w v y.connection l d at dump) [
       | inl (same, (x, e, was, its, made)) ↦ (
           let p = served_step g h w v told x e was its in
-          let many = write_step p.b e p.step (e.first + e.blocks) v.shop v.session reel (subst (λ r. reel_written r v.shop v.session ≡ Some reel) p.asks is) in
+          let many = write_step p.b e p.step (e.first + e.blocks) v.library v.session reel (subst (λ r. reel_written r v.library v.session ≡ Some reel) p.asks is) in
           let all = p.done.carried ∙ before_length p.b.run e.first (e.first + e.blocks) p.step in
           let one = more x e p made in
           omega (arith, many, all, one))
@@ -142,7 +142,7 @@ served_stopped g h w v a earned single x k d counted spared since (l, at, dump) 
             omega (arith, few, sent))
         | inr (here, (reel, is)) ↦ (
             let p = served_step g h w v a.told y e was its in
-            let first = open_step p.b e p.step v.shop v.session reel (subst (λ r. opened_reel r v.shop v.session ≡ Some reel) p.asks is) in
+            let first = open_step p.b e p.step v.library v.session reel (subst (λ r. opened_reel r v.library v.session ≡ Some reel) p.asks is) in
             let none = p.done.carried ∙ before_length p.b.run e.first (e.first + e.blocks) p.step ∙ ap (steps_len p.b.run e.first (e.first + e.blocks)) first in
             let few = few_sent w v.k e a.told (y, was, its) in
             omega (arith, none, few, sent))
@@ -161,7 +161,7 @@ served_stopped g h w v a earned single x k d counted spared since (l, at, dump) 
 
 pub served_listed : (w : World) (v : Turn w) → length w.lists ≡ length w.opens → AreListedNow w → AreListedNow (turned w v)
 served_listed w v paired listed k i m c step o list own there at other opens mine from lists =
-    elim (list_is w.lists (list_in w.caller) (opened_reel v.request v.shop v.session) m list lists) [
+    elim (list_is w.lists (list_in w.caller) (opened_reel v.request v.library v.session) m list lists) [
       | inl before ↦ (
           let within = numbered_within w.lists m list before in
           listed k i m c step o list own there at other (at_front w.opens _ i o (omega (arith, within, from, paired)) opens) mine from before)

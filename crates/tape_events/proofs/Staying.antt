@@ -1,13 +1,13 @@
 -- What stays so, in the first world and after each event.
 use Rattle.std.proofs.Common.{◌≡◌, ℕ, zero, suc, List, [], ◌∷◌, length, map, replicate, Contains, Some, refl, sym, ap, subst, ◌∙◌, inl, inr, arith}
 use Rattle.std.specs.Prelude.{slice_get, slice_index_or}
-use Rattle.drives.specs.Shop.{kept_reel, slot, rack}
+use Rattle.drives.specs.TapeLibrary.{kept_reel, slot, drive_with}
 use Rattle.std.proofs.lemmas.Bool.Decides.{eqb_tells}
 use Rattle.std.proofs.lemmas.List.{length-map, length-replicate}
 use Rattle.std.proofs.lemmas.Option.{same_Some}
 use Rattle.tape_events.specs.World.{World}
 use Rattle.tape_events.specs.Events.{PlainEvent}
-use Rattle.tape_events.specs.First.{PlainDriveSpec, AreGoodDrives, blank_rack, first_world}
+use Rattle.tape_events.specs.First.{PlainDriveSpec, AreGoodDrives, blank_drive, first_world}
 use Rattle.tape_events.specs.Steps.{Happens, Runs, none, one_more}
 use Rattle.tape_events.specs.Standing.{AreThere}
 use Rattle.tape_events.specs.Kept.{IsWorldKept}
@@ -47,7 +47,7 @@ blank_there : (capacity : ℕ) (names : List (List ℕ)) → AreThere (map (λ n
 blank_there capacity [] = tt
 blank_there capacity (name ∷ names) = ((kept_reel [] capacity, refl), blank_there capacity names)
 
-first_there : (drives : List PlainDriveSpec) (d : ℕ) → AreThere (slice_index_or (map blank_rack drives) d (rack [] [])).stack
+first_there : (drives : List PlainDriveSpec) (d : ℕ) → AreThere (slice_index_or (map blank_drive drives) d (drive_with [] [])).stack
 first_there [] d = tt
 first_there (drive ∷ drives) zero = blank_there drive.capacity drive.reels
 first_there (drive ∷ drives) (suc d) = first_there drives d
@@ -62,7 +62,7 @@ first_kept drives good = record {
   counted = first_earned drives;
   tidy = record { paired = refl; each = λ k l at. absurd (no_number k l at) };
   held = record {
-    places = length-replicate (length drives) 0 ∙ sym (length-map drives blank_rack);
+    places = length-replicate (length drives) 0 ∙ sym (length-map drives blank_drive);
     opened = λ k d s at drive. absurd (no_number k (Some s) (side_there (first_world drives).hall k s at));
     holds = λ k d at. absurd (no_holder (length drives) d k at);
   };
@@ -147,7 +147,7 @@ pub runs_kept : Laws → (first w : World) (events : List PlainEvent) → IsWorl
 runs_kept g first w events k none = k
 runs_kept g first w events k (one_more {before = before} event run happens) = kept_after g before w event (runs_kept g first before _ k run) happens
 
-pub kept_names : (w u : World) (event : PlainEvent) → IsWorldKept w → Happens w event u → SameNames w.hall.shop u.hall.shop
+pub kept_names : (w u : World) (event : PlainEvent) → IsWorldKept w → Happens w event u → SameNames w.hall.library u.hall.library
 kept_names w u event k happens = names_after w event u happens k.held
 
 pub no_two_holders : (w : World) → IsWorldKept w → NoTwoHolders w
@@ -178,7 +178,7 @@ latched_reels w kept = record {
   once = λ j k d e s t one on two off same. elim (eqb_tells d e) [
     | inl (equal, its) ↦ no_two_holders w kept j k e (s, one, online_drive s.session e (on ∙ ap Some its)) (t, two, online_drive t.session e off)
     | inr (unequal, other) ↦
-        absurd (names_differ w.hall.shop d e kept.once.once other (drive_within w.hall j s d kept.held one (online_drive s.session d on)) (kept.laid.latched d (j, s, one, on))
+        absurd (names_differ w.hall.library d e kept.once.once other (drive_within w.hall j s d kept.held one (online_drive s.session d on)) (kept.laid.latched d (j, s, one, on))
         (drive_within w.hall k t e kept.held two (online_drive t.session e off)) (kept.laid.latched e (k, t, two, off)) same)
   ];
 }

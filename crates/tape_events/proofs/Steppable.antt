@@ -41,12 +41,12 @@ finds_can : (w : World) (k : ℕ) (trouble : Trouble) (s : Side) (found : Result
 finds_can w k trouble s (Ok None) rest some = absurd (some refl)
 finds_can w k trouble s (Err fault) rest some = (_, refl)
 finds_can w k trouble s (Ok (Some request)) rest some =
-    let v = serve_can trouble w.hall.holders (scene w.hall.shop s.session) request in (
+    let v = serve_can trouble w.hall.holders (scene w.hall.library s.session) request in (
       _,
       (
         v.0,
         held rest 0,
-        v.1.shop,
+        v.1.library,
         v.1.session,
         with_holder (drive_in v.1.session) k (with_holder (drive_in s.session) 0 w.hall.holders),
         held_can rest,

@@ -15,8 +15,8 @@ use Rattle.tape.specs.Trouble.{ComesToDevice, DeviceStep, IsSpared, left_after}
 use Rattle.tape.specs.declared.fault.TapeFault.TheVariants as fault
 use Rattle.tape.specs.declared.trouble.Trouble.{Trouble}
 use Rattle.tape.specs.declared.trouble.Trouble.TheVariants as trouble
-use Rattle.drives.specs.Shop.{KeptReel, Rack, rack, shop, waiting_reel, after_latch, after_offline, IsDriveNamed}
-use Rattle.drives.specs.ListShop.{is_set}
+use Rattle.drives.specs.TapeLibrary.{KeptReel, Drive, drive_with, library, waiting_reel, after_latch, after_offline, IsDriveNamed}
+use Rattle.drives.specs.ListLibrary.{is_set}
 use Rattle.drives.specs.declared.fault.DriveFault.TheVariants as drive
 use Rattle.rmt_server.specs.declared.access.Access.{Access}
 use Rattle.rmt_server.specs.Access.{access_of}
@@ -119,7 +119,7 @@ unfolding CanCall
 reel_can set before request d access reel online =
     let call = can_call reel.capacity set reel.tape (tape_request request) in (
       reel_reply request call.0,
-      scene before.shop (Online d access (plain_reel call.1 reel.capacity)),
+      scene before.library (Online d access (plain_reel call.1 reel.capacity)),
       (d, access, reel, call.0, call.1, online, call.2, refl, refl),
     )
 
@@ -129,12 +129,12 @@ op_can false set before op count d access reel online = reel_can set before (Op 
 op_can true set before op count d access reel online = elim (none_or_set set) [
   | inl none ↦ (
     Done count,
-    scene (after_offline before.shop d (entries_of reel.tape) reel.capacity) (Offline d access),
+    scene (after_offline before.library d (entries_of reel.tape) reel.capacity) (Offline d access),
     (d, access, reel, Ok tt, online, none, refl, refl),
   )
   | inr other ↦ (
     move_reply count (Err drive.Device),
-    scene before.shop (Online d access (plain_reel (tape [] (entries_of reel.tape)) reel.capacity)),
+    scene before.library (Online d access (plain_reel (tape [] (entries_of reel.tape)) reel.capacity)),
     (d, access, reel, Err drive.Device, online, other.0, refl, (other.1, (refl, λ taken. cc), refl)),
   )
 ]
@@ -184,15 +184,15 @@ refused_can says set before request None done = done refl
 refused_can says set before request (Some r) done = (says r, before, (refl, refl))
 
 -- the first drive of a name, or none
-later : (name : List ℕ) (r : Rack KeptReel) (rs : List (Rack KeptReel)) (n : ℕ) → r.name ≢ name
-    → ((k : ℕ) → k < n → (slice_index_or rs k (rack [] [])).name ≢ name) → (k : ℕ) → k < suc n → (slice_index_or (r ∷ rs) k (rack [] [])).name ≢ name
+later : (name : List ℕ) (r : Drive KeptReel) (rs : List (Drive KeptReel)) (n : ℕ) → r.name ≢ name
+    → ((k : ℕ) → k < n → (slice_index_or rs k (drive_with [] [])).name ≢ name) → (k : ℕ) → k < suc n → (slice_index_or (r ∷ rs) k (drive_with [] [])).name ≢ name
 later name r rs n here on zero less = here
 later name r rs n here on (suc k) less = on k (omega (arith, less))
 
-abbrev IsNamedIn : List ℕ → List (Rack KeptReel) → Option ℕ → Type 0
-IsNamedIn name racks o = IsDriveNamed name (shop racks []) o
+abbrev IsNamedIn : List ℕ → List (Drive KeptReel) → Option ℕ → Type 0
+IsNamedIn name drives o = IsDriveNamed name (library drives []) o
 
-find_named : (name : List ℕ) (racks : List (Rack KeptReel)) → (o : Option ℕ) × IsNamedIn name racks o
+find_named : (name : List ℕ) (drives : List (Drive KeptReel)) → (o : Option ℕ) × IsNamedIn name drives o
 find_named name [] = (None, λ k within. absurd (omega (arith, within)))
 find_named name (r ∷ rs) = by_test (bytes_eq r.name name) refl (find_named name rs)
   where
@@ -209,42 +209,42 @@ find_named name (r ∷ rs) = by_test (bytes_eq r.name name) refl (find_named nam
     )
 
 -- an open, once nothing is open
-free_can : (set : Trouble) (holders : List ℕ) (before : Scene) (device : List ℕ) (access : Access) (d : ℕ) (o : Option KeptReel) → IsDriveNamed device before.shop (Some d)
-    → holder_of holders (Some d) ≡ 0 → waiting_reel before.shop d ≡ o → (reply : PlainReply) × (after : Scene) × TroubledOpens set holders before device (Some access) reply after
+free_can : (set : Trouble) (holders : List ℕ) (before : Scene) (device : List ℕ) (access : Access) (d : ℕ) (o : Option KeptReel) → IsDriveNamed device before.library (Some d)
+    → holder_of holders (Some d) ≡ 0 → waiting_reel before.library d ≡ o → (reply : PlainReply) × (after : Scene) × TroubledOpens set holders before device (Some access) reply after
 free_can set holders before device access d None named free waits =
-    (open_reply {R = PlainReel} (Err drive.NoReel), scene before.shop Idle, (Err drive.NoReel, Some d, (d, refl, named, (waits, refl)), free, refl, refl))
+    (open_reply {R = PlainReel} (Err drive.NoReel), scene before.library Idle, (Err drive.NoReel, Some d, (d, refl, named, (waits, refl)), free, refl, refl))
 free_can set holders before device access d (Some first) named free waits = elim (none_or_set set) [
   | inl none ↦
       let reel = plain_reel (tape [] first.entries) first.capacity in (
         Done 0,
-        scene (after_latch before.shop d) (Online d access reel),
+        scene (after_latch before.library d) (Online d access reel),
         (Ok (d, reel), Some d, (refl, named, (first, waits, refl, refl, refl)), (free, none), refl, refl),
       )
   | inr other ↦ (
     open_reply {R = PlainReel} (Err drive.Device),
-    scene before.shop Idle,
+    scene before.library Idle,
     (Err drive.Device, Some d, (d, refl, named, (λ e. (let clash = sym waits ∙ e in cc), refl)), (free, other.0), refl, refl),
   )
 ]
 
-held_can : (set : Trouble) (holders : List ℕ) (before : Scene) (device : List ℕ) (access : Access) (d n : ℕ) → IsDriveNamed device before.shop (Some d) → holder_of holders (Some d) ≡ n
+held_can : (set : Trouble) (holders : List ℕ) (before : Scene) (device : List ℕ) (access : Access) (d n : ℕ) → IsDriveNamed device before.library (Some d) → holder_of holders (Some d) ≡ n
     → (reply : PlainReply) × (after : Scene) × TroubledOpens set holders before device (Some access) reply after
-held_can set holders before device access d zero named free = free_can set holders before device access d (waiting_reel before.shop d) named free refl
+held_can set holders before device access d zero named free = free_can set holders before device access d (waiting_reel before.library d) named free refl
 held_can set holders before device access d (suc m) named held = (
   open_reply {R = PlainReel} (Err (drive.Busy (suc m))),
-  scene before.shop Idle,
+  scene before.library Idle,
   (Err (drive.Busy (suc m)), Some d, (d, refl, named, refl), (omega (arith, held), sym held), refl, refl),
 )
 
 open_can : (set : Trouble) (holders : List ℕ) (before : Scene) (device : List ℕ) (access : Option Access)
     → (reply : PlainReply) × (after : Scene) × TroubledOpens set holders before device access reply after
 open_can set holders before device None = (_, before, (refl, refl))
-open_can set holders before device (Some access) = named_can (find_named device before.shop.racks)
+open_can set holders before device (Some access) = named_can (find_named device before.library.drives)
   where
-    named_can : (o : Option ℕ) × IsNamedIn device before.shop.racks o
+    named_can : (o : Option ℕ) × IsNamedIn device before.library.drives o
         → (reply : PlainReply) × (after : Scene) × TroubledOpens set holders before device (Some access) reply after
     named_can (None, named) =
-        (open_reply {R = PlainReel} (Err drive.NoSuchDrive), scene before.shop Idle, (Err drive.NoSuchDrive, None, (named, refl), tt, refl, refl))
+        (open_reply {R = PlainReel} (Err drive.NoSuchDrive), scene before.library Idle, (Err drive.NoSuchDrive, None, (named, refl), tt, refl, refl))
     named_can (Some d, named) = held_can set holders before device access d (holder_of holders (Some d)) named refl
 
 -- whatever is asked

@@ -142,7 +142,7 @@ served_told x g h w v t =
       own = λ d c dump mine there. (
           let m = mapped (noted v.request v.reply) l.dump d dump in
           subst (IsLinkToldAt c.at.stage w.begun (Some s) (answered v.request v.reply l) c) (sym m.2)
-          (serve_told x g h w.begun c.at.stage v.s l c m.0 v.bytes v.rest v.request v.reply v.reached v.trouble w.hall.holders w.hall.shop v.shop v.session t.good
+          (serve_told x g h w.begun c.at.stage v.s l c m.0 v.bytes v.rest v.request v.reply v.reached v.trouble w.hall.holders w.hall.library v.library v.session t.good
           (subst (λ o. IsLinkToldAt c.at.stage w.begun o l c m.0) v.live (told.own m.0 c m.1 mine there)) v.unread v.gives v.left v.served.step));
     }) t
   where

@@ -11,7 +11,7 @@ use Rattle.rmt_wire.specs.Request.PlainRequest.{Open, Close, Write, WriteDropped
 use Rattle.rmt_wire.specs.Reply.{PlainReply}
 use Rattle.rmt_wire.specs.declared.mtio.TheConstants.{MTWEOF}
 use Rattle.tape.specs.declared.trouble.Trouble.{Trouble}
-use Rattle.drives.specs.Shop.{Shop}
+use Rattle.drives.specs.TapeLibrary.{TapeLibrary}
 use Rattle.rmt_server.specs.Refusals.{refused}
 use Rattle.rmt_server.specs.Session.{PlainSession, Scene, scene, status_of, refusal, tape_request}
 use Rattle.rmt_server.specs.TroubledServe.{TroubledReelStep, TroubledServeStep}
@@ -29,16 +29,16 @@ use Rattle.tape_events.proofs.LabelledSteps.{is_write, WritesOn}
 
 -- a request that writes leaves what the session has open
 step_keeps : (trouble : Trouble) (before : Scene) (request : PlainRequest) (reply : PlainReply) (after : Scene) (name : List ℕ)
-    → TroubledReelStep trouble before request reply after → written_reel before.shop before.session ≡ Some name
-    → written_reel after.shop after.session ≡ Some name
+    → TroubledReelStep trouble before request reply after → written_reel before.library before.session ≡ Some name
+    → written_reel after.library after.session ≡ Some name
 step_keeps trouble before request reply after name (drive, access, reel, answer, t, online, call, replies, is) written =
-    ap (λ (v : Scene). written_reel v.shop v.session) is ∙ sym (ap (written_reel before.shop) online) ∙ written
+    ap (λ (v : Scene). written_reel v.library v.session) is ∙ sym (ap (written_reel before.library) online) ∙ written
 
 refused_keeps : {R : Type 0} (o : Option R) (say : R → PlainReply) (trouble : Trouble) (before : Scene) (request : PlainRequest) (reply : PlainReply)
     (after : Scene) (name : List ℕ) → MatchOption o (TroubledReelStep trouble before request reply after) (λ r. (reply ≡ say r) × (after ≡ before))
-    → written_reel before.shop before.session ≡ Some name → written_reel after.shop after.session ≡ Some name
+    → written_reel before.library before.session ≡ Some name → written_reel after.library after.session ≡ Some name
 refused_keeps None say trouble before request reply after name step written = step_keeps trouble before request reply after name step written
-refused_keeps (Some r) say trouble before request reply after name it written = ap (λ (v : Scene). written_reel v.shop v.session) it.1 ∙ written
+refused_keeps (Some r) say trouble before request reply after name it written = ap (λ (v : Scene). written_reel v.library v.session) it.1 ∙ written
 
 -- an operation that writes is that of marks
 marks_alone : (op count : ℕ) → is_write (tape_request (Op op count)) ≡ true → op ≡ MTWEOF
@@ -52,7 +52,7 @@ marks_alone op count is = elim (eqb_tells op MTWEOF) [
 
 write_stays : (trouble : Trouble) (holders : List ℕ) (before : Scene) (request : PlainRequest) (reply : PlainReply) (after : Scene) (name : List ℕ)
     → TroubledServeStep trouble holders before request reply after → WritesOn before request name
-    → reel_written request after.shop after.session ≡ Some name
+    → reel_written request after.library after.session ≡ Some name
 write_stays trouble holders before (Open device mode) reply after name step (is, written) = absurd cc
 write_stays trouble holders before Close reply after name step (is, written) = absurd cc
 write_stays trouble holders before (Write bytes) reply after name step (is, written) =
@@ -64,10 +64,10 @@ write_stays trouble holders before (Op op count) reply after name step (is, writ
     let marks : TroubledServeStep trouble holders before (Op MTWEOF count) reply after
     = subst (λ n. TroubledServeStep trouble holders before (Op n count) reply after) zero_is step in
     let stays = refused_keeps (refusal (status_of before.session) (Op MTWEOF count)) refused trouble before (Op MTWEOF count) reply after name marks written in
-    subst (λ n. reel_written (Op n count) after.shop after.session ≡ Some name) (sym zero_is) stays
+    subst (λ n. reel_written (Op n count) after.library after.session ≡ Some name) (sym zero_is) stays
 
 -- what is written on is open for writing, and an open writes on nothing
-writing_none : (request : PlainRequest) (s : Shop) (session : PlainSession) (name : List ℕ) → reel_written request s session ≡ Some name
+writing_none : (request : PlainRequest) (s : TapeLibrary) (session : PlainSession) (name : List ℕ) → reel_written request s session ≡ Some name
     → (opened_reel request s session ≡ None) × (written_reel s session ≡ Some name)
 writing_none (Open device mode) s session name is = absurd cc
 writing_none Close s session name is = absurd cc
@@ -82,11 +82,11 @@ writing_none (Op op count) s session name is = (refl, if_so (op == MTWEOF) (writ
 
 -- it was so before the request
 was_open : (trouble : Trouble) (holders : List ℕ) (before : Scene) (request : PlainRequest) (reply : PlainReply) (after : Scene) (name : List ℕ)
-    → TroubledServeStep trouble holders before request reply after → reel_written request after.shop after.session ≡ Some name
-    → written_reel before.shop before.session ≡ Some name
+    → TroubledServeStep trouble holders before request reply after → reel_written request after.library after.session ≡ Some name
+    → written_reel before.library before.session ≡ Some name
 was_open trouble holders before request reply after name step is =
-    let w = writing_none request after.shop after.session name is in
-    elim (comes_own holders before after (opened_reel request after.shop after.session) name (step_comes trouble holders before request reply after step) w.1) [
+    let w = writing_none request after.library after.session name is in
+    elim (comes_own holders before after (opened_reel request after.library after.session) name (step_comes trouble holders before request reply after step) w.1) [
       | inl (was, none) ↦ was
       | inr opened ↦ (let clash = sym w.0 ∙ opened in absurd cc)
     ]
@@ -105,18 +105,18 @@ pub writings_after : (w : World) (v : Turn w) (x : Writing) → Contains w.writi
 writings_after w v x among = Contains-append_left w.writings _ x among
 
 -- the writing of the request, where it writes on this reel
-pub writing_there : (w : World) (v : Turn w) (name : List ℕ) → WritesOn (scene w.hall.shop v.s.session) v.request name
+pub writing_there : (w : World) (v : Turn w) (name : List ℕ) → WritesOn (scene w.hall.library v.s.session) v.request name
     → Contains (turned w v).writings (writing v.k (length w.opens) name)
 writing_there w v name writes =
     let new = writing v.k (length w.opens) name in
-    let stays = write_stays v.trouble w.hall.holders (scene w.hall.shop v.s.session) v.request v.reply (scene v.shop v.session) name v.served.step writes in
+    let stays = write_stays v.trouble w.hall.holders (scene w.hall.library v.s.session) v.request v.reply (scene v.library v.session) name v.served.step writes in
     subst (λ o. Contains (w.writings ++ option_to_list (option_map (writing v.k (length w.opens)) o)) new) (sym stays)
     (Contains-append_right w.writings (new ∷ []) new (0, omega arith, refl))
 
 -- The reel of a writing was opened last by its connection, also where one more was opened.
 served_writers : (w : World) (v : Turn w) → AreOpened w → AreWritersLast w → AreWritersLast (turned w v)
 served_writers w v opened writers x among =
-    elim (writing_is w.writings v.k (length w.opens) (reel_written v.request v.shop v.session) x among) [
+    elim (writing_is w.writings v.k (length w.opens) (reel_written v.request v.library v.session) x among) [
       | inl before ↦ old before
       | inr (reel, is, new) ↦ subst (λ y. Holds y) (sym new) (now reel is)
     ]
@@ -128,7 +128,7 @@ served_writers w v opened writers x among =
     Holds y = (y.after ≤ length all) × IsUnopenedSince (take y.after all) y.connection y.reel
 
     more : length w.opens ≤ length all
-    more = let parts = length-append w.opens (option_to_list (option_map (opening v.k) (opened_reel v.request v.shop v.session))) in omega (arith, parts)
+    more = let parts = length-append w.opens (option_to_list (option_map (opening v.k) (opened_reel v.request v.library v.session))) in omega (arith, parts)
 
     front : (n : ℕ) → n ≤ length w.opens → take n all ≡ take n w.opens
     front n within = take-append-le n w.opens _ within
@@ -139,9 +139,9 @@ served_writers w v opened writers x among =
         let within = p.0 in
         (omega (arith, within, more), subst (λ os. IsUnopenedSince os x.connection x.reel) (sym (front x.after p.0)) p.1)
 
-    now : (reel : List ℕ) → reel_written v.request v.shop v.session ≡ Some reel → Holds (writing v.k (length w.opens) reel)
+    now : (reel : List ℕ) → reel_written v.request v.library v.session ≡ Some reel → Holds (writing v.k (length w.opens) reel)
     now reel is =
-        let was = was_open v.trouble w.hall.holders (scene w.hall.shop v.s.session) v.request v.reply (scene v.shop v.session) reel v.served.step is in (
+        let was = was_open v.trouble w.hall.holders (scene w.hall.library v.s.session) v.request v.reply (scene v.library v.session) reel v.served.step is in (
           more,
           subst (λ os. IsUnopenedSince os v.k reel) (sym (front (length w.opens) (omega arith) ∙ take_all (length w.opens) w.opens (omega arith)))
               (opened.last v.k v.s reel v.live was),

@@ -8,9 +8,9 @@ use Rattle.rmt_wire.specs.Reply.PlainReply.{Done, Data, Error}
 use Rattle.rmt_wire.specs.RequestReader.{held}
 use Rattle.rmt_wire.specs.declared.errno.TheConstants.{EIO}
 use Rattle.rmt_wire.specs.declared.mtio.TheConstants.{MTWEOF}
-use Rattle.drives.specs.Shop.{Shop, Slot, rack_at}
+use Rattle.drives.specs.TapeLibrary.{TapeLibrary, ReelSlot, drive_at}
 use Rattle.rmt_server.specs.Access.{writes}
-use Rattle.rmt_server.specs.Session.{PlainSession, closed_shop}
+use Rattle.rmt_server.specs.Session.{PlainSession, closed_library}
 use Rattle.rmt_server.specs.Session.PlainSession.{Idle, Online}
 use Rattle.rmt_server.specs.TroubledServe.{drive_in, with_holder}
 use Rattle.rmt_server.specs.Hall.{Hall, hall, Side, side}
@@ -48,7 +48,7 @@ abbrev pub new_link : Option Dumping → Link
 new_link dump = record { toward = []; back = []; cut = false; other = true; dump = dump }
 
 abbrev pub with_side : Hall → Hall
-with_side h = hall h.shop h.holders (h.sides ++ Some (side (held [] 0) Idle) ∷ [])
+with_side h = hall h.library h.holders (h.sides ++ Some (side (held [] 0) Idle) ∷ [])
 
 abbrev pub joined : World → Option Dumping → World
 joined w dump = record w { hall = with_side w.hall; links = w.links ++ new_link dump ∷ [] }
@@ -77,7 +77,7 @@ given_up w k = record (other_left w k) { own = None }
 abbrev pub ended_from : Hall → ℕ → Option Side → Hall
 ended_from h k None = h
 ended_from h k (Some s) =
-    hall (closed_shop h.shop s.session) (with_holder (drive_in s.session) 0 h.holders) (with_numbered h.sides k None)
+    hall (closed_library h.library s.session) (with_holder (drive_in s.session) 0 h.holders) (with_numbered h.sides k None)
 
 abbrev pub ended : Hall → ℕ → Hall
 ended h k = ended_from h k (side_of h k)
@@ -94,17 +94,17 @@ abbrev pub restarted : World → World
 restarted w = record w { hall = all_ended w.hall (length w.hall.sides); links = map over_here w.links }
 
 -- the name of the first reel of a stack
-abbrev pub first_name : {X : Type 0} → List (Slot X) → List ℕ
+abbrev pub first_name : {X : Type 0} → List (ReelSlot X) → List ℕ
 first_name [] = []
 first_name (first ∷ rest) = first.name
 
 -- the reel that is open for writing
-abbrev pub written_reel : Shop → PlainSession → Option (List ℕ)
-written_reel s (Online drive access reel) = if writes access then Some (first_name (rack_at s drive).stack) else None
+abbrev pub written_reel : TapeLibrary → PlainSession → Option (List ℕ)
+written_reel s (Online drive access reel) = if writes access then Some (first_name (drive_at s drive).stack) else None
 written_reel s session = None
 
 -- the reel that this request opened for writing, if it did
-abbrev pub opened_reel : PlainRequest → Shop → PlainSession → Option (List ℕ)
+abbrev pub opened_reel : PlainRequest → TapeLibrary → PlainSession → Option (List ℕ)
 opened_reel (Open device mode) s session = written_reel s session
 opened_reel request s session = None
 
@@ -124,7 +124,7 @@ is_writing (Op op count) = op == MTWEOF
 is_writing request = false
 
 -- the reel on which this request writes, if the session has one open for writing
-abbrev pub reel_written : PlainRequest → Shop → PlainSession → Option (List ℕ)
+abbrev pub reel_written : PlainRequest → TapeLibrary → PlainSession → Option (List ℕ)
 reel_written request s session = if is_writing request then written_reel s session else None
 
 abbrev pub writing : ℕ → ℕ → List ℕ → Writing

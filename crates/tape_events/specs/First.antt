@@ -1,7 +1,7 @@
 -- The world before any event, and those that events make of it. Public contracts cite it.
 use Rattle.std.specs.Prelude.{◌≡◌, ℕ, IsTrue, List, [], length, map, flat_map, replicate, Some, None}
 use Rattle.std.specs.Int.{IsInRange}
-use Rattle.drives.specs.Shop.{KeptReel, kept_reel, slot, Rack, rack, shop}
+use Rattle.drives.specs.TapeLibrary.{KeptReel, kept_reel, slot, Drive, drive_with, library}
 use Rattle.drives.specs.Arranging.{are_distinct}
 use Rattle.drives.specs.declared.holds.TheConstants.{DRIVE_LIMIT}
 use Rattle.rmt_wire.specs.RequestReader.{Unread}
@@ -17,8 +17,8 @@ pub record PlainDriveSpec : Type 0 where
   pub capacity : ℕ
   pub reels : List (List ℕ)
 
-abbrev pub blank_rack : PlainDriveSpec → Rack KeptReel
-blank_rack d = rack d.name (map (λ name. slot name (Some (kept_reel [] d.capacity))) d.reels)
+abbrev pub blank_drive : PlainDriveSpec → Drive KeptReel
+blank_drive d = drive_with d.name (map (λ name. slot name (Some (kept_reel [] d.capacity))) d.reels)
 
 -- 1 to `DRIVE_LIMIT` drives, no two of one name, and no two reels of one name
 abbrev pub AreGoodDrives : List PlainDriveSpec → Type 0
@@ -29,7 +29,7 @@ AreGoodDrives drives =
 -- nothing has happened: empty reels, no connection, no run
 abbrev pub first_world : List PlainDriveSpec → World
 first_world drives = record {
-  hall = hall (shop (map blank_rack drives) []) (replicate (length drives) 0) [];
+  hall = hall (library (map blank_drive drives) []) (replicate (length drives) 0) [];
   links = [];
   begun = [];
   caller = None;
@@ -51,7 +51,7 @@ IsReached w = (drives : List PlainDriveSpec) × (events : List PlainEvent) × Ar
 -- each connection has a server's side, live or over, and each drive a holder, or 0
 pub record IsPaired (w : World) : Type 0 where
   pub links : length w.hall.sides ≡ length w.links
-  pub holders : length w.hall.holders ≡ length w.hall.shop.racks
+  pub holders : length w.hall.holders ≡ length w.hall.library.drives
 
 -- something is unread by each live side, if only no bytes
 abbrev pub IsReadable : World → Type 0

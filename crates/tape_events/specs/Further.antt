@@ -1,6 +1,6 @@
 -- What is told of each world beside the headline. Public contracts cite it.
 use Rattle.std.specs.Prelude.{◌≡◌, ◌≢◌, ◌⊎◌, ℕ, ◌+◌, ◌<◌, ◌≤◌, ◌++◌, true, List, [], length, map, slice_get, Contains, Some}
-use Rattle.drives.specs.Shop.{rack_at}
+use Rattle.drives.specs.TapeLibrary.{drive_at}
 use Rattle.rmt_server.specs.Hall.{Side}
 use Rattle.rmt_server.specs.Session.{PlainReel}
 use Rattle.dump_run.specs.declared.count.VolumeCount.{VolumeCount}
@@ -24,9 +24,9 @@ SentRequests w = (k : ℕ) (d : Dumping) → HasDump w k d → (d.sent ≡ d.car
 -- A latched reel is first on the stack of the drive that its session holds, and no other session has it.
 pub record LatchedReels (w : World) : Type 0 where
   pub first : (k d : ℕ) (s : Side) → side_of w.hall k ≡ Some s → online_drive_in s.session ≡ Some d
-      → IsFirstAway (rack_at w.hall.shop d).stack × (slice_get w.hall.holders d ≡ Some k)
+      → IsFirstAway (drive_at w.hall.library d).stack × (slice_get w.hall.holders d ≡ Some k)
   pub once : (j k d e : ℕ) (s t : Side) → side_of w.hall j ≡ Some s → online_drive_in s.session ≡ Some d → side_of w.hall k ≡ Some t
-      → online_drive_in t.session ≡ Some e → first_name (rack_at w.hall.shop d).stack ≡ first_name (rack_at w.hall.shop e).stack → j ≡ k
+      → online_drive_in t.session ≡ Some e → first_name (drive_at w.hall.library d).stack ≡ first_name (drive_at w.hall.library e).stack → j ≡ k
 
 -- What the attempt wrote stands on the reel, and nothing else. While its session has that reel in its drive and was not asked for
 -- MTOFFL, its place is the end.

@@ -29,7 +29,7 @@ pub record IsOnItsReel (w : World) (x : Count) : Type 0 where
   pub begun_as : numbered w.begun x.run ≡ Some begun
   pub within : x.first + x.count ≤ begun.run.blocks
   pub opened : Contains w.opens (opening x.connection x.reel)
-  pub there : HasReel w.hall.shop x.reel
+  pub there : HasReel w.hall.library x.reel
   pub whole : IsSpared w x → ReelHoldsJust w.hall x.reel (whole_volume begun.run begun.payload x.volume x.first x.count)
 
 abbrev pub CountedReels : World → Type 0

@@ -2,7 +2,7 @@
 -- cite it.
 use Rattle.std.specs.Prelude.{◌≡◌, ◌≢◌, ℕ, ◌<◌, true, false, [], length, Contains, Option, Some, None}
 use Rattle.rmt_server.specs.Hall.{Hall, Side}
-use Rattle.drives.specs.Shop.{rack_at}
+use Rattle.drives.specs.TapeLibrary.{drive_at}
 use Rattle.dump_run.specs.Run.{IsRun}
 use Rattle.dump_run.specs.Counts.{AreVolumes}
 use Rattle.dump_client.specs.Lawful.{IsLawful}
@@ -33,9 +33,9 @@ pub record AreTidy (w : World) : Type 0 where
 
 -- A reel is away from its slot only as the first of its stack, and exactly while a session is online at the drive.
 pub record AreLaid (h : Hall) : Type 0 where
-  pub latched : (d : ℕ) → IsOnlineAt h d → IsFirstAway (rack_at h.shop d).stack
-  pub lying : (d : ℕ) → (IsOnlineAt h d → ⊥) → AreThere (rack_at h.shop d).stack
-  pub bin : AreThere h.shop.bin
+  pub latched : (d : ℕ) → IsOnlineAt h d → IsFirstAway (drive_at h.library d).stack
+  pub lying : (d : ℕ) → (IsOnlineAt h d → ⊥) → AreThere (drive_at h.library d).stack
+  pub bin : AreThere h.library.bin
 
 -- The run that is kept outside of the client is the last that was begun, and is not entered. Its list begins it, in order, and was
 -- counted.

@@ -1,20 +1,20 @@
 -- How the headline is proved: what stays so of the names of reels, of the openings and of the writings. No sentence of it names these
 -- points. Public contracts stand on it (through Kept).
 use Rattle.std.specs.Prelude.{◌≡◌, ◌≢◌, ℕ, ◌<◌, ◌≤◌, List, length, take, Contains, Some}
-use Rattle.drives.specs.Shop.{Shop, names_in, times, EachReelOnce}
+use Rattle.drives.specs.TapeLibrary.{TapeLibrary, names_in, times, EachReelOnce}
 use Rattle.rmt_server.specs.Hall.{Side}
 use Rattle.tape_events.specs.World.{World, Opening, Writing, numbered}
 use Rattle.tape_events.specs.Changes.{side_of, written_reel, opening}
 use Rattle.tape_events.specs.Standing.{HasReel}
 
 -- no name of a reel comes or goes
-abbrev pub SameNames : Shop → Shop → Type 0
+abbrev pub SameNames : TapeLibrary → TapeLibrary → Type 0
 SameNames before after = (name : List ℕ) → times name (names_in after) ≡ times name (names_in before)
 
 -- No two reels have one name, and the reel of each opening is there.
 pub record AreNamed (w : World) : Type 0 where
-  pub once : EachReelOnce w.hall.shop
-  pub opened : (o : Opening) → Contains w.opens o → HasReel w.hall.shop o.reel
+  pub once : EachReelOnce w.hall.library
+  pub opened : (o : Opening) → Contains w.opens o → HasReel w.hall.library o.reel
 
 -- Of the opens for writing after that of connection k none is of this reel.
 abbrev pub IsUnopenedSince : List Opening → ℕ → List ℕ → Type 0
@@ -25,7 +25,7 @@ IsUnopenedSince opens k reel = (i : ℕ) × (numbered opens i ≡ Some (opening 
 pub record AreOpened (w : World) : Type 0 where
   pub there : (o : Opening) → Contains w.opens o → (1 ≤ o.connection) × (o.connection ≤ length w.links)
   pub last : (k : ℕ) (s : Side) (reel : List ℕ) → side_of w.hall k ≡ Some s
-      → written_reel w.hall.shop s.session ≡ Some reel → IsUnopenedSince w.opens k reel
+      → written_reel w.hall.library s.session ≡ Some reel → IsUnopenedSince w.opens k reel
 
 -- Each writing was by the connection that opened its reel last, of the opens for writing that had been accepted by then.
 abbrev pub AreWritersLast : World → Type 0

@@ -5,7 +5,7 @@ use Rattle.rmt_wire.specs.RequestParts.{Gives}
 use Rattle.rmt_wire.specs.RequestReader.{RequestHeld, Unread, taken_of}
 use Rattle.rmt_wire.specs.declared.limits.TheConstants.{READER_LIMIT}
 use Rattle.rmt_wire.specs.declared.fault.WireFault.{WireFault}
-use Rattle.drives.specs.Shop.{IsDriveNamed}
+use Rattle.drives.specs.TapeLibrary.{IsDriveNamed}
 use Rattle.drives.specs.Arranging.{are_distinct, is_piled}
 use Rattle.std.specs.List.{list_all}
 use Rattle.rmt_server.specs.Hall.{Hall, Side}
@@ -58,8 +58,8 @@ IsRequestFound h found = (bytes : List ℕ) × (rest : List ℕ) × Unread h byt
 -- the drive is there and free, and these reels may lie on its stack
 abbrev pub MayArrange : Hall → List ℕ → List (List ℕ) → Type 0
 MayArrange h drive reels =
-    (d : ℕ) × IsDriveNamed drive h.shop (Some d) × (slice_index_or h.holders d 0 ≡ 0)
-    × IsTrue (are_distinct reels) × IsTrue (list_all (is_piled h.shop d) reels)
+    (d : ℕ) × IsDriveNamed drive h.library (Some d) × (slice_index_or h.holders d 0 ≡ 0)
+    × IsTrue (are_distinct reels) × IsTrue (list_all (is_piled h.library d) reels)
 
 -- its run is not abandoned, nor finished and entered
 abbrev pub MayBeKept : World → Caller → Type 0

@@ -2,7 +2,7 @@
 use Rattle.std.specs.Prelude.{◌≡◌, ◌≢◌, ◌⊎◌, ℕ, ◌+◌, ◌<◌, ◌≤◌, Bool, true, false, List, [], ◌∷◌, ◌++◌, length, map, take, drop, slice_get, Contains, Option, Some, None}
 use Rattle.tape.specs.Tape.{PlainEntry, tape, offset_of}
 use Rattle.tape.specs.declared.trouble.Trouble.TheVariants.{None as NoTrouble}
-use Rattle.drives.specs.Shop.{KeptReel, kept_reel, Slot, slot, rack, Shop, shop, names_of}
+use Rattle.drives.specs.TapeLibrary.{KeptReel, kept_reel, ReelSlot, slot, drive_with, TapeLibrary, library, names_of}
 use Rattle.rmt_wire.specs.Reply.{PlainReply, reply_text}
 use Rattle.rmt_wire.specs.declared.errno.TheConstants.{ENOENT, ENOMEM, ENXIO}
 use Rattle.rmt_server.specs.Hall.{Side}
@@ -85,37 +85,37 @@ is_between stage = false
 pub record VolumesInOrder (drive : PlainDriveSpec) (w : World) : Type 0 where
   pub failure : FailsFaultless drive w
   pub reels : (i : ℕ) (x : Count) → slice_get w.counts i ≡ Some x → (slice_get drive.reels i ≡ Some x.reel) × HoldsVolume w x
-  pub bin : StandsIn w (λ stage. is_between stage ≡ true) → names_of w.hall.shop.bin ≡ map (λ x. x.reel) w.counts
+  pub bin : StandsIn w (λ stage. is_between stage ≡ true) → names_of w.hall.library.bin ≡ map (λ x. x.reel) w.counts
 
 -- as much of a world as tells where its reels are
 pub record Stock : Type 0 where
-  pub shop : Shop
+  pub library : TapeLibrary
   pub holders : List ℕ
   pub counts : List Count
   pub begun : List Begun
   pub opens : List Opening
 
 abbrev pub stock_of : World → Stock
-stock_of w = record { shop = w.hall.shop; holders = w.hall.holders; counts = w.counts; begun = w.begun; opens = w.opens }
+stock_of w = record { library = w.hall.library; holders = w.hall.holders; counts = w.counts; begun = w.begun; opens = w.opens }
 
 -- reels of these names, on which nothing was written
-abbrev pub blanks : PlainDriveSpec → List (List ℕ) → List (Slot KeptReel)
+abbrev pub blanks : PlainDriveSpec → List (List ℕ) → List (ReelSlot KeptReel)
 blanks drive names = map (λ name. slot name (Some (kept_reel [] drive.capacity))) names
 
 -- the one drive with this stack, and this bin
-abbrev pub one_drive : PlainDriveSpec → List (Slot KeptReel) → List (Slot KeptReel) → Shop
-one_drive drive stack bin = shop (rack drive.name stack ∷ []) bin
+abbrev pub one_drive : PlainDriveSpec → List (ReelSlot KeptReel) → List (ReelSlot KeptReel) → TapeLibrary
+one_drive drive stack bin = library (drive_with drive.name stack ∷ []) bin
 
 -- the volume of a count, where its run was begun
 abbrev pub volume_by : Option Begun → Count → List PlainEntry
 volume_by None x = []
 volume_by (Some b) x = whole_volume b.run b.payload x.volume x.first x.count
 
-abbrev pub volume_slot : ℕ → List Begun → Count → Slot KeptReel
+abbrev pub volume_slot : ℕ → List Begun → Count → ReelSlot KeptReel
 volume_slot capacity begun x = slot x.reel (Some (kept_reel (volume_by (numbered begun x.run) x) capacity))
 
 -- the reels of the counts, each with its volume, in order
-abbrev pub volume_slots : PlainDriveSpec → Stock → List (Slot KeptReel)
+abbrev pub volume_slots : PlainDriveSpec → Stock → List (ReelSlot KeptReel)
 volume_slots drive t = map (volume_slot drive.capacity t.begun) t.counts
 
 -- the names of the reels that were not counted, in their order
@@ -124,7 +124,7 @@ names_left drive t = drop (length t.counts) drive.reels
 
 -- No session has the drive: it has the reels that were not counted, blank, and the bin those that were.
 pub record IsFree (drive : PlainDriveSpec) (t : Stock) : Type 0 where
-  pub shop : t.shop ≡ one_drive drive (blanks drive (names_left drive t)) (volume_slots drive t)
+  pub library : t.library ≡ one_drive drive (blanks drive (names_left drive t)) (volume_slots drive t)
   pub holders : t.holders ≡ 0 ∷ []
 
 -- Connection k has the next reel in the drive. What the attempt wrote stands on it, its place is the end, and from the label up to
@@ -133,7 +133,7 @@ pub record IsLatched (drive : PlainDriveSpec) (t : Stock) (k : ℕ) (b : Begun) 
   pub name : List ℕ
   pub others : List (List ℕ)
   pub next : names_left drive t ≡ name ∷ others
-  pub shop : t.shop ≡ one_drive drive (slot name None ∷ blanks drive others) (volume_slots drive t)
+  pub library : t.library ≡ one_drive drive (slot name None ∷ blanks drive others) (volume_slots drive t)
   pub holders : t.holders ≡ k ∷ []
   pub online : session ≡ Online 0 Both (plain_reel (tape (attempt_written b.run b.payload d) []) drive.capacity)
   pub opened : Contains t.opens (opening k name)
@@ -144,7 +144,7 @@ pub record IsMoved (drive : PlainDriveSpec) (t : Stock) (k : ℕ) (b : Begun) (d
   pub name : List ℕ
   pub others : List (List ℕ)
   pub next : names_left drive t ≡ name ∷ others
-  pub shop : t.shop ≡ one_drive drive (blanks drive others) (volume_slots drive t
+  pub library : t.library ≡ one_drive drive (blanks drive others) (volume_slots drive t
       ++ slot name (Some (kept_reel (whole_volume b.run b.payload d.volume d.first d.blocks) drive.capacity)) ∷ [])
   pub holders : t.holders ≡ k ∷ []
   pub offline : session ≡ Offline 0 Both
@@ -152,7 +152,7 @@ pub record IsMoved (drive : PlainDriveSpec) (t : Stock) (k : ℕ) (b : Begun) (d
 
 -- The attempt's volume is counted, and its session has the drive still open.
 pub record IsOffline (drive : PlainDriveSpec) (t : Stock) (k : ℕ) (session : PlainSession) : Type 0 where
-  pub shop : t.shop ≡ one_drive drive (blanks drive (names_left drive t)) (volume_slots drive t)
+  pub library : t.library ≡ one_drive drive (blanks drive (names_left drive t)) (volume_slots drive t)
   pub holders : t.holders ≡ k ∷ []
   pub offline : session ≡ Offline 0 Both
 
@@ -168,7 +168,7 @@ abbrev pub StandsThen : Progress → Stage → PlainDriveSpec → Stock → ℕ 
 StandsThen moved.Send (ToSend Close) drive t k b d session = IsMoved drive t k b d session
 StandsThen moved.Send (ToSend step) drive t k b d session = StandsBefore step drive t k b d session
 StandsThen (moved.Failed fault) Asking drive t k b d session =
-    IsFaultlessFailure drive.capacity b.run fault × (t.shop.bin ≡ volume_slots drive t)
+    IsFaultlessFailure drive.capacity b.run fault × (t.library.bin ≡ volume_slots drive t)
 StandsThen moved.Ended Ready drive t k b d session = IsFree drive t
 StandsThen moved.Ended Finished drive t k b d session = IsFree drive t
 StandsThen progress stage drive t k b d session = ⊥
@@ -217,7 +217,7 @@ pub record IsStepAnswered (drive : PlainDriveSpec) (w : World) (a : Attempt) (l 
   pub reply : PlainReply
   pub text : fed ++ l.back ≡ reply_text reply
   pub brief : IsBrief (wanted_of step) reply
-  pub bin : (more : List (Slot KeptReel)) × (w.hall.shop.bin ≡ volume_slots drive (stock_of w) ++ more)
+  pub bin : (more : List (ReelSlot KeptReel)) × (w.hall.library.bin ≡ volume_slots drive (stock_of w) ++ more)
   pub leads : Leads drive (stock_of w) a c.at step reply
 
 -- how all stands, by the stage of the client
@@ -228,7 +228,7 @@ ReelsStandAt (ToSend step) drive w c =
 ReelsStandAt (Waiting step) drive w c =
     (k : ℕ) × (l : Link) × (d : Dumping) × (b : Begun) × (s : Side) × IsOwnLink w k l d b s
     × (IsStepUnanswered drive w (attempt_on k b d s.session) l step ⊎ IsStepAnswered drive w (attempt_on k b d s.session) l c step)
-ReelsStandAt Asking drive w c = w.hall.shop.bin ≡ volume_slots drive (stock_of w)
+ReelsStandAt Asking drive w c = w.hall.library.bin ≡ volume_slots drive (stock_of w)
 ReelsStandAt Abandoned drive w c = ⊥
 ReelsStandAt stage drive w c = IsFree drive (stock_of w)
 

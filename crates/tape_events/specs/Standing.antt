@@ -1,7 +1,7 @@
 -- Which session has a drive open, where a reel is, and what stands on it. Public contracts cite it.
 use Rattle.std.specs.Prelude.{◌≡◌, ◌⊎◌, ℕ, suc, ◌<◌, List, [], ◌∷◌, length, slice_get, Option, Some, None}
 use Rattle.tape.specs.Tape.{PlainEntry, entries_of}
-use Rattle.drives.specs.Shop.{KeptReel, Slot, Shop, rack_at, names_in, times}
+use Rattle.drives.specs.TapeLibrary.{KeptReel, ReelSlot, TapeLibrary, drive_at, names_in, times}
 use Rattle.rmt_server.specs.declared.access.Access.{Access}
 use Rattle.rmt_server.specs.declared.access.Access.TheVariants.{Both}
 use Rattle.rmt_server.specs.Session.{PlainReel, PlainSession}
@@ -17,7 +17,7 @@ HasOpen h k d = (s : Side) × (side_of h k ≡ Some s) × (drive_in s.session �
 -- The holder of a drive is the connection whose live side has it open, with its reel or without it. A drive that none has open
 -- has no holder.
 pub record AreHeld (h : Hall) : Type 0 where
-  pub places : length h.holders ≡ length h.shop.racks
+  pub places : length h.holders ≡ length h.library.drives
   pub opened : (k d : ℕ) (s : Side) → side_of h k ≡ Some s → drive_in s.session ≡ Some d → slice_get h.holders d ≡ Some k
   pub holds : (k d : ℕ) → slice_get h.holders d ≡ Some (suc k) → HasOpen h (suc k) d
 
@@ -36,48 +36,48 @@ abbrev pub IsOnlineWith : PlainSession → PlainReel → Type 0
 IsOnlineWith session reel = (drive : ℕ) × (session ≡ Online drive Both reel)
 
 -- each of these has its reel
-abbrev pub AreThere : List (Slot KeptReel) → Type 0
+abbrev pub AreThere : List (ReelSlot KeptReel) → Type 0
 AreThere [] = Unit {0}
 AreThere (first ∷ rest) = ((reel : KeptReel) × (first.reel ≡ Some reel)) × AreThere rest
 
 -- the first is away, and it alone
-abbrev pub IsFirstAway : List (Slot KeptReel) → Type 0
+abbrev pub IsFirstAway : List (ReelSlot KeptReel) → Type 0
 IsFirstAway [] = ⊥
 IsFirstAway (first ∷ rest) = (first.reel ≡ None) × AreThere rest
 
 -- a reel of that name is there: on a stack, in a drive or in the bin
-abbrev pub HasReel : Shop → List ℕ → Type 0
+abbrev pub HasReel : TapeLibrary → List ℕ → Type 0
 HasReel s name = 0 < times name (names_in s)
 
 -- a reel of that name lies there, and has these entries
-pub record IsReelOf (x : Slot KeptReel) (name : List ℕ) (entries : List PlainEntry) : Type 0 where
+pub record IsReelOf (x : ReelSlot KeptReel) (name : List ℕ) (entries : List PlainEntry) : Type 0 where
   pub named : x.name ≡ name
   pub reel : KeptReel
   pub there : x.reel ≡ Some reel
   pub holds : reel.entries ≡ entries
 
 -- one of these does
-abbrev pub ReelLiesIn : List (Slot KeptReel) → List ℕ → List PlainEntry → Type 0
+abbrev pub ReelLiesIn : List (ReelSlot KeptReel) → List ℕ → List PlainEntry → Type 0
 ReelLiesIn [] name entries = ⊥
 ReelLiesIn (x ∷ xs) name entries = IsReelOf x name entries ⊎ ReelLiesIn xs name entries
 
 -- a reel of that name lies on a stack or in the bin
-abbrev pub ReelLiesOn : Shop → List ℕ → List PlainEntry → Type 0
-ReelLiesOn s name entries = ((d : ℕ) × ReelLiesIn (rack_at s d).stack name entries) ⊎ ReelLiesIn s.bin name entries
+abbrev pub ReelLiesOn : TapeLibrary → List ℕ → List PlainEntry → Type 0
+ReelLiesOn s name entries = ((d : ℕ) × ReelLiesIn (drive_at s d).stack name entries) ⊎ ReelLiesIn s.bin name entries
 
 -- The session is online, and the reel in its drive, the first of the drive's stack, has that name and these entries.
-abbrev pub HasInDrive : Shop → PlainSession → List ℕ → List PlainEntry → Type 0
+abbrev pub HasInDrive : TapeLibrary → PlainSession → List ℕ → List PlainEntry → Type 0
 HasInDrive s session name entries =
     (drive : ℕ) × (access : Access) × (reel : PlainReel) × (session ≡ Online drive access reel)
-    × (first_name (rack_at s drive).stack ≡ name) × (entries_of reel.tape ≡ entries)
+    × (first_name (drive_at s drive).stack ≡ name) × (entries_of reel.tape ≡ entries)
 
 -- one of the live sides has it in a drive
 abbrev pub IsInDrive : Hall → List ℕ → List PlainEntry → Type 0
-IsInDrive h name entries = (k : ℕ) × (s : Side) × (side_of h k ≡ Some s) × HasInDrive h.shop s.session name entries
+IsInDrive h name entries = (k : ℕ) × (s : Side) × (side_of h k ≡ Some s) × HasInDrive h.library s.session name entries
 
 -- These entries stand on the reel of that name, wherever it is.
 abbrev pub StandsOn : Hall → List ℕ → List PlainEntry → Type 0
-StandsOn h name entries = ReelLiesOn h.shop name entries ⊎ IsInDrive h name entries
+StandsOn h name entries = ReelLiesOn h.library name entries ⊎ IsInDrive h name entries
 
 -- They do, and no others.
 abbrev pub ReelHoldsJust : Hall → List ℕ → List PlainEntry → Type 0

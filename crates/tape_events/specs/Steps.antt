@@ -7,7 +7,7 @@ use Rattle.rmt_wire.specs.RequestReader.{RequestHeld, Unread}
 use Rattle.rmt_wire.specs.ReplyReader.{ReplyHeld, reply_held}
 use Rattle.rmt_wire.specs.declared.fault.WireFault.{WireFault}
 use Rattle.tape.specs.declared.trouble.Trouble.{Trouble}
-use Rattle.drives.specs.Shop.{Shop, IsDriveNamed}
+use Rattle.drives.specs.TapeLibrary.{TapeLibrary, IsDriveNamed}
 use Rattle.drives.specs.Arranging.{arranged}
 use Rattle.rmt_server.specs.Session.{PlainSession, scene}
 use Rattle.rmt_server.specs.TroubledServe.{TroubledServe}
@@ -106,27 +106,27 @@ IsPushed before piece after =
 -- so many bytes are pushed
 abbrev pub reached_by : World → ℕ → ℕ → Side → RequestHeld → World
 reached_by w k n s reached = record (calm w) {
-  hall = hall w.hall.shop w.hall.holders (with_numbered w.hall.sides k (Some (side reached s.session)));
+  hall = hall w.hall.library w.hall.holders (with_numbered w.hall.sides k (Some (side reached s.session)));
   links = changed (λ l. record l { toward = drop n l.toward }) w.links k;
 }
 
 -- one request is carried out, and its reply is on the way back
-abbrev pub carried : World → ℕ → PlainRequest → PlainReply → RequestHeld → Shop → PlainSession → List ℕ → World
-carried w k request reply reached shop session holders = record (calm w) {
-  hall = hall shop holders (with_numbered w.hall.sides k (Some (side reached session)));
+abbrev pub carried : World → ℕ → PlainRequest → PlainReply → RequestHeld → TapeLibrary → PlainSession → List ℕ → World
+carried w k request reply reached library session holders = record (calm w) {
+  hall = hall library holders (with_numbered w.hall.sides k (Some (side reached session)));
   links = changed (answered request reply) w.links k;
-  opens = w.opens ++ option_to_list (option_map (opening k) (opened_reel request shop session));
-  lists = w.lists ++ option_to_list (option_map (λ reel. list_in w.caller) (opened_reel request shop session));
-  writings = w.writings ++ option_to_list (option_map (writing k (length w.opens)) (reel_written request shop session));
+  opens = w.opens ++ option_to_list (option_map (opening k) (opened_reel request library session));
+  lists = w.lists ++ option_to_list (option_map (λ reel. list_in w.caller) (opened_reel request library session));
+  writings = w.writings ++ option_to_list (option_map (writing k (length w.opens)) (reel_written request library session));
 }
 
 -- the server's side finds a request, or a fault, which ends it
 abbrev pub Finds : World → ℕ → Trouble → Side → Result (Option PlainRequest) WireFault → List ℕ → World → Type 0
 Finds w k trouble s (Ok None) rest u = ⊥
 Finds w k trouble s (Ok (Some request)) rest u =
-    (reply : PlainReply) × (reached : RequestHeld) × (shop : Shop) × (session : PlainSession) × (holders : List ℕ) × Unread reached rest
-    × TroubledServe trouble w.hall.holders k (scene w.hall.shop s.session) request reply (scene shop session) holders
-    × (u ≡ carried w k request reply reached shop session holders)
+    (reply : PlainReply) × (reached : RequestHeld) × (library : TapeLibrary) × (session : PlainSession) × (holders : List ℕ) × Unread reached rest
+    × TroubledServe trouble w.hall.holders k (scene w.hall.library s.session) request reply (scene library session) holders
+    × (u ≡ carried w k request reply reached library session holders)
 Finds w k trouble s (Err fault) rest u = u ≡ ended_at (calm w) k
 
 -- so many bytes are fed to the client, and what comes of that is told of its connection
@@ -208,8 +208,8 @@ WorldStep w (Respond answer) u =
       kept = kept_after answer w.kept;
     })
 WorldStep w (Arrange drive reels) u =
-    (d : ℕ) × IsDriveNamed drive w.hall.shop (Some d)
-    × (u ≡ record (calm w) { hall = hall (arranged w.hall.shop d reels) w.hall.holders w.hall.sides })
+    (d : ℕ) × IsDriveNamed drive w.hall.library (Some d)
+    × (u ≡ record (calm w) { hall = hall (arranged w.hall.library d reels) w.hall.holders w.hall.sides })
 WorldStep w Stranger u = u ≡ joined (calm w) None
 WorldStep w (Says k bytes) u =
     u ≡ record (calm w) { links = changed (λ l. record l { toward = sent_on l.cut l.toward bytes }) w.links k }

@@ -60,7 +60,7 @@ pub fn kept()
         Runs (first_world drives) events w → IsWorldKept w }
     ensures reached { (w : World) → IsReached w → IsWorldKept w }
     ensures steps { (w : World) (event : PlainEvent) → IsWorldKept w → Possible w event → (u : World) × Happens w event u }
-    ensures names { (w u : World) (event : PlainEvent) → IsWorldKept w → Happens w event u → SameNames w.hall.shop u.hall.shop }
+    ensures names { (w u : World) (event : PlainEvent) → IsWorldKept w → Happens w event u → SameNames w.hall.library u.hall.library }
     ensures headline { (w : World) → IsWorldKept w → Headline w }
     ensures holders { (w : World) → IsWorldKept w → AreHeld w.hall }
     ensures no_two_holders { (w : World) → IsWorldKept w → NoTwoHolders w }

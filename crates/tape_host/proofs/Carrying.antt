@@ -5,8 +5,8 @@ use Rattle.rmt_wire.specs.Reply.{PlainReply}
 use Rattle.tape.specs.Trouble.{TroubledTape}
 use Rattle.tape.specs.declared.trouble.Trouble.{Trouble}
 use Rattle.tape.specs.declared.trouble.Trouble.TheVariants.{None as NoTrouble}
-use Rattle.drives.specs.ListShop.{troubled_in}
-use Rattle.drives.specs.Shop.{EachReelOnce}
+use Rattle.drives.specs.ListLibrary.{troubled_in}
+use Rattle.drives.specs.TapeLibrary.{EachReelOnce}
 use Rattle.rmt_server.specs.declared.session.desk.Opened.{Opened}
 use Rattle.rmt_server.specs.Session.{Scene}
 use Rattle.rmt_server.specs.State.{drive_of, IsAt, Tells, KeepsDrives}
@@ -21,8 +21,8 @@ use Rattle.tape_host.proofs.Ended.{TellsScene}
 pub record Laws : Type 0 where
   pub at : (reel : Trouble) (stacks : Bool) (x : MemoryState) → IsAt in_memory x → IsAt in_memory (with_troubles reel stacks x)
   pub told : (reel : Trouble) (stacks : Bool) (x : MemoryState) (v : Scene) → Tells in_memory x v → Tells in_memory (with_troubles reel stacks x) v
-  pub set : (reel : Trouble) (stacks : Bool) (x : MemoryState) → troubled_in x.drives.stacks.shop ≡ 0 → IsTroubled reel stacks (with_troubles reel stacks x)
-  pub request : (trouble : Trouble) (request : PlainRequest) (x : MemoryState) → troubled_in x.drives.stacks.shop ≡ 0 → IsSetFor trouble request (set_for trouble request x)
+  pub set : (reel : Trouble) (stacks : Bool) (x : MemoryState) → troubled_in x.drives.stacks.library ≡ 0 → IsTroubled reel stacks (with_troubles reel stacks x)
+  pub request : (trouble : Trouble) (request : PlainRequest) (x : MemoryState) → troubled_in x.drives.stacks.library ≡ 0 → IsSetFor trouble request (set_for trouble request x)
   pub scene : TellsScene
   pub one : (x : MemoryState) (v : Scene) → Tells in_memory x v → v ≡ scene_seen x
   pub serves : (trouble : Trouble) (old new : MemoryState) (before : Scene) (request : PlainRequest) (reply : PlainReply) → IsAt in_memory old → Tells in_memory old before
@@ -59,7 +59,7 @@ module _ (laws : Laws) (trouble : Trouble) (request : PlainRequest) (reply : Pla
         (laws.one (with_troubles NoTrouble false middle) under.after tells) under.served;
     calm = record {
       at = laws.at NoTrouble false middle carried.at;
-      told = (refl, subst EachReelOnce tells.shop.0 tells.shop.1);
+      told = (refl, subst EachReelOnce tells.library.0 tells.library.1);
       calm = laws.set NoTrouble false middle under.lying;
     };
     kept = kept;

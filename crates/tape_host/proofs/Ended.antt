@@ -5,8 +5,8 @@ use Rattle.tape.specs.Trouble.{TroubledTape}
 use Rattle.tape.specs.declared.trouble.Trouble.TheVariants.{None as NoTrouble}
 use Rattle.tape.specs.contracts.troubled.TroubledReelReel.TheImpl.{ghosts as of_reel}
 use Rattle.drives.specs.Local.{IsHeldBy}
-use Rattle.drives.specs.ListShop.{shop_of, IsShop}
-use Rattle.drives.specs.Shop.{Shop, EachReelOnce}
+use Rattle.drives.specs.ListLibrary.{library_of, IsLibrary}
+use Rattle.drives.specs.TapeLibrary.{TapeLibrary, EachReelOnce}
 use Rattle.drives.specs.Stacking.{ReelCanFail}
 use Rattle.rmt_server.specs.Session.{Scene}
 use Rattle.rmt_server.specs.State.{state, drive_of, reel_of, IsAt, Tells, SessionCanFail, KeepsDrives}
@@ -31,7 +31,7 @@ OthersStay = (old new : MemoryDrives) (one after other : MemoryDesk) → IsAt in
     → IsAt in_memory (state new other)
 
 abbrev pub TellsScene : Type 0
-TellsScene = (x : MemoryState) → IsShop x.drives.stacks (shop_of x.drives.stacks) → Tells in_memory x (scene_seen x)
+TellsScene = (x : MemoryState) → IsLibrary x.drives.stacks (library_of x.drives.stacks) → Tells in_memory x (scene_seen x)
 
 abbrev pub EndsUntroubled : Type 0
 EndsUntroubled = (stacks : Bool) (old new : MemoryState) (before : Scene) → IsAt in_memory old → Tells in_memory old before
@@ -43,7 +43,7 @@ eq_or_ne m n = grind arith
 some_is : (a b : ℕ) → Some a ≡ Some b → a ≡ b
 some_is a b o = cc
 
-hall_is : {x y : Shop} {a b : List ℕ} {m n : List (Option Side)} → x ≡ y → a ≡ b → m ≡ n → hall x a m ≡ hall y b n
+hall_is : {x y : TapeLibrary} {a b : List ℕ} {m n : List (Option Side)} → x ≡ y → a ≡ b → m ≡ n → hall x a m ≡ hall y b n
 hall_is {x} {y} {a} {b} {m} {n} e f g = ap (λ z. hall z a m) e ∙ ap (λ z. hall y z m) f ∙ ap (λ z. hall y b z) g
 
 -- a side that is not live has no end
@@ -117,11 +117,11 @@ module _ (others : OthersStay) (scene : TellsScene) (ends : EndsUntroubled) {dri
       let apart : n ≢ k = λ same. was.1 (holds_open h d k s live (l, was.0 ∙ same)) in
       (found.0, side_other sides k n None apart ∙ found.1)
 
-  ended_tidy : LieBut (shop_of drives'.stacks) (IsOnlineAt (map (option_map seen_side) (with_side_at sides k None)))
+  ended_tidy : LieBut (library_of drives'.stacks) (IsOnlineAt (map (option_map seen_side) (with_side_at sides k None)))
   ended_tidy =
       let others = OnlineBeside (map (option_map seen_side) sides) k in
-      side_tidy sides k s is None (shop_of drives.stacks) (shop_of drives'.stacks) h.tidy
-      (λ own. subst (λ (x : Shop). LieBut x (Either None others)) left.tells.shop.0 (closed_fits others (shop_of drives.stacks) (session_seen s.session.opened) own))
+      side_tidy sides k s is None (library_of drives.stacks) (library_of drives'.stacks) h.tidy
+      (λ own. subst (λ (x : TapeLibrary). LieBut x (Either None others)) left.tells.library.0 (closed_fits others (library_of drives.stacks) (session_seen s.session.opened) own))
 
   pub ended_hosting : IsHosting drives' (with_side_at sides k None) next
   ended_hosting = record {
@@ -129,7 +129,7 @@ module _ (others : OthersStay) (scene : TellsScene) (ends : EndsUntroubled) {dri
     held = ended_held;
     waiting = subst (λ n. IsNextWaiting drives' n next) (sym (length_with sides k None))
         (waiting_stays others live.number live.at c.at c.kept (length sides) next (side_within sides k s is).1 c.same_seats h.waiting);
-    told = (refl, subst EachReelOnce left.tells.shop.0 left.tells.shop.1);
+    told = (refl, subst EachReelOnce left.tells.library.0 left.tells.library.1);
     paired = c.kept.same_holds ∙ h.paired ∙ sym c.kept.same_stacks;
     quiet = false_unless drives'.stacks.trouble (λ t. calm_before (c.quiet (inl (inl t))));
     lying = left.lying;
@@ -138,5 +138,5 @@ module _ (others : OthersStay) (scene : TellsScene) (ends : EndsUntroubled) {dri
 
   pub ended_hall : hall_of drives' (with_side_at sides k None) ≡ ended (hall_of drives sides) k
   ended_hall =
-      hall_is (sym left.tells.shop.0) left.held (map_with seen_side sides k None)
+      hall_is (sym left.tells.library.0) left.held (map_with seen_side sides k None)
       ∙ ap (ended_from (hall_of drives sides) k) (sym (side_map seen_side sides k ∙ ap (option_map seen_side) is))

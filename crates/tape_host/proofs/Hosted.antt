@@ -7,10 +7,10 @@ use Rattle.std.proofs.lemmas.Grind.{common_steps}
 use Rattle.rmt_wire.specs.RequestReader.{RequestHeld, held, dropped_line, UnreadAt, Unread}
 use Rattle.tape.specs.Trouble.{TroubledTape}
 use Rattle.drives.specs.declared.view.View.{View}
-use Rattle.drives.specs.Shop.{latched_at}
+use Rattle.drives.specs.TapeLibrary.{latched_at}
 use Rattle.drives.specs.Holding.{newcomer, HoldsJust}
 use Rattle.drives.specs.Local.{Holders, holders, IsSeatOf, IsHeldBy}
-use Rattle.drives.specs.ListShop.{shop_of, IsShop, troubled_in, StacksCanFail}
+use Rattle.drives.specs.ListLibrary.{library_of, IsLibrary, troubled_in, StacksCanFail}
 use Rattle.rmt_server.specs.declared.access.Access.{Access}
 use Rattle.rmt_server.specs.declared.session.desk.Opened.{Opened}
 use Rattle.rmt_server.specs.Session.PlainSession.{Idle}
@@ -42,8 +42,8 @@ none_unless zero h = refl
 none_unless (suc n) h = absurd (h (omega arith))
 
 -- drives that no seat holds, and no connection
-pub first_hosting : (drives : MemoryDrives) (n : ℕ) → drives.holds ≡ holders (replicate n 0) 0 → length drives.stacks.shop.racks ≡ n
-    → IsShop drives.stacks (shop_of drives.stacks) → (StacksCanFail drives.stacks → ⊥) → AllLie (shop_of drives.stacks) → IsHosting drives [] Nothing
+pub first_hosting : (drives : MemoryDrives) (n : ℕ) → drives.holds ≡ holders (replicate n 0) 0 → length drives.stacks.library.drives ≡ n
+    → IsLibrary drives.stacks (library_of drives.stacks) → (StacksCanFail drives.stacks → ⊥) → AllLie (library_of drives.stacks) → IsHosting drives [] Nothing
 first_hosting drives n e all told quiet rested =
     let numbers : drives.holds.numbers ≡ replicate n 0 = ap (λ h. h.numbers) e in
     let same : length drives.holds.numbers ≡ n = ap length numbers ∙ length-replicate n 0 in
@@ -56,8 +56,8 @@ first_hosting drives n e all told quiet rested =
       told = told;
       paired = same ∙ sym all;
       quiet = false_unless drives.stacks.trouble (λ t. quiet (inl t));
-      lying = none_unless (troubled_in drives.stacks.shop) (λ x. quiet (inr x));
-      tidy = lie_first (shop_of drives.stacks) (IsOnlineAt []) rested;
+      lying = none_unless (troubled_in drives.stacks.library) (λ x. quiet (inr x));
+      tidy = lie_first (library_of drives.stacks) (IsOnlineAt []) rested;
     }
 
 seen_with : (drive : ℕ) (access : Access) (reel : Option TroubledTape) → drive_in (session_with drive access reel) ≡ Some drive
@@ -99,12 +99,12 @@ module _ {drives : MemoryDrives} {sides : List (Option RealSide)} {next : Next} 
   )
 
   -- no reel is latched at a drive that has no holder
-  pub unlatched : (d : ℕ) → IsHeldBy drives.holds d 0 → latched_at (shop_of drives.stacks) d ≡ None
+  pub unlatched : (d : ℕ) → IsHeldBy drives.holds d 0 → latched_at (library_of drives.stacks) d ≡ None
   unlatched d none =
       let nobody : IsOnlineAt (map (option_map seen_side) sides) d → ⊥ = none_online sides d (λ k s e o. (
       let held = open_holds d k s (h.live k s e) o in
       let within = side_within sides k s e in absurd (omega (arith, within.0, held.1, none.1)))) in
-      none_away (latched_at (shop_of drives.stacks) d) (λ first. nobody (h.tidy.first d first))
+      none_away (latched_at (library_of drives.stacks) d) (λ first. nobody (h.tidy.first d first))
 
 -- what the law of more seats says
 abbrev pub KeepsSeats : Type 0
@@ -214,7 +214,7 @@ module _ {drives : MemoryDrives} {sides : List (Option RealSide)} {s : RealSide}
     paired = h.paired;
     quiet = h.quiet;
     lying = h.lying;
-    tidy = joined_tidy sides s (shop_of drives.stacks) h.tidy;
+    tidy = joined_tidy sides s (library_of drives.stacks) h.tidy;
   }
 
 nothing_kept : (line : Option (ℕ × ℕ)) (r : RequestHeld) → UnreadAt line r [] → length r.kept ≡ 0
@@ -234,5 +234,5 @@ pub joined_hall : (drives : MemoryDrives) (sides : List (Option RealSide)) (s : 
     → hall_of drives (sides ++ Some s ∷ []) ≡ joined (hall_of drives sides)
 joined_hall drives sides s h =
     let fresh : seen_side s ≡ side (held [] 0) Idle = ap (λ r. side r (session_seen s.session.opened)) (unread_nothing s.reader h.waiting.2) ∙ ap (λ o. side (held [] 0) (session_seen o)) h.waiting.1.idle in
-    ap (λ xs. hall (shop_of drives.stacks) drives.holds.numbers xs)
+    ap (λ xs. hall (library_of drives.stacks) drives.holds.numbers xs)
     (map-append (option_map seen_side) sides (Some s ∷ []) ∙ ap (λ x. map (option_map seen_side) sides ++ Some x ∷ []) fresh)

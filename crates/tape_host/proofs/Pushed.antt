@@ -4,7 +4,7 @@ use Rattle.std.proofs.lemmas.List.{set-set}
 use Rattle.std.proofs.lemmas.Option.{same_Some}
 use Rattle.rmt_wire.specs.RequestReader.{RequestHeld, Unread}
 use Rattle.drives.specs.Local.{IsHeldBy}
-use Rattle.drives.specs.ListShop.{shop_of}
+use Rattle.drives.specs.ListLibrary.{library_of}
 use Rattle.rmt_server.specs.Hall.{hall}
 use Rattle.tape_host.specs.declared.side.Side.{Side as RealSide}
 use Rattle.tape_host.specs.declared.side.Next.{Next}
@@ -56,7 +56,7 @@ module _ {drives : MemoryDrives} {sides : List (Option RealSide)} {next : Next} 
     paired = h.paired;
     quiet = h.quiet;
     lying = h.lying;
-    tidy = side_tidy sides k s is (Some (with_reader s reader)) (shop_of drives.stacks) (shop_of drives.stacks) h.tidy (λ own. own);
+    tidy = side_tidy sides k s is (Some (with_reader s reader)) (library_of drives.stacks) (library_of drives.stacks) h.tidy (λ own. own);
   }
 
 -- it is seen as a piece that was taken in
@@ -66,7 +66,7 @@ pub pushed_seen : (drives : MemoryDrives) (sides : List (Option RealSide)) (read
     → IsPiecePushed (hosted (hall_of drives sides) ready) k piece (side_at (map (option_map seen_side) sides) k) count new
 pushed_seen drives sides ready k s piece count reader new is takes e =
     subst (λ o. IsPiecePushed (hosted (hall_of drives sides) ready) k piece o count new) (sym (side_map seen_side sides k ∙ ap (option_map seen_side) is))
-    (reader, takes, e ∙ ap (λ xs. hosted (hall (shop_of drives.stacks) drives.holds.numbers xs) ready) (map_with seen_side sides k (Some (with_reader s reader))))
+    (reader, takes, e ∙ ap (λ xs. hosted (hall (library_of drives.stacks) drives.holds.numbers xs) ready) (map_with seen_side sides k (Some (with_reader s reader))))
 
 pub pushed_none : (drives : MemoryDrives) (sides : List (Option RealSide)) (ready : Bool) (k : ℕ) (piece : List ℕ) (new : Hosted)
     → side_at sides k ≡ None → new ≡ hosted (hall_of drives sides) ready

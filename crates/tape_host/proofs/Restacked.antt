@@ -2,9 +2,9 @@
 use Rattle.std.proofs.Common.{◌≡◌, ◌≢◌, ℕ, ◌+◌, Bool, false, List, length, map, option_map, Option, Some, Result, Ok, Err, MatchResult, refl, sym, ap, subst, ◌∙◌, inl, inr, arith}
 use Rattle.drives.specs.declared.fault.DriveFault.{DriveFault}
 use Rattle.drives.specs.Arranging.{arranged}
-use Rattle.drives.specs.Shop.{Shop}
+use Rattle.drives.specs.TapeLibrary.{TapeLibrary}
 use Rattle.drives.specs.Local.{IsSeatOf, IsHeldBy}
-use Rattle.drives.specs.ListShop.{ListShop, shop_of, IsShop, troubled_in, StacksCanFail}
+use Rattle.drives.specs.ListLibrary.{ListLibrary, library_of, IsLibrary, troubled_in, StacksCanFail}
 use Rattle.drives.specs.Stacking.{HasLatched}
 use Rattle.rmt_server.specs.State.{state, drive_of, IsAt}
 use Rattle.rmt_server.specs.Memory.{in_memory}
@@ -26,17 +26,17 @@ LeavesFree = (drives : MemoryDrives) (desk : MemoryDesk) (d : ℕ) → IsAt in_m
 abbrev pub StaysElsewhere : Type 0
 StaysElsewhere = (old new : MemoryDrives) (desk : MemoryDesk) (d : ℕ) → IsAt in_memory (state old desk) → drive_of desk.opened ≢ Some d
     → IsSeatOf new.holds desk.seat → length new.holds.numbers ≡ length old.holds.numbers
-    → length new.stacks.shop.racks ≡ length old.stacks.shop.racks
-    → ((e : ℕ) → e ≢ d → HasLatched IsShop old.stacks e → HasLatched IsShop new.stacks e) → IsAt in_memory (state new desk)
+    → length new.stacks.library.drives ≡ length old.stacks.library.drives
+    → ((e : ℕ) → e ≢ d → HasLatched IsLibrary old.stacks e → HasLatched IsLibrary new.stacks e) → IsAt in_memory (state new desk)
 
-cannot : (stacks : ListShop) → stacks.trouble ≡ false → troubled_in stacks.shop ≡ 0 → StacksCanFail stacks → ⊥
+cannot : (stacks : ListLibrary) → stacks.trouble ≡ false → troubled_in stacks.library ≡ 0 → StacksCanFail stacks → ⊥
 cannot stacks quiet lying (inl f) = absurd cc
 cannot stacks quiet lying (inr f) = absurd (omega (arith, f, lying))
 
 module _ (free : LeavesFree) (elsewhere : StaysElsewhere) {drives : MemoryDrives} {sides : List (Option RealSide)} {next : Next}
-    (h : IsHosting drives sides next) (d : ℕ) (none : IsHeldBy drives.holds d 0) (stacks : ListShop)
-    (same : length stacks.shop.racks ≡ length drives.stacks.shop.racks)
-    (others : (e : ℕ) → e ≢ d → HasLatched IsShop drives.stacks e → HasLatched IsShop stacks e) where
+    (h : IsHosting drives sides next) (d : ℕ) (none : IsHeldBy drives.holds d 0) (stacks : ListLibrary)
+    (same : length stacks.library.drives ≡ length drives.stacks.library.drives)
+    (others : (e : ℕ) → e ≢ d → HasLatched IsLibrary drives.stacks e → HasLatched IsLibrary stacks e) where
   abbrev after : MemoryDrives
   after = record { holds = drives.holds; stacks = stacks }
 
@@ -56,16 +56,16 @@ module _ (free : LeavesFree) (elsewhere : StaysElsewhere) {drives : MemoryDrives
   none_there = none_online sides d (λ k s e. free drives s.session d (h.live k s e).at none)
 
   restacked_tidy : {U : Type 0} (names : List (List ℕ)) (result : Result U DriveFault)
-      → MatchResult result (λ _. shop_of stacks ≡ arranged (shop_of drives.stacks) d names) (λ _. shop_of stacks ≡ shop_of drives.stacks)
-      → LieBut (shop_of stacks) (IsOnlineAt (map (option_map seen_side) sides))
+      → MatchResult result (λ _. library_of stacks ≡ arranged (library_of drives.stacks) d names) (λ _. library_of stacks ≡ library_of drives.stacks)
+      → LieBut (library_of stacks) (IsOnlineAt (map (option_map seen_side) sides))
   restacked_tidy names (Ok x) e =
-      subst (λ (s : Shop). LieBut s (IsOnlineAt (map (option_map seen_side) sides))) (sym e)
-      (lie_arranged (shop_of drives.stacks) d names (IsOnlineAt (map (option_map seen_side) sides)) h.tidy none_there)
-  restacked_tidy names (Err why) e = subst (λ (s : Shop). LieBut s (IsOnlineAt (map (option_map seen_side) sides))) (sym e) h.tidy
+      subst (λ (s : TapeLibrary). LieBut s (IsOnlineAt (map (option_map seen_side) sides))) (sym e)
+      (lie_arranged (library_of drives.stacks) d names (IsOnlineAt (map (option_map seen_side) sides)) h.tidy none_there)
+  restacked_tidy names (Err why) e = subst (λ (s : TapeLibrary). LieBut s (IsOnlineAt (map (option_map seen_side) sides))) (sym e) h.tidy
 
   pub restacked_hosting : {U : Type 0} (names : List (List ℕ)) (result : Result U DriveFault)
-      → MatchResult result (λ _. shop_of stacks ≡ arranged (shop_of drives.stacks) d names) (λ _. shop_of stacks ≡ shop_of drives.stacks)
-      → IsShop stacks (shop_of stacks) → (StacksCanFail stacks → StacksCanFail drives.stacks) → IsHosting after sides next
+      → MatchResult result (λ _. library_of stacks ≡ arranged (library_of drives.stacks) d names) (λ _. library_of stacks ≡ library_of drives.stacks)
+      → IsLibrary stacks (library_of stacks) → (StacksCanFail stacks → StacksCanFail drives.stacks) → IsHosting after sides next
   restacked_hosting names result order told quiet =
       let calm : StacksCanFail drives.stacks → ⊥ = cannot drives.stacks h.quiet h.lying in
       record {
@@ -75,13 +75,13 @@ module _ (free : LeavesFree) (elsewhere : StaysElsewhere) {drives : MemoryDrives
         told = told;
         paired = h.paired ∙ sym same;
         quiet = false_unless stacks.trouble (λ t. calm (quiet (inl t)));
-        lying = none_unless (troubled_in stacks.shop) (λ x. calm (quiet (inr x)));
+        lying = none_unless (troubled_in stacks.library) (λ x. calm (quiet (inr x)));
         tidy = restacked_tidy names result order;
       }
 
 -- the order is seen, or nothing where it was refused
-pub restacked_seen : {U : Type 0} (drives : MemoryDrives) (stacks : ListShop) (sides : List (Option RealSide)) (ready : Bool) (d : ℕ) (names : List (List ℕ)) (result : Result U DriveFault)
-    → MatchResult result (λ _. shop_of stacks ≡ arranged (shop_of drives.stacks) d names) (λ _. shop_of stacks ≡ shop_of drives.stacks)
+pub restacked_seen : {U : Type 0} (drives : MemoryDrives) (stacks : ListLibrary) (sides : List (Option RealSide)) (ready : Bool) (d : ℕ) (names : List (List ℕ)) (result : Result U DriveFault)
+    → MatchResult result (λ _. library_of stacks ≡ arranged (library_of drives.stacks) d names) (λ _. library_of stacks ≡ library_of drives.stacks)
     → MatchResult result (λ _. hosted (hall_of (record { holds = drives.holds; stacks = stacks }) sides) ready ≡ hosted (restacked (hall_of drives sides) d names) ready)
     (λ _. hosted (hall_of (record { holds = drives.holds; stacks = stacks }) sides) ready ≡ hosted (hall_of drives sides) ready)
 restacked_seen drives stacks sides ready d names (Ok x) e = ap (λ s. hosted (hall s drives.holds.numbers (map (option_map seen_side) sides)) ready) e

@@ -9,19 +9,19 @@ use Rattle.tape.specs.Tape.{entries_of}
 use Rattle.tape.specs.declared.trouble.Trouble.{Trouble}
 use Rattle.drives.specs.declared.fault.DriveFault.{DriveFault}
 use Rattle.drives.specs.declared.fault.DriveFault.TheVariants.{NoSuchDrive, Busy, NoReel, Device, OutOfMemory, NameTaken}
-use Rattle.drives.specs.Shop.{Shop, kept_reel}
+use Rattle.drives.specs.TapeLibrary.{TapeLibrary, kept_reel}
 use Rattle.drives.specs.Opening.{OpenStep}
 use Rattle.rmt_server.specs.declared.access.Access.{Access}
 use Rattle.rmt_server.specs.declared.session.desk.Opened.{Opened}
 use Rattle.rmt_server.specs.Access.{access_of}
 use Rattle.rmt_server.specs.Refusals.{refused}
-use Rattle.rmt_server.specs.Session.{PlainReel, PlainSession, Scene, status_of, refusal, closed, closed_shop, session_after, is_offline, MovesAs}
+use Rattle.rmt_server.specs.Session.{PlainReel, PlainSession, Scene, status_of, refusal, closed, closed_library, session_after, is_offline, MovesAs}
 use Rattle.rmt_server.specs.Session.PlainSession.{Idle, Offline, Online}
 use Rattle.rmt_server.specs.State.{drive_of}
 use Rattle.rmt_server.specs.Memory.{session_with, session_seen}
 use Rattle.rmt_server.specs.TroubledServe.{drive_in, with_holder, TroubledReelStep, TroubledMoveStep, TroubledOpStep, TroubledDoneStep, TroubledOpens, TroubledServeStep}
 use Rattle.rmt_server.specs.Hall.{Side}
-use Rattle.drives.specs.ListShop.{is_set}
+use Rattle.drives.specs.ListLibrary.{is_set}
 use Rattle.tape_host.specs.declared.side.Side.{Side as RealSide}
 use Rattle.tape_host.specs.Halls.{side_at, with_side_at}
 use Rattle.tape_host.specs.Lying.{LieBut, online_drive_in, online_by, IsOnlineAt}
@@ -36,7 +36,7 @@ Either own others d = (own ≡ Some d) ⊎ others d
 -- ---- one request of a session, where others have drives open
 
 module _ (others : ℕ → Type 0) where
-  abbrev Fits : Shop → PlainSession → Type 0
+  abbrev Fits : TapeLibrary → PlainSession → Type 0
   Fits s x = LieBut s (Either (online_drive_in x) others)
 
   given_up : (drive e : ℕ) → e ≢ drive → Either (Some drive) others e → Either None others e
@@ -47,72 +47,72 @@ module _ (others : ℕ → Type 0) where
   taken_up drive e apart (inl own) = absurd cc
   taken_up drive e apart (inr other) = inr other
 
-  pub closed_fits : (s : Shop) (x : PlainSession) → Fits s x → Fits (closed_shop s x) Idle
+  pub closed_fits : (s : TapeLibrary) (x : PlainSession) → Fits s x → Fits (closed_library s x) Idle
   closed_fits s Idle h = h
   closed_fits s (Offline drive access) h = h
   closed_fits s (Online drive access reel) h =
       lie_laid s drive (Either (Some drive) others) (Either None others) h (given_up drive) (kept_reel (entries_of reel.tape) reel.capacity)
 
-  same_fits : (v w : Scene) → w ≡ v → Fits v.shop v.session → Fits w.shop w.session
-  same_fits v w same h = subst (λ (x : Scene). Fits x.shop x.session) (sym same) h
+  same_fits : (v w : Scene) → w ≡ v → Fits v.library v.session → Fits w.library w.session
+  same_fits v w same h = subst (λ (x : Scene). Fits x.library x.session) (sym same) h
 
-  same_shop : (s now : Shop) → now ≡ s → Fits s Idle → Fits now Idle
-  same_shop s now same h = subst (λ (x : Shop). Fits x Idle) (sym same) h
+  same_library : (s now : TapeLibrary) → now ≡ s → Fits s Idle → Fits now Idle
+  same_library s now same h = subst (λ (x : TapeLibrary). Fits x Idle) (sym same) h
 
-  latched_fits : (device : List ℕ) (asked : Option ℕ) (access : Access) (result : Result (ℕ × PlainReel) DriveFault) (s now : Shop)
+  latched_fits : (device : List ℕ) (asked : Option ℕ) (access : Access) (result : Result (ℕ × PlainReel) DriveFault) (s now : TapeLibrary)
       → OpenStep (λ reel t. reel.tape ≡ t) (λ reel. reel.capacity) device asked result s now → Fits s Idle → Fits now (session_after access result)
   latched_fits device asked access (Ok opened) s now step h =
-      subst (λ (x : Shop). Fits x (Online opened.0 access opened.1)) (sym step.2.2)
+      subst (λ (x : TapeLibrary). Fits x (Online opened.0 access opened.1)) (sym step.2.2)
       (lie_latched s opened.0 (Either None others) (Either (Some opened.0) others) h (taken_up opened.0) (inl refl))
-  latched_fits device asked access (Err NoSuchDrive) s now step h = same_shop s now step.1 h
-  latched_fits device asked access (Err (Busy n)) s now step h = same_shop s now step.3 h
-  latched_fits device asked access (Err NoReel) s now step h = same_shop s now step.3.1 h
-  latched_fits device asked access (Err Device) s now step h = same_shop s now step.3.1 h
-  latched_fits device asked access (Err OutOfMemory) s now step h = same_shop s now step.3.1 h
-  latched_fits device asked access (Err NameTaken) s now step h = same_shop s now step.3.1 h
+  latched_fits device asked access (Err NoSuchDrive) s now step h = same_library s now step.1 h
+  latched_fits device asked access (Err (Busy n)) s now step h = same_library s now step.3 h
+  latched_fits device asked access (Err NoReel) s now step h = same_library s now step.3.1 h
+  latched_fits device asked access (Err Device) s now step h = same_library s now step.3.1 h
+  latched_fits device asked access (Err OutOfMemory) s now step h = same_library s now step.3.1 h
+  latched_fits device asked access (Err NameTaken) s now step h = same_library s now step.3.1 h
 
   opened_fits : (trouble : Trouble) (holders : List ℕ) (v : Scene) (device : List ℕ) (access : Option Access) (reply : PlainReply) (w : Scene)
-      → v.session ≡ Idle → TroubledOpens trouble holders v device access reply w → Fits v.shop v.session → Fits w.shop w.session
+      → v.session ≡ Idle → TroubledOpens trouble holders v device access reply w → Fits v.library v.session → Fits w.library w.session
   opened_fits trouble holders v device None reply w idle step h = same_fits v w step.1 h
   opened_fits trouble holders v device (Some access) reply w idle step h =
-      subst (Fits w.shop) (sym step.5) (latched_fits device step.1 access step.0 v.shop w.shop step.2 (subst (Fits v.shop) idle h))
+      subst (Fits w.library) (sym step.5) (latched_fits device step.1 access step.0 v.library w.library step.2 (subst (Fits v.library) idle h))
 
   reel_fits : (trouble : Trouble) (v : Scene) (request : PlainRequest) (reply : PlainReply) (w : Scene) → TroubledReelStep trouble v request reply w
-      → Fits v.shop v.session → Fits w.shop w.session
+      → Fits v.library v.session → Fits w.library w.session
   reel_fits trouble v request reply w (drive, access, reel, answer, t, is, step, told, after) h =
-      subst (λ (x : Scene). Fits x.shop x.session) (sym after) (subst (Fits v.shop) is h)
+      subst (λ (x : Scene). Fits x.library x.session) (sym after) (subst (Fits v.library) is h)
 
-  moved_fits : (troubled : Bool) (drive : ℕ) (access : Access) (reel : PlainReel) (result : Result Unit DriveFault) (s : Shop) (w : Scene)
-      → MovesAs troubled drive access reel result s w → Fits s (Online drive access reel) → Fits w.shop w.session
+  moved_fits : (troubled : Bool) (drive : ℕ) (access : Access) (reel : PlainReel) (result : Result Unit DriveFault) (s : TapeLibrary) (w : Scene)
+      → MovesAs troubled drive access reel result s w → Fits s (Online drive access reel) → Fits w.library w.session
   moved_fits troubled drive access reel (Ok done) s w moved h =
-      subst (λ (x : Scene). Fits x.shop x.session) (sym moved)
+      subst (λ (x : Scene). Fits x.library x.session) (sym moved)
       (lie_moved s drive (Either (Some drive) others) (Either None others) h (given_up drive) (kept_reel (entries_of reel.tape) reel.capacity))
   moved_fits troubled drive access reel (Err why) s w moved h =
-      subst (Fits w.shop) (sym moved.2) (subst (λ (x : Shop). Fits x (Online drive access reel)) (sym moved.1.0) h)
+      subst (Fits w.library) (sym moved.2) (subst (λ (x : TapeLibrary). Fits x (Online drive access reel)) (sym moved.1.0) h)
 
   move_fits : (trouble : Trouble) (v : Scene) (count : ℕ) (reply : PlainReply) (w : Scene) → TroubledMoveStep trouble v count reply w
-      → Fits v.shop v.session → Fits w.shop w.session
+      → Fits v.library v.session → Fits w.library w.session
   move_fits trouble v count reply w (drive, access, reel, result, is, cause, told, moved) h =
-      moved_fits (is_set trouble) drive access reel result v.shop w moved (subst (Fits v.shop) is h)
+      moved_fits (is_set trouble) drive access reel result v.library w moved (subst (Fits v.library) is h)
 
   op_fits : (off : Bool) (trouble : Trouble) (v : Scene) (op count : ℕ) (reply : PlainReply) (w : Scene) → TroubledOpStep off trouble v op count reply w
-      → Fits v.shop v.session → Fits w.shop w.session
+      → Fits v.library v.session → Fits w.library w.session
   op_fits true trouble v op count reply w step h = move_fits trouble v count reply w step h
   op_fits false trouble v op count reply w step h = reel_fits trouble v (Op op count) reply w step h
 
   -- a request is refused, or is done so
   unless_refused : {R : Type 0} (o : Option R) (why : R → PlainReply) (Done : Type 0) (v : Scene) (reply : PlainReply) (w : Scene) → MatchOption o Done (λ r. (reply ≡ why r) × (w ≡ v))
-      → (Done → Fits w.shop w.session) → Fits v.shop v.session → Fits w.shop w.session
+      → (Done → Fits w.library w.session) → Fits v.library v.session → Fits w.library w.session
   unless_refused None why Done v reply w m done h = done m
   unless_refused (Some r) why Done v reply w m done h = same_fits v w m.1 h
 
   pub served_fits : (trouble : Trouble) (holders : List ℕ) (v : Scene) (request : PlainRequest) (reply : PlainReply) (w : Scene)
-      → TroubledServeStep trouble holders v request reply w → Fits v.shop v.session → Fits w.shop w.session
+      → TroubledServeStep trouble holders v request reply w → Fits v.library v.session → Fits w.library w.session
   served_fits trouble holders v (Open device mode) reply w step h =
-      opened_fits trouble (with_holder (drive_in v.session) 0 holders) (closed v) device (access_of mode) reply w refl step (closed_fits v.shop v.session h)
+      opened_fits trouble (with_holder (drive_in v.session) 0 holders) (closed v) device (access_of mode) reply w refl step (closed_fits v.library v.session h)
   served_fits trouble holders v Close reply w step h =
       unless_refused (refusal (status_of v.session) Close) refused (TroubledDoneStep trouble v Close reply w) v reply w step
-      (λ done. same_fits (closed v) w done.1 (closed_fits v.shop v.session h)) h
+      (λ done. same_fits (closed v) w done.1 (closed_fits v.library v.session h)) h
   served_fits trouble holders v (Write bytes) reply w step h =
       unless_refused (refusal (status_of v.session) (Write bytes)) refused (TroubledDoneStep trouble v (Write bytes) reply w) v reply w step
       (λ done. reel_fits trouble v (Write bytes) reply w done h) h
@@ -146,11 +146,11 @@ by_all sides k d x first last (inl own) = (k, ap online_by (side_same sides k x 
 by_all sides k d x first last (inr (j, apart, online)) = (j, ap online_by (side_other sides k j x apart) ∙ online)
 
 -- where another reel is away only if one before was
-pub lie_while : {s : Shop} (before after : ℕ → Type 0) → LieBut s before → ((d : ℕ) → before d → after d) → LieBut s after
+pub lie_while : {s : TapeLibrary} (before after : ℕ → Type 0) → LieBut s before → ((d : ℕ) → before d → after d) → LieBut s after
 lie_while before after h more = record { bin = h.bin; below = h.below; first = λ d away. more d (h.first d away) }
 
 -- what one side did
-pub side_tidy : (sides : List (Option RealSide)) (k : ℕ) (s : RealSide) → side_at sides k ≡ Some s → (x : Option RealSide) (old new : Shop)
+pub side_tidy : (sides : List (Option RealSide)) (k : ℕ) (s : RealSide) → side_at sides k ≡ Some s → (x : Option RealSide) (old new : TapeLibrary)
     → LieBut old (IsOnlineAt (map (option_map seen_side) sides))
     → (LieBut old (Either (online_drive_in (session_seen s.session.opened)) (OnlineBeside (map (option_map seen_side) sides) k))
     → LieBut new (Either (online_by (option_map seen_side x)) (OnlineBeside (map (option_map seen_side) sides) k)))
@@ -173,11 +173,11 @@ still_at sides y zero x is = is
 still_at sides y (suc i) x is = at_more sides y i x is
 
 -- one side more
-pub joined_tidy : (sides : List (Option RealSide)) (s : RealSide) (shop : Shop) → LieBut shop (IsOnlineAt (map (option_map seen_side) sides))
-    → LieBut shop (IsOnlineAt (map (option_map seen_side) (sides ++ Some s ∷ [])))
-joined_tidy sides s shop h =
+pub joined_tidy : (sides : List (Option RealSide)) (s : RealSide) (library : TapeLibrary) → LieBut library (IsOnlineAt (map (option_map seen_side) sides))
+    → LieBut library (IsOnlineAt (map (option_map seen_side) (sides ++ Some s ∷ [])))
+joined_tidy sides s library h =
     let all = map (option_map seen_side) sides in
-    subst (λ xs. LieBut shop (IsOnlineAt xs)) (sym (map-append (option_map seen_side) sides (Some s ∷ [])))
+    subst (λ xs. LieBut library (IsOnlineAt xs)) (sym (map-append (option_map seen_side) sides (Some s ∷ [])))
     (lie_while (IsOnlineAt all) (IsOnlineAt (all ++ Some (seen_side s) ∷ [])) h
     (λ d (k, online). (
     let found = online_some (side_at all k) d online in

@@ -7,7 +7,7 @@ use Rattle.rmt_wire.specs.Reply.{PlainReply}
 use Rattle.rmt_wire.specs.RequestReader.{RequestHeld, Unread}
 use Rattle.tape.specs.declared.trouble.Trouble.{Trouble}
 use Rattle.drives.specs.Local.{IsHeldBy}
-use Rattle.drives.specs.ListShop.{shop_of}
+use Rattle.drives.specs.ListLibrary.{library_of}
 use Rattle.rmt_server.specs.State.{state}
 use Rattle.rmt_server.specs.Memory.{MemoryState, session_seen, scene_seen}
 use Rattle.rmt_server.specs.TroubledServe.{drive_in, with_holder, TroubledServe}
@@ -91,9 +91,9 @@ module _ (others : OthersStay) {drives drives' : MemoryDrives} {sides : List (Op
         | inr was ↦ still_there n (h.held d n (l, was) x)
       ]
 
-  carried_tidy : LieBut (shop_of drives'.stacks) (IsOnlineAt (map (option_map seen_side) (with_side_at sides k (Some after))))
+  carried_tidy : LieBut (library_of drives'.stacks) (IsOnlineAt (map (option_map seen_side) (with_side_at sides k (Some after))))
   carried_tidy =
-      side_tidy sides k s is (Some after) (shop_of drives.stacks) (shop_of drives'.stacks) h.tidy
+      side_tidy sides k s is (Some after) (library_of drives.stacks) (library_of drives'.stacks) h.tidy
       (served_fits (OnlineBeside (map (option_map seen_side) sides) k) trouble drives.holds.numbers (scene_seen (state drives s.session)) request reply
       (scene_seen (state drives' after.session)) c.served.step)
 
@@ -148,13 +148,13 @@ module _ (others : OthersStay) {drives : MemoryDrives} (drives' : MemoryDrives) 
     t.1,
     record {
       reached = after.reader;
-      shop = shop_of drives'.stacks;
+      library = library_of drives'.stacks;
       session = session_seen after.session.opened;
       holders = drives'.holds.numbers;
       given = t.2;
       served = subst (λ n. TroubledServe trouble drives.holds.numbers n (scene_seen (state drives s.session)) t.0 t.1 (scene_seen (state drives' after.session)) drives'.holds.numbers)
           (h.live k s is).number t.3.served;
-      after = ap (hall (shop_of drives'.stacks) drives'.holds.numbers) (map_with seen_side sides k (Some after));
+      after = ap (hall (library_of drives'.stacks) drives'.holds.numbers) (map_with seen_side sides k (Some after));
     },
     refl,
     t.4,

@@ -3,7 +3,7 @@ use Rattle.std.specs.Prelude.{◌≡◌, ℕ, zero, suc, ◌+◌, ◌-◌, ◌<�
 use Rattle.rmt_wire.specs.RequestReader.{RequestHeld, held, Unread, taken_of}
 use Rattle.rmt_wire.specs.declared.limits.TheConstants.{READER_LIMIT}
 use Rattle.drives.specs.Arranging.{arranged}
-use Rattle.rmt_server.specs.Session.{closed_shop}
+use Rattle.rmt_server.specs.Session.{closed_library}
 use Rattle.rmt_server.specs.Session.PlainSession.{Idle}
 use Rattle.rmt_server.specs.TroubledServe.{drive_in, with_holder}
 use Rattle.rmt_server.specs.Hall.{Hall, hall, Side, side}
@@ -45,11 +45,11 @@ IsHeldOnce h = (d k : ℕ) → 0 < k → IsHolder h d k ↔ (drive_open h k ≡ 
 
 -- one connection more: its side has read nothing and has nothing open
 abbrev pub joined : Hall → Hall
-joined h = hall h.shop h.holders (h.sides ++ Some (side (held [] 0) Idle) ∷ [])
+joined h = hall h.library h.holders (h.sides ++ Some (side (held [] 0) Idle) ∷ [])
 
 -- a side has reached this
 abbrev pub with_reached : Hall → ℕ → Side → RequestHeld → Hall
-with_reached h k s reached = hall h.shop h.holders (with_side_at h.sides k (Some (side reached s.session)))
+with_reached h k s reached = hall h.library h.holders (with_side_at h.sides k (Some (side reached s.session)))
 
 -- there is room for so many bytes, where the side is live
 abbrev pub HasRoom : Option Side → Option ℕ → Type 0
@@ -72,7 +72,7 @@ IsPiecePushed old k piece (Some s) count new =
 abbrev pub ended_from : Hall → ℕ → Option Side → Hall
 ended_from h k None = h
 ended_from h k (Some s) =
-    hall (closed_shop h.shop s.session) (with_holder (drive_in s.session) 0 h.holders) (with_side_at h.sides k None)
+    hall (closed_library h.library s.session) (with_holder (drive_in s.session) 0 h.holders) (with_side_at h.sides k None)
 
 abbrev pub ended : Hall → ℕ → Hall
 ended h k = ended_from h k (side_at h.sides k)
@@ -84,4 +84,4 @@ all_ended h (suc k) = ended (all_ended h k) (suc k)
 
 -- the stack of drive d is the reels of these names
 abbrev pub restacked : Hall → ℕ → List (List ℕ) → Hall
-restacked h d names = hall (arranged h.shop d names) h.holders h.sides
+restacked h d names = hall (arranged h.library d names) h.holders h.sides

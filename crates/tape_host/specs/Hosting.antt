@@ -10,7 +10,7 @@ use Rattle.drives.specs.declared.table.DriveTable.{DriveTable}
 use Rattle.drives.specs.declared.view.View.{View}
 use Rattle.drives.specs.Holding.{HoldsJust}
 use Rattle.drives.specs.Local.{Holders, IsHeldBy}
-use Rattle.drives.specs.ListShop.{ListShop, shop_of, IsShop, troubled_in}
+use Rattle.drives.specs.ListLibrary.{ListLibrary, library_of, IsLibrary, troubled_in}
 use Rattle.rmt_server.specs.declared.session.desk.Opened.{Opened}
 use Rattle.rmt_server.specs.declared.session.desk.Desk.{Desk}
 use Rattle.rmt_server.specs.State.{state, reel_of, IsAt, KeepsDrives}
@@ -28,7 +28,7 @@ use Rattle.tape_host.specs.Lying.{LieBut, IsOnlineAt}
 use Rattle.tape_host.specs.Turns.{carried_of, sent_back, GivesNothing, GivesFault, GivesRequest}
 
 abbrev pub MemoryDrives : Type 0
-MemoryDrives = DriveTable Holders ListShop View TroubledTape
+MemoryDrives = DriveTable Holders ListLibrary View TroubledTape
 
 -- a seat and what it has open
 abbrev pub MemoryDesk : Type 0
@@ -43,7 +43,7 @@ abbrev pub seen_side : RealSide → Side
 seen_side s = side s.reader (session_seen s.session.opened)
 
 abbrev pub hall_of : MemoryDrives → List (Option RealSide) → Hall
-hall_of drives sides = hall (shop_of drives.stacks) drives.holds.numbers (map (option_map seen_side) sides)
+hall_of drives sides = hall (library_of drives.stacks) drives.holds.numbers (map (option_map seen_side) sides)
 
 abbrev pub is_nothing : Next → Bool
 is_nothing Nothing = true
@@ -100,16 +100,16 @@ pub record IsHosting (drives : MemoryDrives) (sides : List (Option RealSide)) (n
   pub live : (k : ℕ) (s : RealSide) → side_at sides k ≡ Some s → IsLive drives k s
   pub held : (d n : ℕ) → IsHeldBy drives.holds d n → 0 < n → (s : RealSide) × (side_at sides n ≡ Some s)
   pub waiting : IsNextWaiting drives (length sides) next
-  pub told : IsShop drives.stacks (shop_of drives.stacks)
-  pub paired : length drives.holds.numbers ≡ length drives.stacks.shop.racks
+  pub told : IsLibrary drives.stacks (library_of drives.stacks)
+  pub paired : length drives.holds.numbers ≡ length drives.stacks.library.drives
   pub quiet : drives.stacks.trouble ≡ false
-  pub lying : troubled_in drives.stacks.shop ≡ 0
-  pub tidy : LieBut (shop_of drives.stacks) (IsOnlineAt (map (option_map seen_side) sides))
+  pub lying : troubled_in drives.stacks.library ≡ 0
+  pub tidy : LieBut (library_of drives.stacks) (IsOnlineAt (map (option_map seen_side) sides))
 
 -- The drives are those of a session for which no trouble is set, and each reel stands once.
 pub record IsCalmAt (x : MemoryState) : Type 0 where
   pub at : IsAt in_memory x
-  pub told : IsShop x.drives.stacks (shop_of x.drives.stacks)
+  pub told : IsLibrary x.drives.stacks (library_of x.drives.stacks)
   pub calm : IsTroubled NoTrouble false x
 
 -- One request was carried out. It leaves the drives those of other sessions.

@@ -1,23 +1,23 @@
 -- Which reels lie on the stacks and in the bin, and which are away. Public contracts cite it.
 use Rattle.std.specs.Prelude.{◌≡◌, ℕ, drop, List, [], ◌∷◌, Option, Some, None, IsSome}
-use Rattle.drives.specs.Shop.{Slot, Rack, ShopOf, rack_at, latched_at}
+use Rattle.drives.specs.TapeLibrary.{ReelSlot, Drive, LibraryOf, drive_at, latched_at}
 use Rattle.rmt_server.specs.Session.{PlainSession}
 use Rattle.rmt_server.specs.Session.PlainSession.{Idle, Offline, Online}
 use Rattle.rmt_server.specs.Hall.{Side}
 use Rattle.tape_host.specs.Halls.{side_at}
 
 -- each of these reels lies there
-abbrev pub Lie : {X : Type 0} → List (Slot X) → Type 0
+abbrev pub Lie : {X : Type 0} → List (ReelSlot X) → Type 0
 Lie [] = Unit {0}
 Lie (x ∷ xs) = IsSome x.reel × Lie xs
 
-abbrev pub StacksLie : {X : Type 0} → List (Rack X) → Type 0
+abbrev pub StacksLie : {X : Type 0} → List (Drive X) → Type 0
 StacksLie [] = Unit {0}
-StacksLie (r ∷ racks) = Lie r.stack × StacksLie racks
+StacksLie (r ∷ drives) = Lie r.stack × StacksLie drives
 
 -- no reel is latched
-abbrev pub AllLie : {X : Type 0} → ShopOf X → Type 0
-AllLie s = StacksLie s.racks × Lie s.bin
+abbrev pub AllLie : {X : Type 0} → LibraryOf X → Type 0
+AllLie s = StacksLie s.drives × Lie s.bin
 
 -- the drive that a session has open with its reel
 abbrev pub online_drive_in : PlainSession → Option ℕ
@@ -34,7 +34,7 @@ abbrev pub IsOnlineAt : List (Option Side) → ℕ → Type 0
 IsOnlineAt sides d = (k : ℕ) × (online_by (side_at sides k) ≡ Some d)
 
 -- All reels lie there, but for the first ones of stacks, which are away only where that is said of the drive.
-pub record LieBut {X : Type 0} (s : ShopOf X) (away : ℕ → Type 0) : Type 0 where
+pub record LieBut {X : Type 0} (s : LibraryOf X) (away : ℕ → Type 0) : Type 0 where
   pub bin : Lie s.bin
-  pub below : (d : ℕ) → Lie (drop 1 (rack_at s d).stack)
+  pub below : (d : ℕ) → Lie (drop 1 (drive_at s d).stack)
   pub first : (d : ℕ) → IsSome (latched_at s d) → away d

@@ -9,7 +9,7 @@ use Rattle.rmt_wire.specs.RequestReader.{RequestHeld, Unread}
 use Rattle.rmt_wire.specs.declared.fault.WireFault.{WireFault}
 use Rattle.rmt_wire.specs.declared.mtio.TheConstants.{MTWEOF}
 use Rattle.tape.specs.declared.trouble.Trouble.{Trouble}
-use Rattle.drives.specs.Shop.{Shop}
+use Rattle.drives.specs.TapeLibrary.{TapeLibrary}
 use Rattle.rmt_server.specs.declared.access.Access.{Access}
 use Rattle.rmt_server.specs.Access.{access_of, writes}
 use Rattle.rmt_server.specs.Session.{PlainSession, scene}
@@ -70,12 +70,12 @@ GivesRequest reached request after =
 pub record Carries (trouble : Trouble) (old : Hall) (k : ℕ) (s : Side) (request : PlainRequest) (reply : PlainReply)
     (new : Hall) : Type 0 where
   pub reached : RequestHeld
-  pub shop : Shop
+  pub library : TapeLibrary
   pub session : PlainSession
   pub holders : List ℕ
   pub given : GivesRequest s.reached request reached
-  pub served : TroubledServe trouble old.holders k (scene old.shop s.session) request reply (scene shop session) holders
-  pub after : new ≡ hall shop holders (with_side_at old.sides k (Some (side reached session)))
+  pub served : TroubledServe trouble old.holders k (scene old.library s.session) request reply (scene library session) holders
+  pub after : new ≡ hall library holders (with_side_at old.sides k (Some (side reached session)))
 
 -- a host, and what is on the way back on one of its connections
 pub record HostBack : Type 0 where

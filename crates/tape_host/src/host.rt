@@ -2,8 +2,8 @@
 ghost use Rattle.std.specs.Prelude.{◌≡◌, ◌+◌, ◌<◌, ◌≤◌, false, true, [], None, IfOk, IfErr, IfSome, IsTrue, MatchResult, length, map, replicate, vec_len, vec_capacity};
 ghost use Rattle.std.specs.Option.{option_copied, option_map};
 ghost use Rattle.drives.specs.declared.fault.DriveFault.TheVariants.{OutOfMemory};
-ghost use Rattle.drives.specs.Shop.{IsDriveNamed, rack_at, latched_at, slots_in};
-ghost use Rattle.drives.specs.ListShop.{IsShop, shop_of, at_rest, rest_slot, StacksCanFail};
+ghost use Rattle.drives.specs.TapeLibrary.{IsDriveNamed, drive_at, latched_at, slots_in};
+ghost use Rattle.drives.specs.ListLibrary.{IsLibrary, library_of, at_rest, rest_slot, StacksCanFail};
 ghost use Rattle.drives.specs.declared.holds.TheConstants.{DRIVE_LIMIT};
 ghost use Rattle.drives.specs.Arranging.{reel_named, may_arrange};
 ghost use Rattle.rmt_server.specs.Memory.{session_seen};
@@ -57,11 +57,11 @@ impl Host {
     pub fn new(alloc: Global, drives: usize, stacks: ListStacks) -> Result<Host, AllocError>
         requires some { 1 ≤ drives }
         requires few { drives ≤ DRIVE_LIMIT }
-        requires all { length stacks.shop.racks ≡ drives }
-        requires told { IsShop stacks (shop_of stacks) }
+        requires all { length stacks.library.drives ≡ drives }
+        requires told { IsLibrary stacks (library_of stacks) }
         requires quiet { StacksCanFail stacks → ⊥ }
-        requires rested { AllLie (shop_of stacks) }
-        ensures hall { IfOk result (λ h. h ≡ hosted (hall (shop_of stacks) (replicate drives 0) []) false) }
+        requires rested { AllLie (library_of stacks) }
+        ensures hall { IfOk result (λ h. h ≡ hosted (hall (library_of stacks) (replicate drives 0) []) false) }
     {
         let holds = LocalHolds::new(alloc, drives)?;
         let drives = DriveTable { holds, stacks };
@@ -213,7 +213,7 @@ impl Host {
 
     /// The first drive of that name.
     pub fn drive(&self, name: &[u8]) -> Option<usize>
-        ensures { IsDriveNamed name.now self.now.hall.shop result }
+        ensures { IsDriveNamed name.now self.now.hall.library result }
     {
         self.drives.stacks.drive(name)
     }
@@ -230,22 +230,22 @@ impl Host {
 
     /// The reels of the stack of one of the drives, counted from 0, in order: first the one that is latched or would be latched next.
     pub fn stack(&self, drive: usize) -> &[ListedReel]
-        requires { drive < length self.now.hall.shop.racks }
-        ensures { map rest_slot result.now ≡ (rack_at self.now.hall.shop drive).stack }
+        requires { drive < length self.now.hall.library.drives }
+        ensures { map rest_slot result.now ≡ (drive_at self.now.hall.library drive).stack }
     {
         self.drives.stacks.stack(drive)
     }
 
     /// The reels of the bin, in the order in which they were moved there.
     pub fn bin(&self) -> &[ListedReel]
-        ensures { map rest_slot result.now ≡ self.now.hall.shop.bin }
+        ensures { map rest_slot result.now ≡ self.now.hall.library.bin }
     {
         self.drives.stacks.bin()
     }
 
     /// The reel of that name, on a stack or in the bin. None while it is latched, and where there is none.
     pub fn reel(&self, name: &[u8]) -> Option<&TroubledReel>
-        ensures { option_map at_rest (option_copied result) ≡ reel_named name.now (slots_in self.now.hall.shop) }
+        ensures { option_map at_rest (option_copied result) ≡ reel_named name.now (slots_in self.now.hall.library) }
     {
         self.drives.stacks.reel(name)
     }
@@ -253,9 +253,9 @@ impl Host {
     /// Whether `arrange` can be asked for these names: no reel of the drive is latched, no name stands twice, and each is the
     /// name of a reel of its stack or of the bin. No reel is latched at a drive that has no holder. Drives are counted from 0.
     pub fn can_arrange(&self, drive: usize, names: &[&[u8]]) -> bool
-        requires { drive < length self.now.hall.shop.racks }
-        ensures may { result ≡ may_arrange self.now.hall.shop drive (map (λ n. n.now) names.now) }
-        ensures free { IsHolder self.now.hall drive 0 → latched_at self.now.hall.shop drive ≡ None }
+        requires { drive < length self.now.hall.library.drives }
+        ensures may { result ≡ may_arrange self.now.hall.library drive (map (λ n. n.now) names.now) }
+        ensures free { IsHolder self.now.hall drive 0 → latched_at self.now.hall.library drive ≡ None }
     {
         self.drives.stacks.can_arrange(drive, names)
     }
@@ -267,8 +267,8 @@ impl Host {
     /// Answers `OutOfMemory`. Nothing has changed then.
     pub fn arrange(&mut self, drive: usize, names: &[&[u8]]) -> Result<(), DriveFault>
         requires free { IsHolder self.old.hall drive 0 }
-        requires drive { drive < length self.old.hall.shop.racks }
-        requires may { IsTrue (may_arrange self.old.hall.shop drive (map (λ n. n.now) names.now)) }
+        requires drive { drive < length self.old.hall.library.drives }
+        requires may { IsTrue (may_arrange self.old.hall.library drive (map (λ n. n.now) names.now)) }
         ensures arranged { MatchResult result
             (λ _. self.new ≡ hosted (restacked self.old.hall drive (map (λ n. n.now) names.now)) self.old.ready)
             (λ _. self.new ≡ self.old) }

@@ -4,7 +4,7 @@ use Rattle.std.specs.Option.{is_some}
 use Rattle.std.specs.Prelude.{IsTrue, MatchResult, Result, Ok, Err, not, ◌&&◌}
 use Rattle.std.specs.Result.{is_err}
 use Rattle.std.specs.List.{list_all}
-use Rattle.drives.specs.Shop.{Shop, IsDriveNamed, latched_at}
+use Rattle.drives.specs.TapeLibrary.{TapeLibrary, IsDriveNamed, latched_at}
 use Rattle.drives.specs.Arranging.{are_distinct, is_piled, may_arrange}
 use Rattle.tape_events.specs.World.{World, Link, numbered}
 use Rattle.tape_events.specs.Changes.{link_of}
@@ -30,13 +30,13 @@ none_left None is = refl
 none_left (Some x) is = absurd cc
 
 -- a name finds one drive
-pub named_same : (name : List ℕ) (s : Shop) (d e : ℕ) → IsDriveNamed name s (Some d) → IsDriveNamed name s (Some e) → d ≡ e
+pub named_same : (name : List ℕ) (s : TapeLibrary) (d e : ℕ) → IsDriveNamed name s (Some d) → IsDriveNamed name s (Some e) → d ≡ e
 named_same name s d e a b =
     let less : d < e → ⊥ = λ l. b.2 d l a.1 in
     let more : e < d → ⊥ = λ l. a.2 e l b.1 in
     omega (arith, less, more)
 
-pub may_be : (s : Shop) (d : ℕ) (names : List (List ℕ)) → latched_at s d ≡ None → IsTrue (are_distinct names) → IsTrue (list_all (is_piled s d) names)
+pub may_be : (s : TapeLibrary) (d : ℕ) (names : List (List ℕ)) → latched_at s d ≡ None → IsTrue (are_distinct names) → IsTrue (list_all (is_piled s d) names)
     → may_arrange s d names ≡ true
 may_be s d names none distinct piled =
     ap (λ o. (not (is_some o) && are_distinct names) && list_all (is_piled s d) names) none ∙ ap (λ b. b && list_all (is_piled s d) names) distinct ∙ piled
@@ -45,7 +45,7 @@ both : (a b : Bool) → (a && b) ≡ true → (a ≡ true) × (b ≡ true)
 both true b h = (refl, h)
 both false b h = absurd cc
 
-pub may_parts : (s : Shop) (d : ℕ) (names : List (List ℕ)) → may_arrange s d names ≡ true
+pub may_parts : (s : TapeLibrary) (d : ℕ) (names : List (List ℕ)) → may_arrange s d names ≡ true
     → IsTrue (are_distinct names) × IsTrue (list_all (is_piled s d) names)
 may_parts s d names may =
     let outer = both (not (is_some (latched_at s d)) && are_distinct names) (list_all (is_piled s d) names) may in

@@ -9,16 +9,16 @@ use Rattle.std.proofs.lemmas.List.Folds.{list_any-append}
 use Rattle.std.proofs.lemmas.List.Sums.{sum_by-append, sum_by-cons}
 use Rattle.std.proofs.lemmas.Slice.Eq.{bytes_eq-Decides}
 use Rattle.tape.specs.Trouble.{TroubledTape}
-use Rattle.drives.specs.Shop.{Slot, slot, Rack, rack, ShopOf, shop, rack_at, with_rack, slots_in, names_in, times, EachReelOnce, IsDriveNamed}
-use Rattle.drives.specs.ListShop.{ListShop, blank_reel, with_drive, IsDriveAdded, IsReelAdded}
+use Rattle.drives.specs.TapeLibrary.{ReelSlot, slot, Drive, drive_with, LibraryOf, library, drive_at, with_drive_at, slots_in, names_in, times, EachReelOnce, IsDriveNamed}
+use Rattle.drives.specs.ListLibrary.{ListLibrary, blank_reel, with_drive, IsDriveAdded, IsReelAdded}
 use Rattle.drives.specs.Arranging.{are_distinct}
 use Rattle.drives.specs.declared.fault.DriveFault.{DriveFault}
 use Rattle.drives.specs.declared.fault.DriveFault.TheVariants.{NoSuchDrive, Busy, NoReel, Device, OutOfMemory, NameTaken}
-use Rattle.drives.proofs.Shops.{bit, named, times_named, sum_by_slots, sum_by_with_rack, any_count}
+use Rattle.drives.proofs.Shops.{bit, named, times_named, sum_by_slots, sum_by_with_drive, any_count}
 use Rattle.drives.proofs.Arranging.{names_from}
 use Rattle.tape_events.specs.First.{AreGoodDrives}
 use Rattle.tape_world.specs.declared.drive_spec.DriveSpec.{DriveSpec}
-use Rattle.tape_world.specs.Making.{plain_drive_spec, reels_of, blank_slots, laid_rack, laid_shop, with_laid, with_slots}
+use Rattle.tape_world.specs.Making.{plain_drive_spec, reels_of, blank_slots, laid_drive, laid_library, with_laid, with_slots}
 use Rattle.tape_world.proofs.Apart.{all_reels, good_parts}
 use Rattle.tape_world.proofs.Made.{laid_after, laid_on}
 
@@ -78,115 +78,115 @@ names_blank : (capacity : ℕ) (names : List (List ℕ)) → map (λ x. x.name) 
 names_blank capacity [] = refl
 names_blank capacity (name ∷ names) = ap (λ ns. name ∷ ns) (names_blank capacity names)
 
-stacks_blank : (drives : List DriveSpec) → map (λ x. x.name) (flat_map (λ r. r.stack) (map laid_rack drives)) ≡ all_reels drives
+stacks_blank : (drives : List DriveSpec) → map (λ x. x.name) (flat_map (λ r. r.stack) (map laid_drive drives)) ≡ all_reels drives
 stacks_blank [] = refl
 stacks_blank (d ∷ drives) =
-    ap (map (λ x. x.name)) (flat_map-cons (λ r. r.stack) (laid_rack d) (map laid_rack drives))
-    ∙ map-append (λ x. x.name) (blank_slots d.capacity (reels_of d)) (flat_map (λ r. r.stack) (map laid_rack drives))
-    ∙ ap (λ ns. ns ++ map (λ x. x.name) (flat_map (λ r. r.stack) (map laid_rack drives))) (names_blank d.capacity (reels_of d))
+    ap (map (λ x. x.name)) (flat_map-cons (λ r. r.stack) (laid_drive d) (map laid_drive drives))
+    ∙ map-append (λ x. x.name) (blank_slots d.capacity (reels_of d)) (flat_map (λ r. r.stack) (map laid_drive drives))
+    ∙ ap (λ ns. ns ++ map (λ x. x.name) (flat_map (λ r. r.stack) (map laid_drive drives))) (names_blank d.capacity (reels_of d))
     ∙ ap (λ ns. reels_of d ++ ns) (stacks_blank drives) ∙ sym (flat_map-cons reels_of d drives)
 
 -- no name stands twice among the reels of good drives
-pub good_once : (drives : List DriveSpec) → AreGoodDrives (map plain_drive_spec drives) → EachReelOnce (laid_shop drives)
+pub good_once : (drives : List DriveSpec) → AreGoodDrives (map plain_drive_spec drives) → EachReelOnce (laid_library drives)
 good_once drives good name =
-    let is : names_in (laid_shop drives) ≡ all_reels drives = ap (map (λ x. x.name)) (append-nil (flat_map (λ r. r.stack) (map laid_rack drives))) ∙ stacks_blank drives in
+    let is : names_in (laid_library drives) ≡ all_reels drives = ap (map (λ x. x.name)) (append-nil (flat_map (λ r. r.stack) (map laid_drive drives))) ∙ stacks_blank drives in
     subst (λ ns. times name ns ≤ 1) (sym is) (distinct_once (all_reels drives) (good_parts drives good).3 name)
 
 pub good_names : (drives : List DriveSpec) → AreGoodDrives (map plain_drive_spec drives) → are_distinct (map (λ d. d.name.now) drives) ≡ true
 good_names drives good = (good_parts drives good).2
 
-names_laid : (drives : List DriveSpec) → map (λ r. r.name) (map laid_rack drives) ≡ map (λ d. d.name.now) drives
+names_laid : (drives : List DriveSpec) → map (λ r. r.name) (map laid_drive drives) ≡ map (λ d. d.name.now) drives
 names_laid [] = refl
 names_laid (d ∷ drives) = ap (λ ns. d.name.now ∷ ns) (names_laid drives)
 
 -- ---- reels
 
-own_name : {X : Type 0} (x : Slot X) → named x.name x ≡ 1
+own_name : {X : Type 0} (x : ReelSlot X) → named x.name x ≡ 1
 own_name x = ap bit ((bytes_eq-Decides x.name x.name).1 refl)
 
-name_free : (s : ShopOf TroubledTape) (d : ℕ) (x : Slot TroubledTape) (rest : List (Slot TroubledTape)) → d < length s.racks → EachReelOnce (with_slots s d (x ∷ rest))
+name_free : (s : LibraryOf TroubledTape) (d : ℕ) (x : ReelSlot TroubledTape) (rest : List (ReelSlot TroubledTape)) → d < length s.drives → EachReelOnce (with_slots s d (x ∷ rest))
     → 0 < times x.name (names_in s) → ⊥
 name_free s d x rest l once taken =
-    let r = rack (rack_at s d).name ((rack_at s d).stack ++ x ∷ rest) in
-    let a = sum_by_with_rack (named x.name) s d r l in
-    let b = sum_by-append (named x.name) (rack_at s d).stack (x ∷ rest) in
+    let r = drive_with (drive_at s d).name ((drive_at s d).stack ++ x ∷ rest) in
+    let a = sum_by_with_drive (named x.name) s d r l in
+    let b = sum_by-append (named x.name) (drive_at s d).stack (x ∷ rest) in
     let c = sum_by-cons (named x.name) x rest in
     let e = times_named x.name (slots_in s) in
-    let g = times_named x.name (slots_in (with_rack s d r)) in
+    let g = times_named x.name (slots_in (with_drive_at s d r)) in
     let o = once x.name in
     let i = own_name x in
     absurd (omega (arith, a, b, c, e, g, o, i, taken))
 
 -- a reel is refused for want of memory alone
-reel_fault : (U : Type 0) (old new : ListShop) (d : ℕ) (name : List ℕ) (capacity : ℕ) (rest : List (Slot TroubledTape)) (fault : DriveFault)
-    → IsReelAdded {U = U} old d name capacity (Err fault) new → d < length old.shop.racks
-    → EachReelOnce (with_slots old.shop d (slot name (Some (blank_reel capacity)) ∷ rest)) → fault ≡ OutOfMemory
-reel_fault U old new d name capacity rest NameTaken h l once = absurd (name_free old.shop d (slot name (Some (blank_reel capacity))) rest l once h.0)
+reel_fault : (U : Type 0) (old new : ListLibrary) (d : ℕ) (name : List ℕ) (capacity : ℕ) (rest : List (ReelSlot TroubledTape)) (fault : DriveFault)
+    → IsReelAdded {U = U} old d name capacity (Err fault) new → d < length old.library.drives
+    → EachReelOnce (with_slots old.library d (slot name (Some (blank_reel capacity)) ∷ rest)) → fault ≡ OutOfMemory
+reel_fault U old new d name capacity rest NameTaken h l once = absurd (name_free old.library d (slot name (Some (blank_reel capacity))) rest l once h.0)
 reel_fault U old new d name capacity rest OutOfMemory h l once = refl
 reel_fault U old new d name capacity rest NoSuchDrive h l once = absurd h
 reel_fault U old new d name capacity rest (Busy n) h l once = absurd h
 reel_fault U old new d name capacity rest NoReel h l once = absurd h
 reel_fault U old new d name capacity rest Device h l once = absurd h
 
-next_once : {A : Type 0} (f : A → List ℕ) (first now : ShopOf TroubledTape) (d capacity : ℕ) (names : List A) (i : ℕ) (x : A) → i < length names
+next_once : {A : Type 0} (f : A → List ℕ) (first now : LibraryOf TroubledTape) (d capacity : ℕ) (names : List A) (i : ℕ) (x : A) → i < length names
     → with_slots now d (blank_slots capacity (map f (drop i names))) ≡ with_slots first d (blank_slots capacity (map f names))
     → EachReelOnce (with_slots first d (blank_slots capacity (map f names)))
     → EachReelOnce (with_slots now d (slot (f (get_or names i x)) (Some (blank_reel capacity)) ∷ blank_slots capacity (map f (drop (i + 1) names))))
 next_once f first now d capacity names i x m same once =
     subst (λ ns. EachReelOnce (with_slots now d (blank_slots capacity ns))) (names_from f names i x m)
-    (subst (λ (s : ShopOf TroubledTape). EachReelOnce s) (sym same) once)
+    (subst (λ (s : LibraryOf TroubledTape). EachReelOnce s) (sym same) once)
 
-pub next_fault : {A U : Type 0} (f : A → List ℕ) (first : ShopOf TroubledTape) (now new : ListShop) (d capacity : ℕ) (names : List A) (i : ℕ) (x : A) (fault : DriveFault) (r : Result U DriveFault)
-    → r ≡ Err fault → IsReelAdded now d (f (get_or names i x)) capacity r new → d < length now.shop.racks → i < length names
-    → with_slots now.shop d (blank_slots capacity (map f (drop i names))) ≡ with_slots first d (blank_slots capacity (map f names))
+pub next_fault : {A U : Type 0} (f : A → List ℕ) (first : LibraryOf TroubledTape) (now new : ListLibrary) (d capacity : ℕ) (names : List A) (i : ℕ) (x : A) (fault : DriveFault) (r : Result U DriveFault)
+    → r ≡ Err fault → IsReelAdded now d (f (get_or names i x)) capacity r new → d < length now.library.drives → i < length names
+    → with_slots now.library d (blank_slots capacity (map f (drop i names))) ≡ with_slots first d (blank_slots capacity (map f names))
     → EachReelOnce (with_slots first d (blank_slots capacity (map f names))) → fault ≡ OutOfMemory
 next_fault {U = U} f first now new d capacity names i x fault r is h l m same once =
     reel_fault U now new d (f (get_or names i x)) capacity (blank_slots capacity (map f (drop (i + 1) names))) fault
-    (subst (λ q. IsReelAdded now d (f (get_or names i x)) capacity q new) is h) l (next_once f first now.shop d capacity names i x m same once)
+    (subst (λ q. IsReelAdded now d (f (get_or names i x)) capacity q new) is h) l (next_once f first now.library d capacity names i x m same once)
 
 -- ---- drives
 
 -- its reels will be there once
-pub reels_once : (old made : ListShop) (d : DriveSpec) (number : ℕ) → IsDriveAdded old d.name.now (Ok number) made → EachReelOnce (with_laid old.shop d)
-    → EachReelOnce (with_slots made.shop number (blank_slots d.capacity (reels_of d)))
+pub reels_once : (old made : ListLibrary) (d : DriveSpec) (number : ℕ) → IsDriveAdded old d.name.now (Ok number) made → EachReelOnce (with_laid old.library d)
+    → EachReelOnce (with_slots made.library number (blank_slots d.capacity (reels_of d)))
 reels_once old made d number added once =
-    let is = ap (λ (s : ListShop). with_slots s.shop number (blank_slots d.capacity (reels_of d))) added.2
-    ∙ ap (λ n. with_slots (with_drive old.shop d.name.now) n (blank_slots d.capacity (reels_of d))) added.1 ∙ laid_on old.shop d in
-    subst (λ (s : ShopOf TroubledTape). EachReelOnce s) (sym is) once
+    let is = ap (λ (s : ListLibrary). with_slots s.library number (blank_slots d.capacity (reels_of d))) added.2
+    ∙ ap (λ n. with_slots (with_drive old.library d.name.now) n (blank_slots d.capacity (reels_of d))) added.1 ∙ laid_on old.library d in
+    subst (λ (s : LibraryOf TroubledTape). EachReelOnce s) (sym is) once
 
-fewer : (name : List ℕ) (racks more : List (Rack TroubledTape)) (bin : List (Slot TroubledTape)) → times name (names_in (shop racks bin)) ≤ times name (names_in (shop (racks ++ more) bin))
-fewer name racks more bin =
-    let a = times_named name (slots_in (shop racks bin)) in
-    let b = times_named name (slots_in (shop (racks ++ more) bin)) in
-    let c = sum_by_slots (named name) (shop racks bin) in
-    let e = sum_by_slots (named name) (shop (racks ++ more) bin) in
-    let g = sum_by-append (λ r. sum_by (named name) r.stack) racks more in
+fewer : (name : List ℕ) (all_drives more : List (Drive TroubledTape)) (bin : List (ReelSlot TroubledTape)) → times name (names_in (library all_drives bin)) ≤ times name (names_in (library (all_drives ++ more) bin))
+fewer name all_drives more bin =
+    let a = times_named name (slots_in (library all_drives bin)) in
+    let b = times_named name (slots_in (library (all_drives ++ more) bin)) in
+    let c = sum_by_slots (named name) (library all_drives bin) in
+    let e = sum_by_slots (named name) (library (all_drives ++ more) bin) in
+    let g = sum_by-append (λ r. sum_by (named name) r.stack) all_drives more in
     omega (arith, a, b, c, e, g)
 
 pub next_drive : (drives : List DriveSpec) (i : ℕ) (d : DriveSpec) → i < length drives → drop i drives ≡ get_or drives i d ∷ drop (i + 1) drives
 next_drive drives i d l = drop-cons drives i d l ∙ ap (λ m. get_or drives i d ∷ drop m drives) (suc-eq-add-one i)
 
-module _ (now : ShopOf TroubledTape) (drives : List DriveSpec) (i : ℕ) (x : DriveSpec) (next : drop i drives ≡ x ∷ drop (i + 1) drives)
-    (same : laid_after now (drop i drives) ≡ laid_shop drives) where
-  abbrev rest : List (Rack TroubledTape)
-  rest = map laid_rack (drop (i + 1) drives)
+module _ (now : LibraryOf TroubledTape) (drives : List DriveSpec) (i : ℕ) (x : DriveSpec) (next : drop i drives ≡ x ∷ drop (i + 1) drives)
+    (same : laid_after now (drop i drives) ≡ laid_library drives) where
+  abbrev rest : List (Drive TroubledTape)
+  rest = map laid_drive (drop (i + 1) drives)
 
-  all_of : shop (now.racks ++ laid_rack x ∷ rest) now.bin ≡ laid_shop drives
+  all_of : library (now.drives ++ laid_drive x ∷ rest) now.bin ≡ laid_library drives
   all_of = ap (laid_after now) (sym next) ∙ same
 
-  pub drive_once : EachReelOnce (laid_shop drives) → EachReelOnce (with_laid now x)
+  pub drive_once : EachReelOnce (laid_library drives) → EachReelOnce (with_laid now x)
   drive_once once name =
-      let is = ap (λ racks. shop racks now.bin) (append_assoc now.racks (laid_rack x ∷ []) rest) ∙ all_of in
-      let less = fewer name (now.racks ++ laid_rack x ∷ []) rest now.bin in
+      let is = ap (λ all_drives. library all_drives now.bin) (append_assoc now.drives (laid_drive x ∷ []) rest) ∙ all_of in
+      let less = fewer name (now.drives ++ laid_drive x ∷ []) rest now.bin in
       let o = once name in
-      let e = ap (λ (s : ShopOf TroubledTape). times name (names_in s)) is in
+      let e = ap (λ (s : LibraryOf TroubledTape). times name (names_in s)) is in
       omega (arith, less, o, e)
 
-  names_are : map (λ r. r.name) now.racks ++ x.name.now ∷ map (λ r. r.name) rest ≡ map (λ d. d.name.now) drives
+  names_are : map (λ r. r.name) now.drives ++ x.name.now ∷ map (λ r. r.name) rest ≡ map (λ d. d.name.now) drives
   names_are =
-      sym (map-append (λ r. r.name) now.racks (laid_rack x ∷ rest)) ∙ ap (λ (s : ShopOf TroubledTape). map (λ r. r.name) s.racks) all_of ∙ names_laid drives
+      sym (map-append (λ r. r.name) now.drives (laid_drive x ∷ rest)) ∙ ap (λ (s : LibraryOf TroubledTape). map (λ r. r.name) s.drives) all_of ∙ names_laid drives
 
   pub drive_free : are_distinct (map (λ d. d.name.now) drives) ≡ true → IsDriveNamed x.name.now now None
   drive_free distinct k l is =
-      distinct_apart (map (λ r. r.name) now.racks) (map (λ r. r.name) rest) x.name.now k (ap are_distinct names_are ∙ distinct)
-      (omega (arith, l, length-map now.racks (λ r. r.name))) (get_or-map (λ r. r.name) now.racks k (rack [] []) [] l ∙ is)
+      distinct_apart (map (λ r. r.name) now.drives) (map (λ r. r.name) rest) x.name.now k (ap are_distinct names_are ∙ distinct)
+      (omega (arith, l, length-map now.drives (λ r. r.name))) (get_or-map (λ r. r.name) now.drives k (drive_with [] []) [] l ∙ is)

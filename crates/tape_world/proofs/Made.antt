@@ -10,8 +10,8 @@ use Rattle.drives.specs.declared.fault.DriveFault.{DriveFault}
 use Rattle.std.proofs.lemmas.List.{length-set, get_or-set_same, set-set, append-nil, length-map, map-append, map_more, take_more}
 use Rattle.std.proofs.lemmas.Result.{on_ok_weaker}
 use Rattle.tape.specs.Trouble.{TroubledTape}
-use Rattle.drives.specs.Shop.{KeptReel, kept_reel, Slot, slot, Rack, rack, ShopOf, Shop, shop, rack_at, with_rack, times, names_in}
-use Rattle.drives.specs.ListShop.{ListShop, shop_of, blank_reel, rest_slot, rest_rack, with_drive, with_reel, IsDriveAdded, IsReelAdded}
+use Rattle.drives.specs.TapeLibrary.{KeptReel, kept_reel, ReelSlot, slot, Drive, drive_with, LibraryOf, TapeLibrary, library, drive_at, with_drive_at, times, names_in}
+use Rattle.drives.specs.ListLibrary.{ListLibrary, library_of, blank_reel, rest_slot, rest_drive, with_drive, with_reel, IsDriveAdded, IsReelAdded}
 use Rattle.drives.proofs.Arranging.{names_from}
 use Rattle.drives.proofs.Shops.{bit}
 use Rattle.std.specs.Str.{bytes_eq}
@@ -19,39 +19,39 @@ use Rattle.dumpdates.specs.Entry.{DatesEntry}
 use Rattle.rmt_server.specs.Hall.{hall}
 use Rattle.tape_host.specs.Halls.{Hosted, hosted}
 use Rattle.tape_host.specs.Lying.{Lie, StacksLie, AllLie}
-use Rattle.tape_events.specs.First.{PlainDriveSpec, blank_rack, first_world}
+use Rattle.tape_events.specs.First.{PlainDriveSpec, blank_drive, first_world}
 use Rattle.tape_world.specs.declared.link.Link.{Link as RealLink}
 use Rattle.tape_world.specs.declared.caller.Begun.{Begun as RealBegun}
 use Rattle.tape_world.specs.declared.books.Books.{Books}
 use Rattle.tape_world.specs.Seen.{seen_link, seen_begun, seen_count, seen_opening, seen_lists, seen_writing, seen_entered, book_names, world_of}
 use Rattle.tape_world.specs.declared.drive_spec.DriveSpec.{DriveSpec}
-use Rattle.tape_world.specs.Serving.{IsShopKnown}
-use Rattle.tape_world.specs.Making.{plain_drive_spec, reels_of, blank_slots, laid_rack, laid_shop, with_laid, with_slots}
+use Rattle.tape_world.specs.Serving.{IsLibraryKnown}
+use Rattle.tape_world.specs.Making.{plain_drive_spec, reels_of, blank_slots, laid_drive, laid_library, with_laid, with_slots}
 
-one_slot : (s : ShopOf TroubledTape) (d : ℕ) (name : List ℕ) (capacity : ℕ) (slots : List (Slot TroubledTape)) → d < length s.racks
+one_slot : (s : LibraryOf TroubledTape) (d : ℕ) (name : List ℕ) (capacity : ℕ) (slots : List (ReelSlot TroubledTape)) → d < length s.drives
     → with_slots (with_reel s d name capacity) d slots ≡ with_slots s d (slot name (Some (blank_reel capacity)) ∷ slots)
 one_slot s d name capacity slots l =
-    let r = rack_at s d in
+    let r = drive_at s d in
     let x = slot name (Some (blank_reel capacity)) in
-    let put = rack r.name (r.stack ++ x ∷ []) in
-    let here : rack_at (with_reel s d name capacity) d ≡ put = get_or-set_same s.racks d put (rack [] []) l in
-    ap (λ (q : Rack TroubledTape). with_rack (with_reel s d name capacity) d (rack q.name (q.stack ++ slots))) here
-    ∙ ap (λ racks. shop racks s.bin) (set-set s.racks d put (rack r.name ((r.stack ++ x ∷ []) ++ slots)))
-    ∙ ap (λ stack. with_rack s d (rack r.name stack)) (append_assoc r.stack (x ∷ []) slots)
+    let put = drive_with r.name (r.stack ++ x ∷ []) in
+    let here : drive_at (with_reel s d name capacity) d ≡ put = get_or-set_same s.drives d put (drive_with [] []) l in
+    ap (λ (q : Drive TroubledTape). with_drive_at (with_reel s d name capacity) d (drive_with q.name (q.stack ++ slots))) here
+    ∙ ap (λ all_drives. library all_drives s.bin) (set-set s.drives d put (drive_with r.name ((r.stack ++ x ∷ []) ++ slots)))
+    ∙ ap (λ stack. with_drive_at s d (drive_with r.name stack)) (append_assoc r.stack (x ∷ []) slots)
 
-reel_added : {U : Type 0} (old new : ListShop) (d : ℕ) (name : List ℕ) (capacity : ℕ) (r : Result U DriveFault) → IsReelAdded old d name capacity r new → is_err r ≡ false
-    → new.shop ≡ with_reel old.shop d name capacity
-reel_added old new d name capacity (Ok x) h e = ap (λ (s : ListShop). s.shop) h.1
+reel_added : {U : Type 0} (old new : ListLibrary) (d : ℕ) (name : List ℕ) (capacity : ℕ) (r : Result U DriveFault) → IsReelAdded old d name capacity r new → is_err r ≡ false
+    → new.library ≡ with_reel old.library d name capacity
+reel_added old new d name capacity (Ok x) h e = ap (λ (s : ListLibrary). s.library) h.1
 reel_added old new d name capacity (Err fault) h e = absurd cc
 
-racks_with : (s : ShopOf TroubledTape) (d : ℕ) (name : List ℕ) (capacity : ℕ) → length (with_reel s d name capacity).racks ≡ length s.racks
-racks_with s d name capacity = length-set s.racks d (rack (rack_at s d).name ((rack_at s d).stack ++ slot name (Some (blank_reel capacity)) ∷ []))
+drives_with : (s : LibraryOf TroubledTape) (d : ℕ) (name : List ℕ) (capacity : ℕ) → length (with_reel s d name capacity).drives ≡ length s.drives
+drives_with s d name capacity = length-set s.drives d (drive_with (drive_at s d).name ((drive_at s d).stack ++ slot name (Some (blank_reel capacity)) ∷ []))
 
-pub same_racks : {U : Type 0} (old new : ListShop) (d : ℕ) (name : List ℕ) (capacity : ℕ) (r : Result U DriveFault) → IsReelAdded old d name capacity r new → is_err r ≡ false
-    → length new.shop.racks ≡ length old.shop.racks
-same_racks old new d name capacity r h e = ap (λ (s : ShopOf TroubledTape). length s.racks) (reel_added old new d name capacity r h e) ∙ racks_with old.shop d name capacity
+pub same_drives : {U : Type 0} (old new : ListLibrary) (d : ℕ) (name : List ℕ) (capacity : ℕ) (r : Result U DriveFault) → IsReelAdded old d name capacity r new → is_err r ≡ false
+    → length new.library.drives ≡ length old.library.drives
+same_drives old new d name capacity r h e = ap (λ (s : LibraryOf TroubledTape). length s.drives) (reel_added old new d name capacity r h e) ∙ drives_with old.library d name capacity
 
-more_reels : {A : Type 0} (f : A → List ℕ) (first now new : ShopOf TroubledTape) (d capacity : ℕ) (names : List A) (i : ℕ) (x : A) → d < length now.racks → i < length names
+more_reels : {A : Type 0} (f : A → List ℕ) (first now new : LibraryOf TroubledTape) (d capacity : ℕ) (names : List A) (i : ℕ) (x : A) → d < length now.drives → i < length names
     → new ≡ with_reel now d (f (get_or names i x)) capacity
     → with_slots now d (blank_slots capacity (map f (drop i names))) ≡ with_slots first d (blank_slots capacity (map f names))
     → with_slots new d (blank_slots capacity (map f (drop (i + 1) names))) ≡ with_slots first d (blank_slots capacity (map f names))
@@ -61,37 +61,37 @@ more_reels f first now new d capacity names i x l m made same =
     ∙ ap (λ ns. with_slots now d (blank_slots capacity ns)) (sym (names_from f names i x m)) ∙ same
 
 -- the reels that are to be added yet
-pub next_reel : {A U : Type 0} (f : A → List ℕ) (first : ShopOf TroubledTape) (now new : ListShop) (d capacity : ℕ) (names : List A) (i : ℕ) (x : A) (r : Result U DriveFault)
-    → d < length now.shop.racks → i < length names → IsReelAdded now d (f (get_or names i x)) capacity r new → is_err r ≡ false
-    → with_slots now.shop d (blank_slots capacity (map f (drop i names))) ≡ with_slots first d (blank_slots capacity (map f names))
-    → with_slots new.shop d (blank_slots capacity (map f (drop (i + 1) names))) ≡ with_slots first d (blank_slots capacity (map f names))
+pub next_reel : {A U : Type 0} (f : A → List ℕ) (first : LibraryOf TroubledTape) (now new : ListLibrary) (d capacity : ℕ) (names : List A) (i : ℕ) (x : A) (r : Result U DriveFault)
+    → d < length now.library.drives → i < length names → IsReelAdded now d (f (get_or names i x)) capacity r new → is_err r ≡ false
+    → with_slots now.library d (blank_slots capacity (map f (drop i names))) ≡ with_slots first d (blank_slots capacity (map f names))
+    → with_slots new.library d (blank_slots capacity (map f (drop (i + 1) names))) ≡ with_slots first d (blank_slots capacity (map f names))
 next_reel f first now new d capacity names i x r l m h e same =
-    more_reels f first now.shop new.shop d capacity names i x l m (reel_added now new d (f (get_or names i x)) capacity r h e) same
+    more_reels f first now.library new.library d capacity names i x l m (reel_added now new d (f (get_or names i x)) capacity r h e) same
 
-last_is : {X : Type 0} (racks : List (Rack X)) (r : Rack X) → slice_index_or (racks ++ r ∷ []) (length racks) (rack [] []) ≡ r
+last_is : {X : Type 0} (all_drives : List (Drive X)) (r : Drive X) → slice_index_or (all_drives ++ r ∷ []) (length all_drives) (drive_with [] []) ≡ r
 last_is [] r = refl
-last_is (x ∷ racks) r = last_is racks r
+last_is (x ∷ all_drives) r = last_is all_drives r
 
-put_last : {X : Type 0} (racks : List (Rack X)) (r new : Rack X) → slice_set (racks ++ r ∷ []) (length racks) new ≡ racks ++ new ∷ []
+put_last : {X : Type 0} (all_drives : List (Drive X)) (r new : Drive X) → slice_set (all_drives ++ r ∷ []) (length all_drives) new ≡ all_drives ++ new ∷ []
 put_last [] r new = refl
-put_last (x ∷ racks) r new = ap (λ xs. x ∷ xs) (put_last racks r new)
+put_last (x ∷ all_drives) r new = ap (λ xs. x ∷ xs) (put_last all_drives r new)
 
 -- a drive that was added, with its reels
-pub laid_on : (s : ShopOf TroubledTape) (d : DriveSpec) → with_slots (with_drive s d.name.now) (length s.racks) (blank_slots d.capacity (reels_of d)) ≡ with_laid s d
+pub laid_on : (s : LibraryOf TroubledTape) (d : DriveSpec) → with_slots (with_drive s d.name.now) (length s.drives) (blank_slots d.capacity (reels_of d)) ≡ with_laid s d
 laid_on s d =
-    ap (λ (r : Rack TroubledTape). with_rack (with_drive s d.name.now) (length s.racks) (rack r.name (r.stack ++ blank_slots d.capacity (reels_of d)))) (last_is s.racks (rack d.name.now []))
-    ∙ ap (λ racks. shop racks s.bin) (put_last s.racks (rack d.name.now []) (laid_rack d))
+    ap (λ (r : Drive TroubledTape). with_drive_at (with_drive s d.name.now) (length s.drives) (drive_with r.name (r.stack ++ blank_slots d.capacity (reels_of d)))) (last_is s.drives (drive_with d.name.now []))
+    ∙ ap (λ all_drives. library all_drives s.bin) (put_last s.drives (drive_with d.name.now []) (laid_drive d))
 
 -- the drives that are to be added yet
-abbrev pub laid_after : ShopOf TroubledTape → List DriveSpec → ShopOf TroubledTape
-laid_after s drives = shop (s.racks ++ map laid_rack drives) s.bin
+abbrev pub laid_after : LibraryOf TroubledTape → List DriveSpec → LibraryOf TroubledTape
+laid_after s drives = library (s.drives ++ map laid_drive drives) s.bin
 
 -- what an added drive came to, with its reels
-pub drive_laid : {U E : Type 0} (old made : ListShop) (new : ShopOf TroubledTape) (d : DriveSpec) (number : ℕ) (r : Result U E) → IsDriveAdded old d.name.now (Ok number) made
-    → OnOk r (new ≡ with_slots made.shop number (blank_slots d.capacity (reels_of d))) → OnOk r (new ≡ with_laid old.shop d)
+pub drive_laid : {U E : Type 0} (old made : ListLibrary) (new : LibraryOf TroubledTape) (d : DriveSpec) (number : ℕ) (r : Result U E) → IsDriveAdded old d.name.now (Ok number) made
+    → OnOk r (new ≡ with_slots made.library number (blank_slots d.capacity (reels_of d))) → OnOk r (new ≡ with_laid old.library d)
 drive_laid old made new d number r added laid =
-    on_ok_weaker r (λ is. is ∙ ap (λ (s : ListShop). with_slots s.shop number (blank_slots d.capacity (reels_of d))) added.2
-    ∙ ap (λ n. with_slots (with_drive old.shop d.name.now) n (blank_slots d.capacity (reels_of d))) added.1 ∙ laid_on old.shop d) laid
+    on_ok_weaker r (λ is. is ∙ ap (λ (s : ListLibrary). with_slots s.library number (blank_slots d.capacity (reels_of d))) added.2
+    ∙ ap (λ n. with_slots (with_drive old.library d.name.now) n (blank_slots d.capacity (reels_of d))) added.1 ∙ laid_on old.library d) laid
 
 -- ---- what is told of them
 
@@ -99,36 +99,36 @@ kept_slots : (capacity : ℕ) (names : List (List ℕ)) → map rest_slot (blank
 kept_slots capacity [] = refl
 kept_slots capacity (name ∷ names) = ap (λ slots. slot name (Some (kept_reel [] capacity)) ∷ slots) (kept_slots capacity names)
 
-kept_racks : (drives : List DriveSpec) → map rest_rack (map laid_rack drives) ≡ map blank_rack (map plain_drive_spec drives)
-kept_racks [] = refl
-kept_racks (d ∷ drives) =
-    ap (λ slots. rack d.name.now slots ∷ map rest_rack (map laid_rack drives)) (kept_slots d.capacity (reels_of d))
-    ∙ ap (λ racks. blank_rack (plain_drive_spec d) ∷ racks) (kept_racks drives)
+kept_drives : (drives : List DriveSpec) → map rest_drive (map laid_drive drives) ≡ map blank_drive (map plain_drive_spec drives)
+kept_drives [] = refl
+kept_drives (d ∷ drives) =
+    ap (λ slots. drive_with d.name.now slots ∷ map rest_drive (map laid_drive drives)) (kept_slots d.capacity (reels_of d))
+    ∙ ap (λ all_drives. blank_drive (plain_drive_spec d) ∷ all_drives) (kept_drives drives)
 
-first_shop : (s : ListShop) (drives : List DriveSpec) → s.shop ≡ laid_shop drives → shop_of s ≡ shop (map blank_rack (map plain_drive_spec drives)) []
-first_shop s drives is =
-    ap (λ (x : ShopOf TroubledTape). shop (map rest_rack x.racks) (map rest_slot x.bin)) is ∙ ap (λ racks. shop racks []) (kept_racks drives)
+first_library : (s : ListLibrary) (drives : List DriveSpec) → s.library ≡ laid_library drives → library_of s ≡ library (map blank_drive (map plain_drive_spec drives)) []
+first_library s drives is =
+    ap (λ (x : LibraryOf TroubledTape). library (map rest_drive x.drives) (map rest_slot x.bin)) is ∙ ap (λ all_drives. library all_drives []) (kept_drives drives)
 
 slots_lie : (capacity : ℕ) (names : List (List ℕ)) → Lie (map (λ name. slot name (Some (kept_reel [] capacity))) names)
 slots_lie capacity [] = tt
 slots_lie capacity (name ∷ names) = (refl, slots_lie capacity names)
 
-racks_lie : (drives : List PlainDriveSpec) → StacksLie (map blank_rack drives)
-racks_lie [] = tt
-racks_lie (d ∷ drives) = (slots_lie d.capacity d.reels, racks_lie drives)
+drives_lie : (drives : List PlainDriveSpec) → StacksLie (map blank_drive drives)
+drives_lie [] = tt
+drives_lie (d ∷ drives) = (slots_lie d.capacity d.reels, drives_lie drives)
 
-pub none_latched : (s : ListShop) (drives : List DriveSpec) → s.shop ≡ laid_shop drives → AllLie (shop_of s)
-none_latched s drives is = subst (λ (x : Shop). AllLie x) (sym (first_shop s drives is)) (racks_lie (map plain_drive_spec drives), tt)
+pub none_latched : (s : ListLibrary) (drives : List DriveSpec) → s.library ≡ laid_library drives → AllLie (library_of s)
+none_latched s drives is = subst (λ (x : TapeLibrary). AllLie x) (sym (first_library s drives is)) (drives_lie (map plain_drive_spec drives), tt)
 
 -- where nothing has happened yet
-pub first_hall : (host : Hosted) (s : ListShop) (drives : List DriveSpec) (n : ℕ) → s.shop ≡ laid_shop drives
-    → host ≡ hosted (hall (shop_of s) (replicate n 0) []) false → n ≡ length drives → host.hall ≡ (first_world (map plain_drive_spec drives)).hall
+pub first_hall : (host : Hosted) (s : ListLibrary) (drives : List DriveSpec) (n : ℕ) → s.library ≡ laid_library drives
+    → host ≡ hosted (hall (library_of s) (replicate n 0) []) false → n ≡ length drives → host.hall ≡ (first_world (map plain_drive_spec drives)).hall
 first_hall host s drives n laid is count =
-    ap (λ (h : Hosted). h.hall) is ∙ ap (λ x. hall x (replicate n 0) []) (first_shop s drives laid)
-    ∙ ap (λ m. hall (shop (map blank_rack (map plain_drive_spec drives)) []) (replicate m 0) []) (count ∙ sym (length-map drives plain_drive_spec))
+    ap (λ (h : Hosted). h.hall) is ∙ ap (λ x. hall x (replicate n 0) []) (first_library s drives laid)
+    ∙ ap (λ m. hall (library (map blank_drive (map plain_drive_spec drives)) []) (replicate m 0) []) (count ∙ sym (length-map drives plain_drive_spec))
 
 pub made_world : (host : Hosted) (drives : List DriveSpec) (links : List RealLink) (begun : List RealBegun) (books : Books) (dates : List DatesEntry)
-    → host.hall ≡ hall (shop (map blank_rack (map plain_drive_spec drives)) []) (replicate (length (map plain_drive_spec drives)) 0) [] → links ≡ [] → begun ≡ []
+    → host.hall ≡ hall (library (map blank_drive (map plain_drive_spec drives)) []) (replicate (length (map plain_drive_spec drives)) 0) [] → links ≡ [] → begun ≡ []
     → books.counts.items ≡ [] → books.opens.items ≡ [] → books.lists.items ≡ [] → books.writings.items ≡ [] → books.entered.items ≡ [] → books.failure ≡ None → dates ≡ []
     → world_of host.hall links begun None None None books dates ≡ first_world (map plain_drive_spec drives)
 made_world host drives links begun books dates there no_links no_runs no_counts no_opens no_lists no_writings no_entered no_failure no_dates =
@@ -177,20 +177,20 @@ names_blank : (capacity : ℕ) (names : List (List ℕ)) → map (λ x. x.name) 
 names_blank capacity [] = refl
 names_blank capacity (name ∷ names) = ap (λ ns. name ∷ ns) (names_blank capacity names)
 
-names_new : (drives : List DriveSpec) → map (λ x. x.name) (flat_map (λ (r : Rack KeptReel). r.stack) (map blank_rack (map plain_drive_spec drives))) ≡ flat_map reels_of drives
+names_new : (drives : List DriveSpec) → map (λ x. x.name) (flat_map (λ (r : Drive KeptReel). r.stack) (map blank_drive (map plain_drive_spec drives))) ≡ flat_map reels_of drives
 names_new [] = refl
 names_new (d ∷ drives) =
-    let more = flat_map (λ (r : Rack KeptReel). r.stack) (map blank_rack (map plain_drive_spec drives)) in
-    ap (map (λ (x : Slot KeptReel). x.name)) (flat_map-cons (λ (r : Rack KeptReel). r.stack) (blank_rack (plain_drive_spec d)) (map blank_rack (map plain_drive_spec drives)))
-    ∙ map-append (λ (x : Slot KeptReel). x.name) (blank_rack (plain_drive_spec d)).stack more
-    ∙ ap (λ ns. ns ++ map (λ (x : Slot KeptReel). x.name) more) (names_blank d.capacity (reels_of d))
+    let more = flat_map (λ (r : Drive KeptReel). r.stack) (map blank_drive (map plain_drive_spec drives)) in
+    ap (map (λ (x : ReelSlot KeptReel). x.name)) (flat_map-cons (λ (r : Drive KeptReel). r.stack) (blank_drive (plain_drive_spec d)) (map blank_drive (map plain_drive_spec drives)))
+    ∙ map-append (λ (x : ReelSlot KeptReel). x.name) (blank_drive (plain_drive_spec d)).stack more
+    ∙ ap (λ ns. ns ++ map (λ (x : ReelSlot KeptReel). x.name) more) (names_blank d.capacity (reels_of d))
     ∙ ap (λ ns. reels_of d ++ ns) (names_new drives) ∙ sym (flat_map-cons reels_of d drives)
 
-pub known_new : (names : List (List ℕ)) (s : Shop) (drives : List DriveSpec) → names ≡ flat_map reels_of drives
-    → s ≡ shop (map blank_rack (map plain_drive_spec drives)) [] → IsShopKnown names s
+pub known_new : (names : List (List ℕ)) (s : TapeLibrary) (drives : List DriveSpec) → names ≡ flat_map reels_of drives
+    → s ≡ library (map blank_drive (map plain_drive_spec drives)) [] → IsLibraryKnown names s
 known_new names s drives is laid name has =
     let all : names_in s ≡ names
-    = ap (λ (v : Shop). names_in v) laid
-    ∙ ap (map (λ (x : Slot KeptReel). x.name)) (append-nil (flat_map (λ (r : Rack KeptReel). r.stack) (map blank_rack (map plain_drive_spec drives)))) ∙ names_new drives
+    = ap (λ (v : TapeLibrary). names_in v) laid
+    ∙ ap (map (λ (x : ReelSlot KeptReel). x.name)) (append-nil (flat_map (λ (r : Drive KeptReel). r.stack) (map blank_drive (map plain_drive_spec drives)))) ∙ names_new drives
     ∙ sym is in
     times_has name names (subst (λ l. 0 < times name l) all has)

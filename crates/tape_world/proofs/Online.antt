@@ -5,7 +5,7 @@ use Rattle.std.specs.Option.{option_or}
 use Rattle.std.proofs.lemmas.Option.{slice_get_within}
 use Rattle.tape_events.specs.Standing.{AreHeld}
 use Rattle.tape.specs.Tape.{Tape}
-use Rattle.drives.specs.Shop.{Shop}
+use Rattle.drives.specs.TapeLibrary.{TapeLibrary}
 use Rattle.rmt_server.specs.Session.{PlainSession}
 use Rattle.rmt_server.specs.TroubledServe.{drive_in}
 use Rattle.rmt_server.specs.Hall.{Hall, Side}
@@ -15,13 +15,13 @@ use Rattle.tape_world.specs.Entries.{AreOpenThere, tape_online, first_tape_onlin
 use Rattle.tape_world.proofs.Server.{side_found}
 
 there_by : (h : Hall) (k d : ℕ) (o : Option Side) (s : PlainSession) → AreOpenThere h → side_of h k ≡ o → option_map (λ (x : Side). x.session) o ≡ Some s
-    → drive_in s ≡ Some d → d < length h.shop.racks
+    → drive_in s ≡ Some d → d < length h.library.drives
 there_by h k d None s there at told is = absurd cc
 there_by h k d (Some x) s there at told is = let same : x.session ≡ s = cc in there k d x at (ap drive_in same ∙ is)
 
 -- the drive of a session that is told of a connection
 pub drive_there : (h : Hall) (k d : ℕ) (s : PlainSession) → AreOpenThere h → option_map (λ (x : Side). x.session) (side_at h.sides k) ≡ Some s
-    → drive_in s ≡ Some d → d < length h.shop.racks
+    → drive_in s ≡ Some d → d < length h.library.drives
 drive_there h k d s there told is = there_by h k d (side_at h.sides k) s there (sym (side_found h k)) told is
 
 or_none : {T : Type 0} (a b : Option T) → option_or a b ≡ None → (a ≡ None) × (b ≡ None)
@@ -33,7 +33,7 @@ pub side_here : (sides : List (Option Side)) (i : ℕ) → side_at sides (i + 1)
 side_here sides i = ap (side_at sides) (add-one i)
 
 -- the first that has one online, after those that have none
-first_here : (name : List ℕ) (s : Shop) (sides : List (Option Side)) (i : ℕ) (t : Tape) → first_tape_online name s (take i sides) ≡ None
+first_here : (name : List ℕ) (s : TapeLibrary) (sides : List (Option Side)) (i : ℕ) (t : Tape) → first_tape_online name s (take i sides) ≡ None
     → tape_online name s (slice_index_or sides i None) ≡ Some t → first_tape_online name s sides ≡ Some t
 first_here name s [] i t none some = absurd cc
 first_here name s (x ∷ sides) zero t none some = ap (λ o. option_or o (first_tape_online name s sides)) some
@@ -41,12 +41,12 @@ first_here name s (x ∷ sides) (suc i) t none some =
     let both = or_none (tape_online name s x) (first_tape_online name s (take i sides)) none in
     ap (λ o. option_or o (first_tape_online name s sides)) both.0 ∙ first_here name s sides i t both.1 some
 
-pub first_found : (name : List ℕ) (s : Shop) (sides : List (Option Side)) (i : ℕ) (t : Tape) (o : Option Tape) → first_tape_online name s (take i sides) ≡ None
+pub first_found : (name : List ℕ) (s : TapeLibrary) (sides : List (Option Side)) (i : ℕ) (t : Tape) (o : Option Tape) → first_tape_online name s (take i sides) ≡ None
     → o ≡ tape_online name s (side_at sides (i + 1)) → o ≡ Some t → first_tape_online name s sides ≡ Some t
 first_found name s sides i t o none is some =
     first_here name s sides i t none (sym (ap (tape_online name s) (side_here sides i)) ∙ sym is ∙ some)
 
-none_here : (name : List ℕ) (s : Shop) (sides : List (Option Side)) (i : ℕ) → first_tape_online name s (take i sides) ≡ None
+none_here : (name : List ℕ) (s : TapeLibrary) (sides : List (Option Side)) (i : ℕ) → first_tape_online name s (take i sides) ≡ None
     → tape_online name s (slice_index_or sides i None) ≡ None → first_tape_online name s (take (suc i) sides) ≡ None
 none_here name s [] i none here = refl
 none_here name s (x ∷ sides) zero none here = ap (λ o. option_or o None) here
@@ -55,7 +55,7 @@ none_here name s (x ∷ sides) (suc i) none here =
     ap (λ o. option_or o (first_tape_online name s (take (suc i) sides))) both.0 ∙ none_here name s sides i both.1 here
 
 -- one connection more that has none
-pub none_more : (name : List ℕ) (s : Shop) (sides : List (Option Side)) (i : ℕ) (o : Option Tape) → first_tape_online name s (take i sides) ≡ None
+pub none_more : (name : List ℕ) (s : TapeLibrary) (sides : List (Option Side)) (i : ℕ) (o : Option Tape) → first_tape_online name s (take i sides) ≡ None
     → o ≡ tape_online name s (side_at sides (i + 1)) → o ≡ None → first_tape_online name s (take (i + 1) sides) ≡ None
 none_more name s sides i o none is here =
     ap (λ n. first_tape_online name s (take n sides)) (add-one i)

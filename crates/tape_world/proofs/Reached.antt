@@ -18,7 +18,7 @@ pub record Reaches (h : Hall) (k n : ℕ) (way : List ℕ) (new : Hall) : Type 0
   pub live : side_of h k ≡ Some side_is
   pub room : HasRoomFor side_is.reached n
   pub unread : (bytes : List ℕ) → Unread side_is.reached bytes → Unread reached (bytes ++ take n way)
-  pub hall_is : new ≡ hall h.shop h.holders (with_numbered h.sides k (Some (side reached side_is.session)))
+  pub hall_is : new ≡ hall h.library h.holders (with_numbered h.sides k (Some (side reached side_is.session)))
 
 pub put_side : (sides : List (Option Side)) (k : ℕ) (x : Option Side) → with_side_at sides k x ≡ with_numbered sides k x
 put_side sides zero x = refl
@@ -44,7 +44,7 @@ reaches_at old k n way room pushed r new (Some s) at has is fits within push =
           let took = push.1 bytes unread in
           let all = whole n (taken_of bytes) has.0 pushed way fits (has.2 bytes unread) (omega (arith, same, within)) took.0 in
           subst (λ l. Unread push.0 (bytes ++ l)) (again n pushed way all) took.1);
-      hall_is = ap (λ h. h.hall) push.2 ∙ ap (hall old.hall.shop old.hall.holders) (put_side old.hall.sides k (Some (side push.0 s.session)));
+      hall_is = ap (λ h. h.hall) push.2 ∙ ap (hall old.hall.library old.hall.holders) (put_side old.hall.sides k (Some (side push.0 s.session)));
     }
 
 pub reaches : (old : Hosted) (k n : ℕ) (way : List ℕ) (room pushed : ℕ) (r : Option ℕ) (new : Hosted) → HasRoom (side_at old.hall.sides k) r

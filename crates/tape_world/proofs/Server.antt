@@ -3,7 +3,7 @@ use Rattle.std.proofs.Common.{◌≡◌, ℕ, zero, suc, List, [], ◌∷◌, Op
 use Rattle.std.specs.Prelude.{true, slice_get, slice_index_or, option_and_then}
 use Rattle.std.specs.Option.{is_some}
 use Rattle.rmt_server.specs.Hall.{Hall, hall, Side}
-use Rattle.rmt_server.specs.Session.{closed_shop}
+use Rattle.rmt_server.specs.Session.{closed_library}
 use Rattle.rmt_server.specs.TroubledServe.{drive_in, with_holder}
 use Rattle.tape_host.specs.Halls as host
 use Rattle.tape_host.specs.Halls.{side_at, with_side_at, HasRoom}
@@ -25,7 +25,7 @@ with_side sides (suc i) = refl
 
 ended_by : (h : Hall) (k : ℕ) (o : Option Side) → host.ended_from h k o ≡ ended_from h k o
 ended_by h k None = refl
-ended_by h k (Some s) = ap (hall (closed_shop h.shop s.session) (with_holder (drive_in s.session) 0 h.holders)) (with_side h.sides k)
+ended_by h k (Some s) = ap (hall (closed_library h.library s.session) (with_holder (drive_in s.session) 0 h.holders)) (with_side h.sides k)
 
 pub ended_is : (h : Hall) (k : ℕ) → host.ended h k ≡ ended h k
 ended_is h k = ended_by h k (side_at h.sides k) ∙ ap (ended_from h k) (side_found h k)

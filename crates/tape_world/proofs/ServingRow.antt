@@ -12,7 +12,7 @@ use Rattle.tape.specs.declared.trouble.Trouble.{Trouble}
 use Rattle.drives.specs.declared.fault.DriveFault.{DriveFault}
 use Rattle.rmt_wire.specs.declared.fault.WireFault.{WireFault}
 use Rattle.rmt_wire.specs.declared.mtio.TheConstants.{MTWEOF}
-use Rattle.drives.specs.Shop.{Shop}
+use Rattle.drives.specs.TapeLibrary.{TapeLibrary}
 use Rattle.rmt_server.specs.declared.access.Access.{Access}
 use Rattle.rmt_server.specs.Access.{access_of}
 use Rattle.rmt_server.specs.Session.{PlainReel, PlainSession, Scene, scene, closed, session_after}
@@ -43,7 +43,7 @@ use Rattle.tape_world.specs.declared.caller.Begun.{Begun as RealBegun}
 use Rattle.tape_world.specs.declared.caller.Caller.{Caller as RealCaller}
 use Rattle.tape_world.specs.declared.caller.KeptRun.{KeptRun}
 use Rattle.tape_world.specs.Seen.{seen_link, seen_caller, seen_count, seen_opening, seen_lists, seen_writing, seen_entered, book_names, world_of}
-use Rattle.tape_world.specs.Serving.{TurnServes, IsSameBooks, IsNoted, IsShopKnown, IsOnlineIn, name_online, name_online_at, name_opened_by, opened_in, written_in}
+use Rattle.tape_world.specs.Serving.{TurnServes, IsSameBooks, IsNoted, IsLibraryKnown, IsOnlineIn, name_online, name_online_at, name_opened_by, opened_in, written_in}
 use Rattle.tape_world.proofs.Linked.{links_after}
 use Rattle.tape_world.proofs.Serving.{serves_as}
 use Rattle.tape_world.proofs.Server.{side_found, ended_is}
@@ -107,7 +107,7 @@ abbrev no_name : Option (List ℕ)
 no_name = None
 
 -- the name of the reel that an open left online for writing
-by_access : (access : Option Access) (s : Shop) (session : PlainSession) → IsLeftOpen access session
+by_access : (access : Option Access) (s : TapeLibrary) (session : PlainSession) → IsLeftOpen access session
     → (if writes_for access then name_online s session else None) ≡ written_reel s session
 by_access access s Idle left = none_either (writes_for access)
   where
@@ -119,8 +119,8 @@ by_access access s (Online d other reel) left =
     ap (λ a. if writes_for a then name_online s (Online d other reel) else None) left
 
 opened_when : (b : Bool) (h : Hall) (k : ℕ) (s : Side) → side_at h.sides k ≡ Some s
-    → name_opened_by (asked.Open b) h k ≡ (if b then name_online h.shop s.session else None)
-opened_when true h k s live = ap (name_online_at h.shop) live
+    → name_opened_by (asked.Open b) h k ≡ (if b then name_online h.library s.session else None)
+opened_when true h k s live = ap (name_online_at h.library) live
 opened_when false h k s live = refl
 
 op_opens : (b : Bool) (h : Hall) (k : ℕ) → name_opened_by (if b then asked.Marks else asked.Other) h k ≡ None
@@ -128,18 +128,18 @@ op_opens true h k = refl
 op_opens false h k = refl
 
 opened_is : (trouble : Trouble) (holders : List ℕ) (before : Scene) (request : PlainRequest) (reply : PlainReply) (after : Scene) (h : Hall) (k : ℕ) (s : Side)
-    → TroubledServeStep trouble holders before request reply after → h.shop ≡ after.shop → s.session ≡ after.session → side_at h.sides k ≡ Some s
-    → name_opened_by (asked_of request) h k ≡ opened_reel request after.shop after.session
-opened_is trouble holders before (Open device mode) reply after h k s step shop session live =
+    → TroubledServeStep trouble holders before request reply after → h.library ≡ after.library → s.session ≡ after.session → side_at h.sides k ≡ Some s
+    → name_opened_by (asked_of request) h k ≡ opened_reel request after.library after.session
+opened_is trouble holders before (Open device mode) reply after h k s step library session live =
     opened_when (writes_for (access_of mode)) h k s live
-    ∙ ap (λ x. if writes_for (access_of mode) then name_online x s.session else None) shop
-    ∙ ap (λ x. if writes_for (access_of mode) then name_online after.shop x else None) session
-    ∙ by_access (access_of mode) after.shop after.session (left_open trouble _ before device (access_of mode) reply after step)
-opened_is trouble holders before Close reply after h k s step shop session live = refl
-opened_is trouble holders before (Write bytes) reply after h k s step shop session live = refl
-opened_is trouble holders before (WriteDropped count) reply after h k s step shop session live = refl
-opened_is trouble holders before (Read count) reply after h k s step shop session live = refl
-opened_is trouble holders before (Op op count) reply after h k s step shop session live = op_opens (op == MTWEOF) h k
+    ∙ ap (λ x. if writes_for (access_of mode) then name_online x s.session else None) library
+    ∙ ap (λ x. if writes_for (access_of mode) then name_online after.library x else None) session
+    ∙ by_access (access_of mode) after.library after.session (left_open trouble _ before device (access_of mode) reply after step)
+opened_is trouble holders before Close reply after h k s step library session live = refl
+opened_is trouble holders before (Write bytes) reply after h k s step library session live = refl
+opened_is trouble holders before (WriteDropped count) reply after h k s step library session live = refl
+opened_is trouble holders before (Read count) reply after h k s step library session live = refl
+opened_is trouble holders before (Op op count) reply after h k s step library session live = op_opens (op == MTWEOF) h k
 
 -- the side that carried a request out
 after_side : (trouble : Trouble) (h : Hall) (k : ℕ) (s : Side) (request : PlainRequest) (reply : PlainReply) (new : Hall) (c : Carries trouble h k s request reply new)
@@ -182,14 +182,14 @@ carried_happens : (trouble : Trouble) (k : ℕ) (w : World) (s : Side) (request 
 carried_happens trouble k w s request reply new links live c is =
     let turn = turns.Carried (carried_of request reply) in
     let here = sym (side_found w.hall k) ∙ live in
-    let h = hall c.shop c.holders (with_numbered w.hall.sides k (Some (side c.reached c.session))) in
-    let hallis : new ≡ h = c.after ∙ ap (hall c.shop c.holders) (put_side w.hall.sides k (Some (side c.reached c.session))) in
+    let h = hall c.library c.holders (with_numbered w.hall.sides k (Some (side c.reached c.session))) in
+    let hallis : new ≡ h = c.after ∙ ap (hall c.library c.holders) (put_side w.hall.sides k (Some (side c.reached c.session))) in
     let next = after_side trouble w.hall k s request reply new c live in
-    let shop : new.shop ≡ c.shop = ap (λ x. x.shop) c.after in
-    let opened = opened_is trouble w.hall.holders (scene w.hall.shop s.session) request reply (scene c.shop c.session) new k
-    (side c.reached c.session) c.served.step shop refl next in
-    let wrote = written_is trouble w.hall.holders (scene w.hall.shop s.session) request reply (scene c.shop c.session) new k
-    (side c.reached c.session) c.served.step shop refl next in (
+    let library : new.library ≡ c.library = ap (λ x. x.library) c.after in
+    let opened = opened_is trouble w.hall.holders (scene w.hall.library s.session) request reply (scene c.library c.session) new k
+    (side c.reached c.session) c.served.step library refl next in
+    let wrote = written_is trouble w.hall.holders (scene w.hall.library s.session) request reply (scene c.library c.session) new k
+    (side c.reached c.session) c.served.step library refl next in (
       (s, Ok (Some request), here, (c.given.0, c.given.1, c.given.2, c.given.3, λ is. cc)),
       (
         s,
@@ -202,7 +202,7 @@ carried_happens trouble k w s request reply new links live c is =
         (
           reply,
           c.reached,
-          c.shop,
+          c.library,
           c.session,
           c.holders,
           c.given.4,
@@ -214,8 +214,8 @@ carried_happens trouble k w s request reply new links live c is =
               (w.lists ++ option_to_list (option_map (λ reel. list_in w.caller) r)) (more_writings w k new turn))
               opened
               ∙ ap (λ r. left_with w h (changed (answered request reply) w.links k)
-              (w.opens ++ option_to_list (option_map (opening k) (opened_reel request c.shop c.session)))
-              (w.lists ++ option_to_list (option_map (λ reel. list_in w.caller) (opened_reel request c.shop c.session)))
+              (w.opens ++ option_to_list (option_map (opening k) (opened_reel request c.library c.session)))
+              (w.lists ++ option_to_list (option_map (λ reel. list_in w.caller) (opened_reel request c.library c.session)))
               (w.writings ++ option_to_list (option_map (writing k (length w.opens)) r))) wrote,
         ),
       ),
@@ -257,14 +257,14 @@ serves_happens trouble k w old new (turns.Broken fault) links was (s, live, give
 
 -- the reel that was opened is there, so its name is known
 pub opened_known : (names : List (List ℕ)) (w : World) (k : ℕ) (h : Hall) (turn : Turn) (links : List Link) (name : List ℕ) → IsWorldKept (turned w k h turn links)
-    → IsShopKnown names h.shop → opened_in h k turn ≡ Some name → Contains names name
+    → IsLibraryKnown names h.library → opened_in h k turn ≡ Some name → Contains names name
 opened_known names w k h turn links name kept known is =
     known name (kept.once.opened (opening k name)
     (subst (λ o. Contains (w.opens ++ option_to_list (option_map (opening k) o)) (opening k name)) (sym is) (Contains-push w.opens (opening k name))))
 
 -- so is one that was written on, which was opened before
 pub written_known : (names : List (List ℕ)) (w : World) (k : ℕ) (h : Hall) (turn : Turn) (links : List Link) (name : List ℕ) → IsWorldKept (turned w k h turn links)
-    → IsShopKnown names h.shop → written_in h k turn ≡ Some name → Contains names name
+    → IsLibraryKnown names h.library → written_in h k turn ≡ Some name → Contains names name
 written_known names w k h turn links name kept known is =
     let x = writing k (length w.opens) name in
     let its = kept.writers x
@@ -285,8 +285,8 @@ serves_world trouble k old new turn n items xs ws len value t = serves_as troubl
 pub same_names : (old new : Books) → new.names ≡ old.names → book_names new ≡ book_names old
 same_names old new is = ap (λ (n : Vec (Vec ℕ Global) Global). map (λ (name : Vec ℕ Global). name.items) n.items) is
 
-pub still_known : (old new : Books) (s : Shop) → new.names ≡ old.names → IsShopKnown (book_names old) s → IsShopKnown (book_names new) s
-still_known old new s is known = subst (λ names. IsShopKnown names s) (sym (same_names old new is)) known
+pub still_known : (old new : Books) (s : TapeLibrary) → new.names ≡ old.names → IsLibraryKnown (book_names old) s → IsLibraryKnown (book_names new) s
+still_known old new s is known = subst (λ names. IsLibraryKnown names s) (sym (same_names old new is)) known
 
 pub name_known : (old new : Books) (name : List ℕ) → new.names ≡ old.names → Contains (book_names old) name → Contains (book_names new) name
 name_known old new name is known = subst (λ names. Contains names name) (sym (same_names old new is)) known

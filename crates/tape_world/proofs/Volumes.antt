@@ -8,7 +8,7 @@ use Rattle.std.proofs.lemmas.List.Sums.{sum_by-cons}
 use Rattle.std.proofs.lemmas.Option.{same_Some}
 use Rattle.std.proofs.lemmas.Slice.Eq.{bytes_eq-Decides}
 use Rattle.tape.specs.Tape.{PlainEntry, Tape, entries_of}
-use Rattle.drives.specs.Shop.{KeptReel, Slot, Rack, rack, Shop, rack_at, slots_in, EachReelOnce}
+use Rattle.drives.specs.TapeLibrary.{KeptReel, ReelSlot, Drive, drive_with, TapeLibrary, drive_at, slots_in, EachReelOnce}
 use Rattle.drives.specs.Arranging.{reel_named}
 use Rattle.drives.proofs.Shops.{bit, named, times_named}
 use Rattle.rmt_server.specs.Hall.{Hall, Side}
@@ -26,26 +26,26 @@ use Rattle.tape_world.specs.Entries.{named_tape_in, tape_online, first_tape_onli
 use Rattle.tape_world.specs.Volumes.{TellsVolumes}
 
 -- one of these has that name, and lies there so, or is away
-abbrev HasSlot : List (Slot KeptReel) → List ℕ → Option KeptReel → Type 0
+abbrev HasSlot : List (ReelSlot KeptReel) → List ℕ → Option KeptReel → Type 0
 HasSlot [] name o = ⊥
 HasSlot (x ∷ xs) name o = ((x.name ≡ name) × (x.reel ≡ o)) ⊎ HasSlot xs name o
 
-has_before : (xs ys : List (Slot KeptReel)) (name : List ℕ) (o : Option KeptReel) → HasSlot xs name o → HasSlot (xs ++ ys) name o
+has_before : (xs ys : List (ReelSlot KeptReel)) (name : List ℕ) (o : Option KeptReel) → HasSlot xs name o → HasSlot (xs ++ ys) name o
 has_before [] ys name o has = absurd has
 has_before (x ∷ xs) ys name o (inl here) = inl here
 has_before (x ∷ xs) ys name o (inr rest) = inr (has_before xs ys name o rest)
 
-has_behind : (xs ys : List (Slot KeptReel)) (name : List ℕ) (o : Option KeptReel) → HasSlot ys name o → HasSlot (xs ++ ys) name o
+has_behind : (xs ys : List (ReelSlot KeptReel)) (name : List ℕ) (o : Option KeptReel) → HasSlot ys name o → HasSlot (xs ++ ys) name o
 has_behind [] ys name o has = has
 has_behind (x ∷ xs) ys name o has = inr (has_behind xs ys name o has)
 
-has_stack : (racks : List (Rack KeptReel)) (d : ℕ) (name : List ℕ) (o : Option KeptReel) → HasSlot (slice_index_or racks d (rack [] [])).stack name o
-    → HasSlot (flat_map (λ r. r.stack) racks) name o
+has_stack : (drives : List (Drive KeptReel)) (d : ℕ) (name : List ℕ) (o : Option KeptReel) → HasSlot (slice_index_or drives d (drive_with [] [])).stack name o
+    → HasSlot (flat_map (λ r. r.stack) drives) name o
 has_stack [] d name o has = absurd has
-has_stack (r ∷ racks) zero name o has = has_before r.stack (flat_map (λ x. x.stack) racks) name o has
-has_stack (r ∷ racks) (suc d) name o has = has_behind r.stack (flat_map (λ x. x.stack) racks) name o (has_stack racks d name o has)
+has_stack (r ∷ drives) zero name o has = has_before r.stack (flat_map (λ x. x.stack) drives) name o has
+has_stack (r ∷ drives) (suc d) name o has = has_behind r.stack (flat_map (λ x. x.stack) drives) name o (has_stack drives d name o has)
 
-has_times : (xs : List (Slot KeptReel)) (name : List ℕ) (o : Option KeptReel) → HasSlot xs name o → 0 < sum_by (named name) xs
+has_times : (xs : List (ReelSlot KeptReel)) (name : List ℕ) (o : Option KeptReel) → HasSlot xs name o → 0 < sum_by (named name) xs
 has_times [] name o has = absurd has
 has_times (x ∷ xs) name o (inl here) =
     let one : named name x ≡ 1 = ap bit ((bytes_eq-Decides name x.name).1 (sym here.0)) in
@@ -57,9 +57,9 @@ has_times (x ∷ xs) name o (inr rest) =
     omega (arith, some, all)
 
 -- where no name stands twice it is what lies under that name
-first_named : (xs : List (Slot KeptReel)) (x : Slot KeptReel) (name : List ℕ) (o : Option KeptReel) (b : Bool) → bytes_eq name x.name ≡ b → sum_by (named name) (x ∷ xs) ≤ 1
+first_named : (xs : List (ReelSlot KeptReel)) (x : ReelSlot KeptReel) (name : List ℕ) (o : Option KeptReel) (b : Bool) → bytes_eq name x.name ≡ b → sum_by (named name) (x ∷ xs) ≤ 1
     → (sum_by (named name) xs ≤ 1 → HasSlot xs name o → reel_named name xs ≡ o) → ((x.name ≡ name) × (x.reel ≡ o)) ⊎ HasSlot xs name o
-    → option_and_then (λ (y : Slot KeptReel). y.reel) (cond b (Some x) (find (λ y. bytes_eq name y.name) xs)) ≡ o
+    → option_and_then (λ (y : ReelSlot KeptReel). y.reel) (cond b (Some x) (find (λ y. bytes_eq name y.name) xs)) ≡ o
 first_named xs x name o true test few rest (inl here) = here.1
 first_named xs x name o true test few rest (inr has) =
     let one : named name x ≡ 1 = ap bit test in
@@ -70,30 +70,30 @@ first_named xs x name o false test few rest (inl here) =
     let clash : false ≡ true = sym test ∙ (bytes_eq-Decides name x.name).1 (sym here.0) in absurd cc
 first_named xs x name o false test few rest (inr has) = let all = sum_by-cons (named name) x xs in rest (omega (arith, all, few)) has
 
-is_named : (xs : List (Slot KeptReel)) (name : List ℕ) (o : Option KeptReel) → sum_by (named name) xs ≤ 1 → HasSlot xs name o → reel_named name xs ≡ o
+is_named : (xs : List (ReelSlot KeptReel)) (name : List ℕ) (o : Option KeptReel) → sum_by (named name) xs ≤ 1 → HasSlot xs name o → reel_named name xs ≡ o
 is_named [] name o few has = absurd has
 is_named (x ∷ xs) name o few has = first_named xs x name o (bytes_eq name x.name) refl few (is_named xs name o) has
 
-shop_named : (s : Shop) (name : List ℕ) (o : Option KeptReel) → EachReelOnce s → HasSlot (slots_in s) name o → reel_named name (slots_in s) ≡ o
-shop_named s name o once has =
+library_named : (s : TapeLibrary) (name : List ℕ) (o : Option KeptReel) → EachReelOnce s → HasSlot (slots_in s) name o → reel_named name (slots_in s) ≡ o
+library_named s name o once has =
     let few = once name in
     let all = times_named name (slots_in s) in
     is_named (slots_in s) name o (omega (arith, few, all)) has
 
 -- what lies there
-lies_has : (xs : List (Slot KeptReel)) (name : List ℕ) (entries : List PlainEntry) → ReelLiesIn xs name entries → (r : KeptReel) × HasSlot xs name (Some r) × (r.entries ≡ entries)
+lies_has : (xs : List (ReelSlot KeptReel)) (name : List ℕ) (entries : List PlainEntry) → ReelLiesIn xs name entries → (r : KeptReel) × HasSlot xs name (Some r) × (r.entries ≡ entries)
 lies_has [] name entries lies = absurd lies
 lies_has (x ∷ xs) name entries (inl here) = (here.reel, inl (here.named, here.there), here.holds)
 lies_has (x ∷ xs) name entries (inr rest) = let on = lies_has xs name entries rest in (on.0, inr on.1, on.2)
 
-on_has : (s : Shop) (name : List ℕ) (entries : List PlainEntry) → ReelLiesOn s name entries → (r : KeptReel) × HasSlot (slots_in s) name (Some r) × (r.entries ≡ entries)
+on_has : (s : TapeLibrary) (name : List ℕ) (entries : List PlainEntry) → ReelLiesOn s name entries → (r : KeptReel) × HasSlot (slots_in s) name (Some r) × (r.entries ≡ entries)
 on_has s name entries (inl (d, lies)) =
-    let on = lies_has (rack_at s d).stack name entries lies in
-    (on.0, has_before (flat_map (λ r. r.stack) s.racks) s.bin name (Some on.0) (has_stack s.racks d name (Some on.0) on.1), on.2)
+    let on = lies_has (drive_at s d).stack name entries lies in
+    (on.0, has_before (flat_map (λ r. r.stack) s.drives) s.bin name (Some on.0) (has_stack s.drives d name (Some on.0) on.1), on.2)
 on_has s name entries (inr lies) =
-    let on = lies_has s.bin name entries lies in (on.0, has_behind (flat_map (λ r. r.stack) s.racks) s.bin name (Some on.0) on.1, on.2)
+    let on = lies_has s.bin name entries lies in (on.0, has_behind (flat_map (λ r. r.stack) s.drives) s.bin name (Some on.0) on.1, on.2)
 
-away_has : (xs : List (Slot KeptReel)) (name : List ℕ) → IsFirstAway xs → first_name xs ≡ name → HasSlot xs name None
+away_has : (xs : List (ReelSlot KeptReel)) (name : List ℕ) → IsFirstAway xs → first_name xs ≡ name → HasSlot xs name None
 away_has [] name away is = absurd away
 away_has (x ∷ xs) name away is = inl (is, away.0)
 
@@ -109,7 +109,7 @@ side_place (x ∷ xs) zero s is = same_Some x (Some s) is
 side_place (x ∷ xs) (suc i) s is = side_place xs i s is
 
 -- where all tapes of that name have these entries
-first_told : (name : List ℕ) (s : Shop) (sides : List (Option Side)) (x : Option Side) (o : Option Tape) (e : List PlainEntry) (j : ℕ) (t : Tape) → tape_online name s x ≡ o
+first_told : (name : List ℕ) (s : TapeLibrary) (sides : List (Option Side)) (x : Option Side) (o : Option Tape) (e : List PlainEntry) (j : ℕ) (t : Tape) → tape_online name s x ≡ o
     → ((i : ℕ) (r : Tape) → tape_online name s (slice_index_or (x ∷ sides) i None) ≡ Some r → entries_of r ≡ e)
     → ((i : ℕ) → tape_online name s (slice_index_or sides i None) ≡ Some t → option_map entries_of (first_tape_online name s sides) ≡ Some e)
     → tape_online name s (slice_index_or (x ∷ sides) j None) ≡ Some t → option_map entries_of (option_or o (first_tape_online name s sides)) ≡ Some e
@@ -117,7 +117,7 @@ first_told name s sides x (Some r) e j t is all rest has = ap Some (all 0 r is)
 first_told name s sides x None e zero t is all rest has = let clash = sym is ∙ has in absurd cc
 first_told name s sides x None e (suc j) t is all rest has = rest j has
 
-told_online : (name : List ℕ) (s : Shop) (sides : List (Option Side)) (e : List PlainEntry) (j : ℕ) (t : Tape)
+told_online : (name : List ℕ) (s : TapeLibrary) (sides : List (Option Side)) (e : List PlainEntry) (j : ℕ) (t : Tape)
     → ((i : ℕ) (r : Tape) → tape_online name s (slice_index_or sides i None) ≡ Some r → entries_of r ≡ e) → tape_online name s (slice_index_or sides j None) ≡ Some t
     → option_map entries_of (first_tape_online name s sides) ≡ Some e
 told_online name s [] e j t all has = absurd cc
@@ -129,47 +129,47 @@ named_in : (b : Bool) (reel t : Tape) → (if b then Some reel else None) ≡ So
 named_in true reel t is = (refl, same_Some reel t is)
 named_in false reel t is = absurd cc
 
-in_drive : (name : List ℕ) (s : Shop) (session : PlainSession) (t : Tape) → named_tape_in name s session ≡ Some t → HasInDrive s session name (entries_of t)
+in_drive : (name : List ℕ) (s : TapeLibrary) (session : PlainSession) (t : Tape) → named_tape_in name s session ≡ Some t → HasInDrive s session name (entries_of t)
 in_drive name s Idle t is = absurd cc
 in_drive name s (Offline drive access) t is = absurd cc
 in_drive name s (Online drive access reel) t is =
-    let its = named_in (bytes_eq name (first_name (rack_at s drive).stack)) reel.tape t is in
-    (drive, access, reel, refl, sym ((bytes_eq-Decides name (first_name (rack_at s drive).stack)).0 its.0), ap entries_of its.1)
+    let its = named_in (bytes_eq name (first_name (drive_at s drive).stack)) reel.tape t is in
+    (drive, access, reel, refl, sym ((bytes_eq-Decides name (first_name (drive_at s drive).stack)).0 its.0), ap entries_of its.1)
 
-online_stands : (h : Hall) (name : List ℕ) (i : ℕ) (t : Tape) (o : Option Side) → slice_index_or h.sides i None ≡ o → tape_online name h.shop o ≡ Some t
+online_stands : (h : Hall) (name : List ℕ) (i : ℕ) (t : Tape) (o : Option Side) → slice_index_or h.sides i None ≡ o → tape_online name h.library o ≡ Some t
     → StandsOn h name (entries_of t)
 online_stands h name i t None at is = absurd cc
 online_stands h name i t (Some s) at is =
-    inr (suc i, s, ap (option_and_then (λ x. x)) (place_side h.sides i s at), in_drive name h.shop s.session t is)
+    inr (suc i, s, ap (option_and_then (λ x. x)) (place_side h.sides i s at), in_drive name h.library s.session t is)
 
-has_tape : (name : List ℕ) (s : Shop) (session : PlainSession) (entries : List PlainEntry) → HasInDrive s session name entries → (t : Tape) × (named_tape_in name s session ≡ Some t)
+has_tape : (name : List ℕ) (s : TapeLibrary) (session : PlainSession) (entries : List PlainEntry) → HasInDrive s session name entries → (t : Tape) × (named_tape_in name s session ≡ Some t)
 has_tape name s session entries (drive, access, reel, online, named, holds) = (
   reel.tape,
   ap (named_tape_in name s) online
-      ∙ ap (λ b. if b then Some reel.tape else None) ((bytes_eq-Decides name (first_name (rack_at s drive).stack)).1 (sym named)),
+      ∙ ap (λ b. if b then Some reel.tape else None) ((bytes_eq-Decides name (first_name (drive_at s drive).stack)).1 (sym named)),
 )
 
-online_told : (h : Hall) (k : ℕ) (s : Side) (name : List ℕ) (entries : List PlainEntry) → AreHeld h → AreLaid h → EachReelOnce h.shop → side_of h k ≡ Some s
-    → HasInDrive h.shop s.session name entries → option_map entries_of (first_tape_online name h.shop h.sides) ≡ Some entries
+online_told : (h : Hall) (k : ℕ) (s : Side) (name : List ℕ) (entries : List PlainEntry) → AreHeld h → AreLaid h → EachReelOnce h.library → side_of h k ≡ Some s
+    → HasInDrive h.library s.session name entries → option_map entries_of (first_tape_online name h.library h.sides) ≡ Some entries
 online_told h zero s name entries a l once live has = let at = side_there h zero s live in absurd cc
 online_told h (suc j) s name entries a l once live has =
     let there = side_place h.sides j s (side_there h (suc j) s live) in
-    let t = has_tape name h.shop s.session entries has in
-    told_online name h.shop h.sides entries j t.0
+    let t = has_tape name h.library s.session entries has in
+    told_online name h.library h.sides entries j t.0
     (λ i r on.
     stands_one h (suc j) s has.0 has.1 has.2 name (entries_of r) live has.3 has.4 a l once (online_stands h name i r (slice_index_or h.sides i None) refl on) ∙ has.5)
-    (ap (tape_online name h.shop) there ∙ t.1)
+    (ap (tape_online name h.library) there ∙ t.1)
 
 -- what stands on a reel is told
-pub stands_told : (h : Hall) (name : List ℕ) (entries : List PlainEntry) → AreHeld h → AreLaid h → EachReelOnce h.shop → StandsOn h name entries → entries_on h name ≡ Some entries
+pub stands_told : (h : Hall) (name : List ℕ) (entries : List PlainEntry) → AreHeld h → AreLaid h → EachReelOnce h.library → StandsOn h name entries → entries_on h name ≡ Some entries
 stands_told h name entries a l once (inl lies) =
-    let on = on_has h.shop name entries lies in
-    ap (λ o. option_or (option_map (λ (r : KeptReel). r.entries) o) (option_map entries_of (first_tape_online name h.shop h.sides))) (shop_named h.shop name (Some on.0) once on.1)
+    let on = on_has h.library name entries lies in
+    ap (λ o. option_or (option_map (λ (r : KeptReel). r.entries) o) (option_map entries_of (first_tape_online name h.library h.sides))) (library_named h.library name (Some on.0) once on.1)
     ∙ ap Some on.2
 stands_told h name entries a l once (inr (k, s, live, has)) =
-    let away = away_has (rack_at h.shop has.0).stack name (l.latched has.0 (k, s, live, ap online_drive_in has.3)) has.4 in
-    let slot = has_before (flat_map (λ r. r.stack) h.shop.racks) h.shop.bin name None (has_stack h.shop.racks has.0 name None away) in
-    ap (λ o. option_or (option_map (λ (r : KeptReel). r.entries) o) (option_map entries_of (first_tape_online name h.shop h.sides))) (shop_named h.shop name None once slot)
+    let away = away_has (drive_at h.library has.0).stack name (l.latched has.0 (k, s, live, ap online_drive_in has.3)) has.4 in
+    let slot = has_before (flat_map (λ r. r.stack) h.library.drives) h.library.bin name None (has_stack h.library.drives has.0 name None away) in
+    ap (λ o. option_or (option_map (λ (r : KeptReel). r.entries) o) (option_map entries_of (first_tape_online name h.library h.sides))) (library_named h.library name None once slot)
     ∙ online_told h k s name entries a l once live has
 
 pub volumes_told : (w : World) → IsWorldKept w → CountedReels w → TellsVolumes w

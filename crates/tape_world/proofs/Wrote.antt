@@ -15,7 +15,7 @@ use Rattle.tape.specs.Tape.TapeAnswer.{Done as Did, Gave, Fault}
 use Rattle.tape.specs.declared.fault.TapeFault.{TapeFault}
 use Rattle.tape.specs.declared.fault.TapeFault.TheVariants as fault
 use Rattle.tape.specs.declared.trouble.Trouble.{Trouble}
-use Rattle.drives.specs.Shop.{Shop, rack_at}
+use Rattle.drives.specs.TapeLibrary.{TapeLibrary, drive_at}
 use Rattle.rmt_server.specs.declared.access.Access.{Access}
 use Rattle.rmt_server.specs.declared.access.Access.TheVariants.{Read as ReadOnly, Write as WriteOnly, Both}
 use Rattle.rmt_server.specs.Access.{writes}
@@ -50,11 +50,11 @@ none_either : (b : Bool) → (if b then no_name else no_name) ≡ no_name
 none_either true = refl
 none_either false = refl
 
-told_name : (s : Shop) (session : PlainSession) (reply : PlainReply) → IsTold session reply
+told_name : (s : TapeLibrary) (session : PlainSession) (reply : PlainReply) → IsTold session reply
     → (if is_free reply then name_online s session else None) ≡ written_reel s session
 told_name s Idle reply told = none_either (is_free reply)
 told_name s (Offline drive access) reply told = none_either (is_free reply)
-told_name s (Online drive access reel) reply told = ap (λ b. if b then Some (first_name (rack_at s drive).stack) else None) told
+told_name s (Online drive access reel) reply told = ap (λ b. if b then Some (first_name (drive_at s drive).stack) else None) told
 
 -- the check that refuses a write, if one does, goes by whether the device is open for writing
 abbrev IsCheck : {R : Type 0} → (R → PlainReply) → Bool → Option R → Type 0
@@ -160,44 +160,44 @@ step_told trouble before (Online drive access reel) request reply after is check
     online_told refused trouble before request reply after (refusal (Ready access) request) drive access reel is check step
 
 -- the reel of a side that is there
-told_at : (h : Hall) (k : ℕ) (s : Side) (after : Scene) (reply : PlainReply) → h.shop ≡ after.shop → s.session ≡ after.session → side_at h.sides k ≡ Some s
-    → IsTold after.session reply → (if is_free reply then name_online_at h.shop (side_at h.sides k) else None) ≡ written_reel after.shop after.session
-told_at h k s after reply shop session live told =
-    ap (λ o. if is_free reply then name_online_at h.shop o else None) live ∙ ap (λ x. if is_free reply then name_online x s.session else None) shop
-    ∙ ap (λ x. if is_free reply then name_online after.shop x else None) session ∙ told_name after.shop after.session reply told
+told_at : (h : Hall) (k : ℕ) (s : Side) (after : Scene) (reply : PlainReply) → h.library ≡ after.library → s.session ≡ after.session → side_at h.sides k ≡ Some s
+    → IsTold after.session reply → (if is_free reply then name_online_at h.library (side_at h.sides k) else None) ≡ written_reel after.library after.session
+told_at h k s after reply library session live told =
+    ap (λ o. if is_free reply then name_online_at h.library o else None) live ∙ ap (λ x. if is_free reply then name_online x s.session else None) library
+    ∙ ap (λ x. if is_free reply then name_online after.library x else None) session ∙ told_name after.library after.session reply told
 
 -- an operation that writes no marks
-other_written : (op count : ℕ) (reply : PlainReply) (h : Hall) (k : ℕ) (s : Shop) (session : PlainSession) → (op == MTWEOF) ≡ false
+other_written : (op count : ℕ) (reply : PlainReply) (h : Hall) (k : ℕ) (s : TapeLibrary) (session : PlainSession) → (op == MTWEOF) ≡ false
     → name_written_by (carried_of (Op op count) reply) h k ≡ reel_written (Op op count) s session
 other_written op count reply h k s session other =
     let kind : asked_of (Op op count) ≡ asked.Other = ap (λ b. if b then asked.Marks else asked.Other) other in
     ap (λ x. name_written_by (record { asked = x; answered = answered_of reply }) h k) kind ∙ sym (ap (λ b. if b then written_reel s session else None) other)
 
 marks_written : (trouble : Trouble) (holders : List ℕ) (before : Scene) (op count : ℕ) (reply : PlainReply) (after : Scene) (h : Hall) (k : ℕ) (s : Side)
-    → TroubledServeStep trouble holders before (Op op count) reply after → h.shop ≡ after.shop → s.session ≡ after.session → side_at h.sides k ≡ Some s
-    → op ≡ MTWEOF → name_written_by (carried_of (Op op count) reply) h k ≡ reel_written (Op op count) after.shop after.session
-marks_written trouble holders before op count reply after h k s step shop session live is =
-    subst (λ n. name_written_by (carried_of (Op n count) reply) h k ≡ reel_written (Op n count) after.shop after.session) (sym is)
-    (told_at h k s after reply shop session live
+    → TroubledServeStep trouble holders before (Op op count) reply after → h.library ≡ after.library → s.session ≡ after.session → side_at h.sides k ≡ Some s
+    → op ≡ MTWEOF → name_written_by (carried_of (Op op count) reply) h k ≡ reel_written (Op op count) after.library after.session
+marks_written trouble holders before op count reply after h k s step library session live is =
+    subst (λ n. name_written_by (carried_of (Op n count) reply) h k ≡ reel_written (Op n count) after.library after.session) (sym is)
+    (told_at h k s after reply library session live
     (step_told trouble before before.session (Op MTWEOF count) reply after refl (marks_checked before.session count)
     (subst (λ n. TroubledServeStep trouble holders before (Op n count) reply after) is step)))
 
 -- the reel on which a request that was carried out wrote
 pub written_is : (trouble : Trouble) (holders : List ℕ) (before : Scene) (request : PlainRequest) (reply : PlainReply) (after : Scene) (h : Hall) (k : ℕ)
-    (s : Side) → TroubledServeStep trouble holders before request reply after → h.shop ≡ after.shop → s.session ≡ after.session
-    → side_at h.sides k ≡ Some s → name_written_by (carried_of request reply) h k ≡ reel_written request after.shop after.session
-written_is trouble holders before (Open device mode) reply after h k s step shop session live = refl
-written_is trouble holders before Close reply after h k s step shop session live = refl
-written_is trouble holders before (Write bytes) reply after h k s step shop session live =
-    told_at h k s after reply shop session live
+    (s : Side) → TroubledServeStep trouble holders before request reply after → h.library ≡ after.library → s.session ≡ after.session
+    → side_at h.sides k ≡ Some s → name_written_by (carried_of request reply) h k ≡ reel_written request after.library after.session
+written_is trouble holders before (Open device mode) reply after h k s step library session live = refl
+written_is trouble holders before Close reply after h k s step library session live = refl
+written_is trouble holders before (Write bytes) reply after h k s step library session live =
+    told_at h k s after reply library session live
     (step_told trouble before before.session (Write bytes) reply after refl (write_checked before.session bytes) step)
-written_is trouble holders before (WriteDropped count) reply after h k s step shop session live =
-    told_at h k s after reply shop session live
+written_is trouble holders before (WriteDropped count) reply after h k s step library session live =
+    told_at h k s after reply library session live
     (step_told trouble before before.session (WriteDropped count) reply after refl (dropped_checked before.session count) step)
-written_is trouble holders before (Read count) reply after h k s step shop session live = refl
-written_is trouble holders before (Op op count) reply after h k s step shop session live = elim (eqb_tells op MTWEOF) [
-  | inl (equal, same) ↦ marks_written trouble holders before op count reply after h k s step shop session live same
-  | inr (unequal, other) ↦ other_written op count reply h k after.shop after.session unequal
+written_is trouble holders before (Read count) reply after h k s step library session live = refl
+written_is trouble holders before (Op op count) reply after h k s step library session live = elim (eqb_tells op MTWEOF) [
+  | inl (equal, same) ↦ marks_written trouble holders before op count reply after h k s step library session live same
+  | inr (unequal, other) ↦ other_written op count reply h k after.library after.session unequal
 ]
 
 -- one writing more

@@ -3,7 +3,7 @@ use Rattle.std.specs.Prelude.{◌≡◌, ℕ, ◌<◌, if◌then◌else◌, List
 use Rattle.std.specs.Option.{option_map, option_or, option_and_then}
 use Rattle.std.specs.Str.{bytes_eq}
 use Rattle.tape.specs.Tape.{PlainEntry, Tape, entries_of}
-use Rattle.drives.specs.Shop.{Shop, rack_at, slots_in}
+use Rattle.drives.specs.TapeLibrary.{TapeLibrary, drive_at, slots_in}
 use Rattle.drives.specs.Arranging.{reel_named}
 use Rattle.rmt_server.specs.Session.{PlainSession}
 use Rattle.rmt_server.specs.Session.PlainSession.{Online}
@@ -14,28 +14,28 @@ use Rattle.tape_events.specs.Changes.{side_of, first_name}
 
 -- each drive that a live side has open is there
 abbrev pub AreOpenThere : Hall → Type 0
-AreOpenThere h = (k d : ℕ) (s : Side) → side_of h k ≡ Some s → drive_in s.session ≡ Some d → d < length h.shop.racks
+AreOpenThere h = (k d : ℕ) (s : Side) → side_of h k ≡ Some s → drive_in s.session ≡ Some d → d < length h.library.drives
 
 -- the tape that a session has online, if that is of the reel of this name: the first of the drive's stack
-abbrev pub named_tape_in : List ℕ → Shop → PlainSession → Option Tape
+abbrev pub named_tape_in : List ℕ → TapeLibrary → PlainSession → Option Tape
 named_tape_in name s (Online drive access reel) =
-    if bytes_eq name (first_name (rack_at s drive).stack) then Some reel.tape else None
+    if bytes_eq name (first_name (drive_at s drive).stack) then Some reel.tape else None
 named_tape_in name s session = None
 
-abbrev pub tape_online : List ℕ → Shop → Option Side → Option Tape
+abbrev pub tape_online : List ℕ → TapeLibrary → Option Side → Option Tape
 tape_online name s None = None
 tape_online name s (Some x) = named_tape_in name s x.session
 
 -- the tape that a live side has online under this name: the first of them
-abbrev pub first_tape_online : List ℕ → Shop → List (Option Side) → Option Tape
+abbrev pub first_tape_online : List ℕ → TapeLibrary → List (Option Side) → Option Tape
 first_tape_online name s [] = None
 first_tape_online name s (side ∷ sides) = option_or (tape_online name s side) (first_tape_online name s sides)
 
 -- what stands on the reel of this name, which lies on a stack or in the bin, or is online
 abbrev pub entries_on : Hall → List ℕ → Option (List PlainEntry)
 entries_on h name =
-    option_or (option_map (λ r. r.entries) (reel_named name (slots_in h.shop)))
-    (option_map entries_of (first_tape_online name h.shop h.sides))
+    option_or (option_map (λ r. r.entries) (reel_named name (slots_in h.library)))
+    (option_map entries_of (first_tape_online name h.library h.sides))
 
 -- one entry of it
 abbrev pub entry_on : World → List ℕ → ℕ → Option PlainEntry

@@ -3,8 +3,8 @@ use Rattle.std.specs.Prelude.{ℕ, Bool, false, not, ◌||◌, List, [], ◌∷�
 use Rattle.std.specs.List.{list_any}
 use Rattle.std.specs.Str.{bytes_eq}
 use Rattle.tape.specs.Trouble.{TroubledTape}
-use Rattle.drives.specs.Shop.{Slot, slot, Rack, rack, ShopOf, shop, rack_at, with_rack}
-use Rattle.drives.specs.ListShop.{blank_reel}
+use Rattle.drives.specs.TapeLibrary.{ReelSlot, slot, Drive, drive_with, LibraryOf, library, drive_at, with_drive_at}
+use Rattle.drives.specs.ListLibrary.{blank_reel}
 use Rattle.drives.specs.Arranging.{are_distinct}
 use Rattle.tape_events.specs.First.{PlainDriveSpec}
 use Rattle.tape_world.specs.declared.drive_spec.DriveSpec.{DriveSpec}
@@ -25,20 +25,20 @@ reel_again [] = false
 reel_again (d ∷ drives) = not (are_distinct (reels_of d)) || list_any (λ n. names_again drives n.now) d.reels.now
 
 -- empty reels of these names
-abbrev pub blank_slots : ℕ → List (List ℕ) → List (Slot TroubledTape)
+abbrev pub blank_slots : ℕ → List (List ℕ) → List (ReelSlot TroubledTape)
 blank_slots capacity names = map (λ n. slot n (Some (blank_reel capacity))) names
 
-abbrev pub laid_rack : DriveSpec → Rack TroubledTape
-laid_rack d = rack d.name.now (blank_slots d.capacity (reels_of d))
+abbrev pub laid_drive : DriveSpec → Drive TroubledTape
+laid_drive d = drive_with d.name.now (blank_slots d.capacity (reels_of d))
 
 -- the drives with their reels, which are empty, and an empty bin
-abbrev pub laid_shop : List DriveSpec → ShopOf TroubledTape
-laid_shop drives = shop (map laid_rack drives) []
+abbrev pub laid_library : List DriveSpec → LibraryOf TroubledTape
+laid_library drives = library (map laid_drive drives) []
 
 -- reels more, last on the stack of drive d
-abbrev pub with_slots : ShopOf TroubledTape → ℕ → List (Slot TroubledTape) → ShopOf TroubledTape
-with_slots s d slots = with_rack s d (rack (rack_at s d).name ((rack_at s d).stack ++ slots))
+abbrev pub with_slots : LibraryOf TroubledTape → ℕ → List (ReelSlot TroubledTape) → LibraryOf TroubledTape
+with_slots s d slots = with_drive_at s d (drive_with (drive_at s d).name ((drive_at s d).stack ++ slots))
 
 -- one drive more, with its reels
-abbrev pub with_laid : ShopOf TroubledTape → DriveSpec → ShopOf TroubledTape
-with_laid s d = shop (s.racks ++ laid_rack d ∷ []) s.bin
+abbrev pub with_laid : LibraryOf TroubledTape → DriveSpec → LibraryOf TroubledTape
+with_laid s d = library (s.drives ++ laid_drive d ∷ []) s.bin

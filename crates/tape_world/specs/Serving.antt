@@ -6,7 +6,7 @@ use Rattle.rmt_wire.specs.Request.{PlainRequest}
 use Rattle.rmt_wire.specs.Reply.{PlainReply}
 use Rattle.rmt_wire.specs.declared.errno.TheConstants.{EBADF, EACCES}
 use Rattle.tape.specs.declared.trouble.Trouble.{Trouble}
-use Rattle.drives.specs.Shop.{Shop, rack_at}
+use Rattle.drives.specs.TapeLibrary.{TapeLibrary, drive_at}
 use Rattle.rmt_server.specs.Session.{PlainReel, PlainSession}
 use Rattle.rmt_server.specs.Session.PlainSession.{Online}
 use Rattle.rmt_server.specs.declared.access.Access.{Access}
@@ -69,11 +69,11 @@ TurnServes trouble old k (turns.Broken fault) new becomes =
     × (new ≡ hosted (ended old.hall k) old.ready) × becomes over_here
 
 -- the name of the reel that is online
-abbrev pub name_online : Shop → PlainSession → Option (List ℕ)
-name_online s (Online drive access reel) = Some (first_name (rack_at s drive).stack)
+abbrev pub name_online : TapeLibrary → PlainSession → Option (List ℕ)
+name_online s (Online drive access reel) = Some (first_name (drive_at s drive).stack)
 name_online s session = None
 
-abbrev pub name_online_at : Shop → Option Side → Option (List ℕ)
+abbrev pub name_online_at : TapeLibrary → Option Side → Option (List ℕ)
 name_online_at s None = None
 name_online_at s (Some x) = name_online s x.session
 
@@ -81,10 +81,10 @@ name_online_at s (Some x) = name_online s x.session
 abbrev pub IsOnlineIn : Hall → ℕ → Type 0
 IsOnlineIn h k =
     (s : Side) (drive : ℕ) (access : Access) (reel : PlainReel) → side_at h.sides k ≡ Some s → s.session ≡ Online drive access reel
-    → drive < length h.shop.racks
+    → drive < length h.library.drives
 
 abbrev pub name_opened_by : RequestKind → Hall → ℕ → Option (List ℕ)
-name_opened_by (asked.Open true) h k = name_online_at h.shop (side_at h.sides k)
+name_opened_by (asked.Open true) h k = name_online_at h.library (side_at h.sides k)
 name_opened_by _ h k = None
 
 -- the name of the reel that a turn opened for writing, if it did
@@ -109,7 +109,7 @@ abbrev pub is_write : Carried → Bool
 is_write c = if is_to_write c.asked then not (is_barred c.answered) else false
 
 abbrev pub name_written_by : Carried → Hall → ℕ → Option (List ℕ)
-name_written_by c h k = if is_write c then name_online_at h.shop (side_at h.sides k) else None
+name_written_by c h k = if is_write c then name_online_at h.library (side_at h.sides k) else None
 
 -- the name of the reel that a turn wrote on, if it did
 abbrev pub written_in : Hall → ℕ → Turn → Option (List ℕ)
@@ -117,8 +117,8 @@ written_in h k (turns.Carried c) = name_written_by c h k
 written_in h k turn = None
 
 -- the name of each reel is among these
-abbrev pub IsShopKnown : List (List ℕ) → Shop → Type 0
-IsShopKnown names s = (name : List ℕ) → HasReel s name → Contains names name
+abbrev pub IsLibraryKnown : List (List ℕ) → TapeLibrary → Type 0
+IsLibraryKnown names s = (name : List ℕ) → HasReel s name → Contains names name
 
 -- there is room for what a turn may note
 pub record HasRoom (b : Books) : Type 0 where

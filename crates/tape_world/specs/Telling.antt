@@ -1,7 +1,7 @@
 -- What a world tells. Public contracts cite it.
 use Rattle.std.specs.Prelude.{◌≡◌, ◌↔◌, ℕ, ◌≤◌, false, List, Option, Some, None}
 use Rattle.rmt_wire.specs.ReplyReader.{ReplyHeld}
-use Rattle.drives.specs.Shop.{KeptReel, Slot, Shop, IsDriveNamed, rack_at}
+use Rattle.drives.specs.TapeLibrary.{KeptReel, ReelSlot, TapeLibrary, IsDriveNamed, drive_at}
 use Rattle.dump_run.specs.Blocks.{ListedBlocks, listed}
 use Rattle.dump_client.specs.Standing.{Standing}
 use Rattle.dump_client.specs.Client.{ClientHeld}
@@ -40,9 +40,9 @@ TellsWay w k (Some way) =
     × IsGreatest (λ n. Possible w (ToClient k n)) way.1
 
 -- the reels of the first drive of that name, if there is one
-abbrev pub TellsStack : List ℕ → Shop → Option (List (Slot KeptReel)) → Type 0
+abbrev pub TellsStack : List ℕ → TapeLibrary → Option (List (ReelSlot KeptReel)) → Type 0
 TellsStack name s None = IsDriveNamed name s None
-TellsStack name s (Some reels) = (d : ℕ) × IsDriveNamed name s (Some d) × (reels ≡ (rack_at s d).stack)
+TellsStack name s (Some reels) = (d : ℕ) × IsDriveNamed name s (Some d) × (reels ≡ (drive_at s d).stack)
 
 -- the blocks that the client's run was begun with, without trouble
 pub record TellsPayload (w : World) (source : ListedBlocks) : Type 0 where

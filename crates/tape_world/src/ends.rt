@@ -38,11 +38,11 @@ impl Model for Ends {
     ghost use Rattle.tape_events.specs.World.{World};
     ghost use Rattle.tape_world.specs.Seen.{book_names, world_of};
     ghost use Rattle.tape_world.specs.Holding.{IsBacked, IsSourced};
-    ghost use Rattle.tape_world.specs.Serving.{IsShopKnown};
+    ghost use Rattle.tape_world.specs.Serving.{IsLibraryKnown};
 
     ghost Value = { World };
 
     ghost view = { λ w. world_of w.host.hall w.links.items w.begun.items w.caller w.own w.kept w.books w.dates };
 
-    ghost invariant = { λ w. (IsSourced w.begun.items w.caller × IsBacked w.begun.items w.kept) × IsShopKnown (book_names w.books) w.host.hall.shop };
+    ghost invariant = { λ w. (IsSourced w.begun.items w.caller × IsBacked w.begun.items w.kept) × IsLibraryKnown (book_names w.books) w.host.hall.library };
 }

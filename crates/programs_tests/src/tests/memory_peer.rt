@@ -81,8 +81,8 @@ fn goes_on(alloc: Global, mut peer: MemoryPeer) -> bool {
 
 /// Adds the drive `/dev/st0` with one reel.
 fn add_drive(stacks: &mut ListStacks) -> bool
-    requires { length stacks.old.shop.racks ≡ 0 }
-    ensures { length stacks.new.shop.racks ≤ 1 }
+    requires { length stacks.old.library.drives ≡ 0 }
+    ensures { length stacks.new.library.drives ≤ 1 }
 {
     stacks.add_drive(DEVICE).is_ok() && stacks.add_reel(0, b"r1", TWO_BLOCKS).is_ok()
 }

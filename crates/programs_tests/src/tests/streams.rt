@@ -32,7 +32,7 @@ fn keeps_a_record(alloc: Global, server: &mut TapeServer<ListStacks>) -> bool {
 
 /// One drive with one reel.
 fn one_drive(alloc: Global) -> Result<ListStacks, Fail>
-    ensures { IfOk result (λ stacks. length stacks.shop.racks ≡ 1) }
+    ensures { IfOk result (λ stacks. length stacks.library.drives ≡ 1) }
 {
     let mut stacks = ListStacks::new(alloc);
     let drive = stacks.add_drive(b"/dev/st0")?;

@@ -2,7 +2,7 @@
 ghost use Rattle.std.specs.Prelude.{◌≡◌};
 ghost use Rattle.tape.specs.contracts.troubled.TroubledReelReel.TheImpl.{ghosts as of_reel};
 ghost use Rattle.drives.specs.contracts.list.ListStacksStacks.TheImpl.{ghosts as of_stacks};
-ghost use Rattle.drives.specs.ListShop.{ListShop};
+ghost use Rattle.drives.specs.ListLibrary.{ListLibrary};
 ghost use Rattle.drives.specs.declared.table.DriveTable.{DriveTable as Drives};
 ghost use Rattle.drives.specs.Opening.{kinds};
 ghost use Rattle.tape.specs.Trouble.{TroubledTape};
@@ -28,7 +28,7 @@ impl<H: Holds> Session<H, ListStacks> {
     /// lay the reel down with it.
     pub fn trouble(&mut self, trouble: Trouble)
         ensures seat { self.new.seat ≡ self.old.seat }
-        ensures at { (drives : Drives H ListShop H.Seat TroubledTape) →
+        ensures at { (drives : Drives H ListLibrary H.Seat TroubledTape) →
             IsAt (kinds H.Holds of_stacks of_reel) (state drives self.old) →
             IsAt (kinds H.Holds of_stacks of_reel) (state drives self.new) }
         ensures set { self.new.opened ≡ with_trouble trouble self.old.opened }

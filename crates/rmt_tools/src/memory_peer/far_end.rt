@@ -29,7 +29,7 @@ pub(super) struct FarEnd {
 impl FarEnd {
     /// A session with nothing open at these drives. None where memory was refused, or no number is left for a session.
     pub(super) fn new(alloc: Global, mut drives: Drives) -> Option<FarEnd>
-        requires { length drives.stacks.shop.racks ≤ length drives.holds.numbers }
+        requires { length drives.stacks.library.drives ≤ length drives.holds.numbers }
         ensures { IfSome result (λ far. IsMadeWith drives far.drives far.session) }
     {
         let seat = drives.holds.seat()?;
@@ -84,7 +84,7 @@ impl FarEnd {
     /// The drives, once the session has ended.
     pub(super) fn into_drives(mut self) -> Drives
         ensures apart { IsAfterEnd self.drives self.session result }
-        ensures enough { length result.stacks.shop.racks ≤ length result.holds.numbers }
+        ensures enough { length result.stacks.library.drives ≤ length result.holds.numbers }
     {
         self.end();
         let FarEnd { drives, .. } = self;

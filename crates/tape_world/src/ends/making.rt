@@ -1,10 +1,10 @@
 //! A world where nothing has happened.
 ghost use Rattle.std.specs.Prelude.{◌≡◌, ◌<◌, ◌++◌, [], None, IfOk, OnOk, length, map};
 ghost use Rattle.std.specs.List.{flat_map};
-ghost use Rattle.drives.specs.Shop.{EachReelOnce, IsDriveNamed};
-ghost use Rattle.drives.specs.ListShop.{IsShop, shop_of, StacksCanFail};
+ghost use Rattle.drives.specs.TapeLibrary.{EachReelOnce, IsDriveNamed};
+ghost use Rattle.drives.specs.ListLibrary.{IsLibrary, library_of, StacksCanFail};
 ghost use Rattle.tape_events.specs.First.{AreGoodDrives, first_world};
-ghost use Rattle.tape_world.specs.Making.{plain_drive_spec, reels_of, blank_slots, laid_shop, with_laid, with_slots};
+ghost use Rattle.tape_world.specs.Making.{plain_drive_spec, reels_of, blank_slots, laid_library, with_laid, with_slots};
 ghost use Rattle.tape_world.specs.Seen.{book_names};
 
 use super::Ends;
@@ -22,11 +22,11 @@ fn add_reels(
     names: &[&[u8]],
     capacity: u64,
 ) -> Result<(), AllocError>
-    requires there { drive < length stacks.old.shop.racks }
-    requires told { IsShop stacks.old (shop_of stacks.old) }
-    requires once { EachReelOnce (with_slots stacks.old.shop drive (blank_slots capacity (map (λ n. n.now) names.now))) }
-    ensures added { OnOk result (stacks.new.shop ≡ with_slots stacks.old.shop drive (blank_slots capacity (map (λ n. n.now) names.now))) }
-    ensures told { IsShop stacks.new (shop_of stacks.new) }
+    requires there { drive < length stacks.old.library.drives }
+    requires told { IsLibrary stacks.old (library_of stacks.old) }
+    requires once { EachReelOnce (with_slots stacks.old.library drive (blank_slots capacity (map (λ n. n.now) names.now))) }
+    ensures added { OnOk result (stacks.new.library ≡ with_slots stacks.old.library drive (blank_slots capacity (map (λ n. n.now) names.now))) }
+    ensures told { IsLibrary stacks.new (library_of stacks.new) }
     ensures quiet { StacksCanFail stacks.new → StacksCanFail stacks.old }
 {
     for name in names {
@@ -40,10 +40,10 @@ fn add_reels(
 
 /// Adds a drive with its reels, which are empty.
 fn add_drive(stacks: &mut ListStacks, drive: &DriveSpec<'_>) -> Result<(), AllocError>
-    requires free { IsDriveNamed drive.now.name.now stacks.old.shop None }
-    requires once { EachReelOnce (with_laid stacks.old.shop drive.now) }
-    ensures added { OnOk result (stacks.new.shop ≡ with_laid stacks.old.shop drive.now) }
-    ensures told { IsShop stacks.new (shop_of stacks.new) }
+    requires free { IsDriveNamed drive.now.name.now stacks.old.library None }
+    requires once { EachReelOnce (with_laid stacks.old.library drive.now) }
+    ensures added { OnOk result (stacks.new.library ≡ with_laid stacks.old.library drive.now) }
+    ensures told { IsLibrary stacks.new (library_of stacks.new) }
     ensures quiet { StacksCanFail stacks.new → StacksCanFail stacks.old }
 {
     let number = match stacks.add_drive(drive.name) {
@@ -59,8 +59,8 @@ fn add_drive(stacks: &mut ListStacks, drive: &DriveSpec<'_>) -> Result<(), Alloc
 /// Stacks of these drives, with their reels, which are empty.
 fn stacks_of(alloc: Global, drives: &[DriveSpec<'_>]) -> Result<ListStacks, AllocError>
     requires { AreGoodDrives (map plain_drive_spec drives.now) }
-    ensures laid { IfOk result (λ s. s.shop ≡ laid_shop drives.now) }
-    ensures told { IfOk result (λ s. IsShop s (shop_of s)) }
+    ensures laid { IfOk result (λ s. s.library ≡ laid_library drives.now) }
+    ensures told { IfOk result (λ s. IsLibrary s (library_of s)) }
     ensures quiet { IfOk result (λ s. StacksCanFail s → ⊥) }
 {
     let mut stacks = ListStacks::new(alloc);

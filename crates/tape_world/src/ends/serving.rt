@@ -3,7 +3,7 @@ ghost use Rattle.std.specs.Prelude.{◌≡◌, ◌≤◌, ◌<◌, ◌++◌, Con
 ghost use Rattle.std.specs.List.{position_or_len};
 ghost use Rattle.std.specs.Option.{option_copied, option_to_list};
 ghost use Rattle.std.specs.Str.{bytes_eq};
-ghost use Rattle.drives.specs.ListShop.{rest_slot};
+ghost use Rattle.drives.specs.ListLibrary.{rest_slot};
 ghost use Rattle.tape_host.specs.Halls.{side_at};
 ghost use Rattle.tape_events.specs.Changes.{changed, first_name, list_in, opening, writing};
 ghost use Rattle.tape_events.specs.Events.PlainEvent.{Serve};
@@ -75,7 +75,7 @@ fn name_of_first(stack: &[ListedReel]) -> &[u8]
 /// The name of the reel that a connection has online, if it has one.
 fn name_online(host: &Host, connection: usize) -> Option<&[u8]>
     requires { IsOnlineIn host.now.hall connection }
-    ensures { option_copied result ≡ name_online_at host.now.hall.shop (side_at host.now.hall.sides connection) }
+    ensures { option_copied result ≡ name_online_at host.now.hall.library (side_at host.now.hall.sides connection) }
 {
     let session = host.session(connection)?;
     let (drive, _) = session.reel()?;

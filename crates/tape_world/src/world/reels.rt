@@ -3,7 +3,7 @@ ghost use Rattle.std.specs.Prelude.{◌≡◌, length, map};
 ghost use Rattle.std.specs.Option.{option_copied, option_map};
 ghost use Rattle.std.specs.Str.{bytes_eq};
 ghost use Rattle.tape.specs.List.{told_length, told_bytes, with_front};
-ghost use Rattle.drives.specs.ListShop.{rest_slot};
+ghost use Rattle.drives.specs.ListLibrary.{rest_slot};
 ghost use Rattle.tape_host.specs.Halls.{side_at};
 ghost use Rattle.tape_events.specs.Changes.{first_name};
 ghost use Rattle.tape_world.specs.Entries.{AreOpenThere, entry_on, tape_online, first_tape_online};
@@ -28,7 +28,7 @@ fn is_first(stack: &[ListedReel], name: &[u8]) -> bool
 fn find_online_at<'a>(host: &'a Host, connection: usize, name: &[u8]) -> Option<&'a TroubledReel>
     requires { AreOpenThere host.now.hall }
     ensures { option_map (λ r. r.tape) (option_copied result)
-        ≡ tape_online name.now host.now.hall.shop (side_at host.now.hall.sides connection) }
+        ≡ tape_online name.now host.now.hall.library (side_at host.now.hall.sides connection) }
 {
     let session = host.session(connection)?;
     let (drive, reel) = session.reel()?;
@@ -43,7 +43,7 @@ fn find_online<'a>(host: &'a Host, count: usize, name: &[u8]) -> Option<&'a Trou
     requires there { AreOpenThere host.now.hall }
     requires all { length host.now.hall.sides ≡ count }
     ensures { option_map (λ r. r.tape) (option_copied result)
-        ≡ first_tape_online name.now host.now.hall.shop host.now.hall.sides }
+        ≡ first_tape_online name.now host.now.hall.library host.now.hall.sides }
 {
     for place in 0..count {
         if let Some(reel) = find_online_at(host, place + 1, name) {

@@ -1,7 +1,7 @@
 //! What a world tells.
 ghost use Rattle.std.specs.Prelude.{◌≡◌, Option, Some, map, IfSome};
 ghost use Rattle.std.specs.Option.{option_copied, option_map};
-ghost use Rattle.drives.specs.ListShop.{rest_slot};
+ghost use Rattle.drives.specs.ListLibrary.{rest_slot};
 ghost use Rattle.rmt_server.specs.Memory.{session_seen};
 ghost use Rattle.tape_events.specs.Changes.{side_of};
 ghost use Rattle.tape_world.specs.Telling.{client_told, caller_told, TellsStack, TellsWay, TellsPayload};
@@ -83,7 +83,7 @@ impl World {
     /// The reels of the first drive of that name, in their order on its stack: the first is latched, or would be next. None
     /// where there is no such drive.
     pub fn stack(&self, drive: &[u8]) -> Option<&[ListedReel]>
-        ensures { TellsStack drive.now self.now.hall.shop (option_map (map rest_slot) (option_copied result)) }
+        ensures { TellsStack drive.now self.now.hall.library (option_map (map rest_slot) (option_copied result)) }
     {
         let drive = self.ends.host.drive(drive)?;
         Some(self.ends.host.stack(drive))
@@ -91,7 +91,7 @@ impl World {
 
     /// The reels of the bin, in the order in which they were moved there.
     pub fn bin(&self) -> &[ListedReel]
-        ensures { map rest_slot result.now ≡ self.now.hall.shop.bin }
+        ensures { map rest_slot result.now ≡ self.now.hall.library.bin }
     {
         self.ends.host.bin()
     }

@@ -6,8 +6,8 @@ use drives::{DriveFault, ListStacks, ListedReel};
 
 /// Adds two drives without reels. Answers whether they are numbered in order.
 pub(super) fn add_drives(stacks: &mut ListStacks) -> Result<bool, DriveFault>
-    requires { length stacks.old.shop.racks ≡ 0 }
-    ensures { IfOk result (λ _. length stacks.new.shop.racks ≡ 2) }
+    requires { length stacks.old.library.drives ≡ 0 }
+    ensures { IfOk result (λ _. length stacks.new.library.drives ≡ 2) }
 {
     let first = stacks.add_drive(b"/dev/st0")?;
     let second = stacks.add_drive(b"/dev/st1")?;
@@ -16,8 +16,8 @@ pub(super) fn add_drives(stacks: &mut ListStacks) -> Result<bool, DriveFault>
 
 /// Adds the reels a and b at the first drive, and c at the second.
 pub(super) fn add_three_reels(stacks: &mut ListStacks) -> Result<(), DriveFault>
-    requires { length stacks.old.shop.racks ≡ 2 }
-    ensures { length stacks.new.shop.racks ≡ 2 }
+    requires { length stacks.old.library.drives ≡ 2 }
+    ensures { length stacks.new.library.drives ≡ 2 }
 {
     stacks.add_reel(0, b"a", 100)?;
     stacks.add_reel(0, b"b", 100)?;
@@ -46,7 +46,7 @@ pub(super) type Letters = [&'static str; 3];
 
 /// Whether the drives and the bin have these reels.
 pub(super) fn lie(stacks: &ListStacks, letters: &Letters) -> bool
-    requires { length stacks.now.shop.racks ≡ 2 }
+    requires { length stacks.now.library.drives ≡ 2 }
 {
     are(stacks.stack(0), letters[0])
         && are(stacks.stack(1), letters[1])

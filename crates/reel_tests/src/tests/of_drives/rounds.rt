@@ -30,8 +30,8 @@ enum Round {
 
 /// Latches the first reel of the drive and lays it back.
 fn lay_back(stacks: &mut ListStacks, drive: usize) -> Result<(), DriveFault>
-    requires { drive < length stacks.old.shop.racks }
-    ensures { length stacks.new.shop.racks ≡ length stacks.old.shop.racks }
+    requires { drive < length stacks.old.library.drives }
+    ensures { length stacks.new.library.drives ≡ length stacks.old.library.drives }
 {
     let reel = stacks.latch(drive)?;
     stacks.unlatch(drive, reel);
@@ -40,8 +40,8 @@ fn lay_back(stacks: &mut ListStacks, drive: usize) -> Result<(), DriveFault>
 
 /// Latches the first reel of the drive and moves it to the bin.
 fn move_first(stacks: &mut ListStacks, drive: usize) -> Result<(), DriveFault>
-    requires { drive < length stacks.old.shop.racks }
-    ensures { length stacks.new.shop.racks ≡ length stacks.old.shop.racks }
+    requires { drive < length stacks.old.library.drives }
+    ensures { length stacks.new.library.drives ≡ length stacks.old.library.drives }
 {
     let reel = stacks.latch(drive)?;
     match stacks.offline(drive, reel) {
@@ -52,8 +52,8 @@ fn move_first(stacks: &mut ListStacks, drive: usize) -> Result<(), DriveFault>
 
 /// Latches the first reel of the drive.
 fn latch(stacks: &mut ListStacks, drive: usize) -> Result<(), DriveFault>
-    requires { drive < length stacks.old.shop.racks }
-    ensures { length stacks.new.shop.racks ≡ length stacks.old.shop.racks }
+    requires { drive < length stacks.old.library.drives }
+    ensures { length stacks.new.library.drives ≡ length stacks.old.library.drives }
 {
     match stacks.latch(drive) {
         Ok(_) => Ok(()),
@@ -63,8 +63,8 @@ fn latch(stacks: &mut ListStacks, drive: usize) -> Result<(), DriveFault>
 
 /// Has the drive's stack become the reels of these names, where it can be arranged so.
 fn arrange(stacks: &mut ListStacks, drive: usize, names: &[&[u8]]) -> Result<(), DriveFault>
-    requires { drive < length stacks.old.shop.racks }
-    ensures { length stacks.new.shop.racks ≡ length stacks.old.shop.racks }
+    requires { drive < length stacks.old.library.drives }
+    ensures { length stacks.new.library.drives ≡ length stacks.old.library.drives }
 {
     if stacks.can_arrange(drive, names) {
         stacks.arrange(drive, names)
@@ -93,8 +93,8 @@ fn find_drive(stacks: &ListStacks, drive: usize, name: &[u8]) -> Result<(), Driv
 
 /// Makes the round at the drive.
 fn go(stacks: &mut ListStacks, drive: usize, round: &Round) -> Result<(), DriveFault>
-    requires { drive < length stacks.old.shop.racks }
-    ensures { length stacks.new.shop.racks ≡ length stacks.old.shop.racks }
+    requires { drive < length stacks.old.library.drives }
+    ensures { length stacks.new.library.drives ≡ length stacks.old.library.drives }
 {
     match round {
         Round::LaidBack => lay_back(stacks, drive),
@@ -194,8 +194,8 @@ static ALL: [&[Row]; 6] = [LATCHES, MOVES, TAKEN, TROUBLED, ARRANGED, LATCHED];
 
 /// Whether the round goes as it has to.
 fn goes(stacks: &mut ListStacks, row: &Row) -> bool
-    requires { length stacks.old.shop.racks ≡ 2 }
-    ensures { length stacks.new.shop.racks ≡ 2 }
+    requires { length stacks.old.library.drives ≡ 2 }
+    ensures { length stacks.new.library.drives ≡ 2 }
 {
     let (drive, round, answer, letters, failures) = row;
     *drive < 2
@@ -206,7 +206,7 @@ fn goes(stacks: &mut ListStacks, row: &Row) -> bool
 
 /// Whether all rounds go as they have to.
 fn all_go(stacks: &mut ListStacks, rows: &[Row]) -> bool
-    requires { length stacks.old.shop.racks ≡ 2 }
+    requires { length stacks.old.library.drives ≡ 2 }
 {
     for row in rows {
         if !goes(stacks, row) {
@@ -218,7 +218,7 @@ fn all_go(stacks: &mut ListStacks, rows: &[Row]) -> bool
 
 /// The same, once the drives and the reels are added.
 fn all_go_from_none(stacks: &mut ListStacks, rows: &[Row]) -> Result<bool, DriveFault>
-    requires { length stacks.old.shop.racks ≡ 0 }
+    requires { length stacks.old.library.drives ≡ 0 }
 {
     lying_troubles();
     told_orders();

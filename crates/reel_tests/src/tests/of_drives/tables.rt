@@ -13,7 +13,7 @@ type Drives = DriveTable<LocalHolds, ListStacks>;
 /// Whether the seat, which is the first, opens the second drive and holds it then.
 fn opens(drives: &mut Drives, seat: &mut LocalSeat) -> bool
     requires seat { IsSeatOf drives.old.holds seat.old }
-    requires stacks { length drives.old.stacks.shop.racks ≡ 2 }
+    requires stacks { length drives.old.stacks.library.drives ≡ 2 }
     requires holds { length drives.old.holds.numbers ≡ 2 }
 {
     match drives.open(seat, b"/dev/st1") {
@@ -24,7 +24,7 @@ fn opens(drives: &mut Drives, seat: &mut LocalSeat) -> bool
 
 /// The same, once two drives with their reels are added.
 fn first_opens(drives: &mut Drives) -> Result<bool, DriveFault>
-    requires none { length drives.old.stacks.shop.racks ≡ 0 }
+    requires none { length drives.old.stacks.library.drives ≡ 0 }
     requires two { length drives.old.holds.numbers ≡ 2 }
 {
     add_drives(&mut drives.stacks)?;

@@ -1,5 +1,5 @@
 use Rattle.std.proofs.Common.{◌≡◌, ◌++◌, take}
-use Rattle.drives.specs.Shop.{names_of}
+use Rattle.drives.specs.TapeLibrary.{names_of}
 use Rattle.schedules.specs.Report.{names_text}
 use Rattle.schedules.proofs.report.push_names.Given as goal
 

@@ -53,8 +53,8 @@ fn status_of(ending: Result<Served, ServeFault>, reads: u64, writes: u64) -> u8 
 
 /// Adds the drives `/dev/st0` and `/dev/st1`.
 fn add_drives(stacks: &mut ListStacks) -> Result<(), DriveFault>
-    requires { length stacks.old.shop.racks ≡ 0 }
-    ensures { IfOk result (λ _. length stacks.new.shop.racks ≡ 2) }
+    requires { length stacks.old.library.drives ≡ 0 }
+    ensures { IfOk result (λ _. length stacks.new.library.drives ≡ 2) }
 {
     stacks.add_drive(b"/dev/st0")?;
     stacks.add_drive(b"/dev/st1")?;
@@ -63,8 +63,8 @@ fn add_drives(stacks: &mut ListStacks) -> Result<(), DriveFault>
 
 /// Adds the reels `a` and `b` to the first drive, and `c` to the second.
 fn add_reels(stacks: &mut ListStacks, capacity: u64) -> Result<(), DriveFault>
-    requires { length stacks.old.shop.racks ≡ 2 }
-    ensures { length stacks.new.shop.racks ≡ 2 }
+    requires { length stacks.old.library.drives ≡ 2 }
+    ensures { length stacks.new.library.drives ≡ 2 }
 {
     stacks.add_reel(0, b"a", capacity)?;
     stacks.add_reel(0, b"b", capacity)?;
@@ -73,7 +73,7 @@ fn add_reels(stacks: &mut ListStacks, capacity: u64) -> Result<(), DriveFault>
 
 /// Those drives with those reels, which are empty. None where memory was refused.
 pub(crate) fn two_drives(alloc: Global, capacity: u64) -> Option<Drives>
-    ensures { IfSome result (λ drives. length drives.stacks.shop.racks ≤ length drives.holds.numbers) }
+    ensures { IfSome result (λ drives. length drives.stacks.library.drives ≤ length drives.holds.numbers) }
 {
     let holds = LocalHolds::new(alloc, 2).ok()?;
     let mut stacks = ListStacks::new(alloc);
@@ -154,7 +154,7 @@ fn serve_new<R: Read, W: Write, S: Stacks>(
 
 /// The number of the seat that holds the first drive, or 0.
 pub(crate) fn first_holder(drives: &mut Drives, seat: &mut LocalSeat) -> Option<u64>
-    requires few { length drives.old.stacks.shop.racks ≤ length drives.old.holds.numbers }
+    requires few { length drives.old.stacks.library.drives ≤ length drives.old.holds.numbers }
     requires seat { IsSeatOf drives.old.holds seat.old }
 {
     let drive = drives.stacks.drive(b"/dev/st0")?;

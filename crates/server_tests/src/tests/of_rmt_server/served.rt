@@ -15,8 +15,8 @@ pub(crate) type Row<'a> = (&'a [u8], &'a [u8], u8, &'a [u8]);
 
 /// Whether a stream is answered so, where the input gives and the output takes at most `most` bytes a call.
 fn is_served(alloc: Global, drives: &mut Drives, row: &Row<'_>, most: usize) -> bool
-    requires { length drives.old.stacks.shop.racks ≤ length drives.old.holds.numbers }
-    ensures { length drives.new.stacks.shop.racks ≤ length drives.new.holds.numbers }
+    requires { length drives.old.stacks.library.drives ≤ length drives.old.holds.numbers }
+    ensures { length drives.new.stacks.library.drives ≤ length drives.new.holds.numbers }
 {
     let input = Pieces {
         bytes: row.0,
@@ -34,7 +34,7 @@ fn is_served(alloc: Global, drives: &mut Drives, row: &Row<'_>, most: usize) -> 
 
 /// Whether both sessions are answered so.
 fn are_served(alloc: Global, drives: &mut Drives, row: &Row<'_>, most: usize) -> bool
-    requires { length drives.old.stacks.shop.racks ≤ length drives.old.holds.numbers }
+    requires { length drives.old.stacks.library.drives ≤ length drives.old.holds.numbers }
 {
     let served = is_served(alloc, drives, row, most);
     let reads: Row<'_> = (b"O/dev/st0\n0\nR8\n", row.3, END, b"");

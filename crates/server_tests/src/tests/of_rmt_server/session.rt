@@ -8,7 +8,7 @@ use std::alloc::Global;
 
 /// Whether a session with nothing open gives back its seat, which finds the first drive free.
 fn gives_its_seat_back(alloc: Global, mut drives: Drives) -> bool
-    requires { length drives.stacks.shop.racks ≤ length drives.holds.numbers }
+    requires { length drives.stacks.library.drives ≤ length drives.holds.numbers }
 {
     let Some(session) = new_session(alloc, &mut drives) else {
         return false;

@@ -63,7 +63,7 @@ impl Write for Answers<'_> {
 
 /// Whether all is answered.
 fn takes_turns(alloc: Global, drives: &mut Drives) -> bool
-    requires { length drives.old.stacks.shop.racks ≤ length drives.old.holds.numbers }
+    requires { length drives.old.stacks.library.drives ≤ length drives.old.holds.numbers }
 {
     let answered = Cell::new(0usize);
     let input = Asking {

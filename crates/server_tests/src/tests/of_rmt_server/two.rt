@@ -211,7 +211,7 @@ fn is_table(mut two: Two, table: &Table) -> bool {
 
 /// The same with this session and a new one, whose seat is the next.
 fn is_beside(alloc: Global, mut drives: Drives, first: Client, table: &Table) -> bool
-    requires few { length drives.stacks.shop.racks ≤ length drives.holds.numbers }
+    requires few { length drives.stacks.library.drives ≤ length drives.holds.numbers }
     requires at { IsAt (kinds of_holds of_stacks of_reel) (state drives first) }
     requires last { first.seat.number ≡ drives.holds.last }
 {
@@ -230,7 +230,7 @@ fn is_beside(alloc: Global, mut drives: Drives, first: Client, table: &Table) ->
 
 /// The same with new sessions, whose seats have the numbers 1 and 2.
 fn is_new(alloc: Global, mut drives: Drives, table: &Table) -> bool
-    requires { length drives.stacks.shop.racks ≤ length drives.holds.numbers }
+    requires { length drives.stacks.library.drives ≤ length drives.holds.numbers }
 {
     match new_session(alloc, &mut drives) {
         Some(first) => is_beside(alloc, drives, first, table),

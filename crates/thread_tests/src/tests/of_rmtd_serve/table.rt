@@ -23,7 +23,7 @@ pub(crate) fn two_words(alloc: Global) -> Result<(HoldTable, Vec<HoldSeat>), Fai
 
 /// Adds a drive with one empty reel.
 fn add(stacks: &mut ListStacks, device: &[u8], reel: &[u8]) -> Result<(), Fail>
-    ensures { OnOk result (length stacks.new.shop.racks ≡ length stacks.old.shop.racks + 1) }
+    ensures { OnOk result (length stacks.new.library.drives ≡ length stacks.old.library.drives + 1) }
 {
     let drive = stacks.add_drive(device)?;
     stacks.add_reel(drive, reel, 100)?;
@@ -32,7 +32,7 @@ fn add(stacks: &mut ListStacks, device: &[u8], reel: &[u8]) -> Result<(), Fail>
 
 /// The drives `/dev/st0` and `/dev/st1`, with one empty reel each.
 pub(crate) fn two_drives(alloc: Global) -> Result<ListStacks, Fail>
-    ensures { IfOk result (λ stacks. length stacks.shop.racks ≡ 2) }
+    ensures { IfOk result (λ stacks. length stacks.library.drives ≡ 2) }
 {
     let mut stacks = ListStacks::new(alloc);
     add(&mut stacks, b"/dev/st0", b"r1")?;
@@ -43,7 +43,7 @@ pub(crate) fn two_drives(alloc: Global) -> Result<ListStacks, Fail>
 /// Such drives for each of 32 seats.
 fn all_stacks(alloc: Global) -> Result<Vec<ListStacks>, Fail>
     ensures count { IfOk result (λ all. length all.items ≡ 32) }
-    ensures drives { IfOk result (λ all. All (λ s. length s.shop.racks ≡ 2) all.items) }
+    ensures drives { IfOk result (λ all. All (λ s. length s.library.drives ≡ 2) all.items) }
 {
     let mut all = Vec::with_capacity(alloc, 32)?;
     while all.len() < 32 {

@@ -1,5 +1,5 @@
 use Rattle.std.proofs.Common.{rules}
-use Rattle.drives.proofs.ListShop.{drive_told, drive_quiet, told}
+use Rattle.drives.proofs.ListLibrary.{drive_told, drive_quiet, told}
 use Rattle.drives.proofs.list.ListStacks.add_drive.Goals as goal
 
 pub returns-then-is_some-clause-told : goal.returns-then-is_some-clause-told

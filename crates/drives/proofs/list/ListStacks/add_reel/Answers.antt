@@ -1,4 +1,4 @@
-use Rattle.drives.proofs.ListShop.{reel_told, reel_quiet, told}
+use Rattle.drives.proofs.ListLibrary.{reel_told, reel_quiet, told}
 use Rattle.drives.proofs.list.ListStacks.add_reel.Goals as goal
 
 pub returns-then-has_reel-clause-told : goal.returns-then-has_reel-clause-told

@@ -1,5 +1,5 @@
 use Rattle.std.proofs.Common.{length, refl}
-use Rattle.drives.specs.ListShop.{ListShop}
+use Rattle.drives.specs.ListLibrary.{ListLibrary}
 use Rattle.drives.proofs.Arranging.{order_arranged, arrange_told, arrange_names, arrange_elsewhere, arrange_quiet, arrange_same}
 use Rattle.drives.proofs.ToldOrder.{order_told}
 use Rattle.std.proofs.Math.ListN.{length-set}
@@ -24,11 +24,11 @@ pub returns-clause-quiet : goal.returns-clause-quiet
 returns-clause-quiet c = arrange_quiet c.args.self.now c.put_stack.new.self c.args.drive _ c.put_stack.result c.requires.drive c.put_stack.ensures.arranged
 
 pub returns-clause-same_trouble : goal.returns-clause-same_trouble
-returns-clause-same_trouble c = arrange_same (λ (s : ListShop). s.trouble) c.args.self.now c.put_stack.new.self c.args.drive _ c.put_stack.result refl c.put_stack.ensures.arranged
+returns-clause-same_trouble c = arrange_same (λ (s : ListLibrary). s.trouble) c.args.self.now c.put_stack.new.self c.args.drive _ c.put_stack.result refl c.put_stack.ensures.arranged
 
 pub returns-clause-same_failures : goal.returns-clause-same_failures
-returns-clause-same_failures c = arrange_same (λ (s : ListShop). s.failures) c.args.self.now c.put_stack.new.self c.args.drive _ c.put_stack.result refl c.put_stack.ensures.arranged
+returns-clause-same_failures c = arrange_same (λ (s : ListLibrary). s.failures) c.args.self.now c.put_stack.new.self c.args.drive _ c.put_stack.result refl c.put_stack.ensures.arranged
 
 pub returns-clause-same_drives : goal.returns-clause-same_drives
 returns-clause-same_drives c =
-    arrange_same (λ (s : ListShop). length s.shop.racks) c.args.self.now c.put_stack.new.self c.args.drive _ c.put_stack.result (length-set c.args.self.now.shop.racks c.args.drive _) c.put_stack.ensures.arranged
+    arrange_same (λ (s : ListLibrary). length s.library.drives) c.args.self.now c.put_stack.new.self c.args.drive _ c.put_stack.result (length-set c.args.self.now.library.drives c.args.drive _) c.put_stack.ensures.arranged

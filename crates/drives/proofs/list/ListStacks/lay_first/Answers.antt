@@ -1,23 +1,23 @@
-use Rattle.drives.specs.Shop.{EachReelOnce}
+use Rattle.drives.specs.TapeLibrary.{EachReelOnce}
 use Rattle.std.proofs.Common.{◌<◌, length, Some, sym, subst}
-use Rattle.drives.specs.ListShop.{ListShop}
-use Rattle.drives.specs.Shop.{shop}
+use Rattle.drives.specs.ListLibrary.{ListLibrary}
+use Rattle.drives.specs.TapeLibrary.{library}
 use Rattle.drives.specs.contracts.list.ListStacks.{the_view}
-use Rattle.drives.proofs.ListShop.{stocked_first, value_some, read_some}
+use Rattle.drives.proofs.ListLibrary.{stocked_first, value_some, read_some}
 use Rattle.drives.proofs.list.ListStacks.lay_first.Goals as goal
 
 pub unlatch-requires : goal.unlatch-requires
 unlatch-requires c =
-    read_some (the_view c.self.inside) c.args.self.now c.args.drive c.index_mut-rack.result.now c.self.view_is c.requires.drive c.index_mut-rack.ensures.value
+    read_some (the_view c.self.inside) c.args.self.now c.args.drive c.index_mut-chosen.result.now c.self.view_is c.requires.drive c.index_mut-chosen.ensures.value
     (value_some (the_view c.self.inside) c.args.self.now c.args.drive _ _ c.self.view_is c.self.invariant c.requires.latched)
 
 pub invariant_of-self : goal.invariant_of-self
 invariant_of-self c =
-    stocked_first (shop c.self.inside.racks.items c.self.inside.bin.items) c.args.drive c.index_mut-rack.result.now c.unlatch.new.self (Some c.args.reel) _ _
-    (subst (λ (s : ListShop). c.args.drive < length s.shop.racks) (sym c.self.view_is) c.requires.drive) c.index_mut-rack.ensures.value c.unlatch.ensures c.self.invariant
+    stocked_first (library c.self.inside.drives.items c.self.inside.bin.items) c.args.drive c.index_mut-chosen.result.now c.unlatch.new.self (Some c.args.reel) _ _
+    (subst (λ (s : ListLibrary). c.args.drive < length s.library.drives) (sym c.self.view_is) c.requires.drive) c.index_mut-chosen.ensures.value c.unlatch.ensures c.self.invariant
 
 pub returns-clause-some : goal.returns-clause-some
 returns-clause-some c = value_some (the_view c.self.inside) c.args.self.now c.args.drive _ _ c.self.view_is c.self.invariant c.requires.latched
 
 pub returns-clause-once : goal.returns-clause-once
-returns-clause-once c = subst (λ (s : ListShop). EachReelOnce s.shop) c.self.view_is c.self.invariant.once
+returns-clause-once c = subst (λ (s : ListLibrary). EachReelOnce s.library) c.self.view_is c.self.invariant.once

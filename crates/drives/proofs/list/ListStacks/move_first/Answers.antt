@@ -1,8 +1,8 @@
-use Rattle.drives.specs.Shop.{EachReelOnce}
-use Rattle.drives.specs.ListShop.{ListShop}
+use Rattle.drives.specs.TapeLibrary.{EachReelOnce}
+use Rattle.drives.specs.ListLibrary.{ListLibrary}
 use Rattle.std.proofs.Common.{rules, ◌<◌, vec_capacity, sym, subst, ap, ◌∙◌, ◌++◌, ◌∷◌, []}
 use Rattle.drives.specs.contracts.list.ListStacks.{the_view}
-use Rattle.drives.proofs.ListShop.{stocked_moved, value_some, read_some, room_some}
+use Rattle.drives.proofs.ListLibrary.{stocked_moved, value_some, read_some, room_some}
 use Rattle.drives.proofs.list.ListStacks.move_first.Goals as goal
 
 pub returns-then-self-clause-some : goal.returns-then-self-clause-some
@@ -10,7 +10,7 @@ returns-then-self-clause-some c = value_some (the_view c.self.inside) c.args.sel
 
 pub remove_first-listed-requires : goal.remove_first-listed-requires
 remove_first-listed-requires c =
-    read_some (the_view c.self.inside) c.args.self.now c.args.drive c.index_mut-rack.result.now c.self.view_is c.requires.drive c.index_mut-rack.ensures.value
+    read_some (the_view c.self.inside) c.args.self.now c.args.drive c.index_mut-chosen.result.now c.self.view_is c.requires.drive c.index_mut-chosen.ensures.value
     (value_some (the_view c.self.inside) c.args.self.now c.args.drive _ _ c.self.view_is c.self.invariant c.requires.latched)
 
 pub push_reserved-requires : goal.push_reserved-requires
@@ -20,16 +20,16 @@ push_reserved-requires c =
 
 pub invariant_of-self : goal.invariant_of-self
 invariant_of-self c =
-    stocked_moved (the_view c.self.inside) c.args.self.now c.args.drive c.index_mut-rack.result.now c.remove_first-listed.new.self c.remove_first-listed.result c.args.reel c.push_reserved.new.self.items _ _ _
+    stocked_moved (the_view c.self.inside) c.args.self.now c.args.drive c.index_mut-chosen.result.now c.remove_first-listed.new.self c.remove_first-listed.result c.args.reel c.push_reserved.new.self.items _ _ _
     c.self.view_is c.requires.drive (value_some (the_view c.self.inside) c.args.self.now c.args.drive _ _ c.self.view_is c.self.invariant c.requires.latched)
-    c.index_mut-rack.ensures.value c.remove_first-listed.ensures.first c.remove_first-listed.ensures.name
+    c.index_mut-chosen.ensures.value c.remove_first-listed.ensures.first c.remove_first-listed.ensures.name
     (c.push_reserved.ensures.items ∙ ap (λ x. c.self.inside.bin.items ++ x ∷ []) c.put.ensures) c.push_reserved.ensures.capacity c.self.invariant
 
 pub returns-then-self-clause-once : goal.returns-then-self-clause-once
-returns-then-self-clause-once c = subst (λ (s : ListShop). EachReelOnce s.shop) c.self.view_is c.self.invariant.once
+returns-then-self-clause-once c = subst (λ (s : ListLibrary). EachReelOnce s.library) c.self.view_is c.self.invariant.once
 
 pub returns-clause-once : goal.returns-clause-once
-returns-clause-once c = subst (λ (s : ListShop). EachReelOnce s.shop) c.self.view_is c.self.invariant.once
+returns-clause-once c = subst (λ (s : ListLibrary). EachReelOnce s.library) c.self.view_is c.self.invariant.once
 
 pub returns-then-self-clause-back : goal.returns-then-self-clause-back
 returns-then-self-clause-back c = search rules

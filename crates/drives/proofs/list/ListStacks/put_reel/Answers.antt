@@ -2,36 +2,36 @@ use Rattle.std.proofs.Common.{◌≡◌, ◌<◌, ◌≤◌, ◌+◌, ◌++◌, 
 use Rattle.std.proofs.lemmas.List.{set-get_or}
 use Rattle.std.proofs.Common.{set}
 use Rattle.std.proofs.lemmas.Grind.{common_steps}
-use Rattle.drives.specs.Shop.{shop, rack, times, names_in}
-use Rattle.drives.specs.ListShop.{ListShop, IsStocked, blank_reel}
-use Rattle.drives.proofs.ListShop.{stocked_reel, stocked_same, bin_fits}
+use Rattle.drives.specs.TapeLibrary.{library, drive_with, times, names_in}
+use Rattle.drives.specs.ListLibrary.{ListLibrary, IsStocked, blank_reel}
+use Rattle.drives.proofs.ListLibrary.{stocked_reel, stocked_same, bin_fits}
 use Rattle.drives.proofs.list.ListStacks.put_reel.Goals as goal
 
 pub invariant_of-self-in_err-push : goal.invariant_of-self-in_err-push
 invariant_of-self-in_err-push c =
-    let racks = c.self.inside.racks.items in
+    let drives = c.self.inside.drives.items in
     let bin = c.reserve.new.self.items in
     let same =
-    ap (λ r. shop (set racks c.args.drive r) bin) (c.in_err-push.ensures ∙ c.index_mut-rack.ensures.value)
-    ∙ ap (λ rs. shop rs bin) (set-get_or racks c.args.drive c.index_mut-rack.result.now)
-    ∙ ap (λ b. shop racks b) c.reserve.ensures.items in
-    stocked_same (shop racks c.self.inside.bin.items) _ c.self.inside.reels _ _ same c.reserve.ensures.capacity c.self.invariant
+    ap (λ r. library (set drives c.args.drive r) bin) (c.in_err-push.ensures ∙ c.index_mut-chosen.ensures.value)
+    ∙ ap (λ rs. library rs bin) (set-get_or drives c.args.drive c.index_mut-chosen.result.now)
+    ∙ ap (λ b. library drives b) c.reserve.ensures.items in
+    stocked_same (library drives c.self.inside.bin.items) _ c.self.inside.reels _ _ same c.reserve.ensures.capacity c.self.invariant
 
 pub invariant_of-self-2 : goal.invariant_of-self-2
 invariant_of-self-2 c =
-    let racks = c.self.inside.racks.items in
-    let before = shop racks c.self.inside.bin.items in
-    let within = subst (λ (s : ListShop). c.args.drive < length s.shop.racks) (sym c.self.view_is) c.requires.drive in
-    let free = subst (λ (s : ListShop). times c.args.name.now (names_in s.shop) ≡ 0) (sym c.self.view_is) c.requires.free in
+    let drives = c.self.inside.drives.items in
+    let before = library drives c.self.inside.bin.items in
+    let within = subst (λ (s : ListLibrary). c.args.drive < length s.library.drives) (sym c.self.view_is) c.requires.drive in
+    let free = subst (λ (s : ListLibrary). times c.args.name.now (names_in s.library) ≡ 0) (sym c.self.view_is) c.requires.free in
     let few = bin_fits before c.self.inside.reels _ c.self.invariant in
     let counted = c.self.inside.bin.ok.0 in
     let read = c.len.ensures in
     let same_len = c.reserve.ensures.len in
     let room = c.in_ok-reserve.ensures.ok in
     let more : c.self.inside.reels + 1 ≤ vec_capacity c.reserve.new.self = omega (arith, few, counted, read, same_len, room) in
-    let put = c.in_ok-push.ensures ∙ ap (λ x. rack c.index_mut-rack.result.now.name (c.index_mut-rack.result.now.stack ++ x ∷ [])) c.in_ok-reel.ensures in
-    subst (λ bin. IsStocked (shop (set racks c.args.drive c.push.new.self) bin) (c.self.inside.reels + 1) (vec_capacity c.reserve.new.self)) (sym c.reserve.ensures.items)
-    (stocked_reel before c.args.drive c.index_mut-rack.result.now c.push.new.self c.args.name.now (Some (blank_reel c.args.capacity)) c.self.inside.reels _ _ within c.index_mut-rack.ensures.value put free more c.self.invariant)
+    let put = c.in_ok-push.ensures ∙ ap (λ x. drive_with c.index_mut-chosen.result.now.name (c.index_mut-chosen.result.now.stack ++ x ∷ [])) c.in_ok-reel.ensures in
+    subst (λ bin. IsStocked (library (set drives c.args.drive c.push.new.self) bin) (c.self.inside.reels + 1) (vec_capacity c.reserve.new.self)) (sym c.reserve.ensures.items)
+    (stocked_reel before c.args.drive c.index_mut-chosen.result.now c.push.new.self c.args.name.now (Some (blank_reel c.args.capacity)) c.self.inside.reels _ _ within c.index_mut-chosen.ensures.value put free more c.self.invariant)
 
 pub returns-in_err-push : goal.returns-in_err-push
 returns-in_err-push c = grind (arith, common_steps)

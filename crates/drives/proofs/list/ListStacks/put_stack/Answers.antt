@@ -2,40 +2,40 @@ use Rattle.std.proofs.Common.{arith, rules, ◌<◌, ◌≤◌, vec_capacity, �
 use Rattle.std.proofs.lemmas.List.{set-get_or}
 use Rattle.std.proofs.lemmas.Grind.{common_steps}
 use Rattle.drives.specs.Arranging.{picked, left}
-use Rattle.drives.specs.Shop.{shop, rack, EachReelOnce}
-use Rattle.drives.specs.ListShop.{ListShop}
-use Rattle.drives.proofs.ListShop.{stocked_same}
+use Rattle.drives.specs.TapeLibrary.{library, drive_with, EachReelOnce}
+use Rattle.drives.specs.ListLibrary.{ListLibrary}
+use Rattle.drives.proofs.ListLibrary.{stocked_same}
 use Rattle.drives.proofs.Arranging.{stocked_arranged}
 use Rattle.drives.proofs.list.ListStacks.put_stack.Goals as goal
 
 pub returns-in_err-stack-clause-once : goal.returns-in_err-stack-clause-once
-returns-in_err-stack-clause-once c = subst (λ (s : ListShop). EachReelOnce s.shop) c.self.view_is c.self.invariant.once
+returns-in_err-stack-clause-once c = subst (λ (s : ListLibrary). EachReelOnce s.library) c.self.view_is c.self.invariant.once
 
 pub returns-in_err-lay_off-clause-once : goal.returns-in_err-lay_off-clause-once
-returns-in_err-lay_off-clause-once c = subst (λ (s : ListShop). EachReelOnce s.shop) c.self.view_is c.self.invariant.once
+returns-in_err-lay_off-clause-once c = subst (λ (s : ListLibrary). EachReelOnce s.library) c.self.view_is c.self.invariant.once
 
 pub returns-clause-once : goal.returns-clause-once
-returns-clause-once c = subst (λ (s : ListShop). EachReelOnce s.shop) c.self.view_is c.self.invariant.once
+returns-clause-once c = subst (λ (s : ListLibrary). EachReelOnce s.library) c.self.view_is c.self.invariant.once
 
 pub invariant_of-self : goal.invariant_of-self
 invariant_of-self c =
-    let racks = c.self.inside.racks.items in
+    let drives = c.self.inside.drives.items in
     let bin = c.lay_off.new.bin.items in
     let same =
-    ap (λ r. shop (set racks c.args.drive r) bin) (c.in_err-lay_off.ensures.stack ∙ c.index_mut-rack.ensures.value)
-    ∙ ap (λ rs. shop rs bin) (set-get_or racks c.args.drive c.index_mut-rack.result.now)
-    ∙ ap (λ b. shop racks b) c.in_err-lay_off.ensures.bin in
-    stocked_same (shop racks c.self.inside.bin.items) _ c.self.inside.reels _ _ same c.lay_off.ensures.room c.self.invariant
+    ap (λ r. library (set drives c.args.drive r) bin) (c.in_err-lay_off.ensures.stack ∙ c.index_mut-chosen.ensures.value)
+    ∙ ap (λ rs. library rs bin) (set-get_or drives c.args.drive c.index_mut-chosen.result.now)
+    ∙ ap (λ b. library drives b) c.in_err-lay_off.ensures.bin in
+    stocked_same (library drives c.self.inside.bin.items) _ c.self.inside.reels _ _ same c.lay_off.ensures.room c.self.invariant
 
 pub invariant_of-self-2 : goal.invariant_of-self-2
 invariant_of-self-2 c =
-    let racks = c.self.inside.racks.items in
+    let drives = c.self.inside.drives.items in
     let names = map (λ n. n.now) c.args.names.now in
     let pile = c.in_ok-lay_off.ensures.bin in
-    let within = subst (λ (s : ListShop). c.args.drive < length s.shop.racks) (sym c.self.view_is) c.requires in
-    stocked_arranged (shop racks c.self.inside.bin.items) c.args.drive c.index_mut-rack.result.now c.lay_on.new.self names c.pick.new.onto.items c.pick.new.reels.items c.self.inside.reels _ _
-    within c.index_mut-rack.ensures.value
-    (c.lay_on.ensures ∙ ap (λ r. rack r.name c.pick.new.onto.items) c.in_ok-lay_off.ensures.stack)
+    let within = subst (λ (s : ListLibrary). c.args.drive < length s.library.drives) (sym c.self.view_is) c.requires in
+    stocked_arranged (library drives c.self.inside.bin.items) c.args.drive c.index_mut-chosen.result.now c.lay_on.new.self names c.pick.new.onto.items c.pick.new.reels.items c.self.inside.reels _ _
+    within c.index_mut-chosen.ensures.value
+    (c.lay_on.ensures ∙ ap (λ r. drive_with r.name c.pick.new.onto.items) c.in_ok-lay_off.ensures.stack)
     (c.pick.ensures.picked ∙ ap (λ xs. xs ++ picked names c.lay_off.new.bin.items) c.in_ok-stack.ensures.items ∙ ap (λ xs. picked names xs) pile)
     (c.pick.ensures.left ∙ ap (λ xs. left names xs) pile)
     (subst (λ n. vec_capacity c.self.inside.bin ≤ n) (sym c.pick.ensures.room) c.lay_off.ensures.room) c.self.invariant

@@ -1,29 +1,29 @@
 use Rattle.std.proofs.lemmas.Grind.{common_steps}
-use Rattle.drives.specs.Shop.{EachReelOnce}
+use Rattle.drives.specs.TapeLibrary.{EachReelOnce}
 use Rattle.std.proofs.Common.{arith, ◌<◌, length, None, sym, subst}
-use Rattle.drives.specs.ListShop.{ListShop}
-use Rattle.drives.specs.Shop.{shop}
-use Rattle.drives.proofs.ListShop.{stocked_first}
+use Rattle.drives.specs.ListLibrary.{ListLibrary}
+use Rattle.drives.specs.TapeLibrary.{library}
+use Rattle.drives.proofs.ListLibrary.{stocked_first}
 use Rattle.drives.proofs.list.ListStacks.take_first.Goals as goal
 
 pub invariant_of-self : goal.invariant_of-self
 invariant_of-self c =
-    stocked_first (shop c.self.inside.racks.items c.self.inside.bin.items) c.args.drive c.index_mut-rack.result.now c.latch.new.self None _ _
-    (subst (λ (s : ListShop). c.args.drive < length s.shop.racks) (sym c.self.view_is) c.requires) c.index_mut-rack.ensures.value c.latch.ensures.away c.self.invariant
+    stocked_first (library c.self.inside.drives.items c.self.inside.bin.items) c.args.drive c.index_mut-chosen.result.now c.latch.new.self None _ _
+    (subst (λ (s : ListLibrary). c.args.drive < length s.library.drives) (sym c.self.view_is) c.requires) c.index_mut-chosen.ensures.value c.latch.ensures.away c.self.invariant
 
 pub invariant_of-self-2 : goal.invariant_of-self-2
 invariant_of-self-2 c =
-    stocked_first (shop c.self.inside.racks.items c.self.inside.bin.items) c.args.drive c.index_mut-rack.result.now c.latch.new.self None _ _
-    (subst (λ (s : ListShop). c.args.drive < length s.shop.racks) (sym c.self.view_is) c.requires) c.index_mut-rack.ensures.value c.latch.ensures.away c.self.invariant
+    stocked_first (library c.self.inside.drives.items c.self.inside.bin.items) c.args.drive c.index_mut-chosen.result.now c.latch.new.self None _ _
+    (subst (λ (s : ListLibrary). c.args.drive < length s.library.drives) (sym c.self.view_is) c.requires) c.index_mut-chosen.ensures.value c.latch.ensures.away c.self.invariant
 
 pub returns-then-is_ready-clause-once : goal.returns-then-is_ready-clause-once
-returns-then-is_ready-clause-once c = subst (λ (s : ListShop). EachReelOnce s.shop) c.self.view_is c.self.invariant.once
+returns-then-is_ready-clause-once c = subst (λ (s : ListLibrary). EachReelOnce s.library) c.self.view_is c.self.invariant.once
 
 pub returns-in_default-clause-once : goal.returns-in_default-clause-once
-returns-in_default-clause-once c = subst (λ (s : ListShop). EachReelOnce s.shop) c.self.view_is c.self.invariant.once
+returns-in_default-clause-once c = subst (λ (s : ListLibrary). EachReelOnce s.library) c.self.view_is c.self.invariant.once
 
 pub returns-clause-once : goal.returns-clause-once
-returns-clause-once c = subst (λ (s : ListShop). EachReelOnce s.shop) c.self.view_is c.self.invariant.once
+returns-clause-once c = subst (λ (s : ListLibrary). EachReelOnce s.library) c.self.view_is c.self.invariant.once
 
 pub returns-then-is_ready-clause-latched : goal.returns-then-is_ready-clause-latched
 returns-then-is_ready-clause-latched c = grind (arith, common_steps)

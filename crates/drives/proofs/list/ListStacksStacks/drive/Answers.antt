@@ -1,4 +1,4 @@
-use Rattle.drives.proofs.ListShop.{named_rest}
+use Rattle.drives.proofs.ListLibrary.{named_rest}
 use Rattle.drives.proofs.list.ListStacksStacks.drive.Goals as goal
 
 pub returns-clause-named : goal.returns-clause-named

@@ -7,4 +7,4 @@ pub returns-clause-drives : goal.returns-clause-drives
 returns-clause-drives g c = grind (arith, common_steps)
 
 pub returns-clause-count : goal.returns-clause-count
-returns-clause-count g c = simp length-map at (ap length c.in_ok-racks.ensures)
+returns-clause-count g c = simp length-map at (ap length c.in_ok-drives.ensures)

@@ -1,5 +1,5 @@
 use Rattle.std.proofs.Common.{rules, refl, sym, subst}
-use Rattle.drives.specs.ListShop.{shop_of}
+use Rattle.drives.specs.ListLibrary.{library_of}
 use Rattle.rmt_server.specs.Stream.{streams, streams_kind}
 use Rattle.rmtd_serve.specs.Serving.{IsAtRest, IsServedNext}
 use Rattle.rmtd_serve.proofs.Endings.{unserved}
@@ -20,7 +20,7 @@ returns g c =
     let afresh = c.serve_afresh-ending.ensures in
     let rest = seated_rest _ c.self.inside.drives.stacks c.self.invariant c.in_ok-seat.ensures.next.1 in
     let next = (served_at_rest _ rest refl afresh.serves).1 in
-    subst (λ b. IsServedNext (streams_kind g.R.Read.remaining g.W.Write.contents) b (shop_of c.serve_afresh-ending.new.drives.stacks)
+    subst (λ b. IsServedNext (streams_kind g.R.Read.remaining g.W.Write.contents) b (library_of c.serve_afresh-ending.new.drives.stacks)
     (streams c.args.input.now c.args.output.now) (streams c.serve_afresh-ending.new.input c.serve_afresh-ending.new.output) c.serve_afresh-ending.result.1) c.self.view_is
-    (subst (λ d. IsServedNext (streams_kind g.R.Read.remaining g.W.Write.contents) (shop_of c.self.inside.drives.stacks) (shop_of d.stacks)
+    (subst (λ d. IsServedNext (streams_kind g.R.Read.remaining g.W.Write.contents) (library_of c.self.inside.drives.stacks) (library_of d.stacks)
     (streams c.args.input.now c.args.output.now) (streams c.serve_afresh-ending.new.input c.serve_afresh-ending.new.output) c.serve_afresh-ending.result.1) (sym afresh.drives_back) next)

@@ -9,7 +9,7 @@ pub arrange-requires-clause-may : goal.arrange-requires-clause-may
 arrange-requires-clause-may c =
     let names = map (λ n. n.now) c.args.names.now in
     subst IsTrue (sym (c.told_orders.ensures c.self.inside.drives.stacks c.args.drive names))
-    (subst (λ (v : Hosted). IsTrue (may_arrange v.hall.shop c.args.drive names)) (sym c.self.view_is) c.requires.may)
+    (subst (λ (v : Hosted). IsTrue (may_arrange v.hall.library c.args.drive names)) (sym c.self.view_is) c.requires.may)
 
 pub invariant_of-self : goal.invariant_of-self
 invariant_of-self c = (

@@ -23,7 +23,7 @@ happens c fine =
     let w = the_view c.self.inside in
     let is : c.arrange.new.self ≡ hosted (restacked c.self.inside.host.hall c.in-Some.place (map (λ n. n.now) c.args.reels.now)) c.self.inside.host.ready
     = if_ok c.arrange.result _ _ c.arrange.ensures.arranged (sym c.is_err.ensures.value ∙ fine) in
-    let may = may_parts c.self.inside.host.hall.shop c.in-Some.place (map (λ n. n.now) c.args.reels.now) (sym c.if-not-can_arrange.ensures.may) in (
+    let may = may_parts c.self.inside.host.hall.library c.in-Some.place (map (λ n. n.now) c.args.reels.now) (sym c.if-not-can_arrange.ensures.may) in (
       (c.in-Some.place, c.in-Some.ensures, search rules, may.0, may.1),
       (c.in-Some.place, c.in-Some.ensures, ap (λ h. record (calm w) { hall = h.hall }) is),
     )
@@ -34,7 +34,7 @@ invariant_of-self-2 c =
     let same = c.kept.ensures.names w _ (Arrange c.args.drive.now (map (λ n. n.now) c.args.reels.now)) (subst IsWorldKept (sym c.self.view_is) c.requires)
     (happens (goal.at.invariant_of-self-2 c).After-is_err c.if-is_err.false) in (
       c.self.invariant.0,
-      known_after _ w (record (calm w) { hall = c.arrange.new.self.hall }) c.arrange.new.self.hall.shop same refl c.self.invariant.1,
+      known_after _ w (record (calm w) { hall = c.arrange.new.self.hall }) c.arrange.new.self.hall.library same refl c.self.invariant.1,
     )
 
 pub returns-in_default : goal.returns-in_default
@@ -52,10 +52,10 @@ returns-then-not-can_arrange c = (
   λ may. (
       let here : MayArrange c.self.inside.host.hall c.args.drive.now (map (λ n. n.now) c.args.reels.now)
       = subst (λ (w : World). MayArrange w.hall c.args.drive.now (map (λ n. n.now) c.args.reels.now)) (sym c.self.view_is) may in
-      let same = named_same c.args.drive.now c.self.inside.host.hall.shop here.0 c.in-Some.place here.1 c.in-Some.ensures in
-      let yes = may_be c.self.inside.host.hall.shop c.in-Some.place (map (λ n. n.now) c.args.reels.now)
+      let same = named_same c.args.drive.now c.self.inside.host.hall.library here.0 c.in-Some.place here.1 c.in-Some.ensures in
+      let yes = may_be c.self.inside.host.hall.library c.in-Some.place (map (λ n. n.now) c.args.reels.now)
       (c.can_arrange.ensures.free (search rules)) here.3
-      (subst (λ d. IsTrue (list_all (is_piled c.self.inside.host.hall.shop d) (map (λ n. n.now) c.args.reels.now))) same here.4) in
+      (subst (λ d. IsTrue (list_all (is_piled c.self.inside.host.hall.library d) (map (λ n. n.now) c.args.reels.now))) same here.4) in
       absurd (false≢true (c.if-not-can_arrange.ensures.may ∙ yes))),
 )
 
@@ -63,7 +63,7 @@ pub invariant_of-self : goal.invariant_of-self
 invariant_of-self c =
     let same : c.arrange.new.self ≡ c.self.inside.host = if_err c.arrange.result _ _ c.arrange.ensures.arranged (sym c.is_err.ensures.value ∙ c.if-is_err.true) in (
       c.self.invariant.0,
-      known_same _ c.self.inside.host.hall.shop c.arrange.new.self.hall.shop (ap (λ h. h.hall.shop) same) c.self.invariant.1,
+      known_same _ c.self.inside.host.hall.library c.arrange.new.self.hall.library (ap (λ h. h.hall.library) same) c.self.invariant.1,
     )
 
 pub returns-then-is_err : goal.returns-then-is_err

@@ -23,8 +23,8 @@ pub invariant_of-self-2 : goal.invariant_of-self-2
 invariant_of-self-2 c =
     let i = started c.self.inside.caller c.start_attempt.new.caller c.in_ok-dumping.dumping c.in_ok-dumping.ensures in (
       (sourced_same c.self.inside.begun.items c.self.inside.caller c.start_attempt.new.caller i.before i.after i.was i.is i.same c.self.invariant.0.0, c.self.invariant.0.1),
-      known_same _ c.self.inside.host.hall.shop c.admit.new.self.hall.shop
-          (ap (λ h. h.hall.shop) c.admit.ensures ∙ ap (λ h. h.hall.shop) c.in_ok-prepare.ensures) c.self.invariant.1,
+      known_same _ c.self.inside.host.hall.library c.admit.new.self.hall.library
+          (ap (λ h. h.hall.library) c.admit.ensures ∙ ap (λ h. h.hall.library) c.in_ok-prepare.ensures) c.self.invariant.1,
     )
 
 pub returns : goal.returns
@@ -60,7 +60,7 @@ returns c =
 pub invariant_of-self-in_err-prepare : goal.invariant_of-self-in_err-prepare
 invariant_of-self-in_err-prepare c = (
   c.self.invariant.0,
-  known_same _ c.self.inside.host.hall.shop c.prepare.new.self.hall.shop (ap (λ h. h.hall.shop) c.in_err-prepare.ensures) c.self.invariant.1,
+  known_same _ c.self.inside.host.hall.library c.prepare.new.self.hall.library (ap (λ h. h.hall.library) c.in_err-prepare.ensures) c.self.invariant.1,
 )
 
 -- where the client could start no attempt, the world is seen as before
@@ -80,7 +80,7 @@ invariant_of-self-in_err-dumping c = (
         c.self.invariant.0.0,
     c.self.invariant.0.1,
   ),
-  known_same _ c.self.inside.host.hall.shop c.prepare.new.self.hall.shop (ap (λ h. h.hall.shop) c.in_ok-prepare.ensures) c.self.invariant.1,
+  known_same _ c.self.inside.host.hall.library c.prepare.new.self.hall.library (ap (λ h. h.hall.library) c.in_ok-prepare.ensures) c.self.invariant.1,
 )
 
 pub returns-then-not-stands_in : goal.returns-then-not-stands_in

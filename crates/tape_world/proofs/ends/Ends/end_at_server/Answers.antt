@@ -36,7 +36,7 @@ invariant_of-self c =
     let same = c.kept.ensures.names w u (EndAtServer c.args.connection) (subst IsWorldKept (sym c.self.view_is) c.requires)
     (possible (goal.at.invariant_of-self c).After-end, refl) in (
       c.self.invariant.0,
-      known_after _ w u c.end.new.self.hall.shop same (ap (λ h. h.hall.shop) c.end.ensures ∙ ap (λ h. h.shop) (ended_is w.hall c.args.connection))
+      known_after _ w u c.end.new.self.hall.library same (ap (λ h. h.hall.library) c.end.ensures ∙ ap (λ h. h.library) (ended_is w.hall c.args.connection))
           c.self.invariant.1,
     )
 

@@ -6,7 +6,7 @@ use Rattle.tape_events.specs.World.{World}
 use Rattle.tape_events.specs.Events.PlainEvent.{Send}
 use Rattle.tape_events.specs.Rows.{Possible}
 use Rattle.tape_world.specs.contracts.ends.Ends.{the_view}
-use Rattle.tape_world.specs.Serving.{IsShopKnown}
+use Rattle.tape_world.specs.Serving.{IsLibraryKnown}
 use Rattle.tape_world.specs.Holding.{IsBacked, IsOwned, IsSourced}
 use Rattle.tape_world.specs.Seen.{book_names, seen_caller, world_of}
 use Rattle.tape_world.specs.Talking.{talked}
@@ -54,7 +54,7 @@ invariant_of-self-2 c =
         talked_sourced c.self.inside.begun.items c.self.inside.caller c.send_own.new.caller c.args.fails text c.in_ok-failure.failure asks c.self.invariant.0.0,
         c.self.invariant.0.1,
       ),
-      subst (λ v. IsShopKnown (book_names v.books) v.host.hall.shop) (sym now) c.self.invariant.1,
+      subst (λ v. IsLibraryKnown (book_names v.books) v.host.hall.library) (sym now) c.self.invariant.1,
     )
 
 pub returns : goal.returns

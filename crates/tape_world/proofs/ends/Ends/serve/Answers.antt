@@ -8,7 +8,7 @@ use Rattle.tape_events.specs.Steps.{Happens}
 use Rattle.tape_world.specs.contracts.ends.Ends.{the_view}
 use Rattle.tape_world.specs.Seen.{seen_link, book_names, world_of}
 use Rattle.tape_events.specs.Kept.{IsWorldKept}
-use Rattle.tape_world.specs.Serving.{TurnServes, IsShopKnown}
+use Rattle.tape_world.specs.Serving.{TurnServes, IsLibraryKnown}
 use Rattle.tape_world.proofs.Known.{known_after, known_same}
 use Rattle.tape_world.proofs.ServingRow.{turned, serves_happens, serves_world, nothing_served, nothing_there, same_links, opened_known, written_known, online_in, still_known, name_known, same_books, noted_books}
 use Rattle.tape_world.proofs.Absent.{some_found}
@@ -31,11 +31,11 @@ happens c some =
     some
 
 -- so no reel came or went
-known : (c : In_ok-turn) → c.in_ok-turn.turn ≢ turns.Nothing → IsShopKnown (book_names c.self.inside.books) c.take_turn_at.new.host.hall.shop
+known : (c : In_ok-turn) → c.in_ok-turn.turn ≢ turns.Nothing → IsLibraryKnown (book_names c.self.inside.books) c.take_turn_at.new.host.hall.library
 known c some =
     let w = the_view c.self.inside in
     let u = turned w c.args.connection c.take_turn_at.new.host.hall c.in_ok-turn.turn (links_then c) in
-    known_after (book_names c.self.inside.books) w u c.take_turn_at.new.host.hall.shop
+    known_after (book_names c.self.inside.books) w u c.take_turn_at.new.host.hall.library
     (c.kept.ensures.names w u (Serve c.args.connection c.args.trouble) (subst IsWorldKept (sym c.self.view_is) c.requires) (happens c some)) refl c.self.invariant.1
 
 -- and all stays so
@@ -49,7 +49,7 @@ kept c some =
 pub invariant_of-self : goal.invariant_of-self
 invariant_of-self c = (
   c.self.invariant.0,
-  still_known c.self.inside.books c.reserve_notes.new.self c.self.inside.host.hall.shop c.in_err-reserve_notes.ensures.same.names c.self.invariant.1,
+  still_known c.self.inside.books c.reserve_notes.new.self c.self.inside.host.hall.library c.in_err-reserve_notes.ensures.same.names c.self.invariant.1,
 )
 
 pub take_turn_at-requires-clause-last : goal.take_turn_at-requires-clause-last
@@ -61,16 +61,16 @@ take_turn_at-requires-clause-last c =
 pub invariant_of-self-in_err-turn : goal.invariant_of-self-in_err-turn
 invariant_of-self-in_err-turn c = (
   c.self.invariant.0,
-  still_known c.self.inside.books c.reserve_notes.new.self c.take_turn_at.new.host.hall.shop c.in_ok-reserve_notes.ensures.same.names
-      (known_same _ c.self.inside.host.hall.shop c.take_turn_at.new.host.hall.shop (ap (λ h. h.hall.shop) c.in_err-turn.ensures.refused.1) c.self.invariant.1),
+  still_known c.self.inside.books c.reserve_notes.new.self c.take_turn_at.new.host.hall.library c.in_ok-reserve_notes.ensures.same.names
+      (known_same _ c.self.inside.host.hall.library c.take_turn_at.new.host.hall.library (ap (λ h. h.hall.library) c.in_err-turn.ensures.refused.1) c.self.invariant.1),
 )
 
 pub invariant_of-self-in-Nothing : goal.invariant_of-self-in-Nothing
 invariant_of-self-in-Nothing c = (
   c.self.invariant.0,
-  still_known c.self.inside.books c.reserve_notes.new.self c.take_turn_at.new.host.hall.shop c.in_ok-reserve_notes.ensures.same.names
-      (known_same _ c.self.inside.host.hall.shop c.take_turn_at.new.host.hall.shop
-      (ap (λ h. h.hall.shop) (nothing_served c.args.trouble c.args.connection c.self.inside.host c.take_turn_at.new.host c.in_ok-turn.turn _ c.in-Nothing.is
+  still_known c.self.inside.books c.reserve_notes.new.self c.take_turn_at.new.host.hall.library c.in_ok-reserve_notes.ensures.same.names
+      (known_same _ c.self.inside.host.hall.library c.take_turn_at.new.host.hall.library
+      (ap (λ h. h.hall.library) (nothing_served c.args.trouble c.args.connection c.self.inside.host c.take_turn_at.new.host c.in_ok-turn.turn _ c.in-Nothing.is
       c.in_ok-turn.ensures.taken))
       c.self.invariant.1),
 )
@@ -111,7 +111,7 @@ note_turn-requires c =
 pub invariant_of-self-2 : goal.invariant_of-self-2
 invariant_of-self-2 c = (
   c.self.invariant.0,
-  still_known c.self.inside.books c.note_turn.new.self c.take_turn_at.new.host.hall.shop (c.note_turn.ensures.names ∙ c.in_ok-reserve_notes.ensures.same.names)
+  still_known c.self.inside.books c.note_turn.new.self c.take_turn_at.new.host.hall.library (c.note_turn.ensures.names ∙ c.in_ok-reserve_notes.ensures.same.names)
       (known (goal.at.invariant_of-self-2 c).In_ok-turn c.in_default.not-Nothing),
 )
 

@@ -15,8 +15,8 @@ invariant_of-self c =
     let w = the_view c.self.inside in
     let same = c.kept.ensures.names w (restarted (calm w)) ServerRestart (subst IsWorldKept (sym c.self.view_is) c.requires) (tt, refl) in (
       c.self.invariant.0,
-      known_after _ w (restarted (calm w)) c.restart.new.self.hall.shop same
-          (ap (λ h. h.hall.shop) c.restart.ensures ∙ ap (λ h. h.shop) (all_ended_is w.hall (length w.hall.sides))) c.self.invariant.1,
+      known_after _ w (restarted (calm w)) c.restart.new.self.hall.library same
+          (ap (λ h. h.hall.library) c.restart.ensures ∙ ap (λ h. h.library) (all_ended_is w.hall (length w.hall.sides))) c.self.invariant.1,
     )
 
 pub returns : goal.returns

@@ -25,14 +25,14 @@ returns-in_err-prepare c =
 pub invariant_of-self-2 : goal.invariant_of-self-2
 invariant_of-self-2 c = (
   c.self.invariant.0,
-  known_same _ c.self.inside.host.hall.shop c.admit.new.self.hall.shop
-      (ap (λ h. h.hall.shop) c.admit.ensures ∙ ap (λ h. h.hall.shop) c.in_ok-prepare.ensures) c.self.invariant.1,
+  known_same _ c.self.inside.host.hall.library c.admit.new.self.hall.library
+      (ap (λ h. h.hall.library) c.admit.ensures ∙ ap (λ h. h.hall.library) c.in_ok-prepare.ensures) c.self.invariant.1,
 )
 
 pub invariant_of-self-in_err-prepare : goal.invariant_of-self-in_err-prepare
 invariant_of-self-in_err-prepare c = (
   c.self.invariant.0,
-  known_same _ c.self.inside.host.hall.shop c.prepare.new.self.hall.shop (ap (λ h. h.hall.shop) c.in_err-prepare.ensures) c.self.invariant.1,
+  known_same _ c.self.inside.host.hall.library c.prepare.new.self.hall.library (ap (λ h. h.hall.library) c.in_err-prepare.ensures) c.self.invariant.1,
 )
 
 pub returns : goal.returns

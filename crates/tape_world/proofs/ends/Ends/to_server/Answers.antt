@@ -23,7 +23,7 @@ invariant_of-self c =
     let push = reaches c.self.inside.host c.args.connection c.args.count c.bytes-way.result.now c.in-Some.room c.push.result c.room.result c.push.new.self c.room.ensures c.in-Some.is
     c.if-way-count.false c.if-room-count.false c.push.ensures in (
       c.self.invariant.0,
-      known_same _ c.self.inside.host.hall.shop c.push.new.self.hall.shop (ap (λ h. h.shop) push.hall_is) c.self.invariant.1,
+      known_same _ c.self.inside.host.hall.library c.push.new.self.hall.library (ap (λ h. h.library) push.hall_is) c.self.invariant.1,
     )
 
 pub returns : goal.returns

@@ -8,5 +8,5 @@ add_reels-requires-clause-once c =
 
 pub returns-clause-added : goal.returns-clause-added
 returns-clause-added c =
-    drive_laid c.args.stacks.now c.add_drive.new.self c.add_reels.new.stacks.shop c.args.drive.now c.in-Ok.number c.add_reels.result c.in-Ok.ensures.added
+    drive_laid c.args.stacks.now c.add_drive.new.self c.add_reels.new.stacks.library c.args.drive.now c.in-Ok.number c.add_reels.result c.in-Ok.ensures.added
     c.add_reels.ensures.added

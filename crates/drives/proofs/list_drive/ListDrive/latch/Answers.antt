@@ -1,5 +1,5 @@
 use Rattle.std.proofs.Common.{rules}
-use Rattle.drives.proofs.rack.ListRack.latch.Goals as goal
+use Rattle.drives.proofs.list_drive.ListDrive.latch.Goals as goal
 
 pub returns-clause-taken : goal.returns-clause-taken
 returns-clause-taken c = search rules

@@ -5,7 +5,7 @@ ghost use Rattle.std.specs.List.{list_any};
 ghost use Rattle.std.specs.Option.{option_copied};
 ghost use Rattle.std.specs.Str.{bytes_eq};
 ghost use Rattle.drives.specs.Arranging.{slot_named};
-ghost use Rattle.drives.specs.Shop.{rack, first_reel, with_first, latched_on};
+ghost use Rattle.drives.specs.TapeLibrary.{drive_with, first_reel, with_first, latched_on};
 
 use crate::ListedReel;
 use crate::pick::{any_named, find_named};
@@ -15,26 +15,26 @@ use tape::TroubledReel;
 
 /// A drive of a `ListStacks`, with its stack. A latched reel stays first on it, and is away.
 #[derive(Drop)]
-pub(crate) struct ListRack {
+pub(crate) struct ListDrive {
     name: Vec<u8>,
     stack: Vec<ListedReel>,
 }
 
-impl Model for ListRack {
-    ghost use Rattle.drives.specs.Shop.{Rack, rack};
+impl Model for ListDrive {
+    ghost use Rattle.drives.specs.TapeLibrary.{Drive, drive_with};
     ghost use Rattle.tape.specs.Trouble.{TroubledTape};
 
-    ghost Value = { Rack TroubledTape };
+    ghost Value = { Drive TroubledTape };
 
-    ghost view = { λ r. rack r.name.items r.stack.items };
+    ghost view = { λ r. drive_with r.name.items r.stack.items };
 }
 
-impl ListRack {
+impl ListDrive {
     /// A drive with an empty stack.
-    pub(crate) fn new(alloc: Global, name: &[u8]) -> Result<ListRack, AllocError>
-        ensures { IfOk result (λ made. made ≡ rack name.now []) }
+    pub(crate) fn new(alloc: Global, name: &[u8]) -> Result<ListDrive, AllocError>
+        ensures { IfOk result (λ made. made ≡ drive_with name.now []) }
     {
-        Ok(ListRack {
+        Ok(ListDrive {
             name: Vec::from_slice(alloc, name)?,
             stack: Vec::new(alloc),
         })
@@ -84,7 +84,7 @@ impl ListRack {
     /// Takes the first reel away, if one lies there.
     pub(crate) fn latch(&mut self) -> Option<TroubledReel>
         ensures taken { result ≡ first_reel self.old.stack }
-        ensures away { self.new ≡ rack self.old.name (with_first None self.old.stack) }
+        ensures away { self.new ≡ drive_with self.old.name (with_first None self.old.stack) }
     {
         match self.stack.first_mut() {
             Some(first) => first.take(),
@@ -95,7 +95,7 @@ impl ListRack {
     /// Lays the first reel down again.
     pub(crate) fn unlatch(&mut self, reel: TroubledReel)
         requires { 0 < length self.old.stack }
-        ensures { self.new ≡ rack self.old.name (with_first (Some reel) self.old.stack) }
+        ensures { self.new ≡ drive_with self.old.name (with_first (Some reel) self.old.stack) }
     {
         let first = &mut self.stack[0];
         first.put(reel);
@@ -112,7 +112,7 @@ impl ListRack {
 
     /// Moves the stack to the end of the bin. Where memory is refused nothing has changed.
     pub(crate) fn lay_off(&mut self, bin: &mut Vec<ListedReel>) -> Result<(), AllocError>
-        ensures stack { MatchResult result (λ _. self.new ≡ rack self.old.name []) (λ _. self.new ≡ self.old) }
+        ensures stack { MatchResult result (λ _. self.new ≡ drive_with self.old.name []) (λ _. self.new ≡ self.old) }
         ensures bin { MatchResult result (λ _. bin.new.items ≡ bin.old.items ++ self.old.stack) (λ _. bin.new.items ≡ bin.old.items) }
         ensures room { vec_capacity bin.old ≤ vec_capacity bin.new }
     {
@@ -121,14 +121,14 @@ impl ListRack {
 
     /// Gives the drive that stack.
     pub(crate) fn lay_on(&mut self, stack: Vec<ListedReel>)
-        ensures { self.new ≡ rack self.old.name stack.items }
+        ensures { self.new ≡ drive_with self.old.name stack.items }
     {
         self.stack = stack;
     }
 
     /// Lays a reel last on the stack. Where memory is refused nothing has changed.
     pub(crate) fn push(&mut self, reel: ListedReel) -> Result<(), AllocError>
-        ensures { MatchResult result (λ _. self.new ≡ rack self.old.name (self.old.stack ++ reel ∷ [])) (λ _. self.new ≡ self.old) }
+        ensures { MatchResult result (λ _. self.new ≡ drive_with self.old.name (self.old.stack ++ reel ∷ [])) (λ _. self.new ≡ self.old) }
     {
         self.stack.push(reel)?;
         Ok(())
@@ -136,18 +136,18 @@ impl ListRack {
 }
 
 /// Whether a reel on one of the stacks has that name.
-pub(crate) fn any_stacked(racks: &[ListRack], name: &[u8]) -> bool
-    ensures { result ≡ list_any (λ r. list_any (λ x. bytes_eq name.now x.name) r.stack) racks.now }
+pub(crate) fn any_stacked(drives: &[ListDrive], name: &[u8]) -> bool
+    ensures { result ≡ list_any (λ r. list_any (λ x. bytes_eq name.now x.name) r.stack) drives.now }
 {
-    racks.iter().any(|rack| rack.has_reel(name))
+    drives.iter().any(|drive| drive.has_reel(name))
 }
 
 /// The reel of that name on one of the stacks, if there is one.
-pub(crate) fn find_stacked<'a>(racks: &'a [ListRack], name: &[u8]) -> Option<&'a ListedReel>
-    ensures { option_copied result ≡ slot_named name.now (flat_map (λ r. r.stack) racks.now) }
+pub(crate) fn find_stacked<'a>(drives: &'a [ListDrive], name: &[u8]) -> Option<&'a ListedReel>
+    ensures { option_copied result ≡ slot_named name.now (flat_map (λ r. r.stack) drives.now) }
 {
-    for rack in racks {
-        if let Some(reel) = find_named(rack.stack(), name) {
+    for drive in drives {
+        if let Some(reel) = find_named(drive.stack(), name) {
             return Some(reel);
         }
     }

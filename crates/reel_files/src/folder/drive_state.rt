@@ -21,14 +21,14 @@ const FINISH_TURNS: u32 = 100;
 /// A drive of a `FolderStacks`: its name, the folder of its stack, the file of the reel that is latched, and what is known of its
 /// syncs.
 #[derive(Drop)]
-pub(super) struct FolderRack {
+pub(super) struct FolderDriveState {
     name: String,
     folder: String,
     latched: Option<ReelFile>,
     syncs: Syncs<Refusal>,
 }
 
-impl Model for FolderRack {
+impl Model for FolderDriveState {
     ghost use Rattle.std.specs.Prelude.{string_bytes, is_some};
     ghost use Rattle.reel_files.specs.Folders.{FolderRow, folder_row};
 
@@ -37,12 +37,15 @@ impl Model for FolderRack {
     ghost view = { λ r. record (folder_row (string_bytes r.name) (string_bytes r.folder) (is_some r.latched)) { failed = r.syncs } };
 }
 
-impl FolderRack {
+impl FolderDriveState {
     /// A drive with no reel latched.
-    pub(super) fn new(alloc: Global, drive: &FolderDrive<'_>) -> Result<FolderRack, AllocError>
+    pub(super) fn new(
+        alloc: Global,
+        drive: &FolderDrive<'_>,
+    ) -> Result<FolderDriveState, AllocError>
         ensures { IfOk result (λ made. made ≡ folder_row drive.now.name.now drive.now.folder.now false) }
     {
-        Ok(FolderRack {
+        Ok(FolderDriveState {
             name: String::from_str(alloc, drive.name)?,
             folder: String::from_str(alloc, drive.folder)?,
             latched: None,

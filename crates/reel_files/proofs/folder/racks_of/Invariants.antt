@@ -1,6 +1,0 @@
-use Rattle.std.proofs.Common.{◌≡◌, false, map, take}
-use Rattle.reel_files.specs.Folders.{folder_row}
-use Rattle.reel_files.proofs.folder.racks_of.Given as goal
-
-abbrev pub invariant-loop-drive : goal.invariant-loop-drive
-invariant-loop-drive l = l.racks.items ≡ map (λ d. folder_row d.name.now d.folder.now false) (take l.drive-index l.drives)
