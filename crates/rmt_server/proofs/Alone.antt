@@ -10,10 +10,10 @@ use Rattle.drives.specs.Opening.{Kinds, word_after_open}
 use Rattle.rmt_server.specs.declared.access.Access.{Access}
 use Rattle.rmt_server.specs.declared.refusal.Refusal.{Refusal}
 use Rattle.rmt_server.specs.declared.refusal.Refusal.TheVariants.{BadDescriptor}
-use Rattle.rmt_server.specs.declared.session.desk.Opened.{Opened}
+use Rattle.rmt_server.specs.declared.session.session_state.Opened.{Opened}
 use Rattle.rmt_server.specs.Access.{access_of}
 use Rattle.rmt_server.specs.Refusals.{refused}
-use Rattle.rmt_server.specs.Session.{Scene, refusal, is_offline}
+use Rattle.rmt_server.specs.Session.{SessionView, refusal, is_offline}
 use Rattle.rmt_server.specs.State.{State, drive_of, status_at}
 use Rattle.rmt_server.specs.Opening.{word_after_close, opened_by, IsClosed, OpensFor}
 use Rattle.rmt_server.specs.Moving.{MovesIn, MovesReel}
@@ -101,7 +101,7 @@ module _ {H S Seat R : Type 0} {k : Kinds H Seat S R} {old new : State H S Seat 
   may_share (inr alone) c = inr (alone_carried k old new request reply alone c.effect)
 
   -- a take finds another seat only where one may hold a drive
-  pub may_find : {before : Scene} → MayShare k old shared → (v : IsServed k old request reply new before) → 0 < v.found → IsTrue shared
+  pub may_find : {before : SessionView} → MayShare k old shared → (v : IsServed k old request reply new before) → 0 < v.found → IsTrue shared
   may_find (inl shares) v x = shares
   may_find (inr alone) v x =
       let w = v.taken x in

@@ -21,7 +21,7 @@ use Rattle.rmt_server.specs.Replies.{IsSayable}
 use Rattle.rmt_server.specs.Opening.{IsClosed}
 use Rattle.rmt_server.specs.Carrying.{IsCarriedOut, MayFail, MayShare}
 use Rattle.rmt_server.proofs.Alone.{may_share, may_find}
-use Rattle.rmt_server.specs.Session.{Scene, ServeRun, none as no_steps, one_more as one_step}
+use Rattle.rmt_server.specs.Session.{SessionView, ServeRun, none as no_steps, one_more as one_step}
 use Rattle.rmt_server.specs.Stream.{streams, streams_kind, Exchange, requests_of, replies_text, IsAnswered, IsCutOff, Advances, AnswersAs, CarryRun, IsSettled, IsFaulty, EndsAs, IsServedAs, none, one_more}
 use Rattle.rmt_server.specs.declared.stream.Served.{Served}
 use Rattle.rmt_server.specs.declared.stream.Served.TheVariants.{Broken}
@@ -216,8 +216,8 @@ module _ {H S Seat R : Type 0} {k : Kinds H Seat S R} {old between new : State H
 
 -- Where stacks and reel tell, a run of requests carried out is a run of serve steps
 pub run_steps : {H S Seat R : Type 0} {k : Kinds H Seat S R} {old last : State H S Seat R} {done : List Exchange}
-    → CarryRun k old done last → (fails shared : Bool) → MayFail k old fails → MayShare k old shared → (start : Scene) → Tells k old start
-    → (finish : Scene) × ServeRun fails shared k.reels.GROWS start done finish × Tells k last finish × MayShare k last shared × MayFail k last fails
+    → CarryRun k old done last → (fails shared : Bool) → MayFail k old fails → MayShare k old shared → (start : SessionView) → Tells k old start
+    → (finish : SessionView) × ServeRun fails shared k.reels.GROWS start done finish × Tells k last finish × MayShare k last shared × MayFail k last fails
 run_steps none fails shared may share start tells = (start, no_steps, tells, share, may)
 run_steps (one_more {between = between} request reply run carried spelling) fails shared may share start tells =
     let so_far = run_steps run fails shared may share start tells in

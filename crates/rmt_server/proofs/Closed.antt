@@ -8,7 +8,7 @@ use Rattle.drives.specs.Stacking.{HasLatched, ReelCanFail, IsStacksCall}
 use Rattle.rmt_server.specs.declared.access.Access.{Access}
 use Rattle.rmt_server.specs.Session.{PlainSession, closed_library}
 use Rattle.rmt_server.specs.State.{State, drive_of, online_drive, reel_of, IsAt, IsSeenWith, IsSeenAs, IsReelCall}
-use Rattle.rmt_server.specs.declared.session.desk.Opened.{Opened}
+use Rattle.rmt_server.specs.declared.session.session_state.Opened.{Opened}
 use Rattle.drives.specs.Holding.{HoldsJust, given, word_after_give}
 use Rattle.drives.specs.Opening.{Kinds}
 use Rattle.drives.specs.declared.view.View.{View}

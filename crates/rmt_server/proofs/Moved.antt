@@ -6,7 +6,7 @@ use Rattle.rmt_wire.specs.Reply.{PlainReply}
 use Rattle.drives.specs.declared.fault.DriveFault.{DriveFault}
 use Rattle.drives.specs.Opening.{Kinds}
 use Rattle.rmt_server.specs.declared.refusal.Refusal.TheVariants.{NotConfigured}
-use Rattle.rmt_server.specs.declared.session.desk.Opened.{Opened}
+use Rattle.rmt_server.specs.declared.session.session_state.Opened.{Opened}
 use Rattle.rmt_server.specs.Refusals.{refused}
 use Rattle.rmt_server.specs.Session.{refusal, move_reply}
 use Rattle.rmt_server.specs.State.{State, status_in, status_at}

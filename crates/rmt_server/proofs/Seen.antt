@@ -5,11 +5,11 @@ use Rattle.tape.specs.contracts.troubled.TroubledReelReel.TheImpl.{ghosts as of_
 use Rattle.drives.specs.TapeLibrary.{TapeLibrary}
 use Rattle.drives.specs.ListLibrary.{library_of, IsLibrary}
 use Rattle.rmt_server.specs.declared.access.Access.{Access}
-use Rattle.rmt_server.specs.declared.session.desk.Opened.{Opened}
-use Rattle.rmt_server.specs.Session.{plain_reel, PlainSession, Scene, scene}
+use Rattle.rmt_server.specs.declared.session.session_state.Opened.{Opened}
+use Rattle.rmt_server.specs.Session.{plain_reel, PlainSession, SessionView, session_view}
 use Rattle.rmt_server.specs.Session.PlainSession.{Online}
 use Rattle.rmt_server.specs.State.{IsSeenWith, IsSeenAs, Tells}
-use Rattle.rmt_server.specs.Memory.{MemoryState, in_memory, session_with, session_seen, scene_seen}
+use Rattle.rmt_server.specs.Memory.{MemoryState, in_memory, session_with, session_seen, session_view_seen}
 
 with_seen : (drive : ℕ) (access : Access) (reel : Option TroubledTape) → IsSeenWith of_reel drive access reel (session_with drive access reel)
 with_seen drive access None = refl
@@ -29,10 +29,10 @@ opened_only None session seen = seen
 opened_only (Some device) session seen = with_only device.drive device.access device.reel session seen
 
 -- they tell it where each reel stands once
-pub seen_told : (x : MemoryState) → IsLibrary x.drives.stacks (library_of x.drives.stacks) → Tells in_memory x (scene_seen x)
+pub seen_told : (x : MemoryState) → IsLibrary x.drives.stacks (library_of x.drives.stacks) → Tells in_memory x (session_view_seen x)
 seen_told x told = record { library = told; session = opened_seen x.opened }
 
 -- and no other
-pub seen_only : (x : MemoryState) (v : Scene) → Tells in_memory x v → v ≡ scene_seen x
+pub seen_only : (x : MemoryState) (v : SessionView) → Tells in_memory x v → v ≡ session_view_seen x
 seen_only x v tells =
-    ap (λ (s : TapeLibrary). scene s v.session) tells.library.0 ∙ ap (λ (p : PlainSession). scene (library_of x.drives.stacks) p) (opened_only x.opened v.session tells.session)
+    ap (λ (s : TapeLibrary). session_view s v.session) tells.library.0 ∙ ap (λ (p : PlainSession). session_view (library_of x.drives.stacks) p) (opened_only x.opened v.session tells.session)

@@ -12,10 +12,10 @@ use Rattle.drives.specs.Opening.{Kinds, drive_asked, found_in_open}
 use Rattle.rmt_server.specs.declared.access.Access.{Access}
 use Rattle.rmt_server.specs.declared.refusal.Refusal.{Refusal}
 use Rattle.rmt_server.specs.declared.refusal.Refusal.TheVariants.{BadDescriptor}
-use Rattle.rmt_server.specs.declared.session.desk.Opened.{Opened}
+use Rattle.rmt_server.specs.declared.session.session_state.Opened.{Opened}
 use Rattle.rmt_server.specs.Access.{access_of}
 use Rattle.rmt_server.specs.Refusals.{refused}
-use Rattle.rmt_server.specs.Session.{Scene, scene, plain_reel, status_of, refusal, is_offline, closed, session_after, IsMoveExcused, move_reply, ServeStep}
+use Rattle.rmt_server.specs.Session.{SessionView, session_view, plain_reel, status_of, refusal, is_offline, closed, session_after, IsMoveExcused, move_reply, ServeStep}
 use Rattle.rmt_server.specs.Session.PlainSession.{Offline, Online}
 use Rattle.rmt_server.specs.State.{State, drive_of, reel_of, status_in, status_at, IsAt, IsSeenWith, IsSeenAs, Tells, SessionCanFail}
 use Rattle.rmt_server.specs.Opening.{view_after_close, IsClosed, OpensFor}
@@ -50,7 +50,7 @@ move_excused Device f = refl
 move_excused OutOfMemory f = tt
 move_excused NameTaken f = tt
 
-module _ {H S Seat R : Type 0} (k : Kinds H Seat S R) (old : State H S Seat R) (before : Scene) (tells : Tells k old before) where
+module _ {H S Seat R : Type 0} (k : Kinds H Seat S R) (old : State H S Seat R) (before : SessionView) (tells : Tells k old before) where
   -- a refused request
   refused_tells : (new : State H S Seat R) → new ≡ old → Tells k new before
   refused_tells new n = subst (λ x. Tells k x before) (sym n) tells
@@ -76,7 +76,7 @@ module _ {H S Seat R : Type 0} (k : Kinds H Seat S R) (old : State H S Seat R) (
       let latch = latching k between.drives.stacks _ result new.drives.stacks o.opening.call in
       let seen = open_seen k.reels device access (drive_asked result (k.holds.shows new.seat)) result (closed before).library st.0 (is_excused result _ _ o.opening.view) st.2 in
       record {
-        after = scene st.0 (session_after access seen.plain);
+        after = session_view st.0 (session_after access seen.plain);
         tells = record { library = st.1; session = rw o.opens seen.seen };
         troubled = is_device result;
         trouble = λ t. HasRisen_earlier _ _ _ c.kept.counted (latch.device (is_device_is result t));
@@ -90,7 +90,7 @@ module _ {H S Seat R : Type 0} (k : Kinds H Seat S R) (old : State H S Seat R) (
       }
 
   -- a request that takes no drive
-  served : (request : PlainRequest) (reply : PlainReply) (new : State H S Seat R) (after : Scene) (troubled : Bool) → Tells k new after
+  served : (request : PlainRequest) (reply : PlainReply) (new : State H S Seat R) (after : SessionView) (troubled : Bool) → Tells k new after
       → (IsTrue troubled → HasTrouble k (is_of_stacks request) old new) → (IsTrue troubled → SessionCanFail k old)
       → ServeStep troubled k.reels.GROWS None 0 before request reply after → IsServed k old request reply new before
   served request reply new after troubled seen trouble able step = record {
@@ -129,7 +129,7 @@ module _ {H S Seat R : Type 0} (k : Kinds H Seat S R) (old : State H S Seat R) (
   reel_parts request reply new (n, e, serves) = reel_serves k.reels old.opened new.opened before.library before.session request reply serves tells.session
 
   reel_tells : (request : PlainRequest) (reply : PlainReply) (new : State H S Seat R) (by : Option Refusal) → new.drives ≡ old.drives
-      → (p : ReelServed k.reels (reel_of old.opened) new.opened before.library before.session by request reply) → Tells k new (scene before.library p.after)
+      → (p : ReelServed k.reels (reel_of old.opened) new.opened before.library before.session by request reply) → Tells k new (session_view before.library p.after)
   reel_tells request reply new by n p = record { library = rw n tells.library; session = p.seen }
 
   -- a reel that was taken off its drive, or stays
@@ -141,7 +141,7 @@ module _ {H S Seat R : Type 0} (k : Kinds H Seat S R) (old : State H S Seat R) (
   taken device reel op count reply (Ok x) new o off free e m t held seen =
       let u = m.rewound.step t held in
       let v = m.call.step u.0 u.1 before.library tells.library in
-      served (Op op count) reply new (scene v.0 (Offline device.drive device.access)) false
+      served (Op op count) reply new (session_view v.0 (Offline device.drive device.access)) false
       (record { library = v.1; session = rw m.opens refl }) (λ z. absurd cc) (λ z. absurd cc)
       (rw (free, off) (
         device.drive,
@@ -150,12 +150,12 @@ module _ {H S Seat R : Type 0} (k : Kinds H Seat S R) (old : State H S Seat R) (
         Ok x,
         seen,
         e,
-        ap (λ w. scene w (Offline device.drive device.access)) (v.2 ∙ rw (u.2, m.rewound.same_capacity) refl),
+        ap (λ w. session_view w (Offline device.drive device.access)) (v.2 ∙ rw (u.2, m.rewound.same_capacity) refl),
       ))
   taken device reel op count reply (Err why) new o off free e m t held seen =
       let u = m.rewound.step t held in
       let v = m.call.step before.library tells.library in
-      served (Op op count) reply new (scene v.0 (Online device.drive device.access (plain_reel u.0 (k.reels.capacity m.rested)))) (is_move_device (Err why))
+      served (Op op count) reply new (session_view v.0 (Online device.drive device.access (plain_reel u.0 (k.reels.capacity m.rested)))) (is_move_device (Err why))
       (record { library = v.1; session = rw m.opens (u.0, u.1, refl) })
       (λ z. rw off (m.call.device (move_device why z))) (λ z. inl (m.call.able (move_device why z)))
       (rw (free, off) (
@@ -196,7 +196,7 @@ module _ {H S Seat R : Type 0} (k : Kinds H Seat S R) (old : State H S Seat R) (
       moves_by (refusal (status_at old.opened) (Op op count)) op count reply new (ap (λ s. refusal s (Op op count)) (status_seen k.reels old.opened before.session tells.session)) off m
   op_served false op count reply new off serves =
       let p = reel_parts (Op op count) reply new serves in
-      served (Op op count) reply new (scene before.library p.after) p.troubled (reel_tells (Op op count) reply new _ serves.0 p)
+      served (Op op count) reply new (session_view before.library p.after) p.troubled (reel_tells (Op op count) reply new _ serves.0 p)
       (λ t. rw off (p.trouble t)) (λ t. inr (p.able t)) (rw off p.step)
 
   pub serves_step : (request : PlainRequest) (reply : PlainReply) (new : State H S Seat R) → CarriesOut k old request reply new → IsServed k old request reply new before
@@ -204,13 +204,13 @@ module _ {H S Seat R : Type 0} (k : Kinds H Seat S R) (old : State H S Seat R) (
   serves_step Close reply new c = closes old.opened reply new refl c
   serves_step (Write bytes) reply new serves =
       let p = reel_parts (Write bytes) reply new serves in
-      served (Write bytes) reply new (scene before.library p.after) p.troubled (reel_tells (Write bytes) reply new _ serves.0 p) p.trouble (λ t. inr (p.able t)) p.step
+      served (Write bytes) reply new (session_view before.library p.after) p.troubled (reel_tells (Write bytes) reply new _ serves.0 p) p.trouble (λ t. inr (p.able t)) p.step
   serves_step (WriteDropped count) reply new serves =
       let p = reel_parts (WriteDropped count) reply new serves in
-      served (WriteDropped count) reply new (scene before.library p.after) p.troubled (reel_tells (WriteDropped count) reply new _ serves.0 p) p.trouble (λ t. inr (p.able t)) p.step
+      served (WriteDropped count) reply new (session_view before.library p.after) p.troubled (reel_tells (WriteDropped count) reply new _ serves.0 p) p.trouble (λ t. inr (p.able t)) p.step
   serves_step (Read count) reply new serves =
       let p = reel_parts (Read count) reply new serves in
-      served (Read count) reply new (scene before.library p.after) p.troubled (reel_tells (Read count) reply new _ serves.0 p) p.trouble (λ t. inr (p.able t)) p.step
+      served (Read count) reply new (session_view before.library p.after) p.troubled (reel_tells (Read count) reply new _ serves.0 p) p.trouble (λ t. inr (p.able t)) p.step
   serves_step (Op op count) reply new c = op_served (is_offline op) op count reply new refl c
 
 module _ {H S Seat R : Type 0} (k : Kinds H Seat S R) (old : State H S Seat R) where

@@ -9,8 +9,8 @@ use Rattle.drives.specs.Holding.{has}
 use Rattle.drives.specs.Local.{Holders, IsSeatOf, IsHeldBy}
 use Rattle.drives.specs.Opening.{Kinds, kinds}
 use Rattle.drives.specs.contracts.local.LocalHoldsHolds.TheImpl.{ghosts as of_holds}
-use Rattle.rmt_server.specs.declared.session.desk.Opened.{Opened}
-use Rattle.rmt_server.specs.declared.session.desk.Desk.{Desk}
+use Rattle.rmt_server.specs.declared.session.session_state.Opened.{Opened}
+use Rattle.rmt_server.specs.declared.session.session_state.SessionState.{SessionState}
 use Rattle.rmt_server.specs.State.{State, state, drive_of, online_in, online_drive, IsAt, KeepsDrives}
 
 same_number : (n a b : ℕ) → (n == a) ≡ true → (n == b) ≡ true → a ≡ b
@@ -31,7 +31,7 @@ drive_is_online None d e = absurd cc
 drive_is_online (Some device) d e = stays_online_in device.drive device.reel d e
 
 -- what one session does at its drives leaves those of another
-stays_at : {H S Seat R : Type 0} (k : Kinds H Seat S R) (old new : State H S Seat R) (other : Desk Seat R)
+stays_at : {H S Seat R : Type 0} (k : Kinds H Seat S R) (old new : State H S Seat R) (other : SessionState Seat R)
     → IsAt k (state old.drives other) → KeepsDrives k old new → (k.holds.shows other.seat).number ≢ (k.holds.shows old.seat).number
     → ((d : ℕ) → drive_of other.opened ≡ Some d → drive_of old.opened ≢ Some d) → ((d : ℕ) → drive_of other.opened ≡ Some d → drive_of new.opened ≢ Some d)
     → IsAt k (state new.drives other)
@@ -51,26 +51,26 @@ module _ {S R : Type 0} (s : StacksPromise S R) (r : ReelPromise R) where
   local = kinds of_holds s r
 
   -- the open drive is held by the session's seat
-  pub open_held : (drives : DriveTable Holders S View R) (desk : Desk View R) (d : ℕ) → IsAt local (state drives desk) → drive_of desk.opened ≡ Some d
-      → IsHeldBy drives.holds d desk.seat.number
-  open_held drives desk d at e =
+  pub open_held : (drives : DriveTable Holders S View R) (session_state : SessionState View R) (d : ℕ) → IsAt local (state drives session_state) → drive_of session_state.opened ≡ Some d
+      → IsHeldBy drives.holds d session_state.seat.number
+  open_held drives session_state d at e =
       let l : d < length drives.holds.numbers = omega (arith, at.below d e, at.enough) in
-      (l, number_is (slice_index drives.holds.numbers d) desk.seat.number (sym (at.own.agrees d l) ∙ (at.held d).1 e))
+      (l, number_is (slice_index drives.holds.numbers d) session_state.seat.number (sym (at.own.agrees d l) ∙ (at.held d).1 e))
 
   -- so a drive that has no holder is not open
-  pub free_closed : (drives : DriveTable Holders S View R) (desk : Desk View R) (d : ℕ) → IsAt local (state drives desk) → IsHeldBy drives.holds d 0
-      → drive_of desk.opened ≢ Some d
-  free_closed drives desk d at free e = omega (arith, (open_held drives desk d at e).1, free.1, at.own.numbered)
+  pub free_closed : (drives : DriveTable Holders S View R) (session_state : SessionState View R) (d : ℕ) → IsAt local (state drives session_state) → IsHeldBy drives.holds d 0
+      → drive_of session_state.opened ≢ Some d
+  free_closed drives session_state d at free e = omega (arith, (open_held drives session_state d at e).1, free.1, at.own.numbered)
 
   -- two sessions do not have one drive open
-  pub has_one_holder : (drives : DriveTable Holders S View R) (one other : Desk View R) (d : ℕ)
+  pub has_one_holder : (drives : DriveTable Holders S View R) (one other : SessionState View R) (d : ℕ)
       → IsAt local (state drives one) → IsAt local (state drives other) → one.seat.number ≢ other.seat.number
       → drive_of one.opened ≡ Some d → drive_of other.opened ≡ Some d → ⊥
   has_one_holder drives one other d a b n x y =
       two_seats drives.holds one.seat other.seat d a.own b.own n (omega (arith, a.below d x, a.enough)) ((a.held d).1 x) ((b.held d).1 y)
 
   -- at the drives of one thread no other session has one of those drives open
-  pub others_stay : (old new : DriveTable Holders S View R) (one after other : Desk View R)
+  pub others_stay : (old new : DriveTable Holders S View R) (one after other : SessionState View R)
       → IsAt local (state old one) → IsAt local (state old other) → other.seat.number ≢ one.seat.number
       → IsAt local (state new after) → KeepsDrives local (state old one) (state new after) → IsAt local (state new other)
   others_stay old new one after other a b n a' kept =

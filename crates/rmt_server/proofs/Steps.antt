@@ -7,10 +7,10 @@ use Rattle.tape.specs.Tape.TapeAnswer.{Done as Did, Gave, Fault}
 use Rattle.tape.specs.declared.reel.Reel.{Ghosts as ReelPromise}
 use Rattle.tape.specs.declared.fault.TapeFault.TheVariants as fault
 use Rattle.rmt_server.specs.declared.refusal.Refusal.{Refusal}
-use Rattle.rmt_server.specs.declared.session.desk.Opened.{Opened}
+use Rattle.rmt_server.specs.declared.session.session_state.Opened.{Opened}
 use Rattle.rmt_server.specs.Refusals.{refused}
 use Rattle.drives.specs.TapeLibrary.{TapeLibrary}
-use Rattle.rmt_server.specs.Session.{PlainSession, plain_reel, scene, status_of, refusal, IsExcused, ReelStep}
+use Rattle.rmt_server.specs.Session.{PlainSession, plain_reel, session_view, status_of, refusal, IsExcused, ReelStep}
 use Rattle.rmt_server.specs.Session.PlainSession.{Online}
 use Rattle.drives.specs.Stacking.{ReelCanFail}
 use Rattle.rmt_server.specs.State.{IsSeenWith, IsSeenAs, reel_of, status_at, status_in}
@@ -50,8 +50,8 @@ pub record ReelServed {R : Type 0} (r : ReelPromise R) (reel : Option R) (new : 
   pub troubled : Bool
   pub trouble : IsTrue troubled → ReelFailed r reel (reel_of new)
   pub able : IsTrue troubled → ReelCanFail r reel
-  pub step : MatchOption refused_by (ReelStep troubled r.GROWS (scene library session) request reply (scene library after))
-      (λ x. (reply ≡ refused x) × (scene library after ≡ scene library session))
+  pub step : MatchOption refused_by (ReelStep troubled r.GROWS (session_view library session) request reply (session_view library after))
+      (λ x. (reply ≡ refused x) × (session_view library after ≡ session_view library session))
 
 calls_in : {R : Type 0} (r : ReelPromise R) (device : Opened R) (reel : Option R) (new : Option (Opened R)) (library : TapeLibrary) (session : PlainSession)
     (request : PlainRequest) (reply : PlainReply)
@@ -76,7 +76,7 @@ calls_in r device (Some reel) new library session request reply (answer, moved, 
         u.2,
         is_excused r.GROWS answer call.memory,
         e,
-        ap (λ c. scene library (Online device.drive device.access (plain_reel u.0 c))) call.same_capacity,
+        ap (λ c. session_view library (Online device.drive device.access (plain_reel u.0 c))) call.same_capacity,
       );
     }
 

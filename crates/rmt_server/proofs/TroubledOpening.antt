@@ -19,7 +19,7 @@ use Rattle.rmt_server.specs.declared.access.Access.{Access}
 use Rattle.rmt_server.specs.declared.refusal.Refusal.TheVariants.{Invalid}
 use Rattle.rmt_server.specs.Refusals.{refused}
 use Rattle.rmt_server.specs.Access.{access_of}
-use Rattle.rmt_server.specs.Session.{PlainReel, plain_reel, Scene, scene, closed, open_reply, session_after, is_offline}
+use Rattle.rmt_server.specs.Session.{PlainReel, plain_reel, SessionView, session_view, closed, open_reply, session_after, is_offline}
 use Rattle.rmt_server.specs.State.{drive_of, reel_of, IsAt, IsSeenAs, Tells}
 use Rattle.rmt_server.specs.Opening.{opened_by, IsClosed, OpensFor, IsOpenedFor}
 use Rattle.rmt_server.specs.Carrying.{Operates, CarriesOut}
@@ -115,7 +115,7 @@ open_next asked (Err Device) reply old new call e = inr (call.2.made.0, ap (λ (
 open_next asked (Err OutOfMemory) reply old new call e = absurd call.2.made
 open_next asked (Err NameTaken) reply old new call e = absurd call.2.made
 
-module _ (law : LyingLaw) (trouble : Trouble) (old : MemoryState) (before : Scene) (at : IsAt in_memory old) (tells : Tells in_memory old before) where
+module _ (law : LyingLaw) (trouble : Trouble) (old : MemoryState) (before : SessionView) (at : IsAt in_memory old) (tells : Tells in_memory old before) where
   -- an open of a drive, once what was open is closed
   opened_so : (device : List ℕ) (mode : ℕ) (access : Access) (reply : PlainReply) (result : Result (ℕ × TroubledTape) DriveFault) (between new : MemoryState)
       → access_of mode ≡ Some access → reply ≡ open_reply result → IsClosed in_memory old between → IsOpenedFor in_memory between device access result new
@@ -130,7 +130,7 @@ module _ (law : LyingLaw) (trouble : Trouble) (old : MemoryState) (before : Scen
       let cause = open_cause trouble between.drives.holds.numbers device asked result between.seat new.seat between.drives.stacks new.drives.stacks (closed before).library st.0
       st.2 o.opening.view o.opening.call found (rest.1 ∙ set.next) in
       let seen = open_seen_so trouble (holder_of between.drives.holds.numbers asked) device access asked result (closed before).library st.0 st.2 cause in
-      let after : Scene = scene st.0 (session_after access seen.plain) in
+      let after : SessionView = session_view st.0 (session_after access seen.plain) in
       let told : Tells in_memory new after = record { library = st.1; session = rw o.opens seen.seen } in
       let drives : length (closed before).library.drives ≡ length between.drives.stacks.library.drives
       = ap (λ (s : TapeLibrary). length s.drives) (c.step before tells).0 ∙ length-map between.drives.stacks.library.drives rest_drive in

@@ -12,9 +12,9 @@ use Rattle.tape.specs.contracts.troubled.TroubledReelReel.TheImpl.{ghosts as of_
 use Rattle.drives.specs.TapeLibrary.{TapeLibrary}
 use Rattle.rmt_server.specs.declared.refusal.Refusal.{Refusal}
 use Rattle.rmt_server.specs.declared.refusal.Refusal.TheVariants.{InputOutput}
-use Rattle.rmt_server.specs.declared.session.desk.Opened.{Opened}
+use Rattle.rmt_server.specs.declared.session.session_state.Opened.{Opened}
 use Rattle.rmt_server.specs.Refusals.{refused}
-use Rattle.rmt_server.specs.Session.{PlainSession, plain_reel, scene, status_of, refusal, tape_request, reel_reply}
+use Rattle.rmt_server.specs.Session.{PlainSession, plain_reel, session_view, status_of, refusal, tape_request, reel_reply}
 use Rattle.rmt_server.specs.Session.PlainSession.{Online}
 use Rattle.rmt_server.specs.State.{IsSeenWith, IsSeenAs, reel_of, status_at}
 use Rattle.rmt_server.specs.Serving.{CallsIn, CallsReel, ReelServes}
@@ -26,8 +26,8 @@ pub record ReelServedSo (trouble : Trouble) (new : Option (Opened TroubledTape))
     (request : PlainRequest) (reply : PlainReply) : Type 0 where
   pub after : PlainSession
   pub seen : IsSeenAs of_reel new after
-  pub step : MatchOption by (TroubledReelStep trouble (scene library session) request reply (scene library after))
-      (λ x. (reply ≡ refused x) × (scene library after ≡ scene library session))
+  pub step : MatchOption by (TroubledReelStep trouble (session_view library session) request reply (session_view library after))
+      (λ x. (reply ≡ refused x) × (session_view library after ≡ session_view library session))
   pub left : MatchOption (reel_of new) (Unit {0}) (λ r. IsSpent trouble reply r.trouble)
 
 device_reply : (request : PlainRequest) → reel_reply request (Fault fault.Device) ≡ refused InputOutput
@@ -73,7 +73,7 @@ module _ (trouble : Trouble) (new : Option (Opened TroubledTape)) (library : Tap
       subst (λ x. DeviceStep reel.capacity x t (tape_request request) answer moved.tape) set
           (subst (λ x. DeviceStep reel.capacity reel.trouble x (tape_request request) answer moved.tape) held call.made.step),
       e,
-      ap (λ c. scene library (Online device.drive device.access (plain_reel moved.tape c))) call.same_capacity,
+      ap (λ c. session_view library (Online device.drive device.access (plain_reel moved.tape c))) call.same_capacity,
     );
     left = rw n (subst (λ x. IsSpent x reply moved.trouble) set (spent_by request answer reel moved reply e call.made.counted call.made.step));
   }

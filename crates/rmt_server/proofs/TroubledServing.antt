@@ -17,9 +17,9 @@ use Rattle.drives.specs.Stacking.{HasLatched}
 use Rattle.rmt_server.specs.declared.access.Access.{Access}
 use Rattle.rmt_server.specs.declared.refusal.Refusal.{Refusal}
 use Rattle.rmt_server.specs.declared.refusal.Refusal.TheVariants.{BadDescriptor}
-use Rattle.rmt_server.specs.declared.session.desk.Opened.{Opened}
+use Rattle.rmt_server.specs.declared.session.session_state.Opened.{Opened}
 use Rattle.rmt_server.specs.Refusals.{refused}
-use Rattle.rmt_server.specs.Session.{PlainSession, Scene, scene, plain_reel, status_of, refusal, is_offline, closed, move_reply}
+use Rattle.rmt_server.specs.Session.{PlainSession, SessionView, session_view, plain_reel, status_of, refusal, is_offline, closed, move_reply}
 use Rattle.rmt_server.specs.Session.PlainSession.{Offline, Online}
 use Rattle.rmt_server.specs.State.{drive_of, online_in, online_drive, reel_of, status_in, status_at, IsAt, IsSeenWith, IsSeenAs, Tells}
 use Rattle.rmt_server.specs.Opening.{LaysBack, LaysBackOpened, IsClosed, Closes}
@@ -63,9 +63,9 @@ lays_lying law old new t drive (Some reel) tells l latched (rested, rewound, cal
   ap (λ (s : ListLibrary). s.trouble) call.made,
 )
 
-module _ (law : LyingLaw) (trouble : Trouble) (old : MemoryState) (before : Scene) (at : IsAt in_memory old) (tells : Tells in_memory old before) where
+module _ (law : LyingLaw) (trouble : Trouble) (old : MemoryState) (before : SessionView) (at : IsAt in_memory old) (tells : Tells in_memory old before) where
   -- where drives and seat are as before, and the same drive is open
-  held_same : (new : MemoryState) (after : Scene) → new.drives.holds ≡ old.drives.holds → drive_of new.opened ≡ drive_of old.opened → Tells in_memory new after
+  held_same : (new : MemoryState) (after : SessionView) → new.drives.holds ≡ old.drives.holds → drive_of new.opened ≡ drive_of old.opened → Tells in_memory new after
       → new.drives.holds.numbers ≡ with_holder (drive_in after.session) old.seat.number (with_holder (drive_in before.session) 0 old.drives.holds.numbers)
   held_same new after h d seen =
       rw (h, drive_seen new.opened after.session seen.session, d, drive_seen old.opened before.session tells.session)
@@ -87,16 +87,16 @@ module _ (law : LyingLaw) (trouble : Trouble) (old : MemoryState) (before : Scen
   pub reel_so : (request : PlainRequest) (reply : PlainReply) (new : MemoryState) → Serves in_memory old request reply new → IsTroubled trouble false old
       → set_online trouble request ≡ trouble
       → (p : ReelServedSo trouble new.opened before.library before.session (refusal (status_of before.session) request) request reply)
-      → TroubledServeStep trouble old.drives.holds.numbers before request reply (scene before.library p.after)
+      → TroubledServeStep trouble old.drives.holds.numbers before request reply (session_view before.library p.after)
       → IsServedUnder trouble old before request reply new
   reel_so request reply new (n, e, serves) set same p step =
-      let seen : Tells in_memory new (scene before.library p.after) = record { library = rw n tells.library; session = p.seen } in
+      let seen : Tells in_memory new (session_view before.library p.after) = record { library = rw n tells.library; session = p.seen } in
       record {
-        after = scene before.library p.after;
+        after = session_view before.library p.after;
         tells = seen;
         served = record {
           step = step;
-          held = held_same new (scene before.library p.after) (ap (λ d. d.holds) n) (serves_same of_reel old.opened new.opened request reply serves).0 seen;
+          held = held_same new (session_view before.library p.after) (ap (λ d. d.holds) n) (serves_same of_reel old.opened new.opened request reply serves).0 seen;
         };
         lying = ap (λ d. troubled_in d.stacks.library) n ∙ set.lying;
         online = rw same p.left;
@@ -170,7 +170,7 @@ module _ (law : LyingLaw) (trouble : Trouble) (old : MemoryState) (before : Scen
   taken_so device reel op count reply (Ok x) new o online off free e m set t held seen =
       let u = m.rewound.step t held in
       let v = m.call.step u.0 u.1 before.library tells.library in
-      let after : Scene = scene v.0 (Offline device.drive device.access) in
+      let after : SessionView = session_view v.0 (Offline device.drive device.access) in
       let told : Tells in_memory new after = record { library = v.1; session = rw m.opens refl } in
       record {
         after = after;
@@ -184,7 +184,7 @@ module _ (law : LyingLaw) (trouble : Trouble) (old : MemoryState) (before : Scen
             seen,
             unset trouble (sym set.next ∙ m.call.made.0),
             e,
-            ap (λ w. scene w (Offline device.drive device.access)) (v.2 ∙ rw (u.2, m.rewound.same_capacity) refl),
+            ap (λ w. session_view w (Offline device.drive device.access)) (v.2 ∙ rw (u.2, m.rewound.same_capacity) refl),
           );
           held = held_same new after m.same_holds (ap drive_of m.opens ∙ sym (ap drive_of o)) told;
         };
@@ -196,7 +196,7 @@ module _ (law : LyingLaw) (trouble : Trouble) (old : MemoryState) (before : Scen
   taken_so device reel op count reply (Err Device) new o online off free e m set t held seen =
       let u = m.rewound.step t held in
       let v = m.call.step before.library tells.library in
-      let after : Scene = scene v.0 (Online device.drive device.access (plain_reel u.0 m.rested.capacity)) in
+      let after : SessionView = session_view v.0 (Online device.drive device.access (plain_reel u.0 m.rested.capacity)) in
       let told : Tells in_memory new after = record { library = v.1; session = rw m.opens (u.0, u.1, refl) } in
       record {
         after = after;

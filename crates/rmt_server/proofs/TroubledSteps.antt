@@ -17,7 +17,7 @@ use Rattle.rmt_server.specs.declared.access.Access.{Access}
 use Rattle.rmt_server.specs.declared.refusal.Refusal.{Refusal}
 use Rattle.rmt_server.specs.Access.{access_of}
 use Rattle.rmt_server.specs.Refusals.{refused}
-use Rattle.rmt_server.specs.Session.{PlainReel, Scene, status_of, refusal, tape_request, closed, is_offline, IsExcused, ReelStep, IsOpenExcused, OpensAs, OpStep, DoneStep, ServeStep}
+use Rattle.rmt_server.specs.Session.{PlainReel, SessionView, status_of, refusal, tape_request, closed, is_offline, IsExcused, ReelStep, IsOpenExcused, OpensAs, OpStep, DoneStep, ServeStep}
 use Rattle.rmt_server.specs.TroubledServe.{drive_in, with_holder, holder_of, IsOpenCause, TroubledReelStep, TroubledOpens, TroubledOpStep, TroubledDoneStep, TroubledServeStep}
 
 set_is : (trouble : Trouble) → trouble ≢ NoTrouble → IsTrue (is_set trouble)
@@ -43,7 +43,7 @@ DeviceLaw =
     (capacity : ℕ) (trouble : Trouble) (t : Tape) (request : TapeRequest) (answer : TapeAnswer) (u : Tape)
     → DeviceStep capacity trouble t request answer u → TapeStep capacity t request answer u
 
-reel_step : (law : DeviceLaw) (trouble : Trouble) (before : Scene) (request : PlainRequest) (reply : PlainReply) (after : Scene)
+reel_step : (law : DeviceLaw) (trouble : Trouble) (before : SessionView) (request : PlainRequest) (reply : PlainReply) (after : SessionView)
     → TroubledReelStep trouble before request reply after → ReelStep (is_set trouble) true before request reply after
 reel_step law trouble before request reply after (drive, access, reel, answer, t, s, h, e, a) = (
   drive,
@@ -68,19 +68,19 @@ open_excused trouble n (Err Device) q = set_is trouble q.1
 open_excused trouble n (Err OutOfMemory) q = absurd q
 open_excused trouble n (Err NameTaken) q = absurd q
 
-open_step : (trouble : Trouble) (holders : List ℕ) (before : Scene) (device : List ℕ) (access : Option Access) (reply : PlainReply) (after : Scene)
+open_step : (trouble : Trouble) (holders : List ℕ) (before : SessionView) (device : List ℕ) (access : Option Access) (reply : PlainReply) (after : SessionView)
     → TroubledOpens trouble holders before device access reply after
     → (asked : Option ℕ) × (found : ℕ) × OpensAs (is_set trouble) asked found before device access reply after
 open_step trouble holders before device None reply after (e, n) = (None, 0, (e, n))
 open_step trouble holders before device (Some access) reply after (result, asked, h, q, e, s) =
     (asked, found_in_open result, (result, h, refl, open_excused trouble (holder_of holders asked) result q, e, s))
 
-op_step : (law : DeviceLaw) (offline : Bool) (trouble : Trouble) (before : Scene) (op count : ℕ) (reply : PlainReply) (after : Scene)
+op_step : (law : DeviceLaw) (offline : Bool) (trouble : Trouble) (before : SessionView) (op count : ℕ) (reply : PlainReply) (after : SessionView)
     → TroubledOpStep offline trouble before op count reply after → OpStep offline (is_set trouble) true before op count reply after
 op_step law true trouble before op count reply after (drive, access, reel, result, s, q, e, m) = (drive, access, reel, result, s, e, m)
 op_step law false trouble before op count reply after h = reel_step law trouble before (Op op count) reply after h
 
-done_step : (law : DeviceLaw) (trouble : Trouble) (before : Scene) (request : PlainRequest) (reply : PlainReply) (after : Scene)
+done_step : (law : DeviceLaw) (trouble : Trouble) (before : SessionView) (request : PlainRequest) (reply : PlainReply) (after : SessionView)
     → TroubledDoneStep trouble before request reply after → DoneStep (is_set trouble) true before request reply after
 done_step law trouble before (Open device mode) reply after h = reel_step law trouble before (Open device mode) reply after h
 done_step law trouble before Close reply after h = h
@@ -89,13 +89,13 @@ done_step law trouble before (WriteDropped count) reply after h = reel_step law 
 done_step law trouble before (Read count) reply after h = reel_step law trouble before (Read count) reply after h
 done_step law trouble before (Op op count) reply after h = op_step law (is_offline op) trouble before op count reply after h
 
-step_by : (law : DeviceLaw) (by : Option Refusal) (trouble : Trouble) (before : Scene) (request : PlainRequest) (reply : PlainReply) (after : Scene)
+step_by : (law : DeviceLaw) (by : Option Refusal) (trouble : Trouble) (before : SessionView) (request : PlainRequest) (reply : PlainReply) (after : SessionView)
     → MatchOption by (TroubledDoneStep trouble before request reply after) (λ r. (reply ≡ refused r) × (after ≡ before))
     → MatchOption by (DoneStep (is_set trouble) true before request reply after) (λ r. (reply ≡ refused r) × (after ≡ before))
 step_by law None trouble before request reply after h = done_step law trouble before request reply after h
 step_by law (Some r) trouble before request reply after h = h
 
-pub serve_step : (law : DeviceLaw) (trouble : Trouble) (holders : List ℕ) (before : Scene) (request : PlainRequest) (reply : PlainReply) (after : Scene)
+pub serve_step : (law : DeviceLaw) (trouble : Trouble) (holders : List ℕ) (before : SessionView) (request : PlainRequest) (reply : PlainReply) (after : SessionView)
     → TroubledServeStep trouble holders before request reply after
     → (asked : Option ℕ) × (found : ℕ) × ServeStep (is_set trouble) true asked found before request reply after
 serve_step law trouble holders before (Open device mode) reply after h =

@@ -7,8 +7,8 @@ use Rattle.tape.specs.declared.trouble.Trouble.{Trouble}
 use Rattle.tape.specs.declared.trouble.Trouble.TheVariants.{None as NoTrouble}
 use Rattle.tape.specs.contracts.troubled.TroubledReelReel.TheImpl.{ghosts as of_reel}
 use Rattle.drives.specs.ListLibrary.{troubled_in, is_set}
-use Rattle.rmt_server.specs.declared.session.desk.Opened.{Opened}
-use Rattle.rmt_server.specs.Session.{PlainSession, Scene, is_offline}
+use Rattle.rmt_server.specs.declared.session.session_state.Opened.{Opened}
+use Rattle.rmt_server.specs.Session.{PlainSession, SessionView, is_offline}
 use Rattle.rmt_server.specs.State.{drive_of, online_in, online_drive, reel_of, IsAt, IsSeenWith, IsSeenAs, Tells}
 use Rattle.rmt_server.specs.Opening.{IsClosed}
 use Rattle.rmt_server.specs.Troubling.{troubled, with_trouble}
@@ -51,7 +51,7 @@ same_seen trouble None session seen = seen
 same_seen trouble (Some device) session seen = same_seen_with trouble device device.reel session seen
 
 -- what is told stays
-pub troubles_told : (reel : Trouble) (stacks : Bool) (x : MemoryState) (v : Scene) → Tells in_memory x v → Tells in_memory (with_troubles reel stacks x) v
+pub troubles_told : (reel : Trouble) (stacks : Bool) (x : MemoryState) (v : SessionView) → Tells in_memory x v → Tells in_memory (with_troubles reel stacks x) v
 troubles_told reel stacks x v tells = record { library = tells.library; session = same_seen reel x.opened v.session tells.session }
 
 same_drive : (trouble : Trouble) (opened : Option (Opened TroubledTape)) → drive_of (with_trouble trouble opened) ≡ drive_of opened
@@ -77,7 +77,7 @@ troubles_at reel stacks x at = record {
 }
 
 -- what is open is closed while no trouble is set for its reel
-pub ended_so : (law : LyingLaw) (stacks : Bool) (old new : MemoryState) (before : Scene) → IsAt in_memory old → Tells in_memory old before → IsTroubled NoTrouble stacks old → IsClosed in_memory old new
+pub ended_so : (law : LyingLaw) (stacks : Bool) (old new : MemoryState) (before : SessionView) → IsAt in_memory old → Tells in_memory old before → IsTroubled NoTrouble stacks old → IsClosed in_memory old new
     → IsEnded old before new
 ended_so law stacks old new before at tells set c = record {
   tells = closed_tells law NoTrouble old before at tells new c;

@@ -13,7 +13,7 @@ use Rattle.rmt_server.specs.declared.refusal.Refusal.{Refusal}
 use Rattle.rmt_server.specs.declared.refusal.Refusal.TheVariants.{NoMemory, BadDescriptor, Invalid, NotConfigured}
 use Rattle.rmt_server.specs.Access.{access_of}
 use Rattle.rmt_server.specs.Refusals.{number_of, refused, drive_refusal}
-use Rattle.rmt_server.specs.Session.{PlainReel, Scene, Status, status_of, refusal, op_refusal, closed, is_offline, open_reply, move_reply}
+use Rattle.rmt_server.specs.Session.{PlainReel, SessionView, Status, status_of, refusal, op_refusal, closed, is_offline, open_reply, move_reply}
 use Rattle.rmt_server.specs.Session.Status.{NothingOpen, ReelAway, Ready}
 use Rattle.rmt_server.specs.Carrying.{is_of_stacks}
 use Rattle.rmt_server.specs.TroubledServe.{drive_in, with_holder, holder_of, IsOpenCause, IsMoveCause, TroubledOpens, TroubledOpStep, TroubledServeStep}
@@ -40,7 +40,7 @@ open_other trouble n reply (Err Device) q is = other reply (drive_refusal Device
 open_other trouble n reply (Err OutOfMemory) q is = absurd q
 open_other trouble n reply (Err NameTaken) q is = absurd q
 
-opens_other : (trouble : Trouble) (holders : List ℕ) (before : Scene) (device : List ℕ) (access : Option Access) (reply : PlainReply) (after : Scene)
+opens_other : (trouble : Trouble) (holders : List ℕ) (before : SessionView) (device : List ℕ) (access : Option Access) (reply : PlainReply) (after : SessionView)
     → TroubledOpens trouble holders before device access reply after → reply ≢ refused NoMemory
 opens_other trouble holders before device None reply after (is, same) = other reply Invalid is (λ e. absurd (omega arith))
 opens_other trouble holders before device (Some access) reply after (result, asked, step, cause, is, session) =
@@ -56,7 +56,7 @@ move_other trouble count reply (Err Device) q is = other reply (drive_refusal De
 move_other trouble count reply (Err OutOfMemory) q is = absurd q
 move_other trouble count reply (Err NameTaken) q is = absurd q
 
-op_other : (offline : Bool) (trouble : Trouble) (before : Scene) (op count : ℕ) (reply : PlainReply) (after : Scene) → offline ≡ true
+op_other : (offline : Bool) (trouble : Trouble) (before : SessionView) (op count : ℕ) (reply : PlainReply) (after : SessionView) → offline ≡ true
     → TroubledOpStep offline trouble before op count reply after → reply ≢ refused NoMemory
 op_other true trouble before op count reply after is (drive, access, reel, result, online, cause, told, moved) = move_other trouble count reply result cause told
 op_other false trouble before op count reply after is step = absurd cc
@@ -69,13 +69,13 @@ checked_other (Ready access) op count why is offline e =
     let six : op ≡ 6 = grind (arith, nat_tests) in
     let clash : None ≡ Some why = ap (op_refusal access) (sym six) ∙ is in absurd cc
 
-by_check : (by : Option Refusal) (trouble : Trouble) (before : Scene) (op count : ℕ) (reply : PlainReply) (after : Scene) → is_offline op ≡ true
+by_check : (by : Option Refusal) (trouble : Trouble) (before : SessionView) (op count : ℕ) (reply : PlainReply) (after : SessionView) → is_offline op ≡ true
     → ((why : Refusal) → by ≡ Some why → number_of why ≢ 12)
     → MatchOption by (TroubledOpStep (is_offline op) trouble before op count reply after) (λ r. (reply ≡ refused r) × (after ≡ before)) → reply ≢ refused NoMemory
 by_check None trouble before op count reply after offline checks step = op_other (is_offline op) trouble before op count reply after offline step
 by_check (Some r) trouble before op count reply after offline checks step = other reply r step.0 (checks r refl)
 
-pub none_wanted : (trouble : Trouble) (holders : List ℕ) (before : Scene) (request : PlainRequest) (reply : PlainReply) (after : Scene)
+pub none_wanted : (trouble : Trouble) (holders : List ℕ) (before : SessionView) (request : PlainRequest) (reply : PlainReply) (after : SessionView)
     → TroubledServeStep trouble holders before request reply after → is_of_stacks request ≡ true → reply ≢ refused NoMemory
 none_wanted trouble holders before (Open device mode) reply after step asked =
     opens_other trouble (with_holder (drive_in before.session) 0 holders) (closed before) device (access_of mode) reply after step

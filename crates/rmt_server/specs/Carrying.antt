@@ -12,7 +12,7 @@ use Rattle.drives.specs.Holding.{last_drive, last_step}
 use Rattle.drives.specs.Opening.{Kinds}
 use Rattle.rmt_server.specs.declared.refusal.Refusal.TheVariants.{Busy}
 use Rattle.rmt_server.specs.Refusals.{refused}
-use Rattle.rmt_server.specs.Session.{Scene, is_offline, ServeStep}
+use Rattle.rmt_server.specs.Session.{SessionView, is_offline, ServeStep}
 use Rattle.rmt_server.specs.State.{State, drive_of, reel_of, IsAt, Tells, SessionCanFail, KeepsDrives}
 use Rattle.rmt_server.specs.Opening.{Closes, OpensAnew, view_after_close, word_after_close}
 use Rattle.rmt_server.specs.Moving.{MovesOff}
@@ -66,8 +66,8 @@ MayShare k x shared = IsTrue shared ⊎ IsAlone k x
 -- that of the seat's last step, and what was found there is what the holds tell. Where that is a seat's number, the
 -- last step is the take that found it.
 pub record IsServed {H S Seat R : Type 0} (k : Kinds H Seat S R) (old : State H S Seat R) (request : PlainRequest) (reply : PlainReply)
-    (new : State H S Seat R) (before : Scene) : Type 0 where
-  pub after : Scene
+    (new : State H S Seat R) (before : SessionView) : Type 0 where
+  pub after : SessionView
   pub tells : Tells k new after
   pub troubled : Bool
   pub trouble : IsTrue troubled → HasTrouble k (is_of_stacks request) old new
@@ -107,7 +107,7 @@ pub record IsCarriedOut {H S Seat R : Type 0} (k : Kinds H Seat S R) (old : Stat
   -- what it does, whatever is told
   pub effect : CarriesOut k old request reply new
   -- where stacks and reel tell, it is a serve step
-  pub step : (before : Scene) → Tells k old before → IsServed k old request reply new before
+  pub step : (before : SessionView) → Tells k old before → IsServed k old request reply new before
   -- the steps of the seat at the drives
   pub steps : SeatSteps request (k.holds.shows old.seat) (drive_of old.opened) reply (k.holds.shows new.seat) (drive_of new.opened)
   -- the drives are still those of the seat and of what is open

@@ -11,10 +11,10 @@ use Rattle.drives.specs.Stacking.{HasLatched}
 use Rattle.drives.specs.Opening.{Kinds}
 use Rattle.rmt_wire.specs.Request.{PlainRequest}
 use Rattle.rmt_wire.specs.Reply.{PlainReply}
-use Rattle.rmt_server.specs.declared.session.desk.Desk.{Desk}
+use Rattle.rmt_server.specs.declared.session.session_state.SessionState.{SessionState}
 use Rattle.rmt_server.specs.declared.refusal.Refusal.TheVariants.{NoMemory}
 use Rattle.rmt_server.specs.Refusals.{refused}
-use Rattle.rmt_server.specs.Session.{Scene, ServeStep}
+use Rattle.rmt_server.specs.Session.{SessionView, ServeStep}
 use Rattle.rmt_server.specs.State.{state, IsAt, Tells, KeepsDrives, drive_of, online_drive}
 use Rattle.rmt_server.specs.Opening.{IsClosed}
 use Rattle.rmt_server.specs.Carrying.{IsCarriedOut, is_of_stacks}
@@ -23,64 +23,64 @@ use Rattle.rmt_server.specs.TroubledServe.{TroubledServe, IsTroubled, IsSetFor, 
 
 -- no drive is open in two sessions of two seats
 abbrev pub NoDriveIsOpenTwice : {S R : Type 0} → Kinds Holders View S R → Type 0
-NoDriveIsOpenTwice {S} {R} k = (drives : DriveTable Holders S View R) (one other : Desk View R) (d : ℕ) → IsAt k (state drives one) → IsAt k (state drives other) →
+NoDriveIsOpenTwice {S} {R} k = (drives : DriveTable Holders S View R) (one other : SessionState View R) (d : ℕ) → IsAt k (state drives one) → IsAt k (state drives other) →
     one.seat.number ≢ other.seat.number → drive_of one.opened ≡ Some d → drive_of other.opened ≡ Some d → ⊥
 
 -- what a session does leaves the drives those of each session of another seat
 abbrev pub OthersStayAt : {S R : Type 0} → Kinds Holders View S R → Type 0
-OthersStayAt {S} {R} k = (old new : DriveTable Holders S View R) (one after other : Desk View R) → IsAt k (state old one) → IsAt k (state old other) →
+OthersStayAt {S} {R} k = (old new : DriveTable Holders S View R) (one after other : SessionState View R) → IsAt k (state old one) → IsAt k (state old other) →
     other.seat.number ≢ one.seat.number → IsAt k (state new after) → KeepsDrives k (state old one) (state new after) → IsAt k (state new other)
 
 -- a drive that is open is held by the session's seat
 abbrev pub OpenIsHeld : {S R : Type 0} → Kinds Holders View S R → Type 0
-OpenIsHeld {S} {R} k = (drives : DriveTable Holders S View R) (desk : Desk View R) (d : ℕ) →
-    IsAt k (state drives desk) → drive_of desk.opened ≡ Some d → IsHeldBy drives.holds d desk.seat.number
+OpenIsHeld {S} {R} k = (drives : DriveTable Holders S View R) (session_state : SessionState View R) (d : ℕ) →
+    IsAt k (state drives session_state) → drive_of session_state.opened ≡ Some d → IsHeldBy drives.holds d session_state.seat.number
 
 -- a drive that no seat holds is open in no session
 abbrev pub FreeIsClosed : {S R : Type 0} → Kinds Holders View S R → Type 0
-FreeIsClosed {S} {R} k = (drives : DriveTable Holders S View R) (desk : Desk View R) (d : ℕ) →
-    IsAt k (state drives desk) → IsHeldBy drives.holds d 0 → drive_of desk.opened ≢ Some d
+FreeIsClosed {S} {R} k = (drives : DriveTable Holders S View R) (session_state : SessionState View R) (d : ℕ) →
+    IsAt k (state drives session_state) → IsHeldBy drives.holds d 0 → drive_of session_state.opened ≢ Some d
 
 -- the drives are still those of a session where its seat belongs to them, their counts are as before, and its open reel stays latched
 abbrev pub StaysAt : {H S Seat R : Type 0} → Kinds H Seat S R → Type 0
-StaysAt {H} {S} {Seat} {R} k = (old new : DriveTable H S Seat R) (desk : Desk Seat R) → IsAt k (state old desk) →
-    k.holds.belongs new.holds desk.seat → k.holds.drives new.holds ≡ k.holds.drives old.holds → k.stacks.drives new.stacks ≡ k.stacks.drives old.stacks →
-    ((d : ℕ) → online_drive desk.opened ≡ Some d → HasLatched k.stacks.holds old.stacks d → HasLatched k.stacks.holds new.stacks d) → IsAt k (state new desk)
+StaysAt {H} {S} {Seat} {R} k = (old new : DriveTable H S Seat R) (session_state : SessionState Seat R) → IsAt k (state old session_state) →
+    k.holds.belongs new.holds session_state.seat → k.holds.drives new.holds ≡ k.holds.drives old.holds → k.stacks.drives new.stacks ≡ k.stacks.drives old.stacks →
+    ((d : ℕ) → online_drive session_state.opened ≡ Some d → HasLatched k.stacks.holds old.stacks d → HasLatched k.stacks.holds new.stacks d) → IsAt k (state new session_state)
 
 -- the same where reels stay latched at all drives but one that the session does not have open
 abbrev pub StaysAtElsewhere : {H S Seat R : Type 0} → Kinds H Seat S R → Type 0
-StaysAtElsewhere {H} {S} {Seat} {R} k = (old new : DriveTable H S Seat R) (desk : Desk Seat R) (d : ℕ) → IsAt k (state old desk) → drive_of desk.opened ≢ Some d →
-    k.holds.belongs new.holds desk.seat → k.holds.drives new.holds ≡ k.holds.drives old.holds → k.stacks.drives new.stacks ≡ k.stacks.drives old.stacks →
-    ((e : ℕ) → e ≢ d → HasLatched k.stacks.holds old.stacks e → HasLatched k.stacks.holds new.stacks e) → IsAt k (state new desk)
+StaysAtElsewhere {H} {S} {Seat} {R} k = (old new : DriveTable H S Seat R) (session_state : SessionState Seat R) (d : ℕ) → IsAt k (state old session_state) → drive_of session_state.opened ≢ Some d →
+    k.holds.belongs new.holds session_state.seat → k.holds.drives new.holds ≡ k.holds.drives old.holds → k.stacks.drives new.stacks ≡ k.stacks.drives old.stacks →
+    ((e : ℕ) → e ≢ d → HasLatched k.stacks.holds old.stacks e → HasLatched k.stacks.holds new.stacks e) → IsAt k (state new session_state)
 
 -- the drives of one thread are still those of a session after more seats were given
 abbrev pub StaysAtWithMoreSeats : {S R : Type 0} → Kinds Holders View S R → Type 0
-StaysAtWithMoreSeats {S} {R} k = (old : DriveTable Holders S View R) (desk : Desk View R) (last : ℕ) →
-    IsAt k (state old desk) → old.holds.last ≤ last → IsAt k (state (record old { holds = holders old.holds.numbers last }) desk)
+StaysAtWithMoreSeats {S} {R} k = (old : DriveTable Holders S View R) (session_state : SessionState View R) (last : ℕ) →
+    IsAt k (state old session_state) → old.holds.last ≤ last → IsAt k (state (record old { holds = holders old.holds.numbers last }) session_state)
 
 -- drives in memory are still those of a session after a trouble of the stacks was set or taken back
 abbrev pub StaysAtUnderTrouble : {H Seat : Type 0} → Kinds H Seat ListLibrary TroubledTape → Type 0
-StaysAtUnderTrouble {H} {Seat} k = (old : DriveTable H ListLibrary Seat TroubledTape) (desk : Desk Seat TroubledTape) (on : Bool) →
-    IsAt k (state old desk) → IsAt k (state (record old { stacks = record old.stacks { trouble = on } }) desk)
+StaysAtUnderTrouble {H} {Seat} k = (old : DriveTable H ListLibrary Seat TroubledTape) (session_state : SessionState Seat TroubledTape) (on : Bool) →
+    IsAt k (state old session_state) → IsAt k (state (record old { stacks = record old.stacks { trouble = on } }) session_state)
 
 -- one request over drives in memory, a trouble of its device call being set: what is seen of it afterwards is what `IsServedUnder` says
 abbrev pub TroublesAreServed : Type 0
-TroublesAreServed = (trouble : Trouble) (old new : MemoryState) (before : Scene) (request : PlainRequest) (reply : PlainReply) →
+TroublesAreServed = (trouble : Trouble) (old new : MemoryState) (before : SessionView) (request : PlainRequest) (reply : PlainReply) →
     IsAt in_memory old → Tells in_memory old before → IsSetFor trouble request old → IsCarriedOut in_memory old request reply new →
     IsServedUnder trouble old before request reply new
 
 -- one request under a trouble is a serve step
 abbrev pub TroubledIsServed : Type 0
-TroubledIsServed = (trouble : Trouble) (holders holders' : List ℕ) (k : ℕ) (before after : Scene) (request : PlainRequest) (reply : PlainReply) →
+TroubledIsServed = (trouble : Trouble) (holders holders' : List ℕ) (k : ℕ) (before after : SessionView) (request : PlainRequest) (reply : PlainReply) →
     TroubledServe trouble holders k before request reply after holders' →
     (asked : Option ℕ) × (found : ℕ) × ServeStep (is_set trouble) true asked found before request reply after
 
 -- what is asked of the stacks in memory, an open and MTOFFL, is never answered that memory is wanting
 abbrev pub NoMemoryIsWanted : Type 0
-NoMemoryIsWanted = (trouble : Trouble) (holders holders' : List ℕ) (k : ℕ) (before after : Scene) (request : PlainRequest) (reply : PlainReply) →
+NoMemoryIsWanted = (trouble : Trouble) (holders holders' : List ℕ) (k : ℕ) (before after : SessionView) (request : PlainRequest) (reply : PlainReply) →
     TroubledServe trouble holders k before request reply after holders' → is_of_stacks request ≡ true → reply ≢ refused NoMemory
 
 -- the end of a session whose open reel has no trouble leaves what `IsEnded` says
 abbrev pub EndsUntroubled : Type 0
-EndsUntroubled = (stacks : Bool) (old new : MemoryState) (before : Scene) →
+EndsUntroubled = (stacks : Bool) (old new : MemoryState) (before : SessionView) →
     IsAt in_memory old → Tells in_memory old before → IsTroubled NoTrouble stacks old → IsClosed in_memory old new → IsEnded old before new

@@ -14,5 +14,5 @@ pub mod Stream
 pub mod Troubling
 pub mod Memory
 pub mod TroubledServe
-pub mod Hall
+pub mod ServerState
 pub mod Laws

@@ -9,8 +9,8 @@ use Rattle.drives.specs.Opening.{Kinds, kinds}
 use Rattle.drives.specs.contracts.list.ListStacksStacks.TheImpl.{ghosts as of_stacks}
 use Rattle.drives.specs.contracts.local.LocalHoldsHolds.TheImpl.{ghosts as of_holds}
 use Rattle.rmt_server.specs.declared.access.Access.{Access}
-use Rattle.rmt_server.specs.declared.session.desk.Opened.{Opened}
-use Rattle.rmt_server.specs.Session.{plain_reel, PlainSession, Scene, scene}
+use Rattle.rmt_server.specs.declared.session.session_state.Opened.{Opened}
+use Rattle.rmt_server.specs.Session.{plain_reel, PlainSession, SessionView, session_view}
 use Rattle.rmt_server.specs.Session.PlainSession.{Idle, Offline, Online}
 use Rattle.rmt_server.specs.State.{State}
 
@@ -30,5 +30,5 @@ session_seen None = Idle
 session_seen (Some device) = session_with device.drive device.access device.reel
 
 -- what stacks and open reel tell
-abbrev pub scene_seen : MemoryState → Scene
-scene_seen x = scene (library_of x.drives.stacks) (session_seen x.opened)
+abbrev pub session_view_seen : MemoryState → SessionView
+session_view_seen x = session_view (library_of x.drives.stacks) (session_seen x.opened)

@@ -8,7 +8,7 @@ use Rattle.drives.specs.declared.fault.DriveFault.{DriveFault}
 use Rattle.drives.specs.Calls.StacksCall.{Move}
 use Rattle.drives.specs.Stacking.{IsStacksCall}
 use Rattle.drives.specs.Opening.{Kinds}
-use Rattle.rmt_server.specs.declared.session.desk.Opened.{Opened}
+use Rattle.rmt_server.specs.declared.session.session_state.Opened.{Opened}
 use Rattle.rmt_server.specs.Refusals.{refused}
 use Rattle.rmt_server.specs.Session.{refusal, move_reply}
 use Rattle.rmt_server.specs.State.{State, status_at, IsReelCall}

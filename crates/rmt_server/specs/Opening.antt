@@ -14,10 +14,10 @@ use Rattle.drives.specs.Stacking.{IsStacksCall}
 use Rattle.drives.specs.Opening.{Kinds, IsOpening}
 use Rattle.rmt_server.specs.declared.access.Access.{Access}
 use Rattle.rmt_server.specs.declared.refusal.Refusal.TheVariants.{Invalid, BadDescriptor}
-use Rattle.rmt_server.specs.declared.session.desk.Opened.{Opened}
+use Rattle.rmt_server.specs.declared.session.session_state.Opened.{Opened}
 use Rattle.rmt_server.specs.Access.{access_of}
 use Rattle.rmt_server.specs.Refusals.{refused}
-use Rattle.rmt_server.specs.Session.{Scene, closed, open_reply}
+use Rattle.rmt_server.specs.Session.{SessionView, closed, open_reply}
 use Rattle.rmt_server.specs.State.{State, drive_of, IsAt, Tells, SessionCanFail, IsReelCall, KeepsDrives}
 
 -- A reel, if one is online, is rewound and laid back on its stack; with none the stacks are as before.
@@ -49,7 +49,7 @@ pub record IsClosed {H S Seat R : Type 0} (k : Kinds H Seat S R) (old new : Stat
   -- nothing else is asked of the reel and of the stacks
   pub laid : LaysBackOpened k.stacks k.reels old.drives.stacks old.opened new.drives.stacks
   -- where stacks and reel tell, the reel's tape lies on the stack
-  pub step : (v : Scene) → Tells k old v → k.stacks.holds new.drives.stacks (closed v).library
+  pub step : (v : SessionView) → Tells k old v → k.stacks.holds new.drives.stacks (closed v).library
   -- the seat gives the open drive back, and the holds tell so
   pub view : k.holds.shows new.seat ≡ view_after_close (k.holds.shows old.seat) (drive_of old.opened)
   pub told : (d n : ℕ) → k.holds.tells old.drives.holds d n

@@ -5,7 +5,7 @@ use Rattle.rmt_wire.specs.Reply.{PlainReply}
 use Rattle.tape.specs.Tape.{TapeAnswer}
 use Rattle.tape.specs.declared.reel.Reel.{Ghosts as ReelPromise}
 use Rattle.drives.specs.Opening.{Kinds}
-use Rattle.rmt_server.specs.declared.session.desk.Opened.{Opened}
+use Rattle.rmt_server.specs.declared.session.session_state.Opened.{Opened}
 use Rattle.rmt_server.specs.Refusals.{refused}
 use Rattle.rmt_server.specs.Session.{refusal, reel_reply, tape_request}
 use Rattle.rmt_server.specs.State.{State, status_at, IsReelCall}

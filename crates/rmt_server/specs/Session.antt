@@ -42,12 +42,12 @@ pub data PlainSession : Type 0 where
   Online : (drive : ℕ) → (access : Access) → (reel : PlainReel) → PlainSession
 
 -- drives, reels and bin, and the session that works on them
-pub record Scene : Type 0 where
+pub record SessionView : Type 0 where
   pub library : TapeLibrary
   pub session : PlainSession
 
-abbrev pub scene : TapeLibrary → PlainSession → Scene
-scene library session = record { library = library; session = session }
+abbrev pub session_view : TapeLibrary → PlainSession → SessionView
+session_view library session = record { library = library; session = session }
 
 -- as much of a session as the checks look at
 pub data Status : Type 0 where
@@ -116,14 +116,14 @@ IsExcused troubled grows (Fault fault.OutOfMemory) = IsTrue grows
 IsExcused troubled grows answer = Unit {0}
 
 -- the latched reel makes one step, and all else stays
-abbrev pub ReelStep : Bool → Bool → Scene → PlainRequest → PlainReply → Scene → Type 0
+abbrev pub ReelStep : Bool → Bool → SessionView → PlainRequest → PlainReply → SessionView → Type 0
 ReelStep troubled grows before request reply after =
     (drive : ℕ) × (access : Access) × (reel : PlainReel) × (answer : TapeAnswer) × (t : Tape)
     × (before.session ≡ Online drive access reel)
     × TapeStep reel.capacity reel.tape (tape_request request) answer t
     × IsExcused troubled grows answer
     × (reply ≡ reel_reply request answer)
-    × (after ≡ scene before.library (Online drive access (plain_reel t reel.capacity)))
+    × (after ≡ session_view before.library (Online drive access (plain_reel t reel.capacity)))
 
 -- the shop once the session has nothing open: a latched reel lies on its stack again
 abbrev pub closed_library : TapeLibrary → PlainSession → TapeLibrary
@@ -131,8 +131,8 @@ closed_library library Idle = library
 closed_library library (Offline drive access) = library
 closed_library library (Online drive access reel) = after_unlatch library drive (entries_of reel.tape) reel.capacity
 
-abbrev pub closed : Scene → Scene
-closed v = scene (closed_library v.library v.session) Idle
+abbrev pub closed : SessionView → SessionView
+closed v = session_view (closed_library v.library v.session) Idle
 
 -- what a client is told of an open
 abbrev pub open_reply : {R : Type 0} → Result (ℕ × R) DriveFault → PlainReply
@@ -153,7 +153,7 @@ IsOpenExcused troubled result = Unit {0}
 
 -- What an open does once nothing is open. `asked` is the drive that was taken or found held, if any, and `found`
 -- the number of the seat that the take found there.
-abbrev pub OpensAs : Bool → Option ℕ → ℕ → Scene → List ℕ → Option Access → PlainReply → Scene → Type 0
+abbrev pub OpensAs : Bool → Option ℕ → ℕ → SessionView → List ℕ → Option Access → PlainReply → SessionView → Type 0
 OpensAs troubled asked found before device None reply after = (reply ≡ refused Invalid) × (after ≡ before)
 OpensAs troubled asked found before device (Some access) reply after =
     (result : Result (ℕ × PlainReel) DriveFault)
@@ -180,15 +180,15 @@ move_reply count (Ok done) = Done count
 move_reply count (Err why) = refused (drive_refusal why)
 
 -- The reel lies last in the bin, and its drive stays open. Or it was not moved, and stands at its beginning.
-abbrev pub MovesAs : Bool → ℕ → Access → PlainReel → Result Unit DriveFault → TapeLibrary → Scene → Type 0
+abbrev pub MovesAs : Bool → ℕ → Access → PlainReel → Result Unit DriveFault → TapeLibrary → SessionView → Type 0
 MovesAs troubled drive access reel (Ok done) before after =
-    after ≡ scene (after_offline before drive (entries_of reel.tape) reel.capacity) (Offline drive access)
+    after ≡ session_view (after_offline before drive (entries_of reel.tape) reel.capacity) (Offline drive access)
 MovesAs troubled drive access reel (Err why) before after =
     IsMoveExcused troubled why × StaysOnline drive why before after.library
     × (after.session ≡ Online drive access (plain_reel (tape [] (entries_of reel.tape)) reel.capacity))
 
 -- the latched reel is rewound and moved to the bin
-abbrev pub MoveStep : Bool → Scene → ℕ → PlainReply → Scene → Type 0
+abbrev pub MoveStep : Bool → SessionView → ℕ → PlainReply → SessionView → Type 0
 MoveStep troubled before count reply after =
     (drive : ℕ) × (access : Access) × (reel : PlainReel) × (result : Result Unit DriveFault)
     × (before.session ≡ Online drive access reel)
@@ -196,19 +196,19 @@ MoveStep troubled before count reply after =
     × MovesAs troubled drive access reel result before.library after
 
 -- an operation, which is MTOFFL or not
-abbrev pub OpStep : Bool → Bool → Bool → Scene → ℕ → ℕ → PlainReply → Scene → Type 0
+abbrev pub OpStep : Bool → Bool → Bool → SessionView → ℕ → ℕ → PlainReply → SessionView → Type 0
 OpStep true troubled grows before op count reply after = MoveStep troubled before count reply after
 OpStep false troubled grows before op count reply after = ReelStep troubled grows before (Op op count) reply after
 
 -- a request that no check refuses
-abbrev pub DoneStep : Bool → Bool → Scene → PlainRequest → PlainReply → Scene → Type 0
+abbrev pub DoneStep : Bool → Bool → SessionView → PlainRequest → PlainReply → SessionView → Type 0
 DoneStep troubled grows before Close reply after = (reply ≡ Done 0) × (after ≡ closed before)
 DoneStep troubled grows before (Op op count) reply after = OpStep (is_offline op) troubled grows before op count reply after
 DoneStep troubled grows before request reply after = ReelStep troubled grows before request reply after
 
 -- One request, its reply, and drives and session after it. `troubled` says that a device failed, `grows` that the
 -- reels can ask for memory; `asked` and `found` tell of the take of an open.
-abbrev pub ServeStep : Bool → Bool → Option ℕ → ℕ → Scene → PlainRequest → PlainReply → Scene → Type 0
+abbrev pub ServeStep : Bool → Bool → Option ℕ → ℕ → SessionView → PlainRequest → PlainReply → SessionView → Type 0
 ServeStep troubled grows asked found before (Open device mode) reply after =
     OpensAs troubled asked found (closed before) device (access_of mode) reply after
 ServeStep troubled grows asked found before request reply after =
@@ -218,9 +218,9 @@ ServeStep troubled grows asked found before request reply after =
 
 -- Requests and their replies, one step after another. There is trouble only where `fails` says that a device can
 -- fail, and a take finds another seat only where `shared` says that another may hold a drive.
-pub data ServeRun (fails shared grows : Bool) (start : Scene) : List (PlainRequest × PlainReply) → Scene → Type 0 where
+pub data ServeRun (fails shared grows : Bool) (start : SessionView) : List (PlainRequest × PlainReply) → SessionView → Type 0 where
   none : ServeRun fails shared grows start [] start
-  one_more : {done : List (PlainRequest × PlainReply)} {before after : Scene}
+  one_more : {done : List (PlainRequest × PlainReply)} {before after : SessionView}
       (request : PlainRequest) (reply : PlainReply) (troubled : Bool) (asked : Option ℕ) (found : ℕ)
       → ServeRun fails shared grows start done before → (IsTrue troubled → IsTrue fails) → (0 < found → IsTrue shared)
       → ServeStep troubled grows asked found before request reply after

@@ -8,9 +8,9 @@ use Rattle.drives.specs.Holding.{HoldsJust}
 use Rattle.drives.specs.Stacking.{HasLatched, ReelCanFail}
 use Rattle.drives.specs.Opening.{Kinds}
 use Rattle.rmt_server.specs.declared.access.Access.{Access}
-use Rattle.rmt_server.specs.declared.session.desk.Opened.{Opened}
-use Rattle.rmt_server.specs.declared.session.desk.Desk.{Desk}
-use Rattle.rmt_server.specs.Session.{PlainSession, plain_reel, Scene, Status, NothingOpen, ReelAway, Ready}
+use Rattle.rmt_server.specs.declared.session.session_state.Opened.{Opened}
+use Rattle.rmt_server.specs.declared.session.session_state.SessionState.{SessionState}
+use Rattle.rmt_server.specs.Session.{PlainSession, plain_reel, SessionView, Status, NothingOpen, ReelAway, Ready}
 use Rattle.rmt_server.specs.Session.PlainSession.{Idle, Offline, Online}
 
 -- drives, a seat at them, and what it has open
@@ -24,8 +24,8 @@ abbrev pub seated_at : {H S Seat R : Type 0} → DriveTable H S Seat R → Seat 
 seated_at drives seat opened = record { drives = drives; seat = seat; opened = opened }
 
 -- a desk at these drives
-abbrev pub state : {H S Seat R : Type 0} → DriveTable H S Seat R → Desk Seat R → State H S Seat R
-state drives desk = seated_at drives desk.seat desk.opened
+abbrev pub state : {H S Seat R : Type 0} → DriveTable H S Seat R → SessionState Seat R → State H S Seat R
+state drives session_state = seated_at drives session_state.seat session_state.opened
 
 -- the drive that is open
 abbrev pub drive_of : {R : Type 0} → Option (Opened R) → Option ℕ
@@ -82,7 +82,7 @@ IsSeenAs r None session = session ≡ Idle
 IsSeenAs r (Some device) session = IsSeenWith r device.drive device.access device.reel session
 
 -- what the stacks and the open reel tell
-pub record Tells {H S Seat R : Type 0} (k : Kinds H Seat S R) (x : State H S Seat R) (v : Scene) : Type 0 where
+pub record Tells {H S Seat R : Type 0} (k : Kinds H Seat S R) (x : State H S Seat R) (v : SessionView) : Type 0 where
   pub library : k.stacks.holds x.drives.stacks v.library
   pub session : IsSeenAs k.reels x.opened v.session
 
@@ -108,7 +108,7 @@ pub record KeepsDrives {H S Seat R : Type 0} (k : Kinds H Seat S R) (old new : S
       → HasLatched k.stacks.holds old.drives.stacks d → HasLatched k.stacks.holds new.drives.stacks d
 
 -- A desk is at all drives that its seat belongs to, of which the stacks have no more than the holds.
-abbrev pub FitsItsDrives : {H S Seat R : Type 0} → Kinds H Seat S R → Seat → Desk Seat R → Type 0
-FitsItsDrives {H} {S} {Seat} {R} k seat desk =
+abbrev pub FitsItsDrives : {H S Seat R : Type 0} → Kinds H Seat S R → Seat → SessionState Seat R → Type 0
+FitsItsDrives {H} {S} {Seat} {R} k seat session_state =
     (drives : DriveTable H S Seat R) → k.holds.belongs drives.holds seat → k.stacks.drives drives.stacks ≤ k.holds.drives drives.holds
-    → IsAt k (state drives desk)
+    → IsAt k (state drives session_state)

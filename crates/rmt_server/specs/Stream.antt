@@ -18,8 +18,8 @@ use Rattle.rmt_server.specs.declared.stream.Served.{Served}
 use Rattle.rmt_server.specs.declared.stream.Served.TheVariants.{End, Truncated, Broken}
 use Rattle.rmt_server.specs.declared.stream.ServeFault.{ServeFault}
 use Rattle.rmt_server.specs.declared.stream.ServeFault.TheVariants.{Input, Output}
-use Rattle.rmt_server.specs.declared.session.desk.Desk.{Desk}
-use Rattle.rmt_server.specs.Session.{Scene, closed, ServeRun}
+use Rattle.rmt_server.specs.declared.session.session_state.SessionState.{SessionState}
+use Rattle.rmt_server.specs.Session.{SessionView, closed, ServeRun}
 use Rattle.rmt_server.specs.State.{State, state, Tells}
 use Rattle.rmt_server.specs.Opening.{IsClosed}
 use Rattle.rmt_server.specs.Carrying.{IsCarriedOut, MayFail, MayShare}
@@ -142,8 +142,8 @@ pub record Serving (From Out H S Seat R : Type 0) : Type 0 where
   pub state : State H S Seat R
 
 -- the same by its parts
-abbrev pub serving : {From Out H S Seat R : Type 0} → From → Counting Out → DriveTable H S Seat R → Desk Seat R → Serving From Out H S Seat R
-serving requests replies drives desk = record { requests = requests; replies = replies; state = state drives desk }
+abbrev pub serving : {From Out H S Seat R : Type 0} → From → Counting Out → DriveTable H S Seat R → SessionState Seat R → Serving From Out H S Seat R
+serving requests replies drives session_state = record { requests = requests; replies = replies; state = state drives session_state }
 
 -- requests of these bytes were carried out, with what became of the bytes that the reader holds afterwards
 abbrev pub AnswersFrom : {Out H S Seat R : Type 0} → Kinds H Seat S R → WritePromise Out → Result (Option WireFault) OutputFault
@@ -183,8 +183,8 @@ pub record IsServedAs {H S Seat R In Out : Type 0} (k : Kinds H Seat S R) (kind 
   -- the seat keeps its number, and no number of a seat is used up
   pub number : (k.holds.shows new.seat).number ≡ (k.holds.shows old.seat).number
   pub same_seats : k.holds.seated new.drives.holds ≡ k.holds.seated old.drives.holds
-  pub steps : (fails shared : Bool) → MayFail k old fails → MayShare k old shared → (start : Scene) → Tells k old start
-      → (finish : Scene) × ServeRun fails shared k.reels.GROWS start done finish × k.stacks.holds new.drives.stacks (closed finish).library
+  pub steps : (fails shared : Bool) → MayFail k old fails → MayShare k old shared → (start : SessionView) → Tells k old start
+      → (finish : SessionView) × ServeRun fails shared k.reels.GROWS start done finish × k.stacks.holds new.drives.stacks (closed finish).library
 
 -- the same of a session that is serving
 abbrev pub ServesAs : {In Out H S Seat R : Type 0} → Kinds H Seat S R → ReadPromise In → WritePromise Out → Result Served ServeFault

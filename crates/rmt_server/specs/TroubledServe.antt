@@ -17,7 +17,7 @@ use Rattle.rmt_server.specs.declared.access.Access.{Access}
 use Rattle.rmt_server.specs.declared.refusal.Refusal.TheVariants.{InputOutput, Invalid}
 use Rattle.rmt_server.specs.Access.{access_of}
 use Rattle.rmt_server.specs.Refusals.{refused}
-use Rattle.rmt_server.specs.Session.{PlainReel, plain_reel, PlainSession, Scene, scene, status_of, refusal, tape_request, reel_reply, closed, open_reply, session_after, is_offline, move_reply, MovesAs}
+use Rattle.rmt_server.specs.Session.{PlainReel, plain_reel, PlainSession, SessionView, session_view, status_of, refusal, tape_request, reel_reply, closed, open_reply, session_after, is_offline, move_reply, MovesAs}
 use Rattle.rmt_server.specs.Session.PlainSession.{Idle, Offline, Online}
 use Rattle.rmt_server.specs.State.{seated_at, reel_of, Tells}
 use Rattle.rmt_server.specs.Memory.{MemoryState, in_memory}
@@ -41,13 +41,13 @@ holder_of holders None = 0
 holder_of holders (Some d) = slice_index holders d
 
 -- the latched reel makes one call, whose device fails so, and all else stays
-abbrev pub TroubledReelStep : Trouble → Scene → PlainRequest → PlainReply → Scene → Type 0
+abbrev pub TroubledReelStep : Trouble → SessionView → PlainRequest → PlainReply → SessionView → Type 0
 TroubledReelStep trouble before request reply after =
     (drive : ℕ) × (access : Access) × (reel : PlainReel) × (answer : TapeAnswer) × (t : Tape)
     × (before.session ≡ Online drive access reel)
     × DeviceStep reel.capacity trouble reel.tape (tape_request request) answer t
     × (reply ≡ reel_reply request answer)
-    × (after ≡ scene before.library (Online drive access (plain_reel t reel.capacity)))
+    × (after ≡ session_view before.library (Online drive access (plain_reel t reel.capacity)))
 
 -- Why an open answers so, where the drive of that name is held by n, or by none at 0: a drive that is held is busy, and
 -- no reel is latched in spite of a trouble. A latch in memory wants no memory.
@@ -60,7 +60,7 @@ IsOpenCause trouble n (Err drive.Device) = (n ≡ 0) × (trouble ≢ NoTrouble)
 IsOpenCause trouble n (Err _) = ⊥
 
 -- what an open does once nothing is open, where these hold the drives
-abbrev pub TroubledOpens : Trouble → List ℕ → Scene → List ℕ → Option Access → PlainReply → Scene → Type 0
+abbrev pub TroubledOpens : Trouble → List ℕ → SessionView → List ℕ → Option Access → PlainReply → SessionView → Type 0
 TroubledOpens trouble holders before device None reply after = (reply ≡ refused Invalid) × (after ≡ before)
 TroubledOpens trouble holders before device (Some access) reply after =
     (result : Result (ℕ × PlainReel) DriveFault) × (asked : Option ℕ)
@@ -77,7 +77,7 @@ IsMoveCause trouble (Err drive.Device) = trouble ≢ NoTrouble
 IsMoveCause trouble (Err _) = ⊥
 
 -- the latched reel is rewound and moved to the bin
-abbrev pub TroubledMoveStep : Trouble → Scene → ℕ → PlainReply → Scene → Type 0
+abbrev pub TroubledMoveStep : Trouble → SessionView → ℕ → PlainReply → SessionView → Type 0
 TroubledMoveStep trouble before count reply after =
     (drive : ℕ) × (access : Access) × (reel : PlainReel) × (result : Result Unit DriveFault)
     × (before.session ≡ Online drive access reel)
@@ -86,18 +86,18 @@ TroubledMoveStep trouble before count reply after =
     × MovesAs (is_set trouble) drive access reel result before.library after
 
 -- an operation, which is MTOFFL or not
-abbrev pub TroubledOpStep : Bool → Trouble → Scene → ℕ → ℕ → PlainReply → Scene → Type 0
+abbrev pub TroubledOpStep : Bool → Trouble → SessionView → ℕ → ℕ → PlainReply → SessionView → Type 0
 TroubledOpStep true trouble before op count reply after = TroubledMoveStep trouble before count reply after
 TroubledOpStep false trouble before op count reply after = TroubledReelStep trouble before (Op op count) reply after
 
 -- a request that no check refuses
-abbrev pub TroubledDoneStep : Trouble → Scene → PlainRequest → PlainReply → Scene → Type 0
+abbrev pub TroubledDoneStep : Trouble → SessionView → PlainRequest → PlainReply → SessionView → Type 0
 TroubledDoneStep trouble before Close reply after = (reply ≡ Done 0) × (after ≡ closed before)
 TroubledDoneStep trouble before (Op op count) reply after = TroubledOpStep (is_offline op) trouble before op count reply after
 TroubledDoneStep trouble before request reply after = TroubledReelStep trouble before request reply after
 
 -- One request and its reply, where these held the drives before. What is open is closed before an open.
-abbrev pub TroubledServeStep : Trouble → List ℕ → Scene → PlainRequest → PlainReply → Scene → Type 0
+abbrev pub TroubledServeStep : Trouble → List ℕ → SessionView → PlainRequest → PlainReply → SessionView → Type 0
 TroubledServeStep trouble holders before (Open device mode) reply after =
     TroubledOpens trouble (with_holder (drive_in before.session) 0 holders) (closed before) device (access_of mode) reply after
 TroubledServeStep trouble holders before request reply after =
@@ -107,8 +107,8 @@ TroubledServeStep trouble holders before request reply after =
 
 -- One request of the session of the number k, its reply, and drives, session and holders after it: the drive that was
 -- open before has no holder then, and the one that is open after has k.
-pub record TroubledServe (trouble : Trouble) (holders : List ℕ) (k : ℕ) (before : Scene) (request : PlainRequest) (reply : PlainReply)
-    (after : Scene) (holders' : List ℕ) : Type 0 where
+pub record TroubledServe (trouble : Trouble) (holders : List ℕ) (k : ℕ) (before : SessionView) (request : PlainRequest) (reply : PlainReply)
+    (after : SessionView) (holders' : List ℕ) : Type 0 where
   pub step : TroubledServeStep trouble holders before request reply after
   pub held : holders' ≡ with_holder (drive_in after.session) k (with_holder (drive_in before.session) 0 holders)
 
@@ -143,9 +143,9 @@ IsNextSpent set reply left = (left ≡ set) ⊎ ((set ≡ true) × (left ≡ fal
 
 -- The request is served so. Then no reel that lies on the stacks or in the bin has a trouble, and of the trouble that
 -- was set is left what no device call met.
-pub record IsServedUnder (trouble : Trouble) (old : MemoryState) (before : Scene) (request : PlainRequest) (reply : PlainReply)
+pub record IsServedUnder (trouble : Trouble) (old : MemoryState) (before : SessionView) (request : PlainRequest) (reply : PlainReply)
     (new : MemoryState) : Type 0 where
-  pub after : Scene
+  pub after : SessionView
   pub tells : Tells in_memory new after
   pub served : TroubledServe trouble old.drives.holds.numbers old.seat.number before request reply after new.drives.holds.numbers
   pub lying : troubled_in new.drives.stacks.library ≡ 0
@@ -168,7 +168,7 @@ set_for trouble request x = set_at (is_of_stacks request) trouble x
 
 -- What was open is closed: its reel lies on its stack again, its drive has no holder, and no reel that lies there has a
 -- trouble.
-pub record IsEnded (old : MemoryState) (before : Scene) (new : MemoryState) : Type 0 where
+pub record IsEnded (old : MemoryState) (before : SessionView) (new : MemoryState) : Type 0 where
   pub tells : Tells in_memory new (closed before)
   pub held : new.drives.holds.numbers ≡ with_holder (drive_in before.session) 0 old.drives.holds.numbers
   pub lying : troubled_in new.drives.stacks.library ≡ 0

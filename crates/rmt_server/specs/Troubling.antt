@@ -2,7 +2,7 @@
 use Rattle.std.specs.Prelude.{Option, Some, None}
 use Rattle.tape.specs.Trouble.{TroubledTape}
 use Rattle.tape.specs.declared.trouble.Trouble.{Trouble}
-use Rattle.rmt_server.specs.declared.session.desk.Opened.{Opened}
+use Rattle.rmt_server.specs.declared.session.session_state.Opened.{Opened}
 
 -- a reel, if there is one, whose next device call fails so
 abbrev pub troubled : Trouble → Option TroubledTape → Option TroubledTape

@@ -8,9 +8,9 @@ ghost use Rattle.drives.specs.ListLibrary.{library_of, IsLibrary, troubled_in};
 ghost use Rattle.drives.specs.Opening.{kinds};
 ghost use Rattle.rmt_wire.specs.Request.{PlainRequest};
 ghost use Rattle.tape.specs.declared.trouble.Trouble.{Trouble};
-ghost use Rattle.rmt_server.specs.Session.{Scene};
+ghost use Rattle.rmt_server.specs.Session.{SessionView};
 ghost use Rattle.rmt_server.specs.State.{IsAt, Tells};
-ghost use Rattle.rmt_server.specs.Memory.{MemoryState, in_memory, scene_seen};
+ghost use Rattle.rmt_server.specs.Memory.{MemoryState, in_memory, session_view_seen};
 ghost use Rattle.rmt_server.specs.TroubledServe.{IsTroubled, with_troubles, set_for, IsSetFor};
 ghost use Rattle.rmt_server.specs.Laws.{NoDriveIsOpenTwice, OthersStayAt, OpenIsHeld, FreeIsClosed, StaysAt, StaysAtElsewhere, StaysAtWithMoreSeats};
 ghost use Rattle.rmt_server.specs.Laws.{StaysAtUnderTrouble, TroublesAreServed, TroubledIsServed, NoMemoryIsWanted, EndsUntroubled};
@@ -63,9 +63,9 @@ pub fn stacks_trouble<H: Holds>()
 /// Stacks and reels in memory tell one scene, where each reel stands once.
 ///
 /// It does nothing: its contract is a law of the definitions.
-pub fn one_scene()
-    ensures told { (x : MemoryState) → IsLibrary x.drives.stacks (library_of x.drives.stacks) → Tells in_memory x (scene_seen x) }
-    ensures one { (x : MemoryState) (v : Scene) → Tells in_memory x v → v ≡ scene_seen x }
+pub fn one_session_view()
+    ensures told { (x : MemoryState) → IsLibrary x.drives.stacks (library_of x.drives.stacks) → Tells in_memory x (session_view_seen x) }
+    ensures one { (x : MemoryState) (v : SessionView) → Tells in_memory x v → v ≡ session_view_seen x }
 {}
 
 /// One request of a session over drives and reels in memory, where it is told how the device call fails that it makes: the
@@ -99,7 +99,7 @@ pub fn troubled_is_served()
 /// It does nothing: its contract is a law of the definitions.
 pub fn troubles_set()
     ensures at { (reel : Trouble) (stacks : Bool) (x : MemoryState) → IsAt in_memory x → IsAt in_memory (with_troubles reel stacks x) }
-    ensures told { (reel : Trouble) (stacks : Bool) (x : MemoryState) (v : Scene) →
+    ensures told { (reel : Trouble) (stacks : Bool) (x : MemoryState) (v : SessionView) →
         Tells in_memory x v → Tells in_memory (with_troubles reel stacks x) v }
     ensures set { (reel : Trouble) (stacks : Bool) (x : MemoryState) → troubled_in x.drives.stacks.library ≡ 0 →
         IsTroubled reel stacks (with_troubles reel stacks x) }

@@ -8,8 +8,8 @@ mod session;
 mod stream;
 
 pub use laws::{
-    more_seats, one_holder, one_scene, open_is_held, stacks_trouble, still_at, troubled_is_served,
-    troubled_serve, troubles_set, untroubled_end,
+    more_seats, one_holder, one_session_view, open_is_held, stacks_trouble, still_at,
+    troubled_is_served, troubled_serve, troubles_set, untroubled_end,
 };
 pub use session::Session;
 pub use stream::{ServeFault, Served, serve};

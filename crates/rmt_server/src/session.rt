@@ -4,17 +4,17 @@ ghost use Rattle.rmt_wire.specs.Lent.{plain_request, plain_reply};
 ghost use Rattle.rmt_wire.specs.Reply.{ReplyHasSpelling, reply_text};
 ghost use Rattle.rmt_wire.specs.declared.limits.TheConstants.{READER_LIMIT};
 
-mod desk;
 mod dispatch;
 mod moving;
 mod opening;
 mod serving;
+mod session_state;
 mod trouble;
 
-pub(crate) use desk::{Desk, Opened};
 use dispatch::{Given, dispatch};
 use drives::{DriveTable, Holds, Stacks};
 use rmt_wire::{RECORD_LIMIT, Reply, Request};
+pub(crate) use session_state::{Opened, SessionState};
 use std::alloc::{AllocError, Global};
 use std::marker::Model;
 
@@ -24,18 +24,18 @@ use std::marker::Model;
 /// Contracts see the seat and what is open.
 #[derive(Drop)]
 pub struct Session<H: Holds, S: Stacks> {
-    desk: Desk<H::Seat, S::Reel>,
+    session_state: SessionState<H::Seat, S::Reel>,
     buffer: Vec<u8>,
 }
 
 impl<H: Holds, S: Stacks> Model for Session<H, S> {
     ghost use Rattle.std.specs.Prelude.{◌≡◌, length};
     ghost use Rattle.rmt_wire.specs.declared.limits.TheConstants.{RECORD_LIMIT};
-    ghost use Rattle.rmt_server.specs.declared.session.desk.Desk.{Desk};
+    ghost use Rattle.rmt_server.specs.declared.session.session_state.SessionState.{SessionState};
 
-    ghost Value = { Desk H.Seat S.Reel };
+    ghost Value = { SessionState H.Seat S.Reel };
 
-    ghost view = { λ s. s.desk };
+    ghost view = { λ s. s.session_state };
 
     ghost invariant = { λ s. length s.buffer.items ≡ RECORD_LIMIT };
 }
@@ -60,7 +60,7 @@ impl<H: Holds, S: Stacks> Session<H, S> {
     {
         match Vec::from_elem(alloc, 0u8, RECORD_LIMIT) {
             Ok(buffer) => Ok(Session {
-                desk: Desk { seat, opened: None },
+                session_state: SessionState { seat, opened: None },
                 buffer,
             }),
             Err(error) => Err((seat, error)),
@@ -91,7 +91,12 @@ impl<H: Holds, S: Stacks> Session<H, S> {
         ensures spelling { IsSayable (plain_request request.entry) → ReplyHasSpelling (plain_reply result) }
         ensures short { IsSayable (plain_request request.entry) → length (reply_text (plain_reply result)) ≤ READER_LIMIT }
     {
-        let outcome = dispatch(drives, &mut self.desk, self.buffer.as_mut_slice(), request);
+        let outcome = dispatch(
+            drives,
+            &mut self.session_state,
+            self.buffer.as_mut_slice(),
+            request,
+        );
         match outcome {
             Ok(Given::Number(number)) => Reply::Done { number },
             Ok(Given::Bytes(count)) => Reply::Data {
@@ -108,7 +113,7 @@ impl<H: Holds, S: Stacks> Session<H, S> {
         requires { IsAt (kinds H.Holds S.Stacks S.Reel.Reel) (state drives.old self.old) }
         ensures { IsClosed (kinds H.Holds S.Stacks S.Reel.Reel) (state drives.old self.old) (state drives.new self.new) }
     {
-        opening::close(drives, &mut self.desk);
+        opening::close(drives, &mut self.session_state);
     }
 
     /// Gives back the seat of a session that has nothing open, so that another can begin with it.
@@ -116,14 +121,14 @@ impl<H: Holds, S: Stacks> Session<H, S> {
         requires { self.opened ≡ None }
         ensures { result ≡ self.seat }
     {
-        self.desk.seat
+        self.session_state.seat
     }
 
     /// The drive and the reel of the open device, while the reel is online.
     pub fn reel(&self) -> Option<(usize, &S::Reel)>
         ensures { MatchOption result (online_drive self.now.opened ≡ None) (λ told. IsOnline self.now.opened told.0 told.1.now) }
     {
-        let device = self.desk.opened.as_ref()?;
+        let device = self.session_state.opened.as_ref()?;
         let reel = device.reel.as_ref()?;
         Some((device.drive, reel))
     }

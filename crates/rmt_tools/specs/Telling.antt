@@ -5,7 +5,7 @@ use Rattle.drives.specs.declared.table.DriveTable.{DriveTable}
 use Rattle.drives.specs.declared.view.View.{View}
 use Rattle.drives.specs.ListLibrary.{ListLibrary}
 use Rattle.drives.specs.Local.{Holders}
-use Rattle.rmt_server.specs.declared.session.desk.Desk.{Desk}
+use Rattle.rmt_server.specs.declared.session.session_state.SessionState.{SessionState}
 use Rattle.rmt_server.specs.Memory.{MemoryState, in_memory}
 use Rattle.rmt_server.specs.Opening.{IsClosed}
 use Rattle.rmt_server.specs.State.{state}
@@ -33,7 +33,7 @@ abbrev pub Drives : Type 0
 Drives = DriveTable Holders ListLibrary View TroubledTape
 
 abbrev pub Seated : Type 0
-Seated = Desk View TroubledTape
+Seated = SessionState View TroubledTape
 
 -- the log, the drives, and the session at them
 pub record MemoryPeerHeld : Type 0 where

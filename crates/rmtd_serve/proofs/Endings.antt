@@ -10,9 +10,9 @@ use Rattle.rmt_server.specs.Carrying.{MayFail}
 use Rattle.rmt_server.specs.Session.{none}
 use Rattle.rmt_server.specs.Stream.{streams, streams_kind, Exchange, EndsAs, NoneFailed}
 use Rattle.drives.specs.TapeLibrary.{TapeLibrary}
-use Rattle.rmt_server.specs.Session.{scene}
+use Rattle.rmt_server.specs.Session.{session_view}
 use Rattle.rmt_server.specs.Session.PlainSession.{Idle}
-use Rattle.rmtd_serve.specs.Stdio.{blank_scene, EndsWith, IsServedAlone}
+use Rattle.rmtd_serve.specs.Stdio.{blank_session_view, EndsWith, IsServedAlone}
 use Rattle.rmtd_serve.specs.Serving.{IsServedNext}
 use Rattle.rmt_server.specs.declared.stream.Served.{Served}
 use Rattle.rmt_server.specs.declared.stream.ServeFault.{ServeFault}
@@ -45,7 +45,7 @@ unserved {remaining = remaining} {contents} {before} {after} {input} {output} sa
       read = [];
       done = [];
       rest = [];
-      finish = scene before Idle;
+      finish = session_view before Idle;
       consumed = Consumes-nil (remaining input.inner);
       ends = inr (inr (record { spelled = refl; written = Appends-nil (contents output.inner) }, refl, refl, refl));
       run = none;
@@ -55,7 +55,7 @@ unserved {remaining = remaining} {contents} {before} {after} {input} {output} sa
 -- a stream that is served next from an empty reel is served alone
 pub alone : {R W : Type 0} {remaining : R → Option (List ℕ)} {contents : W → Option (List ℕ)} {capacity : ℕ} {after : TapeLibrary}
     {input input' : Counting R} {output output' : Counting W} {ending : Option Served}
-    → IsServedNext (streams_kind remaining contents) (blank_scene capacity).library after (streams input output) (streams input' output') ending
+    → IsServedNext (streams_kind remaining contents) (blank_session_view capacity).library after (streams input output) (streams input' output') ending
     → IsServedAlone (streams_kind remaining contents) capacity (streams input output) (streams input' output') ending
 alone served = record {
   read = served.read;

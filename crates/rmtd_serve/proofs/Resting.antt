@@ -12,9 +12,9 @@ use Rattle.drives.specs.Local.{Holders, holders}
 use Rattle.drives.specs.Opening.{Kinds, kinds, word_after_open}
 use Rattle.drives.specs.contracts.local.LocalHoldsHolds.TheImpl.{ghosts as of_holds}
 use Rattle.rmt_server.specs.declared.access.Access.{Access}
-use Rattle.rmt_server.specs.declared.session.desk.Opened.{Opened}
+use Rattle.rmt_server.specs.declared.session.session_state.Opened.{Opened}
 use Rattle.rmt_server.specs.Access.{access_of}
-use Rattle.rmt_server.specs.Session.{Scene, scene, closed, refusal, is_offline, ServeRun}
+use Rattle.rmt_server.specs.Session.{SessionView, session_view, closed, refusal, is_offline, ServeRun}
 use Rattle.rmt_server.specs.Session.PlainSession.{Idle}
 use Rattle.rmt_server.specs.State.{State, drive_of, SessionCanFail, IsSeenAs, status_at}
 use Rattle.rmt_server.specs.Opening.{word_after_close, IsClosed, OpensFor}
@@ -173,13 +173,13 @@ pub served_from_rest : {In Out : Type 0} {remaining : In → Option (List ℕ)} 
     {input input' : Counting In} {output output' : Counting Out} (start new : MemoryState) → IsAtRest start.drives → start.opened ≡ None
     → (served : IsServedAs in_memory (streams_kind remaining contents) result (streams input output) (streams input' output') start new)
     → IsAtRest new.drives
-    × ((finish : Scene) × ServeRun false false true (scene (library_of start.drives.stacks) Idle) served.done finish
+    × ((finish : SessionView) × ServeRun false false true (session_view (library_of start.drives.stacks) Idle) served.done finish
     × (library_of new.drives.stacks ≡ (closed finish).library))
 served_from_rest start new rest closed served =
     let idle : IsSeenAs of_reel start.opened Idle = subst (λ o. IsSeenAs of_reel o Idle) (sym closed) refl in
     let quiet : MayFail in_memory start false = none_fails in_memory start rest.quiet closed in
     let steps = served.steps false false quiet (inr (free_alone of_stacks of_reel start rest.free))
-    (scene (library_of start.drives.stacks) Idle) record { library = rest.told; session = idle } in (
+    (session_view (library_of start.drives.stacks) Idle) record { library = rest.told; session = idle } in (
       record {
         free = ends_free of_stacks of_reel _ start served.last new rest.free refl served.run served.ended;
         enough = served.ended.at.enough;

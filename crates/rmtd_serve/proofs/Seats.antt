@@ -5,7 +5,7 @@ use Rattle.rmt_wire.specs.Counted.{Counting}
 use Rattle.drives.specs.declared.table.DriveTable.{DriveTable}
 use Rattle.drives.specs.Holding.{HoldsJust}
 use Rattle.drives.specs.Opening.{Kinds}
-use Rattle.rmt_server.specs.declared.session.desk.Desk.{Desk}
+use Rattle.rmt_server.specs.declared.session.session_state.SessionState.{SessionState}
 use Rattle.rmt_server.specs.declared.stream.Served.{Served}
 use Rattle.rmt_server.specs.declared.stream.ServeFault.{ServeFault}
 use Rattle.rmt_server.specs.State.{State, state, seated_at, IsAt, KeepsDrives}
@@ -60,19 +60,19 @@ untouched_back k remaining contents drives seat back input output own idle enoug
 
 -- a session with nothing open is served, and its seat comes back
 pub served_back : {H S Seat R In Out : Type 0} (k : Kinds H Seat S R) (remaining : In → Option (List ℕ)) (contents : Out → Option (List ℕ))
-    (drives drives' : DriveTable H S Seat R) (seat : Seat) (desk desk' : Desk Seat R) (input input' : Counting In) (output output' : Counting Out)
-    (result : Result Served ServeFault) (back : Seat) (ending : Option Served) → desk ≡ record { seat = seat; opened = None }
-    → IsServedAs k (streams_kind remaining contents) result (streams input output) (streams input' output') (state drives desk) (state drives' desk')
-    → OnOk result (NoneFailed (streams input output) (streams input' output')) → desk'.opened ≡ None → back ≡ desk'.seat → ending ≡ result_ok result
+    (drives drives' : DriveTable H S Seat R) (seat : Seat) (session_state session_state' : SessionState Seat R) (input input' : Counting In) (output output' : Counting Out)
+    (result : Result Served ServeFault) (back : Seat) (ending : Option Served) → session_state ≡ record { seat = seat; opened = None }
+    → IsServedAs k (streams_kind remaining contents) result (streams input output) (streams input' output') (state drives session_state) (state drives' session_state')
+    → OnOk result (NoneFailed (streams input output) (streams input' output')) → session_state'.opened ≡ None → back ≡ session_state'.seat → ending ≡ result_ok result
     → IsServedAfresh k (streams_kind remaining contents) (seated_at drives seat None) (streams input output) (streams input' output') drives' back ending
-served_back k remaining contents drives drives' seat desk desk' input input' output output' result back ending new is steady nothing same e =
+served_back k remaining contents drives drives' seat session_state session_state' input input' output output' result back ending new is steady nothing same e =
     subst (λ d. IsServedAfresh k (streams_kind remaining contents) (state drives d) (streams input output) (streams input' output') drives' back ending) new record {
-      finish = state drives' desk';
-      serves = subst (λ o. ServesStreams k (streams_kind remaining contents) (state drives desk) (streams input output) (streams input' output') o (state drives' desk')) (sym e)
-          (served (state drives' desk') result is steady);
+      finish = state drives' session_state';
+      serves = subst (λ o. ServesStreams k (streams_kind remaining contents) (state drives session_state) (streams input output) (streams input' output') o (state drives' session_state')) (sym e)
+          (served (state drives' session_state') result is steady);
       drives_back = refl;
       seat_back = same;
       nothing = nothing;
       at = is.ended.at;
-      kept = keeps_on k (state drives desk) is.last (keeps_run k (state drives desk) is.run) is.ended.kept;
+      kept = keeps_on k (state drives session_state) is.last (keeps_run k (state drives session_state) is.run) is.ended.kept;
     }

@@ -7,7 +7,7 @@ use Rattle.drives.specs.TapeLibrary.{TapeLibrary}
 use Rattle.drives.specs.ListLibrary.{ListLibrary, IsLibrary, library_of, StacksCanFail}
 use Rattle.drives.specs.Local.{Holders}
 use Rattle.rmt_server.specs.declared.stream.Served.{Served}
-use Rattle.rmt_server.specs.Session.{Scene, scene, closed, ServeRun}
+use Rattle.rmt_server.specs.Session.{SessionView, session_view, closed, ServeRun}
 use Rattle.rmt_server.specs.Session.PlainSession.{Idle}
 use Rattle.rmt_server.specs.Stream.{Exchange, Streams, StreamsKind, AreRead}
 use Rattle.rmtd_serve.specs.Stdio.{EndsWith}
@@ -30,15 +30,15 @@ pub record IsServedNext {In Out : Type 0} (kind : StreamsKind In Out) (before af
   pub read : List ℕ
   pub done : List Exchange
   pub rest : List ℕ
-  pub finish : Scene
+  pub finish : SessionView
   pub consumed : AreRead kind old new read
   pub ends : EndsWith kind ending old new read done rest
-  pub run : ServeRun false false true (scene before Idle) done finish
+  pub run : ServeRun false false true (session_view before Idle) done finish
   pub left : after ≡ (closed finish).library
 
 -- streams served one after the other: the reels go from each to the next
 pub data ServedInTurn (first : TapeLibrary) : TapeLibrary → Type 0 where
   none : ServedInTurn first first
-  one_more : {before : TapeLibrary} (done : List Exchange) (finish : Scene)
-      → ServedInTurn first before → ServeRun false false true (scene before Idle) done finish
+  one_more : {before : TapeLibrary} (done : List Exchange) (finish : SessionView)
+      → ServedInTurn first before → ServeRun false false true (session_view before Idle) done finish
       → ServedInTurn first (closed finish).library

@@ -3,7 +3,7 @@ use Rattle.std.specs.Prelude.{◌≡◌, ◌⊎◌, ℕ, false, true, List, [], 
 use Rattle.rmt_server.specs.declared.stream.Served.{Served}
 use Rattle.rmt_server.specs.declared.stream.Served.TheVariants.{End, Truncated, Broken}
 use Rattle.rmt_server.specs.declared.stream.ServeFault.TheVariants.{Input, Output}
-use Rattle.rmt_server.specs.Session.{Scene, scene, ServeRun}
+use Rattle.rmt_server.specs.Session.{SessionView, session_view, ServeRun}
 use Rattle.rmt_server.specs.Session.PlainSession.{Idle}
 use Rattle.rmt_server.specs.Stream.{Exchange, Streams, StreamsKind, AreRead, AreAnswered, EndsAs, NoneFailed}
 use Rattle.drives.specs.TapeLibrary.{library, drive_with, slot, kept_reel}
@@ -15,8 +15,8 @@ abbrev pub the_reel : List ℕ
 the_reel = codes "reel"
 
 -- nothing is open, and the drive's one reel is empty
-abbrev pub blank_scene : ℕ → Scene
-blank_scene capacity = scene (library (drive_with the_drive (slot the_reel (Some (kept_reel [] capacity)) ∷ []) ∷ []) []) Idle
+abbrev pub blank_session_view : ℕ → SessionView
+blank_session_view capacity = session_view (library (drive_with the_drive (slot the_reel (Some (kept_reel [] capacity)) ∷ []) ∷ []) []) Idle
 
 -- the exit status, by how the stream ended: none where it failed, or where memory was refused before it was read
 abbrev pub exit_status : Option Served → ℕ
@@ -42,10 +42,10 @@ pub record IsServedAlone {In Out : Type 0} (kind : StreamsKind In Out) (capacity
   pub read : List ℕ
   pub done : List Exchange
   pub rest : List ℕ
-  pub finish : Scene
+  pub finish : SessionView
   pub consumed : AreRead kind old new read
   pub ends : EndsWith kind ending old new read done rest
-  pub run : ServeRun false false true (blank_scene capacity) done finish
+  pub run : ServeRun false false true (blank_session_view capacity) done finish
 
 -- the same, with the status that it ends with
 abbrev pub IsStdio : {In Out : Type 0} → StreamsKind In Out → ℕ → Streams In Out → Streams In Out → ℕ → Type 0

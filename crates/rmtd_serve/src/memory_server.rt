@@ -2,7 +2,7 @@
 ghost use Rattle.std.specs.Prelude.{◌≡◌, IfSome, length};
 ghost use Rattle.drives.specs.ListLibrary.{IsLibrary, StacksCanFail};
 ghost use Rattle.rmt_server.specs.Stream.{streams, streams_kind};
-ghost use Rattle.rmtd_serve.specs.Stdio.{blank_scene};
+ghost use Rattle.rmtd_serve.specs.Stdio.{blank_session_view};
 ghost use Rattle.rmtd_serve.specs.Serving.{IsServedNext};
 
 use crate::at::serve_afresh;
@@ -43,7 +43,7 @@ impl Model for MemoryServer {
 impl MemoryServer {
     /// The drive with one reel `reel`, which is empty and of this capacity in bytes. None where memory was refused.
     pub fn new(alloc: Global, capacity: u64) -> Option<MemoryServer>
-        ensures { IfSome result (λ s. s ≡ (blank_scene capacity).library) }
+        ensures { IfSome result (λ s. s ≡ (blank_session_view capacity).library) }
     {
         let holds = LocalHolds::new(alloc, 1).ok()?;
         let stacks = one_reel(alloc, capacity)?;
@@ -71,7 +71,7 @@ impl MemoryServer {
 
 /// The drive with its one reel, which is empty. None where memory was refused.
 fn one_reel(alloc: Global, capacity: u64) -> Option<ListStacks>
-    ensures library { IfSome result (λ stacks. IsLibrary stacks (blank_scene capacity).library) }
+    ensures library { IfSome result (λ stacks. IsLibrary stacks (blank_session_view capacity).library) }
     ensures quiet { IfSome result (λ stacks. StacksCanFail stacks → ⊥) }
     ensures drives { IfSome result (λ stacks. length stacks.library.drives ≡ 1) }
 {

@@ -84,7 +84,7 @@ entry_in (Some entries) before now i n told e = entry_at entries before now i n 
 pub entry_more : (w : World) (reel before now : List ℕ) (i n : ℕ) → Some n ≡ told_length (entry_on w reel i)
     → now ≡ before ++ flat_map entry_text (take i (entries_of_reel w reel))
     → now ++ length_text n ≡ before ++ flat_map entry_text (take (i + 1) (entries_of_reel w reel))
-entry_more w reel before now i n told e = entry_in (entries_on w.hall reel) before now i n told e
+entry_more w reel before now i n told e = entry_in (entries_on w.server reel) before now i n told e
 
 -- one line more, of what is shown of an element
 pub shown_more : {X Y : Type 0} (f : Y → List ℕ) (show : X → Y) (before now : List ℕ) (xs : List X) (i : ℕ) (x : X) → i < length xs → x ≡ get_or xs i x
@@ -108,7 +108,7 @@ over_in (Some entries) i told = over_at entries i told
 -- no entry is left of a reel
 pub entries_over : (w : World) (reel before now : List ℕ) (i : ℕ) → None ≡ told_length (entry_on w reel i)
     → now ≡ before ++ flat_map entry_text (take i (entries_of_reel w reel)) → now ≡ before ++ flat_map entry_text (entries_of_reel w reel)
-entries_over w reel before now i told e = e ∙ ap (λ l. before ++ flat_map entry_text l) (over_in (entries_on w.hall reel) i told)
+entries_over w reel before now i told e = e ∙ ap (λ l. before ++ flat_map entry_text l) (over_in (entries_on w.server reel) i told)
 
 -- there is a volume in each place
 pub count_there : (counts : List Count) (i : ℕ) → i < length counts → ¬ (None ≡ slice_get counts i)

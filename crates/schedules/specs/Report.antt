@@ -19,7 +19,7 @@ entry_text entry = length_text (length (bytes_of entry))
 
 -- what stands on the reel of this name
 abbrev pub entries_of_reel : World → List ℕ → List PlainEntry
-entries_of_reel w name = unwrap_or (entries_on w.hall name) []
+entries_of_reel w name = unwrap_or (entries_on w.server name) []
 
 abbrev pub reel_line : World → List ℕ → List ℕ
 reel_line w name = codes "reel " ++ name ++ flat_map entry_text (entries_of_reel w name) ++ codes "\n"
@@ -34,10 +34,10 @@ stack_of [] name = []
 stack_of (drive ∷ all_drives) name = if bytes_eq name drive.name then drive.stack else stack_of all_drives name
 
 abbrev pub stack_line : World → List ℕ → List ℕ
-stack_line w device = codes "stack " ++ device ++ names_text (names_of (stack_of w.hall.library.drives device)) ++ codes "\n"
+stack_line w device = codes "stack " ++ device ++ names_text (names_of (stack_of w.server.library.drives device)) ++ codes "\n"
 
 abbrev pub bin_line : World → List ℕ
-bin_line w = codes "bin" ++ names_text (names_of w.hall.library.bin) ++ codes "\n"
+bin_line w = codes "bin" ++ names_text (names_of w.server.library.bin) ++ codes "\n"
 
 -- its run, volume, first block, how many blocks, and its reel
 abbrev pub count_line : Count → List ℕ

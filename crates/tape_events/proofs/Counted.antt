@@ -31,39 +31,39 @@ written_whole w run payload x l d b e =
     ∙ ap (λ n. whole_volume run payload x.volume n d.blocks) e.first
     ∙ ap (λ n. whole_volume run payload x.volume x.first n) e.count
 
-pub counted_reels : (w : World) → AreHeld w.hall → AreLaid w.hall → AreNamed w → AreWritersLast w → AreTold w → AreLabelled w → AreCountsEarned w → AreSpared w
+pub counted_reels : (w : World) → AreHeld w.server → AreLaid w.server → AreNamed w → AreWritersLast w → AreTold w → AreLabelled w → AreCountsEarned w → AreSpared w
     → CountedReels w
 counted_reels w held laid named writers told labelled earned spares x among =
     let e = earned x among in
     let p = e.3 in
     let a = labelled x.connection e.0 e.1 p.there p.dump p.label in
     let same : a.0 ≡ e.2 = same_Some a.0 e.2 (sym a.1 ∙ ap (numbered w.begun) p.run ∙ p.begun) in
-    let just : IsSpared w x → (entries : List PlainEntry) → StandsOn w.hall x.reel entries
+    let just : IsSpared w x → (entries : List PlainEntry) → StandsOn w.server x.reel entries
     → entries ≡ whole_volume a.0.run a.0.payload x.volume x.first x.count
     = λ spared entries stands.
     (a.2 x.reel (p.fault, (spared.0, spared.1, spared_alone w x told writers spares.late spares.stopped among spared))).stands entries stands
     ∙ written_whole w a.0.run a.0.payload x e.0 e.1 e.2 p in
-    let on = stands_somewhere w.hall x.reel held laid (named.opened _ p.opened) in
+    let on = stands_somewhere w.server x.reel held laid (named.opened _ p.opened) in
     record {
       begun = a.0;
       begun_as = ap (numbered w.begun) (sym p.run) ∙ a.1;
       within = subst (λ (b : Begun). x.first + x.count ≤ b.run.blocks) (sym same) p.within;
       opened = p.opened;
       there = named.opened _ p.opened;
-      whole = λ spared. (subst (StandsOn w.hall x.reel) (just spared on.0 on.1) on.1, just spared);
+      whole = λ spared. (subst (StandsOn w.server x.reel) (just spared on.0 on.1) on.1, just spared);
     }
 
 pub spared_reels : (w : World) → AreTold w → AreWritersLast w → AreSpared w → SparedReels w
 spared_reels w told writers spares x y counted among spared its since = spared_alone w x told writers spares.late spares.stopped counted spared y among its since
 
-pub labelled_reels : (w : World) → AreHeld w.hall → AreLaid w.hall → AreNamed w → AreLabelled w → LabelledReels w
+pub labelled_reels : (w : World) → AreHeld w.server → AreLaid w.server → AreNamed w → AreLabelled w → LabelledReels w
 labelled_reels w held laid named labelled k d reel has label quiet =
     let a = labelled k has.0 d has.1 has.2 label in
     let wrote = a.2 reel quiet in
-    let on = stands_somewhere w.hall reel held laid (named.opened (opening k reel) (among_at w.opens quiet.1.0 (opening k reel) quiet.1.1)) in
+    let on = stands_somewhere w.server reel held laid (named.opened (opening k reel) (among_at w.opens quiet.1.0 (opening k reel) quiet.1.1)) in
     record {
       begun = a.0;
       begun_as = a.1;
-      holds = (subst (StandsOn w.hall reel) (wrote.stands on.0 on.1) on.1, wrote.stands);
+      holds = (subst (StandsOn w.server reel) (wrote.stands on.0 on.1) on.1, wrote.stands);
       at_end = wrote.behind;
     }

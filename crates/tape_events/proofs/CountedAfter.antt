@@ -73,7 +73,7 @@ same_earned w u q counts earned x among =
     still_earned w u x e.0 e.1 e.2 q e.3
 
 -- the count of an attempt of which all was done up to its close
-new_earned : (w u : World) (t : Listens w) → Quietly w u → IsSingle w.opens t.k t.d → HasCounted w.begun (side_of w.hall t.k) t.c t.d t.at
+new_earned : (w u : World) (t : Listens w) → Quietly w u → IsSingle w.opens t.k t.d → HasCounted w.begun (side_of w.server t.k) t.c t.d t.at
     → (x : Count) → x ≡ counts_of w t.c.number t.k (count_to (checkpoint_of t.c.at.counts) (t.d.first + t.d.blocks))
     → (m : Link) × (e : Dumping) × (c : Begun) × IsEarnedBy u x m e c
 new_earned w u t q single h x is =
@@ -102,7 +102,7 @@ new_earned w u t q single h x is =
     }
 
 -- the client heard, and may have counted
-listens_counts : (w u : World) (t : Listens w) → u.counts ≡ w.counts ++ told_counts w t → (t.at.counts ≡ t.c.at.counts) ⊎ HasCounted w.begun (side_of w.hall t.k) t.c t.d t.at → Quietly w u
+listens_counts : (w u : World) (t : Listens w) → u.counts ≡ w.counts ++ told_counts w t → (t.at.counts ≡ t.c.at.counts) ⊎ HasCounted w.begun (side_of w.server t.k) t.c t.d t.at → Quietly w u
     → IsSingle w.opens t.k t.d → AreCountsEarned w → AreCountsEarned u
 listens_counts w u t counts (inl same) q single earned x among =
     let none : drop (length t.c.at.counts) t.at.counts ≡ []
@@ -127,5 +127,5 @@ listens_earned g w u t counts q owned told single earned =
     let own : w.own ≡ Some t.k = owned.only t.k (t.l, t.d, t.there, t.other, t.dump) in
     let at = (told.each t.k t.l t.there).own t.d t.c t.dump own t.client in
     listens_counts w u t counts
-    (heard_counts g t.c.at.stage w.begun (side_of w.hall t.k) t.l t.c t.d t.at t.fed t.n t.progress t.some t.within at t.had t.feeds)
+    (heard_counts g t.c.at.stage w.begun (side_of w.server t.k) t.l t.c t.d t.at t.fed t.n t.progress t.some t.within at t.had t.feeds)
     q (single t.k t.l t.d t.there t.dump) earned

@@ -3,7 +3,7 @@ use Rattle.std.proofs.Common.{◌≡◌, ◌⊎◌, ℕ, Bool, true, false, List
 use Rattle.rmt_wire.specs.Request.{PlainRequest}
 use Rattle.rmt_wire.specs.declared.fault.WireFault.{WireFault}
 use Rattle.tape.specs.declared.trouble.Trouble.{Trouble}
-use Rattle.rmt_server.specs.Hall.{Side}
+use Rattle.rmt_server.specs.ServerState.{ServerConnection}
 use Rattle.dump_client.specs.Standing.{Standing}
 use Rattle.dump_client.specs.declared.stage.Progress.{Progress}
 use Rattle.dump_client.specs.declared.stage.Progress.TheVariants as moved
@@ -54,7 +54,7 @@ sends_counts : (failing : Bool) (w : World) (k : ℕ) (c : Caller) (payload : Li
 sends_counts true w k c payload step u (reader, is) = ap (λ (x : World). x.counts) is
 sends_counts false w k c payload step u (reader, has, is) = ap (λ (x : World). x.counts) is
 
-finds_counts : (w : World) (k : ℕ) (trouble : Trouble) (s : Side) (found : Result (Option PlainRequest) WireFault) (rest : List ℕ) (u : World)
+finds_counts : (w : World) (k : ℕ) (trouble : Trouble) (s : ServerConnection) (found : Result (Option PlainRequest) WireFault) (rest : List ℕ) (u : World)
     → Finds w k trouble s found rest u → u.counts ≡ w.counts
 finds_counts w k trouble s (Ok None) rest u finds = absurd finds
 finds_counts w k trouble s (Ok (Some request)) rest u (reply, reached, library, session, holders, unread, served, is) = ap (λ (x : World). x.counts) is

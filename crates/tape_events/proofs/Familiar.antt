@@ -23,7 +23,7 @@ unwritten w k reel kept = last_alone w k reel kept.writers
 
 -- the own connection is of the client's run
 own_number : (begun : List Begun) (w : World) (k : ℕ) (l : Link) (c : Caller) (d : Dumping) (stage : Stage)
-    → IsLinkToldAt stage begun (side_of w.hall k) l c d → (step : Step) → IsAtStep stage step → d.run ≡ c.number
+    → IsLinkToldAt stage begun (side_of w.server k) l c d → (step : Step) → IsAtStep stage step → d.run ≡ c.number
 own_number begun w k l c d (ToSend s) (b, attempt, turn) step at = attempt.number
 own_number begun w k l c d (Waiting s) (b, attempt, asked) step at = attempt.number
 own_number begun w k l c d stage told step at = absurd at

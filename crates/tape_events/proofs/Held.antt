@@ -6,8 +6,8 @@ use Rattle.std.proofs.lemmas.List.{length-set}
 use Rattle.std.proofs.lemmas.Option.{same_Some}
 use Rattle.rmt_wire.specs.RequestReader.{held}
 use Rattle.drives.specs.TapeLibrary.{TapeLibrary}
-use Rattle.rmt_server.specs.Hall.{Hall, Side, side}
-use Rattle.rmt_server.specs.Session.{PlainSession, scene}
+use Rattle.rmt_server.specs.ServerState.{ServerState, ServerConnection, side}
+use Rattle.rmt_server.specs.Session.{PlainSession, session_view}
 use Rattle.rmt_server.specs.Session.PlainSession.{Idle}
 use Rattle.rmt_server.specs.TroubledServe.{drive_in, with_holder}
 use Rattle.tape_events.specs.World.{World, numbered, with_numbered}
@@ -19,11 +19,11 @@ use Rattle.tape_events.proofs.Numbers.{set_is, set_here, set_other, with_here, w
 use Rattle.tape_events.proofs.Served.{closed_drives, holders_length, comes_serves}
 pub use Rattle.tape_events.proofs.Sides.{side_there}
 use Rattle.tape_events.proofs.Sides.{Sits, sits_here, sits_other, joined_is, joined_was, KeepsOver, ended_by, all_ended_by}
-use Rattle.tape_events.proofs.HallMoves.{HallMove, leaves, joins, reads, serves, ends, restarts, arranges, hall_after}
-use Rattle.tape_events.proofs.Moves.{Move, moved, hall_move, hall_moved, happened}
+use Rattle.tape_events.proofs.ServerMoves.{ServerMove, leaves, joins, reads, serves, ends, restarts, arranges, server_after}
+use Rattle.tape_events.proofs.Moves.{Move, moved, server_move, server_moved, happened}
 
 -- the drive that a side, if it is live, has open
-abbrev pub drive_of_side : Option Side → Option ℕ
+abbrev pub drive_of_side : Option ServerConnection → Option ℕ
 drive_of_side None = None
 drive_of_side (Some s) = drive_in s.session
 
@@ -44,7 +44,7 @@ pub cleared_own : (holders : List ℕ) (o : Option ℕ) (d k : ℕ) → o ≡ So
 cleared_own holders o d k is at = ap (λ x. slice_get (with_holder x 0 holders) d) is ∙ set_here holders d k 0 at
 
 -- A live side is another, or over, and the holders follow: what was open is free, and what is open is its own.
-pub record Turns (h : Hall) (k : ℕ) (s : Side) (o : Option Side) (u : Hall) : Type 0 where
+pub record Turns (h : ServerState) (k : ℕ) (s : ServerConnection) (o : Option ServerConnection) (u : ServerState) : Type 0 where
   pub sits : Sits h k s o u
   pub holders : u.holders ≡ with_holder (drive_of_side o) k (with_holder (drive_in s.session) 0 h.holders)
   pub drives : length u.library.drives ≡ length h.library.drives
@@ -58,8 +58,8 @@ holder_stays (Some e) cleared k d n at free =
     set_other cleared e d k (λ same. (let none = free e refl in
     let clash : 0 ≡ suc n = same_Some 0 (suc n) (sym none ∙ ap (slice_get cleared) (sym same) ∙ at) in omega (arith, clash))) ∙ at
 
-opened_turn : (h : Hall) (k : ℕ) (s : Side) (o : Option Side) (u : Hall) → Turns h k s o u → AreHeld h
-    → (j d : ℕ) (x : Side) → side_of u j ≡ Some x → drive_in x.session ≡ Some d → slice_get u.holders d ≡ Some j
+opened_turn : (h : ServerState) (k : ℕ) (s : ServerConnection) (o : Option ServerConnection) (u : ServerState) → Turns h k s o u → AreHeld h
+    → (j d : ℕ) (x : ServerConnection) → side_of u j ≡ Some x → drive_in x.session ≡ Some d → slice_get u.holders d ≡ Some j
 opened_turn h k s o u t a zero d x at drive = absurd (let first = numbered_first u.sides zero (Some x) (side_there u zero x at) in omega (arith, first))
 opened_turn h k s o u t a (suc j) d x at drive = elim (eqb_tells (suc j) k) [
   | inl (equal, same) ↦
@@ -76,18 +76,18 @@ opened_turn h k s o u t a (suc j) d x at drive = elim (eqb_tells (suc j) k) [
 ]
 
 -- the holder that is told has it open
-told_holder : (h : Hall) (k : ℕ) (s : Side) (o : Option Side) (u : Hall) → Turns h k s o u → AreHeld h → (j d : ℕ)
-    → slice_get (with_holder (drive_in s.session) 0 h.holders) d ≡ Some (suc j) → (x : Side) × (side_of u (suc j) ≡ Some x) × (drive_in x.session ≡ Some d)
+told_holder : (h : ServerState) (k : ℕ) (s : ServerConnection) (o : Option ServerConnection) (u : ServerState) → Turns h k s o u → AreHeld h → (j d : ℕ)
+    → slice_get (with_holder (drive_in s.session) 0 h.holders) d ≡ Some (suc j) → (x : ServerConnection) × (side_of u (suc j) ≡ Some x) × (drive_in x.session ≡ Some d)
 told_holder h k s o u t a j d at =
     let was = cleared_was (drive_in s.session) h.holders d j at in
     let x = a.holds j d was.0 in
     let other : suc j ≡ k → ⊥
-    = λ same. was.1 (ap (λ (z : Side). drive_in z.session) (same_Some s x.0 (sym t.sits.was ∙ ap (side_of h) (sym same) ∙ x.1)) ∙ x.2) in
+    = λ same. was.1 (ap (λ (z : ServerConnection). drive_in z.session) (same_Some s x.0 (sym t.sits.was ∙ ap (side_of h) (sym same) ∙ x.1)) ∙ x.2) in
     (x.0, sits_other h k (suc j) s o u t.sits other ∙ x.1, x.2)
 
-holds_from : (h : Hall) (k : ℕ) (s : Side) (o : Option Side) (u : Hall) (e : Option ℕ) → Turns h k s o u → AreHeld h → drive_of_side o ≡ e → (j d : ℕ)
+holds_from : (h : ServerState) (k : ℕ) (s : ServerConnection) (o : Option ServerConnection) (u : ServerState) (e : Option ℕ) → Turns h k s o u → AreHeld h → drive_of_side o ≡ e → (j d : ℕ)
     → slice_get (with_holder e k (with_holder (drive_in s.session) 0 h.holders)) d ≡ Some (suc j)
-    → (x : Side) × (side_of u (suc j) ≡ Some x) × (drive_in x.session ≡ Some d)
+    → (x : ServerConnection) × (side_of u (suc j) ≡ Some x) × (drive_in x.session ≡ Some d)
 holds_from h k s o u None t a its j d at = told_holder h k s o u t a j d at
 holds_from h k s None u (Some e) t a its j d at = absurd cc
 holds_from h k s (Some x) u (Some e) t a its j d at = elim (set_is (with_holder (drive_in s.session) 0 h.holders) e d k (suc j) at) [
@@ -95,7 +95,7 @@ holds_from h k s (Some x) u (Some e) t a its j d at = elim (set_is (with_holder 
   | inr (other, on) ↦ told_holder h k s (Some x) u t a j d on
 ]
 
-pub turned_held : (h : Hall) (k : ℕ) (s : Side) (o : Option Side) (u : Hall) → Turns h k s o u → AreHeld h → AreHeld u
+pub turned_held : (h : ServerState) (k : ℕ) (s : ServerConnection) (o : Option ServerConnection) (u : ServerState) → Turns h k s o u → AreHeld h → AreHeld u
 turned_held h k s o u t a = record {
   places = ap length t.holders ∙ holders_length (drive_of_side o) k _ ∙ holders_length (drive_in s.session) 0 h.holders ∙ a.places ∙ sym t.drives;
   opened = opened_turn h k s o u t a;
@@ -103,7 +103,7 @@ turned_held h k s o u t a = record {
 }
 
 -- the same sides, by what they have open
-same_held : (h u : Hall) → u.sides ≡ h.sides → u.holders ≡ h.holders → length u.library.drives ≡ length h.library.drives → AreHeld h → AreHeld u
+same_held : (h u : ServerState) → u.sides ≡ h.sides → u.holders ≡ h.holders → length u.library.drives ≡ length h.library.drives → AreHeld h → AreHeld u
 same_held h u sides holders drives a = record {
   places = ap length holders ∙ a.places ∙ sym drives;
   opened = λ k d s at drive. ap (λ l. slice_get l d) holders ∙ a.opened k d s (ap (λ ss. option_and_then (λ x. x) (numbered ss k)) (sym sides) ∙ at) drive;
@@ -112,7 +112,7 @@ same_held h u sides holders drives a = record {
 }
 
 -- a side that only read more
-read_held : (h u : Hall) (k : ℕ) (s x : Side) → side_of h k ≡ Some s → x.session ≡ s.session → u.sides ≡ with_numbered h.sides k (Some x) → u.holders ≡ h.holders
+read_held : (h u : ServerState) (k : ℕ) (s x : ServerConnection) → side_of h k ≡ Some s → x.session ≡ s.session → u.sides ≡ with_numbered h.sides k (Some x) → u.holders ≡ h.holders
     → u.library ≡ h.library → AreHeld h → AreHeld u
 read_held h u k s x was session sides holders drives a =
     let there = side_there h k s was in
@@ -124,24 +124,24 @@ read_held h u k s x was session sides holders drives a =
       opened = λ j d y at drive. ap (λ l. slice_get l d) holders ∙ (elim (eqb_tells j k) [
         | inl (equal, same) ↦
             let its : x ≡ y = same_Some x y (sym here ∙ ap (side_of u) (sym same) ∙ at) in
-            a.opened k d s was (ap drive_in (sym session) ∙ ap (λ (z : Side). drive_in z.session) its ∙ drive) ∙ ap Some (sym same)
+            a.opened k d s was (ap drive_in (sym session) ∙ ap (λ (z : ServerConnection). drive_in z.session) its ∙ drive) ∙ ap Some (sym same)
         | inr (unequal, other) ↦ a.opened j d y (sym (beside j other) ∙ at) drive
       ]);
       holds = λ j d at. (let y = a.holds j d (ap (λ l. slice_get l d) (sym holders) ∙ at) in elim (eqb_tells (suc j) k) [
         | inl (equal, same) ↦
             let its : s ≡ y.0 = same_Some s y.0 (sym was ∙ ap (side_of h) (sym same) ∙ y.1) in
-            (x, ap (side_of u) same ∙ here, ap drive_in session ∙ ap (λ (z : Side). drive_in z.session) its ∙ y.2)
+            (x, ap (side_of u) same ∙ here, ap drive_in session ∙ ap (λ (z : ServerConnection). drive_in z.session) its ∙ y.2)
         | inr (unequal, other) ↦ (y.0, beside (suc j) other ∙ y.1, y.2)
       ]);
     }
 
 -- a side more, with nothing open
-joined_held : (h : Hall) → AreHeld h → AreHeld (with_side h)
+joined_held : (h : ServerState) → AreHeld h → AreHeld (with_side h)
 joined_held h a = record {
   places = a.places;
   opened = λ k d s at drive. elim (joined_is h k s at) [
     | inl on ↦ a.opened k d s on drive
-    | inr new ↦ (let clash : drive_in Idle ≡ Some d = ap (λ (z : Side). drive_in z.session) new ∙ drive in absurd cc)
+    | inr new ↦ (let clash : drive_in Idle ≡ Some d = ap (λ (z : ServerConnection). drive_in z.session) new ∙ drive in absurd cc)
   ];
   holds = λ k d at. (let x = a.holds k d at in (x.0, joined_was h (suc k) x.0 x.1, x.2));
 }
@@ -156,16 +156,16 @@ over_held h k s is a = turned_held h k s None _ record {
 } a
 
 -- what stays so beside this of a hall of which a side is over
-abbrev pub KeepsHeldOver : (Hall → Type 0) → Type 0
-KeepsHeldOver P = (h : Hall) (k : ℕ) (s : Side) → side_of h k ≡ Some s → AreHeld h → P h → P (ended_from h k (Some s))
+abbrev pub KeepsHeldOver : (ServerState → Type 0) → Type 0
+KeepsHeldOver P = (h : ServerState) (k : ℕ) (s : ServerConnection) → side_of h k ≡ Some s → AreHeld h → P h → P (ended_from h k (Some s))
 
-both_over : (P : Hall → Type 0) → KeepsHeldOver P → KeepsOver (λ h. AreHeld h × P h)
+both_over : (P : ServerState → Type 0) → KeepsHeldOver P → KeepsOver (λ h. AreHeld h × P h)
 both_over P over h k s is both = (over_held h k s is both.0, over h k s is both.0 both.1)
 
-pub held_ended_by : (P : Hall → Type 0) → KeepsHeldOver P → (h : Hall) (k : ℕ) → AreHeld h → P h → P (ended h k)
+pub held_ended_by : (P : ServerState → Type 0) → KeepsHeldOver P → (h : ServerState) (k : ℕ) → AreHeld h → P h → P (ended h k)
 held_ended_by P over h k a p = (ended_by (λ x. AreHeld x × P x) (both_over P over) h k (a, p)).1
 
-pub held_all_ended_by : (P : Hall → Type 0) → KeepsHeldOver P → (h : Hall) (n : ℕ) → AreHeld h → P h → P (all_ended h n)
+pub held_all_ended_by : (P : ServerState → Type 0) → KeepsHeldOver P → (h : ServerState) (n : ℕ) → AreHeld h → P h → P (all_ended h n)
 held_all_ended_by P over h n a p = (all_ended_by (λ x. AreHeld x × P x) (both_over P over) h n (a, p)).1
 
 -- a free place stays free once nothing is open
@@ -177,24 +177,24 @@ free_then holders session d k own way = elim way [
   | inr free ↦ free
 ]
 
-hall_held : (h : Hall) (m : HallMove h) → AreHeld h → AreHeld (hall_after h m)
-hall_held h leaves a = a
-hall_held h joins a = joined_held h a
-hall_held h (reads k s reached live unread) a = read_held h _ k s (side reached s.session) live refl refl refl refl a
-hall_held h (serves k s x library holders opened live unread comes held) a =
-    let v = comes_serves h.holders (scene h.library s.session) (scene library x.session) opened a.places comes in
+server_held : (h : ServerState) (m : ServerMove h) → AreHeld h → AreHeld (server_after h m)
+server_held h leaves a = a
+server_held h joins a = joined_held h a
+server_held h (reads k s reached live unread) a = read_held h _ k s (side reached s.session) live refl refl refl refl a
+server_held h (serves k s x library holders opened live unread comes held) a =
+    let v = comes_serves h.holders (session_view h.library s.session) (session_view library x.session) opened a.places comes in
     turned_held h k s (Some x) _ record {
       sits = record { was = live; sides = refl };
       holders = held;
       drives = v.drives;
       free = λ d drive. free_then h.holders s.session d k (a.opened k d s live) (v.drive d drive);
     } a
-hall_held h (ends k) a = ended_by AreHeld over_held h k a
-hall_held h restarts a = all_ended_by AreHeld over_held h (length h.sides) a
-hall_held h (arranges d names within free) a = same_held h _ refl refl (length-set h.library.drives d _) a
+server_held h (ends k) a = ended_by AreHeld over_held h k a
+server_held h restarts a = all_ended_by AreHeld over_held h (length h.sides) a
+server_held h (arranges d names within free) a = same_held h _ refl refl (length-set h.library.drives d _) a
 
-pub held_moved : (w : World) (m : Move w) → AreHeld w.hall → AreHeld (moved w m).hall
-held_moved w m a = subst AreHeld (sym (hall_moved w m)) (hall_held w.hall (hall_move w m) a)
+pub held_moved : (w : World) (m : Move w) → AreHeld w.server → AreHeld (moved w m).server
+held_moved w m a = subst AreHeld (sym (server_moved w m)) (server_held w.server (server_move w m) a)
 
-pub held_after : (w : World) (event : PlainEvent) (u : World) → Happens w event u → AreHeld w.hall → AreHeld u.hall
-held_after w event u happens a = let m = happened w event u happens in subst (λ (x : World). AreHeld x.hall) (sym m.1) (held_moved w m.0 a)
+pub held_after : (w : World) (event : PlainEvent) (u : World) → Happens w event u → AreHeld w.server → AreHeld u.server
+held_after w event u happens a = let m = happened w event u happens in subst (λ (x : World). AreHeld x.server) (sym m.1) (held_moved w m.0 a)

@@ -28,12 +28,12 @@ first_labelled drives k l d at dump = absurd (no_number k l at)
 pub first_earned : (drives : List PlainDriveSpec) → AreCountsEarned (first_world drives)
 first_earned drives x (i, within, is) = absurd (omega (arith, within))
 
-pub single_moved : OneReading → DroppedWrites → (w : World) (m : Move w) → AreHeld w.hall → AreTold w → AreOpened w → AreSingle w → AreSingle (moved w m)
+pub single_moved : OneReading → DroppedWrites → (w : World) (m : Move w) → AreHeld w.server → AreTold w → AreOpened w → AreSingle w → AreSingle (moved w m)
 single_moved g h w (serves v) held told opened single = served_single g h w v told opened single
 single_moved g h w m held told opened single = quiet_single w _ (quiet_moved w m tt held) opened single
 
 -- each count stays that of an attempt
-pub earned_moved : OneReading → DroppedWrites → OneReply → (w : World) (m : Move w) → AreHeld w.hall → IsOwned w → AreTold w → AreSingle w → AreCountsEarned w
+pub earned_moved : OneReading → DroppedWrites → OneReply → (w : World) (m : Move w) → AreHeld w.server → IsOwned w → AreTold w → AreSingle w → AreCountsEarned w
     → AreCountsEarned (moved w m)
 earned_moved g h r w (serves v) held owned told single earned = served_earned g h w v told earned
 earned_moved g h r w (hears t on) held owned told single earned = listens_earned r w _ t refl (quiet_moved w (hears t on) tt held) owned told single earned
@@ -42,8 +42,8 @@ earned_moved g h r w (hears_last t failure over) held owned told single earned =
 earned_moved g h r w m held owned told single earned = quiet_earned w _ (quiet_moved w m tt held) refl earned
 
 -- what each attempt wrote stands on its reel
-pub labelled_moved : OneReading → DroppedWrites → (w : World) (m : Move w) → AreHeld w.hall → AreHeld (moved w m).hall → AreLaid (moved w m).hall
-    → EachReelOnce (moved w m).hall.library → AreTold w → AreOpened w → AreSingle w → AreLabelled w → AreLabelled (moved w m)
+pub labelled_moved : OneReading → DroppedWrites → (w : World) (m : Move w) → AreHeld w.server → AreHeld (moved w m).server → AreLaid (moved w m).server
+    → EachReelOnce (moved w m).server.library → AreTold w → AreOpened w → AreSingle w → AreLabelled w → AreLabelled (moved w m)
 labelled_moved g h w (serves v) held held_after laid_after once_after told opened single labelled =
     served_labelled g h w v held held_after laid_after once_after told opened single labelled
 labelled_moved g h w m held held_after laid_after once_after told opened single labelled = quiet_labelled w _ (quiet_moved w m tt held) labelled

@@ -3,19 +3,19 @@ use Rattle.std.proofs.Common.{◌≡◌, ◌⊎◌, ℕ, ◌<◌, ◌≤◌, fal
 use Rattle.std.proofs.lemmas.List.{length-map}
 use Rattle.std.proofs.lemmas.Option.{same_Some}
 use Rattle.rmt_wire.specs.RequestReader.{RequestHeld, held}
-use Rattle.rmt_server.specs.Hall.{Hall, hall, Side, side}
+use Rattle.rmt_server.specs.ServerState.{ServerState, server, ServerConnection, side}
 use Rattle.rmt_server.specs.Session.PlainSession.{Idle}
 use Rattle.tape_events.specs.World.{World, Link, Dumping, Begun, numbered, with_numbered}
 use Rattle.tape_events.specs.Changes.{changed, side_of, with_side, new_link, over_there, over_here, ended_from, noted_sent}
 use Rattle.tape_events.specs.Standing.{online_drive_in, AreHeld}
 use Rattle.tape_events.specs.Steps.{sent_link}
 use Rattle.tape_events.proofs.Numbers.{changed_is, length_changed, map_at, pushed_is, numbered_within, numbered_there, numbered_first}
-use Rattle.tape_events.proofs.HallMoves.{HallMove, leaves, joins, reads, serves, ends, restarts, arranges, hall_after, IsNoRequest}
+use Rattle.tape_events.proofs.ServerMoves.{ServerMove, leaves, joins, reads, serves, ends, restarts, arranges, server_after, IsNoRequest}
 use Rattle.tape_events.proofs.Moves as move
-use Rattle.tape_events.proofs.Moves.{talked, talked_dump, Move, moved, hall_move, hall_moved, begun_more}
+use Rattle.tape_events.proofs.Moves.{talked, talked_dump, Move, moved, server_move, server_moved, begun_more}
 use Rattle.tape_events.proofs.Sides.{sits_is, joined_is, KeepsOver, ended_by, all_ended_by}
 use Rattle.tape_events.proofs.Held.{held_ended_by, held_all_ended_by}
-use Rattle.tape_events.proofs.LabelledHalls.{StoodIn, over_stands, sides_stand, arranged_stands}
+use Rattle.tape_events.proofs.LabelledServers.{StoodIn, over_stands, sides_stand, arranged_stands}
 
 -- an attempt of which no request was carried out
 pub record SameNotes (d e : Dumping) : Type 0 where
@@ -101,64 +101,64 @@ link_still xs ys t k x at =
     )
 
 -- each side that is online was so, with the same session
-abbrev pub SidesStay : Hall → Hall → Type 0
+abbrev pub SidesStay : ServerState → ServerState → Type 0
 SidesStay h u =
-    (k d : ℕ) (y : Side) → side_of u k ≡ Some y → online_drive_in y.session ≡ Some d → (x : Side) × (side_of h k ≡ Some x) × (y.session ≡ x.session)
+    (k d : ℕ) (y : ServerConnection) → side_of u k ≡ Some y → online_drive_in y.session ≡ Some d → (x : ServerConnection) × (side_of h k ≡ Some x) × (y.session ≡ x.session)
 
 -- Nothing new stands on a reel, and no request of an attempt was carried out.
 pub record Quietly (w u : World) : Type 0 where
-  pub stands : StoodIn w.hall u.hall
-  pub sides : SidesStay w.hall u.hall
+  pub stands : StoodIn w.server u.server
+  pub sides : SidesStay w.server u.server
   pub opens : u.opens ≡ w.opens
   pub writings : u.writings ≡ w.writings
   pub begun : (n : ℕ) (b : Begun) → numbered w.begun n ≡ Some b → numbered u.begun n ≡ Some b
   pub links : LinksLike w.links u.links
 
 -- a side more
-joined_stay : (h : Hall) → SidesStay h (with_side h)
+joined_stay : (h : ServerState) → SidesStay h (with_side h)
 joined_stay h k d y at on = elim (joined_is h k y at) [
   | inl before ↦ (y, before, refl)
-  | inr new ↦ (let clash : online_drive_in Idle ≡ Some d = ap (λ (z : Side). online_drive_in z.session) new ∙ on in absurd cc)
+  | inr new ↦ (let clash : online_drive_in Idle ≡ Some d = ap (λ (z : ServerConnection). online_drive_in z.session) new ∙ on in absurd cc)
 ]
 
 -- a side has read more
-read_stay : (h : Hall) (k : ℕ) (s : Side) (reached : RequestHeld) → side_of h k ≡ Some s
-    → SidesStay h (hall h.library h.holders (with_numbered h.sides k (Some (side reached s.session))))
+read_stay : (h : ServerState) (k : ℕ) (s : ServerConnection) (reached : RequestHeld) → side_of h k ≡ Some s
+    → SidesStay h (server h.library h.holders (with_numbered h.sides k (Some (side reached s.session))))
 read_stay h k s reached live j d y at on =
-    let u = hall h.library h.holders (with_numbered h.sides k (Some (side reached s.session))) in
+    let u = server h.library h.holders (with_numbered h.sides k (Some (side reached s.session))) in
     elim (sits_is h k s (Some (side reached s.session)) u record { was = live; sides = refl } j y at) [
-      | inl (same, mine) ↦ (s, ap (side_of h) same ∙ live, ap (λ (z : Side). z.session) (sym (same_Some (side reached s.session) y mine)))
+      | inl (same, mine) ↦ (s, ap (side_of h) same ∙ live, ap (λ (z : ServerConnection). z.session) (sym (same_Some (side reached s.session) y mine)))
       | inr (other, was) ↦ (y, was, refl)
     ]
 
 -- a side is over
-over_stay : (base : Hall) → KeepsOver (SidesStay base)
+over_stay : (base : ServerState) → KeepsOver (SidesStay base)
 over_stay base h k s is stay j d y at on = elim (sits_is h k s None (ended_from h k (Some s)) record { was = is; sides = refl } j y at) [
   | inl (same, none) ↦ absurd cc
   | inr (other, was) ↦ stay j d y was on
 ]
 
 -- what an event makes of the sides, and of what stands on reels, but for a request
-hall_sides : (h : Hall) (m : HallMove h) → IsNoRequest h m → SidesStay h (hall_after h m)
-hall_sides h (serves k s x library holders opened live unread comes held) none = absurd none
-hall_sides h joins none = joined_stay h
-hall_sides h (reads k s reached live unread) none = read_stay h k s reached live
-hall_sides h (ends k) none = ended_by (SidesStay h) (over_stay h) h k (λ j d y at on. (y, at, refl))
-hall_sides h restarts none = all_ended_by (SidesStay h) (over_stay h) h (length h.sides) (λ j d y at on. (y, at, refl))
-hall_sides h m none = λ k d y at on. (y, at, refl)
+server_sides : (h : ServerState) (m : ServerMove h) → IsNoRequest h m → SidesStay h (server_after h m)
+server_sides h (serves k s x library holders opened live unread comes held) none = absurd none
+server_sides h joins none = joined_stay h
+server_sides h (reads k s reached live unread) none = read_stay h k s reached live
+server_sides h (ends k) none = ended_by (SidesStay h) (over_stay h) h k (λ j d y at on. (y, at, refl))
+server_sides h restarts none = all_ended_by (SidesStay h) (over_stay h) h (length h.sides) (λ j d y at on. (y, at, refl))
+server_sides h m none = λ k d y at on. (y, at, refl)
 
-hall_stands : (h : Hall) (m : HallMove h) → IsNoRequest h m → AreHeld h → StoodIn h (hall_after h m)
-hall_stands h (serves k s x library holders opened live unread comes held) none a = absurd none
-hall_stands h leaves none a = λ name entries on. on
-hall_stands h joins none a = sides_stand h (with_side h) refl (joined_stay h)
-hall_stands h (reads k s reached live unread) none a =
-    sides_stand h (hall h.library h.holders (with_numbered h.sides k (Some (side reached s.session)))) refl (read_stay h k s reached live)
-hall_stands h (ends k) none a = held_ended_by (StoodIn h) (over_stands h) h k a (λ name entries on. on)
-hall_stands h restarts none a = held_all_ended_by (StoodIn h) (over_stands h) h (length h.sides) a (λ name entries on. on)
-hall_stands h (arranges d names within free) none a = arranged_stands h d names a free
+server_stands : (h : ServerState) (m : ServerMove h) → IsNoRequest h m → AreHeld h → StoodIn h (server_after h m)
+server_stands h (serves k s x library holders opened live unread comes held) none a = absurd none
+server_stands h leaves none a = λ name entries on. on
+server_stands h joins none a = sides_stand h (with_side h) refl (joined_stay h)
+server_stands h (reads k s reached live unread) none a =
+    sides_stand h (server h.library h.holders (with_numbered h.sides k (Some (side reached s.session)))) refl (read_stay h k s reached live)
+server_stands h (ends k) none a = held_ended_by (StoodIn h) (over_stands h) h k a (λ name entries on. on)
+server_stands h restarts none a = held_all_ended_by (StoodIn h) (over_stands h) h (length h.sides) a (λ name entries on. on)
+server_stands h (arranges d names within free) none a = arranged_stands h d names a free
 
 -- and of connections
-links_like : (w : World) (m : Move w) → IsNoRequest w.hall (hall_move w m) → LinksLike w.links (moved w m).links
+links_like : (w : World) (m : Move w) → IsNoRequest w.server (server_move w m) → LinksLike w.links (moved w m).links
 links_like w (move.serves t) none = absurd none
 links_like w (move.connects c there stage) none = then_joined w.links _ (refl, refl)
 links_like w move.joins none = then_joined w.links (new_link None) tt
@@ -175,18 +175,18 @@ links_like w (move.sees t failure) none = then_kept w.links over_there t.k (λ x
 links_like w (move.gives_up x k own) none = then_kept w.links over_there k (λ x. refl)
 links_like w m none = same_links w.links
 
-same_opens : (w : World) (m : Move w) → IsNoRequest w.hall (hall_move w m) → (moved w m).opens ≡ w.opens
+same_opens : (w : World) (m : Move w) → IsNoRequest w.server (server_move w m) → (moved w m).opens ≡ w.opens
 same_opens w (move.serves t) none = absurd none
 same_opens w m none = refl
 
-same_writings : (w : World) (m : Move w) → IsNoRequest w.hall (hall_move w m) → (moved w m).writings ≡ w.writings
+same_writings : (w : World) (m : Move w) → IsNoRequest w.server (server_move w m) → (moved w m).writings ≡ w.writings
 same_writings w (move.serves t) none = absurd none
 same_writings w m none = refl
 
-pub quiet_moved : (w : World) (m : Move w) → IsNoRequest w.hall (hall_move w m) → AreHeld w.hall → Quietly w (moved w m)
+pub quiet_moved : (w : World) (m : Move w) → IsNoRequest w.server (server_move w m) → AreHeld w.server → Quietly w (moved w m)
 quiet_moved w m none a = record {
-  stands = subst (StoodIn w.hall) (sym (hall_moved w m)) (hall_stands w.hall (hall_move w m) none a);
-  sides = subst (SidesStay w.hall) (sym (hall_moved w m)) (hall_sides w.hall (hall_move w m) none);
+  stands = subst (StoodIn w.server) (sym (server_moved w m)) (server_stands w.server (server_move w m) none a);
+  sides = subst (SidesStay w.server) (sym (server_moved w m)) (server_sides w.server (server_move w m) none);
   opens = same_opens w m none;
   writings = same_writings w m none;
   begun = begun_more w m;

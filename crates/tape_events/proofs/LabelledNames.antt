@@ -11,7 +11,7 @@ use Rattle.tape.specs.Tape.{PlainEntry, entries_of}
 use Rattle.drives.specs.TapeLibrary.{KeptReel, ReelSlot, Drive, drive_with, TapeLibrary, drive_at, with_drive_at, slots_in, EachReelOnce}
 use Rattle.drives.proofs.Shops.{bit, named, times_named, sum_by_with_drive}
 use Rattle.rmt_server.specs.declared.access.Access.{Access}
-use Rattle.rmt_server.specs.Hall.{Hall, Side}
+use Rattle.rmt_server.specs.ServerState.{ServerState, ServerConnection}
 use Rattle.rmt_server.specs.Session.{PlainReel}
 use Rattle.rmt_server.specs.Session.PlainSession.{Online}
 use Rattle.rmt_server.specs.TroubledServe.{drive_in}
@@ -84,7 +84,7 @@ lies_nowhere s drive name entries once within away is (inr lies) =
     omega (arith, one, first, second, parts, all, few)
 
 -- what stands on the reel in a drive
-pub stands_one : (h : Hall) (k : ℕ) (s : Side) (drive : ℕ) (access : Access) (reel : PlainReel) (name : List ℕ) (entries : List PlainEntry) → side_of h k ≡ Some s
+pub stands_one : (h : ServerState) (k : ℕ) (s : ServerConnection) (drive : ℕ) (access : Access) (reel : PlainReel) (name : List ℕ) (entries : List PlainEntry) → side_of h k ≡ Some s
     → s.session ≡ Online drive access reel → first_name (drive_at h.library drive).stack ≡ name → AreHeld h → AreLaid h → EachReelOnce h.library → StandsOn h name entries
     → entries ≡ entries_of reel.tape
 stands_one h k s drive access reel name entries live online is a l once (inl lies) =
@@ -92,7 +92,7 @@ stands_one h k s drive access reel name entries live online is a l once (inl lie
 stands_one h k s drive access reel name entries live online is a l once (inr (j, y, at, (e, other, r, now, named, holds))) = elim (eqb_tells j k) [
   | inl (equal, same) ↦
       let its : y ≡ s = same_Some y s (sym at ∙ ap (side_of h) same ∙ live) in
-      let both : Online e other r ≡ Online drive access reel = sym now ∙ ap (λ (z : Side). z.session) its ∙ online in
+      let both : Online e other r ≡ Online drive access reel = sym now ∙ ap (λ (z : ServerConnection). z.session) its ∙ online in
       let reels : r ≡ reel = cc in
       sym holds ∙ ap (λ (x : PlainReel). entries_of x.tape) reels
   | inr (unequal, differ) ↦

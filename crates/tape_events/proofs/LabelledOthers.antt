@@ -3,7 +3,7 @@ use Rattle.std.proofs.Common.{◌≡◌, ◌≢◌, ℕ, ◌+◌, List, ◌++◌
 use Rattle.std.specs.Prelude.{option_to_list}
 use Rattle.std.proofs.lemmas.List.{append-nil}
 use Rattle.tape.specs.Tape.{PlainEntry}
-use Rattle.rmt_server.specs.Hall.{Hall, hall, Side, side}
+use Rattle.rmt_server.specs.ServerState.{ServerState, server, ServerConnection, side}
 use Rattle.rmt_server.specs.Session.{PlainReel}
 use Rattle.dump_run.specs.Run.{PlainRun}
 use Rattle.dump_client.specs.Lawful.{steps_before}
@@ -17,7 +17,7 @@ use Rattle.tape_events.specs.Written.{attempt_written, label_if, mark_if, IsAlon
 use Rattle.tape_events.specs.Attempts.{IsReelWritten, IsLabelled, AreLabelled}
 use Rattle.tape_events.proofs.Numbers.{pushed_is, numbered_within}
 use Rattle.tape_events.proofs.Sides.{Sits, sits_other}
-use Rattle.tape_events.proofs.LabelledHalls.{served_stands}
+use Rattle.tape_events.proofs.LabelledServers.{served_stands}
 use Rattle.tape_events.proofs.LabelledEvents.{SameNotes, same_notes, IsFresh, Quietly}
 use Rattle.tape_events.proofs.Moves.{Turn, turned}
 use Rattle.tape_events.proofs.LabelledSingle.{like_back}
@@ -44,8 +44,8 @@ before_same run d e s before marked =
 
 -- what stood on the reel stands there, or the session is another's
 record StillWritten (w u : World) (k : ℕ) (reel : List ℕ) : Type 0 where
-  stands : (entries : List PlainEntry) → StandsOn u.hall reel entries → StandsOn w.hall reel entries
-  sides : (s : Side) (r : PlainReel) → side_of u.hall k ≡ Some s → IsOnlineWith s.session r → (x : Side) × (side_of w.hall k ≡ Some x) × (s.session ≡ x.session)
+  stands : (entries : List PlainEntry) → StandsOn u.server reel entries → StandsOn w.server reel entries
+  sides : (s : ServerConnection) (r : PlainReel) → side_of u.server k ≡ Some s → IsOnlineWith s.session r → (x : ServerConnection) × (side_of w.server k ≡ Some x) × (s.session ≡ x.session)
 
 still_written : (w u : World) (k : ℕ) (b : Begun) (d e : Dumping) (reel : List ℕ) → SameNotes d e → StillWritten w u k reel → IsReelWritten w k b d reel → IsReelWritten u k b e reel
 still_written w u k b d e reel s t was = record {
@@ -88,12 +88,12 @@ opening_before opens j k i reel (Some r) other at = elim (pushed_is opens (openi
 ]
 
 -- a request of another connection
-pub others_labelled : (w : World) (v : Turn w) (j : ℕ) (d : Dumping) → j ≢ v.k → AreHeld w.hall → AreHeld (turned w v).hall → IsLabelled w j d
+pub others_labelled : (w : World) (v : Turn w) (j : ℕ) (d : Dumping) → j ≢ v.k → AreHeld w.server → AreHeld (turned w v).server → IsLabelled w j d
     → IsLabelled (turned w v) j d
 others_labelled w v j d other a b labelled label =
     let p = labelled label in
-    let h : Hall = hall v.library v.holders (with_numbered w.hall.sides v.k (Some (side v.reached v.session))) in
-    let sits : Sits w.hall v.k v.s (Some (side v.reached v.session)) h = record { was = v.live; sides = refl } in (
+    let h : ServerState = server v.library v.holders (with_numbered w.server.sides v.k (Some (side v.reached v.session))) in
+    let sits : Sits w.server v.k v.s (Some (side v.reached v.session)) h = record { was = v.live; sides = refl } in (
       p.0,
       p.1,
       λ reel (fault, (i, now, alone)).
@@ -101,13 +101,13 @@ others_labelled w v j d other a b labelled label =
           still_written w (turned w v) j p.0 d d reel (same_notes d)
           record {
             stands = λ entries on.
-                elim (served_stands v.trouble w.hall.holders w.hall h v.k v.s (side v.reached v.session) v.request v.reply sits a b v.served.step reel entries
+                elim (served_stands v.trouble w.server.holders w.server h v.k v.s (side v.reached v.session) v.request v.reply sits a b v.served.step reel entries
                 on) [
                   | inl before ↦ before
                   | inr wrote ↦ absurd (other (sym (alone (writing v.k (length w.opens) reel) (writing_there w v reel wrote) refl
                       (numbered_within w.opens i (opening j reel) at))))
                 ];
-            sides = λ s r here on. (s, sym (sits_other w.hall v.k j v.s (Some (side v.reached v.session)) h sits other) ∙ here, refl);
+            sides = λ s r here on. (s, sym (sits_other w.server v.k j v.s (Some (side v.reached v.session)) h sits other) ∙ here, refl);
           }
           (p.2 reel (fault, (i, at, λ x among. alone x (writings_after w v x among))))),
     )

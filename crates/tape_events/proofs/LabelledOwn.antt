@@ -1,6 +1,6 @@
 -- What an attempt wrote stands on its reel, when its own request is carried out once the mark was accepted.
 use Rattle.std.proofs.Common.{◌≡◌, ℕ, true, false, List, Option, Some, refl, sym, ap, ◌∙◌, inl, inr}
-use Rattle.rmt_server.specs.Hall.{Hall, hall, Side, side}
+use Rattle.rmt_server.specs.ServerState.{ServerState, server, ServerConnection, side}
 use Rattle.rmt_server.specs.Session.{tape_request}
 use Rattle.tape.specs.Tape.{PlainEntry}
 use Rattle.dump_client.specs.declared.step.Step.{Step}
@@ -13,23 +13,23 @@ use Rattle.tape_events.specs.Written.{attempt_written}
 use Rattle.tape_events.specs.Attempts.{IsReelWritten}
 use Rattle.tape_events.proofs.Sides.{Sits}
 use Rattle.tape_events.proofs.LabelledSteps.{is_write}
-use Rattle.tape_events.proofs.LabelledHalls.{served_stands}
+use Rattle.tape_events.proofs.LabelledServers.{served_stands}
 use Rattle.tape_events.proofs.Moves.{Turn, turned}
 use Rattle.tape_events.proofs.LabelledServes.{IsServed}
 
 -- after the mark no request asks for a write
-marked_reads : (b : Begun) (o : Option Side) (d : Dumping) (step : Step) → HasDone b.run o d step → d.mark ≡ true → is_write (tape_request (request_in b d step)) ≡ false
+marked_reads : (b : Begun) (o : Option ServerConnection) (d : Dumping) (step : Step) → HasDone b.run o d step → d.mark ≡ true → is_write (tape_request (request_in b d step)) ≡ false
 marked_reads b o d (Operation (Unload next)) done marked = refl
 marked_reads b o d Close done marked = refl
 marked_reads b o d step done marked = let clash = sym done.mark ∙ marked in absurd cc
 
 -- what stands on the reel stood there before, so it is what was written
-pub marked_stands : (w : World) (v : Turn w) (l : Link) (d : Dumping) → IsServed w v l d → d.mark ≡ true → AreHeld w.hall → AreHeld (turned w v).hall → (b : Begun) (reel : List ℕ)
-    → IsReelWritten w v.k b d reel → (entries : List PlainEntry) → StandsOn (turned w v).hall reel entries → entries ≡ attempt_written b.run b.payload d
+pub marked_stands : (w : World) (v : Turn w) (l : Link) (d : Dumping) → IsServed w v l d → d.mark ≡ true → AreHeld w.server → AreHeld (turned w v).server → (b : Begun) (reel : List ℕ)
+    → IsReelWritten w v.k b d reel → (entries : List PlainEntry) → StandsOn (turned w v).server reel entries → entries ≡ attempt_written b.run b.payload d
 marked_stands w v l d p marked a c b reel was entries on =
-    let h : Hall = hall v.library v.holders (with_numbered w.hall.sides v.k (Some (side v.reached v.session))) in
-    let sits : Sits w.hall v.k v.s (Some (side v.reached v.session)) h = record { was = v.live; sides = refl } in
-    elim (served_stands v.trouble w.hall.holders w.hall h v.k v.s (side v.reached v.session) v.request v.reply sits a c v.served.step reel entries
+    let h : ServerState = server v.library v.holders (with_numbered w.server.sides v.k (Some (side v.reached v.session))) in
+    let sits : Sits w.server v.k v.s (Some (side v.reached v.session)) h = record { was = v.live; sides = refl } in
+    elim (served_stands v.trouble w.server.holders w.server h v.k v.s (side v.reached v.session) v.request v.reply sits a c v.served.step reel entries
     on) [
       | inl before ↦ was.stands entries before
       | inr wrote ↦ (

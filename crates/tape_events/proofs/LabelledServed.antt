@@ -11,8 +11,8 @@ use Rattle.tape.specs.Tape.{PlainEntry, Tape, tape, entries_of}
 use Rattle.tape.specs.Tape.PlainEntry.{Record, Mark}
 use Rattle.drives.specs.TapeLibrary.{TapeLibrary, drive_at, EachReelOnce}
 use Rattle.rmt_server.specs.declared.access.Access.TheVariants.{Both}
-use Rattle.rmt_server.specs.Hall.{Hall, hall, Side, side}
-use Rattle.rmt_server.specs.Session.{PlainReel, plain_reel, scene}
+use Rattle.rmt_server.specs.ServerState.{ServerState, server, ServerConnection, side}
+use Rattle.rmt_server.specs.Session.{PlainReel, plain_reel, session_view}
 use Rattle.rmt_server.specs.Session.PlainSession.{Online}
 use Rattle.rmt_server.specs.TroubledServe.{TroubledServeStep}
 use Rattle.dump_run.specs.Run.{PlainRun}
@@ -65,10 +65,10 @@ labelled_as run payload d mark is marked =
 pub record Own (w : World) (v : Turn w) (l : Link) (d : Dumping) : Type 0 where
   pub p : IsServed w v l d
   pub good : IsGood p.b
-  pub held : AreHeld w.hall
-  pub held_after : AreHeld (turned w v).hall
-  pub laid_after : AreLaid (turned w v).hall
-  pub once_after : EachReelOnce (turned w v).hall.library
+  pub held : AreHeld w.server
+  pub held_after : AreHeld (turned w v).server
+  pub laid_after : AreLaid (turned w v).server
+  pub once_after : EachReelOnce (turned w v).server.library
   pub opened : AreOpened w
   pub single : IsSingle w.opens v.k d
   pub labelled : IsLabelled w v.k d
@@ -83,31 +83,31 @@ alone_was w v reel none (i, at, alone) =
 
 -- the reel in the drive is that of the attempt's last opening
 its_name : (w : World) (v : Turn w) (l : Link) (d : Dumping) → Own w v l d → (drive : ℕ) (reel : PlainReel) (name : List ℕ)
-    → v.s.session ≡ Online drive Both reel → IsAlone w v.k name → first_name (drive_at w.hall.library drive).stack ≡ name
+    → v.s.session ≡ Online drive Both reel → IsAlone w v.k name → first_name (drive_at w.server.library drive).stack ≡ name
 its_name w v l d o drive reel name online last =
-    let first = first_name (drive_at w.hall.library drive).stack in
-    let mine = o.opened.last v.k v.s first v.live (ap (written_reel w.hall.library) online) in
+    let first = first_name (drive_at w.server.library drive).stack in
+    let mine = o.opened.last v.k v.s first v.live (ap (written_reel w.server.library) online) in
     one_reel w.opens v.k d o.single (opening v.k first) (opening v.k name) (among_at w.opens mine.0 (opening v.k first) mine.1) (among_at w.opens last.0 (opening v.k name) last.1) refl refl
 
 -- what was written stands on the tape of the session
 now_written : (w : World) (v : Turn w) (l : Link) (d e : Dumping) → Own w v l d → (b : Begun) (drive : ℕ) (reel : PlainReel) (name : List ℕ) (t : Tape)
     → v.s.session ≡ Online drive Both reel → IsAlone w v.k name
-    → IsLeftWith (scene w.hall.library v.s.session) (scene v.library v.session) drive reel t → entries_of t ≡ attempt_written b.run b.payload e → t.after ≡ [] → IsReelWritten (turned w v) v.k b e name
+    → IsLeftWith (session_view w.server.library v.s.session) (session_view v.library v.session) drive reel t → entries_of t ≡ attempt_written b.run b.payload e → t.after ≡ [] → IsReelWritten (turned w v) v.k b e name
 now_written w v l d e o b drive reel name t online last left same none =
-    let h : Hall = hall v.library v.holders (with_numbered w.hall.sides v.k (Some (side v.reached v.session))) in
-    let sits : Sits w.hall v.k v.s (Some (side v.reached v.session)) h = record { was = v.live; sides = refl } in
-    let here : side_of (turned w v).hall v.k ≡ Some (side v.reached v.session)
-    = sits_here w.hall v.k v.s (Some (side v.reached v.session)) h sits in
-    let named : first_name (drive_at (turned w v).hall.library drive).stack ≡ name
+    let h : ServerState = server v.library v.holders (with_numbered w.server.sides v.k (Some (side v.reached v.session))) in
+    let sits : Sits w.server v.k v.s (Some (side v.reached v.session)) h = record { was = v.live; sides = refl } in
+    let here : side_of (turned w v).server v.k ≡ Some (side v.reached v.session)
+    = sits_here w.server v.k v.s (Some (side v.reached v.session)) h sits in
+    let named : first_name (drive_at (turned w v).server.library drive).stack ≡ name
     = ap (λ (s : TapeLibrary). first_name (drive_at s drive).stack) left.library
     ∙ its_name w v l d o drive reel name online last in
     record {
       stands = λ entries on.
-          stands_one (turned w v).hall v.k (side v.reached v.session) drive Both (plain_reel t reel.capacity) name entries here left.session named o.held_after o.laid_after o.once_after on
+          stands_one (turned w v).server v.k (side v.reached v.session) drive Both (plain_reel t reel.capacity) name entries here left.session named o.held_after o.laid_after o.once_after on
           ∙ same;
       behind = λ s r at on before. (
           let its : s ≡ side v.reached v.session = same_Some s (side v.reached v.session) (sym at ∙ here) in
-          let both : Online on.0 Both r ≡ Online drive Both (plain_reel t reel.capacity) = sym on.1 ∙ ap (λ (x : Side). x.session) its ∙ left.session in
+          let both : Online on.0 Both r ≡ Online drive Both (plain_reel t reel.capacity) = sym on.1 ∙ ap (λ (x : ServerConnection). x.session) its ∙ left.session in
           let reels : r ≡ plain_reel t reel.capacity = cc in
           ap (λ (x : PlainReel). x.tape.after) reels ∙ none);
     }
@@ -184,7 +184,7 @@ IsNow w v b d request =
 -- the label
 own_label : (w : World) (v : Turn w) (l : Link) (d : Dumping) (o : Own w v l d) (drive : ℕ) (reel : PlainReel) → v.s.session ≡ Online drive Both reel → reel.tape.before ≡ []
     → HasDone o.p.b.run (Some v.s) d Label
-    → Puts (scene w.hall.library v.s.session) (scene v.library v.session) drive reel (Record (label o.p.b.run d.volume d.first) ∷ []) (request_in o.p.b d Label) v.reply
+    → Puts (session_view w.server.library v.s.session) (session_view v.library v.session) drive reel (Record (label o.p.b.run d.volume d.first) ∷ []) (request_in o.p.b d Label) v.reply
     → IsNow w v o.p.b d (request_in o.p.b d Label)
 own_label w v l d o drive reel online first done (puts n is left) labelled name quiet last =
     let x = Record (label o.p.b.run d.volume d.first) in
@@ -200,7 +200,7 @@ own_label w v l d o drive reel online first done (fails fault) labelled name qui
 -- a block
 own_block : (w : World) (v : Turn w) (l : Link) (d : Dumping) (o : Own w v l d) (drive : ℕ) (reel : PlainReel) (number : ℕ) → v.s.session ≡ Online drive Both reel
     → HasDone o.p.b.run (Some v.s) d (Block number)
-    → Puts (scene w.hall.library v.s.session) (scene v.library v.session) drive reel (Record (get_or o.p.b.payload number []) ∷ []) (request_in o.p.b d (Block number)) v.reply
+    → Puts (session_view w.server.library v.s.session) (session_view v.library v.session) drive reel (Record (get_or o.p.b.payload number []) ∷ []) (request_in o.p.b d (Block number)) v.reply
     → IsNow w v o.p.b d (request_in o.p.b d (Block number))
 own_block w v l d o drive reel number online done (puts n is left) labelled name quiet last =
     let x = Record (get_or o.p.b.payload number []) in
@@ -220,7 +220,7 @@ own_block w v l d o drive reel number online done (fails fault) labelled name qu
 -- the mark
 own_mark : (w : World) (v : Turn w) (l : Link) (d : Dumping) (o : Own w v l d) (drive : ℕ) (reel : PlainReel) (next : ℕ) → v.s.session ≡ Online drive Both reel
     → HasDone o.p.b.run (Some v.s) d (Operation (MarkTape next))
-    → Puts (scene w.hall.library v.s.session) (scene v.library v.session) drive reel (Mark ∷ []) (Op MTWEOF 1) v.reply → IsNow w v o.p.b d (Op MTWEOF 1)
+    → Puts (session_view w.server.library v.s.session) (session_view v.library v.session) drive reel (Mark ∷ []) (Op MTWEOF 1) v.reply → IsNow w v o.p.b d (Op MTWEOF 1)
 own_mark w v l d o drive reel next online done (puts n is left) labelled name quiet last =
     let becomes : noted (Op MTWEOF 1) v.reply d ≡ on_by_one (record d { mark = true }) = ap (λ r. noted (Op MTWEOF 1) r d) is in
     let was = was_there w v l d o o.p.b drive reel name online last done.mark (was_written w v l d o done.label done.fault name last) in
@@ -259,20 +259,20 @@ now_by w v l d o (Operation RewindAgain) done asks labelled = let clash = sym do
 now_by w v l d o Label done asks labelled =
     let on = done.stands v.s refl in
     own_label w v l d o on.1.0 on.0 on.1.1 on.2 done
-    (write_puts v.trouble w.hall.holders (scene w.hall.library v.s.session) (label o.p.b.run d.volume d.first) v.reply (scene v.library v.session) on.1.0 on.0 on.1.1
-    (subst (λ r. TroubledServeStep v.trouble w.hall.holders (scene w.hall.library v.s.session) r v.reply (scene v.library v.session)) asks v.served.step))
+    (write_puts v.trouble w.server.holders (session_view w.server.library v.s.session) (label o.p.b.run d.volume d.first) v.reply (session_view v.library v.session) on.1.0 on.0 on.1.1
+    (subst (λ r. TroubledServeStep v.trouble w.server.holders (session_view w.server.library v.s.session) r v.reply (session_view v.library v.session)) asks v.served.step))
     labelled
 now_by w v l d o (Block number) done asks labelled =
     let on = done.stands v.s refl in
     own_block w v l d o on.1.0 on.0 number on.1.1 done
-    (write_puts v.trouble w.hall.holders (scene w.hall.library v.s.session) (get_or o.p.b.payload number []) v.reply (scene v.library v.session) on.1.0 on.0 on.1.1
-    (subst (λ r. TroubledServeStep v.trouble w.hall.holders (scene w.hall.library v.s.session) r v.reply (scene v.library v.session)) asks v.served.step))
+    (write_puts v.trouble w.server.holders (session_view w.server.library v.s.session) (get_or o.p.b.payload number []) v.reply (session_view v.library v.session) on.1.0 on.0 on.1.1
+    (subst (λ r. TroubledServeStep v.trouble w.server.holders (session_view w.server.library v.s.session) r v.reply (session_view v.library v.session)) asks v.served.step))
     labelled
 now_by w v l d o (Operation (MarkTape next)) done asks labelled =
     let on = done.stands v.s refl in
     own_mark w v l d o on.1.0 on.0 next on.1.1 done
-    (mark_puts v.trouble w.hall.holders (scene w.hall.library v.s.session) v.reply (scene v.library v.session) on.1.0 on.0 on.1.1
-    (subst (λ r. TroubledServeStep v.trouble w.hall.holders (scene w.hall.library v.s.session) r v.reply (scene v.library v.session)) asks v.served.step))
+    (mark_puts v.trouble w.server.holders (session_view w.server.library v.s.session) v.reply (session_view v.library v.session) on.1.0 on.0 on.1.1
+    (subst (λ r. TroubledServeStep v.trouble w.server.holders (session_view w.server.library v.s.session) r v.reply (session_view v.library v.session)) asks v.served.step))
     labelled
 now_by w v l d o (Operation (Unload next)) done asks labelled = λ name quiet last. (
     let one = raised_one d.carried o.p.few in
@@ -299,7 +299,7 @@ own_labelled w v l d o =
     (let now = subst (IsNow w v o.p.b d) (sym o.p.asks) (now_by w v l d o o.p.step o.p.done o.p.asks) in
     now labelled reel quiet.0 (alone_was w v reel (not_opened w v o.p.b d o.p.step o.p.done o.p.asks labelled) quiet.1)))
 
-pub served_labelled : OneReading → DroppedWrites → (w : World) (v : Turn w) → AreHeld w.hall → AreHeld (turned w v).hall → AreLaid (turned w v).hall → EachReelOnce (turned w v).hall.library → AreTold w → AreOpened w
+pub served_labelled : OneReading → DroppedWrites → (w : World) (v : Turn w) → AreHeld w.server → AreHeld (turned w v).server → AreLaid (turned w v).server → EachReelOnce (turned w v).server.library → AreTold w → AreOpened w
     → AreSingle w → AreLabelled w → AreLabelled (turned w v)
 served_labelled g h w v held held_after laid_after once_after told opened single labelled j l d at dump = elim (served_dump w v j l d at dump) [
   | inl (same, (x, e, was, its, new)) ↦

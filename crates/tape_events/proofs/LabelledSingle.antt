@@ -8,7 +8,7 @@ use Rattle.rmt_wire.specs.Counted.{raised}
 use Rattle.rmt_wire.specs.Request.{PlainRequest}
 use Rattle.rmt_wire.specs.Reply.{PlainReply}
 use Rattle.drives.specs.TapeLibrary.{TapeLibrary, drive_at}
-use Rattle.rmt_server.specs.Hall.{Side}
+use Rattle.rmt_server.specs.ServerState.{ServerConnection}
 use Rattle.rmt_server.specs.Session.{PlainSession}
 use Rattle.dump_client.specs.declared.step.Step.{Step}
 use Rattle.dump_client.specs.declared.step.Step.TheVariants.{Open, Operation, Look, Label}
@@ -59,7 +59,7 @@ open_step b d Open s session reel is = refl
 open_step b d step s session reel is = absurd cc
 
 -- only that of the label makes it accepted
-pub label_step : (b : Begun) (o : Option Side) (d : Dumping) (step : Step) (reply : PlainReply) → HasDone b.run o d step → d.label ≡ false
+pub label_step : (b : Begun) (o : Option ServerConnection) (d : Dumping) (step : Step) (reply : PlainReply) → HasDone b.run o d step → d.label ≡ false
     → (noted (request_in b d step) reply d).label ≡ true → step ≡ Label
 label_step b o d Open reply done none is = let clash = sym none ∙ is in absurd cc
 label_step b o d (Operation Rewind) reply done none is = let clash = sym none ∙ is in absurd cc
@@ -76,8 +76,8 @@ carried_more d request reply few = ap raised (noted_same d request reply).carrie
 label_opened : (w : World) (v : Turn w) (l : Link) (d : Dumping) (p : IsServed w v l d) → AreOpened w → p.step ≡ Label → (reel : List ℕ) × Contains w.opens (opening v.k reel)
 label_opened w v l d p opened is =
     let on = subst (λ s. StandsFor s v.s.session) is (p.done.stands v.s refl) in
-    let name = first_name (drive_at w.hall.library on.1.0).stack in
-    let last = opened.last v.k v.s name v.live (ap (written_reel w.hall.library) on.1.1) in
+    let name = first_name (drive_at w.server.library on.1.0).stack in
+    let last = opened.last v.k v.s name v.live (ap (written_reel w.server.library) on.1.1) in
     (name, among_at w.opens last.0 (opening v.k name) last.1)
 
 label_some : (w : World) (v : Turn w) (l : Link) (d : Dumping) (p : IsServed w v l d) (b : Bool) → d.label ≡ b → AreOpened w → IsSingle w.opens v.k d

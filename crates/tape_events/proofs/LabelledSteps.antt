@@ -18,7 +18,7 @@ use Rattle.rmt_server.specs.declared.access.Access.{Access}
 use Rattle.rmt_server.specs.declared.access.Access.TheVariants.{Read as ReadOnly, Write as WriteOnly, Both}
 use Rattle.rmt_server.specs.Access.{access_of, writes}
 use Rattle.rmt_server.specs.Refusals.{refused}
-use Rattle.rmt_server.specs.Session.{PlainReel, plain_reel, PlainSession, Scene, scene, status_of, refusal, write_refusal, op_refusal, tape_request, closed, closed_library, is_offline}
+use Rattle.rmt_server.specs.Session.{PlainReel, plain_reel, PlainSession, SessionView, session_view, status_of, refusal, write_refusal, op_refusal, tape_request, closed, closed_library, is_offline}
 use Rattle.rmt_server.specs.Session.PlainSession.{Idle, Offline, Online}
 use Rattle.rmt_server.specs.TroubledServe.{TroubledServeStep, TroubledOpens, TroubledReelStep, TroubledMoveStep, TroubledOpStep, TroubledDoneStep}
 use Rattle.tape_events.specs.Changes.{first_name, written_reel}
@@ -73,20 +73,20 @@ device_same request trouble capacity t u (Fault faults.OutOfMemory) reads step =
 device_same request trouble capacity t u answer reads step = tape_same request capacity t u answer reads step.1
 
 -- it stands on a reel that lies there, or on the reel that the session has in its drive
-abbrev pub StandsIn : Scene → List ℕ → List PlainEntry → Type 0
+abbrev pub StandsIn : SessionView → List ℕ → List PlainEntry → Type 0
 StandsIn v name entries = ReelLiesOn v.library name entries ⊎ HasInDrive v.library v.session name entries
 
 -- the session may write on that reel, and the request asks for a write
-abbrev pub WritesOn : Scene → PlainRequest → List ℕ → Type 0
+abbrev pub WritesOn : SessionView → PlainRequest → List ℕ → Type 0
 WritesOn before request name = (is_write (tape_request request) ≡ true) × (written_reel before.library before.session ≡ Some name)
 
 -- What stands on a reel after the request stood there before, or the request wrote on it.
-abbrev pub Stood : Scene → PlainRequest → Scene → Type 0
+abbrev pub Stood : SessionView → PlainRequest → SessionView → Type 0
 Stood before request after =
     (name : List ℕ) (entries : List PlainEntry) → StandsIn after name entries → StandsIn before name entries ⊎ WritesOn before request name
 
 -- nothing changes
-same_stood : (before : Scene) (request : PlainRequest) (after : Scene) → after ≡ before → Stood before request after
+same_stood : (before : SessionView) (request : PlainRequest) (after : SessionView) → after ≡ before → Stood before request after
 same_stood before request after is name entries stands = inl (subst (λ v. StandsIn v name entries) is stands)
 
 -- one call of the open reel
@@ -98,7 +98,7 @@ written_online : (s : TapeLibrary) (session : PlainSession) (drive : ℕ) (acces
 written_online s session drive access reel name is may named =
     ap (written_reel s) is ∙ ap (λ b. if b then Some (first_name (drive_at s drive).stack) else None) may ∙ ap Some named
 
-reel_now : (trouble : Trouble) (before : Scene) (request : PlainRequest) (drive : ℕ) (access : Access) (reel : PlainReel) (answer : TapeAnswer) (t : Tape) (b : Bool)
+reel_now : (trouble : Trouble) (before : SessionView) (request : PlainRequest) (drive : ℕ) (access : Access) (reel : PlainReel) (answer : TapeAnswer) (t : Tape) (b : Bool)
     (name : List ℕ) (entries : List PlainEntry) → is_write (tape_request request) ≡ b → MayWrite request access → before.session ≡ Online drive access reel
     → DeviceStep reel.capacity trouble reel.tape (tape_request request) answer t
     → HasInDrive before.library (Online drive access (plain_reel t reel.capacity)) name entries → StandsIn before name entries ⊎ WritesOn before request name
@@ -117,13 +117,13 @@ reel_now trouble before request drive access reel answer t false name entries te
       sym (device_same (tape_request request) trouble reel.capacity reel.tape t answer test device) ∙ sym (ap (λ (x : PlainReel). entries_of x.tape) its) ∙ holds,
     ))
 
-reel_stood : (trouble : Trouble) (before : Scene) (request : PlainRequest) (reply : PlainReply) (after : Scene)
+reel_stood : (trouble : Trouble) (before : SessionView) (request : PlainRequest) (reply : PlainReply) (after : SessionView)
     → ((drive : ℕ) (access : Access) (reel : PlainReel) → before.session ≡ Online drive access reel → MayWrite request access)
     → TroubledReelStep trouble before request reply after → Stood before request after
 reel_stood trouble before request reply after may (drive, access, reel, answer, t, online, device, replies, is) name entries stands =
     reel_stands (subst (λ v. StandsIn v name entries) is stands)
   where
-    reel_stands : StandsIn (scene before.library (Online drive access (plain_reel t reel.capacity))) name entries → StandsIn before name entries ⊎ WritesOn before request name
+    reel_stands : StandsIn (session_view before.library (Online drive access (plain_reel t reel.capacity))) name entries → StandsIn before name entries ⊎ WritesOn before request name
     reel_stands (inl lies) = inl (inl lies)
     reel_stands (inr has) =
         reel_now trouble before request drive access reel answer t (is_write (tape_request request)) name entries refl (may drive access reel online) online device has
@@ -132,18 +132,18 @@ reel_stood trouble before request reply after may (drive, access, reel, answer, 
 idle_none : (s : TapeLibrary) (session : PlainSession) (name : List ℕ) (entries : List PlainEntry) → session ≡ Idle → HasInDrive s session name entries → ⊥
 idle_none s session name entries idle (drive, access, reel, online, named, holds) = let clash : Idle ≡ Online drive access reel = sym idle ∙ online in cc
 
-closed_stood : (before : Scene) (request : PlainRequest) (after : Scene) → after.library ≡ closed_library before.library before.session → after.session ≡ Idle → Stood before request after
+closed_stood : (before : SessionView) (request : PlainRequest) (after : SessionView) → after.library ≡ closed_library before.library before.session → after.session ≡ Idle → Stood before request after
 closed_stood before request after library idle name entries (inl lies) =
     inl (closed_lies before.library before.session name entries (subst (λ s. ReelLiesOn s name entries) library lies))
 closed_stood before request after library idle name entries (inr has) = absurd (idle_none after.library after.session name entries idle has)
 
 -- MTOFFL
-move_stood : (trouble : Trouble) (before : Scene) (request : PlainRequest) (count : ℕ) (reply : PlainReply) (after : Scene) → TroubledMoveStep trouble before count reply after
+move_stood : (trouble : Trouble) (before : SessionView) (request : PlainRequest) (count : ℕ) (reply : PlainReply) (after : SessionView) → TroubledMoveStep trouble before count reply after
     → Stood before request after
 move_stood trouble before request count reply after (drive, access, reel, Ok done, online, cause, replies, is) name entries stands =
     moved_stands (subst (λ v. StandsIn v name entries) is stands)
   where
-    moved_stands : StandsIn (scene (after_offline before.library drive (entries_of reel.tape) reel.capacity) (Offline drive access)) name entries → StandsIn before name entries ⊎ WritesOn before request name
+    moved_stands : StandsIn (session_view (after_offline before.library drive (entries_of reel.tape) reel.capacity) (Offline drive access)) name entries → StandsIn before name entries ⊎ WritesOn before request name
     moved_stands (inl lies) = inl (elim (moved_lies before.library drive (kept_reel (entries_of reel.tape) reel.capacity) name entries lies) [
       | inl on ↦ inl on
       | inr (named, holds) ↦ inr (drive, access, reel, online, named, holds)
@@ -174,7 +174,7 @@ latched_name s d within =
     ap (λ (r : Drive KeptReel). first_name r.stack) (drive_same s.drives d (drive_with (drive_at s d).name (with_first None (drive_at s d).stack)) (drive_with [] []) within)
     ∙ first_name_with None (drive_at s d).stack
 
-latched_stood : (before : Scene) (request : PlainRequest) (after : Scene) (d : ℕ) (access : Access) (reel : PlainReel) (first : KeptReel)
+latched_stood : (before : SessionView) (request : PlainRequest) (after : SessionView) (d : ℕ) (access : Access) (reel : PlainReel) (first : KeptReel)
     → d < length (closed_library before.library before.session).drives → waiting_reel (closed_library before.library before.session) d ≡ Some first
     → after.library ≡ after_latch (closed_library before.library before.session) d → reel.tape ≡ tape [] first.entries → after.session ≡ Online d access reel
     → Stood before request after
@@ -192,10 +192,10 @@ latched_stood before request after d access reel first within waits library has 
     let its_entries : first.entries ≡ entries = sym (ap entries_of has) ∙ sym (ap (λ (x : PlainReel). entries_of x.tape) its) ∙ holds in
     inl (closed_lies before.library before.session name entries (inl (d, first_lies (drive_at s d).stack first name entries waits its_name its_entries)))
 
-opens_stood : (trouble : Trouble) (holders : List ℕ) (before : Scene) (request : PlainRequest) (device : List ℕ) (access : Option Access) (reply : PlainReply) (after : Scene)
+opens_stood : (trouble : Trouble) (holders : List ℕ) (before : SessionView) (request : PlainRequest) (device : List ℕ) (access : Option Access) (reply : PlainReply) (after : SessionView)
     → TroubledOpens trouble holders (closed before) device access reply after → Stood before request after
 opens_stood trouble holders before request device None reply after (replies, is) =
-    closed_stood before request after (ap (λ (v : Scene). v.library) is) (ap (λ (v : Scene). v.session) is)
+    closed_stood before request after (ap (λ (v : SessionView). v.library) is) (ap (λ (v : SessionView). v.session) is)
 opens_stood trouble holders before request device (Some access) reply after (Ok opened, asked, (found, named, latch), cause, replies, is) =
     latched_stood before request after opened.0 access opened.1 latch.0 named.0 latch.1 latch.2 latch.3 is
 opens_stood trouble holders before request device (Some access) reply after (Err NoSuchDrive, asked, (named, same), cause, replies, is) = closed_stood before request after same is
@@ -238,7 +238,7 @@ write_may WriteOnly bytes none write = refl
 write_may Both bytes none write = refl
 
 -- a request that is refused, or done
-refused_stood : {R : Type 0} (o x : Option R) (A : Type 0) (B : R → Type 0) (before : Scene) (request : PlainRequest) (after : Scene) → x ≡ o
+refused_stood : {R : Type 0} (o x : Option R) (A : Type 0) (B : R → Type 0) (before : SessionView) (request : PlainRequest) (after : SessionView) → x ≡ o
     → (x ≡ None → A → Stood before request after) → ((r : R) → B r → Stood before request after) → MatchOption o A B → Stood before request after
 refused_stood None x A B before request after is done some step = done is step
 refused_stood (Some r) x A B before request after is done some step = some r step
@@ -248,16 +248,16 @@ online_may : (session : PlainSession) (drive : ℕ) (access : Access) (reel : Pl
     → ((x : Access) → refusal (status_of (Online drive x reel)) request ≡ None → MayWrite request x) → refusal (status_of session) request ≡ None → MayWrite request access
 online_may session drive access reel request is may none = may access (ap (λ s. refusal (status_of s) request) (sym is) ∙ none)
 
-op_stood : (offline : Bool) (trouble : Trouble) (before : Scene) (op count : ℕ) (reply : PlainReply) (after : Scene)
+op_stood : (offline : Bool) (trouble : Trouble) (before : SessionView) (op count : ℕ) (reply : PlainReply) (after : SessionView)
     → ((drive : ℕ) (access : Access) (reel : PlainReel) → before.session ≡ Online drive access reel → MayWrite (Op op count) access)
     → TroubledOpStep offline trouble before op count reply after → Stood before (Op op count) after
 op_stood true trouble before op count reply after may step = move_stood trouble before (Op op count) count reply after step
 op_stood false trouble before op count reply after may step = reel_stood trouble before (Op op count) reply after may step
 
-done_stood : (trouble : Trouble) (before : Scene) (request : PlainRequest) (reply : PlainReply) (after : Scene) → refusal (status_of before.session) request ≡ None
+done_stood : (trouble : Trouble) (before : SessionView) (request : PlainRequest) (reply : PlainReply) (after : SessionView) → refusal (status_of before.session) request ≡ None
     → TroubledDoneStep trouble before request reply after → Stood before request after
 done_stood trouble before Close reply after none step =
-    closed_stood before Close after (ap (λ (v : Scene). v.library) step.1) (ap (λ (v : Scene). v.session) step.1)
+    closed_stood before Close after (ap (λ (v : SessionView). v.library) step.1) (ap (λ (v : SessionView). v.session) step.1)
 done_stood trouble before (Write bytes) reply after none step =
     reel_stood trouble before (Write bytes) reply after
     (λ drive access reel is. online_may before.session drive access reel (Write bytes) is (λ x free. write_may x bytes free) none) step
@@ -266,14 +266,14 @@ done_stood trouble before (Op op count) reply after none step =
     (λ drive access reel is. online_may before.session drive access reel (Op op count) is (λ x free. op_may x op count free) none) step
 done_stood trouble before request reply after none step = reel_stood trouble before request reply after (λ drive access reel is write. absurd cc) step
 
-other_stood : (trouble : Trouble) (before : Scene) (request : PlainRequest) (reply : PlainReply) (after : Scene)
+other_stood : (trouble : Trouble) (before : SessionView) (request : PlainRequest) (reply : PlainReply) (after : SessionView)
     → MatchOption (refusal (status_of before.session) request) (TroubledDoneStep trouble before request reply after) (λ r. (reply ≡ refused r) × (after ≡ before))
     → Stood before request after
 other_stood trouble before request reply after step =
     refused_stood (refusal (status_of before.session) request) (refusal (status_of before.session) request) _ _ before request after refl
     (λ none. done_stood trouble before request reply after none) (λ r it. same_stood before request after it.1) step
 
-pub step_stood : (trouble : Trouble) (holders : List ℕ) (before : Scene) (request : PlainRequest) (reply : PlainReply) (after : Scene)
+pub step_stood : (trouble : Trouble) (holders : List ℕ) (before : SessionView) (request : PlainRequest) (reply : PlainReply) (after : SessionView)
     → TroubledServeStep trouble holders before request reply after → Stood before request after
 step_stood trouble holders before (Open device mode) reply after step = opens_stood trouble _ before (Open device mode) device (access_of mode) reply after step
 step_stood trouble holders before request reply after step = other_stood trouble before request reply after step

@@ -9,7 +9,7 @@ use Rattle.std.proofs.lemmas.Slice.Eq.{bytes_eq-Decides}
 use Rattle.tape.specs.Tape.{PlainEntry, entries_of}
 use Rattle.drives.specs.TapeLibrary.{KeptReel, ReelSlot, Drive, drive_with, TapeLibrary, drive_at, slots_in}
 use Rattle.drives.proofs.Shops.{bit, named, times_named}
-use Rattle.rmt_server.specs.Hall.{Hall, Side}
+use Rattle.rmt_server.specs.ServerState.{ServerState, ServerConnection}
 use Rattle.rmt_server.specs.Session.{PlainSession}
 use Rattle.rmt_server.specs.TroubledServe.{drive_in}
 use Rattle.rmt_server.specs.Session.PlainSession.{Idle, Offline, Online}
@@ -70,14 +70,14 @@ in_drive s (Online drive access reel) d name online named =
     (entries_of reel.tape, (drive, access, reel, refl, ap (λ n. first_name (drive_at s n).stack) (same_Some drive d online) ∙ named, refl))
 
 -- a drive has a session online, or none
-holder_online : (h : Hall) (k d : ℕ) (s : Side) (o : Option ℕ) → AreHeld h → slice_get h.holders d ≡ Some k → side_of h k ≡ Some s → online_drive_in s.session ≡ o
+holder_online : (h : ServerState) (k d : ℕ) (s : ServerConnection) (o : Option ℕ) → AreHeld h → slice_get h.holders d ≡ Some k → side_of h k ≡ Some s → online_drive_in s.session ≡ o
     → (o ≡ Some d → ⊥) → IsOnlineAt h d → ⊥
 holder_online h k d s o a holds at is off (j, x, there, online) =
     let same : j ≡ k = same_Some j k (sym (a.opened j d x there (online_drive x.session d online)) ∙ holds) in
     let its : x ≡ s = same_Some x s (sym there ∙ ap (side_of h) same ∙ at) in
-    off (sym is ∙ ap (λ (y : Side). online_drive_in y.session) (sym its) ∙ online)
+    off (sym is ∙ ap (λ (y : ServerConnection). online_drive_in y.session) (sym its) ∙ online)
 
-online_there : (h : Hall) (k d : ℕ) (s : Side) (o : Option ℕ) → AreHeld h → slice_get h.holders d ≡ Some k → side_of h k ≡ Some s → drive_in s.session ≡ Some d
+online_there : (h : ServerState) (k d : ℕ) (s : ServerConnection) (o : Option ℕ) → AreHeld h → slice_get h.holders d ≡ Some k → side_of h k ≡ Some s → drive_in s.session ≡ Some d
     → online_drive_in s.session ≡ o → IsOnlineAt h d ⊎ (IsOnlineAt h d → ⊥)
 online_there h k d s None a holds at drive is = inr (holder_online h k d s None a holds at is (λ clash. cc))
 online_there h k d s (Some e) a holds at drive is =
@@ -85,11 +85,11 @@ online_there h k d s (Some e) a holds at drive is =
     inl (k, s, at, is ∙ ap Some same)
 
 -- a drive that none holds
-none_online : (h : Hall) (d : ℕ) (o : Option ℕ) → AreHeld h → slice_get h.holders d ≡ o → ((k : ℕ) → o ≡ Some (suc k) → ⊥) → IsOnlineAt h d → ⊥
+none_online : (h : ServerState) (d : ℕ) (o : Option ℕ) → AreHeld h → slice_get h.holders d ≡ o → ((k : ℕ) → o ≡ Some (suc k) → ⊥) → IsOnlineAt h d → ⊥
 none_online h d o a is none (zero, x, there, online) = let at = side_there h zero x there in cc
 none_online h d o a is none (suc k, x, there, online) = none k (sym is ∙ a.opened (suc k) d x there (online_drive x.session d online))
 
-held_online : (h : Hall) (d : ℕ) (o : Option ℕ) → AreHeld h → slice_get h.holders d ≡ o → IsOnlineAt h d ⊎ (IsOnlineAt h d → ⊥)
+held_online : (h : ServerState) (d : ℕ) (o : Option ℕ) → AreHeld h → slice_get h.holders d ≡ o → IsOnlineAt h d ⊎ (IsOnlineAt h d → ⊥)
 held_online h d None a is = inr (none_online h d None a is (λ k clash. cc))
 held_online h d (Some zero) a is = inr (none_online h d (Some zero) a is (λ k clash. (let same = same_Some zero (suc k) clash in omega (arith, same))))
 held_online h d (Some (suc k)) a is =
@@ -97,7 +97,7 @@ held_online h d (Some (suc k)) a is =
     online_there h (suc k) d s.0 (online_drive_in s.0.session) a is s.1 s.2 refl
 
 -- on a stack, or in the drive
-stack_stands : (h : Hall) (d : ℕ) (name : List ℕ) → AreLaid h → HasSlot (drive_at h.library d).stack name → IsOnlineAt h d ⊎ (IsOnlineAt h d → ⊥)
+stack_stands : (h : ServerState) (d : ℕ) (name : List ℕ) → AreLaid h → HasSlot (drive_at h.library d).stack name → IsOnlineAt h d ⊎ (IsOnlineAt h d → ⊥)
     → (entries : List PlainEntry) × StandsOn h name entries
 stack_stands h d name l has (inl (k, s, at, online)) = elim (away_or_lies (drive_at h.library d).stack name has (l.latched d (k, s, at, online))) [
   | inl named ↦ (let on = in_drive h.library s.session d name online named in (on.0, inr (k, s, at, on.1)))
@@ -105,7 +105,7 @@ stack_stands h d name l has (inl (k, s, at, online)) = elim (away_or_lies (drive
 ]
 stack_stands h d name l has (inr off) = let on = there_lies (drive_at h.library d).stack name has (l.lying d off) in (on.0, inl (inl (d, on.1)))
 
-stack_or_bin : (h : Hall) (name : List ℕ) (n : ℕ) → sum_by (named name) (flat_map (λ x. x.stack) h.library.drives) ≡ n → AreHeld h → AreLaid h → HasReel h.library name
+stack_or_bin : (h : ServerState) (name : List ℕ) (n : ℕ) → sum_by (named name) (flat_map (λ x. x.stack) h.library.drives) ≡ n → AreHeld h → AreLaid h → HasReel h.library name
     → (entries : List PlainEntry) × StandsOn h name entries
 stack_or_bin h name zero none a l has =
     let parts = sum_by-append (named name) (flat_map (λ x. x.stack) h.library.drives) h.library.bin in
@@ -116,5 +116,5 @@ stack_or_bin h name (suc n) some a l has =
     let on = stack_among h.library.drives name (omega (arith, some)) in
     stack_stands h on.0 name l on.1 (held_online h on.0 (slice_get h.holders on.0) a refl)
 
-pub stands_somewhere : (h : Hall) (name : List ℕ) → AreHeld h → AreLaid h → HasReel h.library name → (entries : List PlainEntry) × StandsOn h name entries
+pub stands_somewhere : (h : ServerState) (name : List ℕ) → AreHeld h → AreLaid h → HasReel h.library name → (entries : List PlainEntry) × StandsOn h name entries
 stands_somewhere h name a l has = stack_or_bin h name (sum_by (named name) (flat_map (λ x. x.stack) h.library.drives)) refl a l has

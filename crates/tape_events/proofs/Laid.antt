@@ -11,8 +11,8 @@ use Rattle.rmt_wire.specs.RequestReader.{held}
 use Rattle.tape.specs.Tape.{entries_of}
 use Rattle.drives.specs.TapeLibrary.{TapeLibrary, KeptReel, kept_reel, ReelSlot, Drive, drive_with, drive_at, with_first, first_reel, waiting_reel, after_latch}
 use Rattle.drives.specs.Arranging.{arranged, picked, left, slot_named, without, pile_of}
-use Rattle.rmt_server.specs.Hall.{Hall, hall, Side, side}
-use Rattle.rmt_server.specs.Session.{PlainSession, scene, closed_library}
+use Rattle.rmt_server.specs.ServerState.{ServerState, server, ServerConnection, side}
+use Rattle.rmt_server.specs.Session.{PlainSession, session_view, closed_library}
 use Rattle.rmt_server.specs.Session.PlainSession.{Idle, Offline, Online}
 use Rattle.rmt_server.specs.TroubledServe.{drive_in, with_holder}
 use Rattle.tape_events.specs.World.{World, numbered, with_numbered}
@@ -22,8 +22,8 @@ use Rattle.tape_events.specs.Kept.{AreLaid}
 use Rattle.tape_events.proofs.Numbers.{set_other, with_here, with_twice}
 use Rattle.tape_events.proofs.NamedRequests.{use_of, Comes, stays, closes, opens, moves}
 use Rattle.tape_events.proofs.Served.{comes_serves}
-use Rattle.tape_events.proofs.HallMoves.{HallMove, leaves, joins, reads, serves, ends, restarts, arranges, hall_after}
-use Rattle.tape_events.proofs.Moves.{Move, moved, hall_move, hall_moved}
+use Rattle.tape_events.proofs.ServerMoves.{ServerMove, leaves, joins, reads, serves, ends, restarts, arranges, server_after}
+use Rattle.tape_events.proofs.Moves.{Move, moved, server_move, server_moved}
 use Rattle.tape_events.proofs.Sides.{side_there, Sits, sits_here, sits_other, sits_is, joined_is, joined_was}
 use Rattle.tape_events.proofs.Held.{KeepsHeldOver, held_ended_by, held_all_ended_by, free_then}
 
@@ -33,53 +33,53 @@ online_drive Idle d is = absurd cc
 online_drive (Offline drive access) d is = absurd cc
 online_drive (Online drive access reel) d is = is
 
-abbrev online_of : Option Side → Option ℕ
+abbrev online_of : Option ServerConnection → Option ℕ
 online_of None = None
 online_of (Some s) = online_drive_in s.session
 
 -- a session of another connection is online there
-abbrev pub IsOnlineElse : Hall → ℕ → ℕ → Type 0
-IsOnlineElse h k d = (j : ℕ) × (j ≢ k) × ((s : Side) × (side_of h j ≡ Some s) × (online_drive_in s.session ≡ Some d))
+abbrev pub IsOnlineElse : ServerState → ℕ → ℕ → Type 0
+IsOnlineElse h k d = (j : ℕ) × (j ≢ k) × ((s : ServerConnection) × (side_of h j ≡ Some s) × (online_drive_in s.session ≡ Some d))
 
 -- a session of another connection has it open
-abbrev pub IsOpenElse : Hall → ℕ → ℕ → Type 0
-IsOpenElse h k d = (j : ℕ) × (j ≢ k) × ((s : Side) × (side_of h j ≡ Some s) × (drive_in s.session ≡ Some d))
+abbrev pub IsOpenElse : ServerState → ℕ → ℕ → Type 0
+IsOpenElse h k d = (j : ℕ) × (j ≢ k) × ((s : ServerConnection) × (side_of h j ≡ Some s) × (drive_in s.session ≡ Some d))
 
-pub online_else : (h : Hall) (k d : ℕ) → IsOnlineElse h k d → IsOpenElse h k d
+pub online_else : (h : ServerState) (k d : ℕ) → IsOnlineElse h k d → IsOpenElse h k d
 online_else h k d (j, other, (x, at, online)) = (j, other, (x, at, online_drive x.session d online))
 
 -- who is online afterwards, and who was before
-now_online : (h : Hall) (k : ℕ) (s : Side) (o : Option Side) (u : Hall) → Sits h k s o u → (d : ℕ) → IsOnlineAt u d → (online_of o ≡ Some d) ⊎ IsOnlineElse h k d
+now_online : (h : ServerState) (k : ℕ) (s : ServerConnection) (o : Option ServerConnection) (u : ServerState) → Sits h k s o u → (d : ℕ) → IsOnlineAt u d → (online_of o ≡ Some d) ⊎ IsOnlineElse h k d
 now_online h k s o u t d (j, x, at, online) = elim (sits_is h k s o u t j x at) [
   | inl (same, own) ↦ inl (ap online_of own ∙ online)
   | inr (other, was) ↦ inr (j, other, (x, was, online))
 ]
 
-was_online : (h : Hall) (k : ℕ) (s : Side) → side_of h k ≡ Some s → (d : ℕ) → IsOnlineAt h d → (online_drive_in s.session ≡ Some d) ⊎ IsOnlineElse h k d
+was_online : (h : ServerState) (k : ℕ) (s : ServerConnection) → side_of h k ≡ Some s → (d : ℕ) → IsOnlineAt h d → (online_drive_in s.session ≡ Some d) ⊎ IsOnlineElse h k d
 was_online h k s was d (j, x, at, online) = elim (eqb_tells j k) [
-  | inl (equal, same) ↦ inl (ap (λ (z : Side). online_drive_in z.session) (same_Some s x (sym was ∙ ap (side_of h) (sym same) ∙ at)) ∙ online)
+  | inl (equal, same) ↦ inl (ap (λ (z : ServerConnection). online_drive_in z.session) (same_Some s x (sym was ∙ ap (side_of h) (sym same) ∙ at)) ∙ online)
   | inr (unequal, other) ↦ inr (j, other, (x, at, online))
 ]
 
-pub else_stays : (h : Hall) (k : ℕ) (s : Side) (o : Option Side) (u : Hall) → Sits h k s o u → (d : ℕ) → IsOnlineElse h k d → IsOnlineAt u d
+pub else_stays : (h : ServerState) (k : ℕ) (s : ServerConnection) (o : Option ServerConnection) (u : ServerState) → Sits h k s o u → (d : ℕ) → IsOnlineElse h k d → IsOnlineAt u d
 else_stays h k s o u t d (j, other, (x, at, online)) = (j, x, sits_other h k j s o u t other ∙ at, online)
 
-pub else_was : (h : Hall) (k d : ℕ) → IsOnlineElse h k d → IsOnlineAt h d
+pub else_was : (h : ServerState) (k d : ℕ) → IsOnlineElse h k d → IsOnlineAt h d
 else_was h k d (j, other, (x, at, online)) = (j, x, at, online)
 
-pub own_now : (h : Hall) (k : ℕ) (s x : Side) (u : Hall) → Sits h k s (Some x) u → (d : ℕ) → online_drive_in x.session ≡ Some d → IsOnlineAt u d
+pub own_now : (h : ServerState) (k : ℕ) (s x : ServerConnection) (u : ServerState) → Sits h k s (Some x) u → (d : ℕ) → online_drive_in x.session ≡ Some d → IsOnlineAt u d
 own_now h k s x u t d online = (k, x, sits_here h k s (Some x) u t, online)
 
-own_there : (h : Hall) (k : ℕ) (s : Side) (o : Option Side) (u : Hall) → Sits h k s o u → (d : ℕ) → online_of o ≡ Some d → IsOnlineAt u d
+own_there : (h : ServerState) (k : ℕ) (s : ServerConnection) (o : Option ServerConnection) (u : ServerState) → Sits h k s o u → (d : ℕ) → online_of o ≡ Some d → IsOnlineAt u d
 own_there h k s None u t d online = absurd cc
 own_there h k s (Some x) u t d online = own_now h k s x u t d online
 
 -- no other has a drive open that a session has open
-pub alone_at : (h : Hall) (k : ℕ) (s : Side) (d : ℕ) → AreHeld h → side_of h k ≡ Some s → drive_in s.session ≡ Some d → IsOpenElse h k d → ⊥
+pub alone_at : (h : ServerState) (k : ℕ) (s : ServerConnection) (d : ℕ) → AreHeld h → side_of h k ≡ Some s → drive_in s.session ≡ Some d → IsOpenElse h k d → ⊥
 alone_at h k s d a was own (j, other, (x, at, has)) = other (same_Some j k (sym (a.opened j d x at has) ∙ a.opened k d s was own))
 
 -- nor has one open what that session has afterwards
-pub apart : (h u : Hall) (k : ℕ) (s x : Side) → Sits h k s (Some x) u → AreHeld u → (d : ℕ) → IsOpenElse h k d → drive_in x.session ≡ Some d → ⊥
+pub apart : (h u : ServerState) (k : ℕ) (s x : ServerConnection) → Sits h k s (Some x) u → AreHeld u → (d : ℕ) → IsOpenElse h k d → drive_in x.session ≡ Some d → ⊥
 apart h u k s x t b d (j, other, (y, at, has)) drive =
     alone_at u k x d b (sits_here h k s (Some x) u t) drive (j, other, (y, sits_other h k j s (Some x) u t other ∙ at, has))
 
@@ -92,7 +92,7 @@ free_from (Some e) holders k j d free holder own = elim (eqb_tells d e) [
   | inr (unequal, other) ↦ (let clash : 0 ≡ suc j = same_Some 0 (suc j) (sym free ∙ set_other holders e d 0 other ∙ holder) in absurd (omega (arith, clash)))
 ]
 
-alone_free : (h : Hall) (k : ℕ) (s : Side) (d : ℕ) → AreHeld h → side_of h k ≡ Some s → slice_get (with_holder (drive_in s.session) 0 h.holders) d ≡ Some 0
+alone_free : (h : ServerState) (k : ℕ) (s : ServerConnection) (d : ℕ) → AreHeld h → side_of h k ≡ Some s → slice_get (with_holder (drive_in s.session) 0 h.holders) d ≡ Some 0
     → IsOnlineElse h k d → ⊥
 alone_free h k s d a was free (zero, other, (x, at, online)) = let none : numbered h.sides zero ≡ Some (Some x) = side_there h zero x at in cc
 alone_free h k s d a was free (suc j, other, (x, at, online)) =
@@ -127,7 +127,7 @@ pub drive_other : (drives : List (Drive KeptReel)) (e j : ℕ) (r d : Drive Kept
 drive_other drives e j r d other = get_or-set_other drives e j r d other
 
 -- One rack is changed, of a drive at which only the side that turns is online, before or afterwards.
-record Shifts (h : Hall) (k : ℕ) (s : Side) (o : Option Side) (u : Hall) (e : ℕ) (r : Drive KeptReel) : Type 0 where
+record Shifts (h : ServerState) (k : ℕ) (s : ServerConnection) (o : Option ServerConnection) (u : ServerState) (e : ℕ) (r : Drive KeptReel) : Type 0 where
   sits : Sits h k s o u
   drives : u.library.drives ≡ slice_set h.library.drives e r
   within : e < length h.library.drives
@@ -138,13 +138,13 @@ record Shifts (h : Hall) (k : ℕ) (s : Side) (o : Option Side) (u : Hall) (e : 
   there : (online_of o ≡ Some e → ⊥) → AreThere r.stack
   bin : AreThere u.library.bin
 
-here_drive : (h : Hall) (k : ℕ) (s : Side) (o : Option Side) (u : Hall) (e : ℕ) (r : Drive KeptReel) → Shifts h k s o u e r → drive_at u.library e ≡ r
+here_drive : (h : ServerState) (k : ℕ) (s : ServerConnection) (o : Option ServerConnection) (u : ServerState) (e : ℕ) (r : Drive KeptReel) → Shifts h k s o u e r → drive_at u.library e ≡ r
 here_drive h k s o u e r t = ap (λ l. slice_index_or l e (drive_with [] [])) t.drives ∙ drive_same h.library.drives e r (drive_with [] []) t.within
 
-other_drive : (h : Hall) (k : ℕ) (s : Side) (o : Option Side) (u : Hall) (e d : ℕ) (r : Drive KeptReel) → Shifts h k s o u e r → d ≢ e → drive_at u.library d ≡ drive_at h.library d
+other_drive : (h : ServerState) (k : ℕ) (s : ServerConnection) (o : Option ServerConnection) (u : ServerState) (e d : ℕ) (r : Drive KeptReel) → Shifts h k s o u e r → d ≢ e → drive_at u.library d ≡ drive_at h.library d
 other_drive h k s o u e d r t other = ap (λ l. slice_index_or l d (drive_with [] [])) t.drives ∙ drive_other h.library.drives e d r (drive_with [] []) other
 
-latched_shift : (h : Hall) (k : ℕ) (s : Side) (o : Option Side) (u : Hall) (e : ℕ) (r : Drive KeptReel) → Shifts h k s o u e r → AreLaid h
+latched_shift : (h : ServerState) (k : ℕ) (s : ServerConnection) (o : Option ServerConnection) (u : ServerState) (e : ℕ) (r : Drive KeptReel) → Shifts h k s o u e r → AreLaid h
     → (d : ℕ) → IsOnlineAt u d → IsFirstAway (drive_at u.library d).stack
 latched_shift h k s o u e r t l d on = elim (now_online h k s o u t.sits d on) [
   | inl own ↦ (
@@ -155,7 +155,7 @@ latched_shift h k s o u e r t l d on = elim (now_online h k s o u t.sits d on) [
       subst (λ (x : Drive KeptReel). IsFirstAway x.stack) (sym (other_drive h k s o u e d r t other)) (l.latched d (else_was h k d elsewhere)))
 ]
 
-lying_shift : (h : Hall) (k : ℕ) (s : Side) (o : Option Side) (u : Hall) (e : ℕ) (r : Drive KeptReel) → Shifts h k s o u e r → AreLaid h
+lying_shift : (h : ServerState) (k : ℕ) (s : ServerConnection) (o : Option ServerConnection) (u : ServerState) (e : ℕ) (r : Drive KeptReel) → Shifts h k s o u e r → AreLaid h
     → (d : ℕ) → (IsOnlineAt u d → ⊥) → AreThere (drive_at u.library d).stack
 lying_shift h k s o u e r t l d off = elim (eqb_tells d e) [
   | inl (equal, same) ↦ subst (λ (x : Drive KeptReel). AreThere x.stack) (sym (ap (drive_at u.library) same ∙ here_drive h k s o u e r t))
@@ -167,11 +167,11 @@ lying_shift h k s o u e r t l d off = elim (eqb_tells d e) [
       ]))
 ]
 
-shift_laid : (h : Hall) (k : ℕ) (s : Side) (o : Option Side) (u : Hall) (e : ℕ) (r : Drive KeptReel) → Shifts h k s o u e r → AreLaid h → AreLaid u
+shift_laid : (h : ServerState) (k : ℕ) (s : ServerConnection) (o : Option ServerConnection) (u : ServerState) (e : ℕ) (r : Drive KeptReel) → Shifts h k s o u e r → AreLaid h → AreLaid u
 shift_laid h k s o u e r t l = record { latched = latched_shift h k s o u e r t l; lying = lying_shift h k s o u e r t l; bin = t.bin }
 
 -- the drives and who is online at each stay
-still_laid : (h u : Hall) → u.library ≡ h.library → ((d : ℕ) → IsOnlineAt u d → IsOnlineAt h d) → ((d : ℕ) → IsOnlineAt h d → IsOnlineAt u d) → AreLaid h → AreLaid u
+still_laid : (h u : ServerState) → u.library ≡ h.library → ((d : ℕ) → IsOnlineAt u d → IsOnlineAt h d) → ((d : ℕ) → IsOnlineAt h d → IsOnlineAt u d) → AreLaid h → AreLaid u
 still_laid h u library back on l = record {
   latched = λ d at. subst (λ (v : TapeLibrary). IsFirstAway (drive_at v d).stack) (sym library) (l.latched d (back d at));
   lying = λ d off. subst (λ (v : TapeLibrary). AreThere (drive_at v d).stack) (sym library) (l.lying d (λ at. off (on d at)));
@@ -179,7 +179,7 @@ still_laid h u library back on l = record {
 }
 
 -- the side that turns is online as before
-turn_laid : (h : Hall) (k : ℕ) (s : Side) (o : Option Side) (u : Hall) → Sits h k s o u → u.library ≡ h.library → online_of o ≡ online_drive_in s.session → AreLaid h → AreLaid u
+turn_laid : (h : ServerState) (k : ℕ) (s : ServerConnection) (o : Option ServerConnection) (u : ServerState) → Sits h k s o u → u.library ≡ h.library → online_of o ≡ online_drive_in s.session → AreLaid h → AreLaid u
 turn_laid h k s o u t library same l = still_laid h u library
     (λ d on. elim (now_online h k s o u t d on) [
       | inl own ↦ (k, s, t.was, sym same ∙ own)
@@ -191,13 +191,13 @@ turn_laid h k s o u t library same l = still_laid h u library
     ]) l
 
 -- the place of a drive that a session has open
-pub drive_within : (h : Hall) (k : ℕ) (s : Side) (d : ℕ) → AreHeld h → side_of h k ≡ Some s → drive_in s.session ≡ Some d → d < length h.library.drives
+pub drive_within : (h : ServerState) (k : ℕ) (s : ServerConnection) (d : ℕ) → AreHeld h → side_of h k ≡ Some s → drive_in s.session ≡ Some d → d < length h.library.drives
 drive_within h k s d a was own =
     let few = slice_get_within h.holders d k (a.opened k d s was own) in
     let places = a.places in omega (arith, few, places)
 
 -- what a session had open is laid back
-closed_laid : (h : Hall) (k : ℕ) (s : Side) (o : Option Side) (u : Hall) (session : PlainSession) → s.session ≡ session → Sits h k s o u → u.library ≡ closed_library h.library session
+closed_laid : (h : ServerState) (k : ℕ) (s : ServerConnection) (o : Option ServerConnection) (u : ServerState) (session : PlainSession) → s.session ≡ session → Sits h k s o u → u.library ≡ closed_library h.library session
     → online_of o ≡ None → AreHeld h → AreLaid h → AreLaid u
 closed_laid h k s o u Idle is t library off a l = turn_laid h k s o u t library (off ∙ sym (ap online_drive_in is)) l
 closed_laid h k s o u (Offline drive access) is t library off a l = turn_laid h k s o u t library (off ∙ sym (ap online_drive_in is)) l
@@ -217,7 +217,7 @@ closed_laid h k s o u (Online drive access reel) is t library off a l =
     } l
 
 -- the first reel of a free drive is latched
-open_laid : (h : Hall) (k : ℕ) (s x : Side) (u : Hall) (d : ℕ) (first : KeptReel) → Sits h k s (Some x) u → online_drive_in s.session ≡ None → online_drive_in x.session ≡ Some d
+open_laid : (h : ServerState) (k : ℕ) (s x : ServerConnection) (u : ServerState) (d : ℕ) (first : KeptReel) → Sits h k s (Some x) u → online_drive_in s.session ≡ None → online_drive_in x.session ≡ Some d
     → waiting_reel h.library d ≡ Some first → u.library ≡ after_latch h.library d → d < length h.library.drives → (IsOnlineElse h k d → ⊥) → AreLaid h → AreLaid u
 open_laid h k s x u d first t off on waits library within alone l =
     let lying = l.lying d (λ at. elim (was_online h k s t.was d at) [
@@ -237,7 +237,7 @@ open_laid h k s x u d first t off on waits library within alone l =
     } l
 
 -- the latched reel lies in the bin
-moved_laid : (h : Hall) (k : ℕ) (s x : Side) (u : Hall) (d : ℕ) (reel : KeptReel) → Sits h k s (Some x) u → online_drive_in s.session ≡ Some d → online_drive_in x.session ≡ None
+moved_laid : (h : ServerState) (k : ℕ) (s x : ServerConnection) (u : ServerState) (d : ℕ) (reel : KeptReel) → Sits h k s (Some x) u → online_drive_in s.session ≡ Some d → online_drive_in x.session ≡ None
     → u.library.drives ≡ slice_set h.library.drives d (drive_with (drive_at h.library d).name (drop 1 (drive_at h.library d).stack))
     → u.library.bin ≡ h.library.bin ++ with_first (Some reel) (take 1 (drive_at h.library d).stack) → AreHeld h → AreLaid h → AreLaid u
 moved_laid h k s x u d reel t on off drives bin a l =
@@ -255,22 +255,22 @@ moved_laid h k s x u d reel t on off drives bin a l =
     } l
 
 -- A hall between a close and an open: the session has nothing open.
-abbrev idle_hall : Hall → ℕ → Side → Hall
-idle_hall h k s = hall (closed_library h.library s.session) h.holders (with_numbered h.sides k (Some (side s.reached Idle)))
+abbrev idle_server : ServerState → ℕ → ServerConnection → ServerState
+idle_server h k s = server (closed_library h.library s.session) h.holders (with_numbered h.sides k (Some (side s.reached Idle)))
 
-idle_laid : (h : Hall) (k : ℕ) (s : Side) → side_of h k ≡ Some s → AreHeld h → AreLaid h → AreLaid (idle_hall h k s)
-idle_laid h k s was a l = closed_laid h k s (Some (side s.reached Idle)) (idle_hall h k s) s.session refl record { was = was; sides = refl } refl refl a l
+idle_laid : (h : ServerState) (k : ℕ) (s : ServerConnection) → side_of h k ≡ Some s → AreHeld h → AreLaid h → AreLaid (idle_server h k s)
+idle_laid h k s was a l = closed_laid h k s (Some (side s.reached Idle)) (idle_server h k s) s.session refl record { was = was; sides = refl } refl refl a l
 
-from_idle : (h : Hall) (k : ℕ) (s x : Side) (u : Hall) → Sits h k s (Some x) u → Sits (idle_hall h k s) k (side s.reached Idle) (Some x) u
+from_idle : (h : ServerState) (k : ℕ) (s x : ServerConnection) (u : ServerState) → Sits h k s (Some x) u → Sits (idle_server h k s) k (side s.reached Idle) (Some x) u
 from_idle h k s x u t = record {
   was = ap (option_and_then (λ y. y)) (with_here h.sides k (Some s) (Some (side s.reached Idle)) (side_there h k s t.was));
   sides = t.sides ∙ sym (with_twice h.sides k (Some (side s.reached Idle)) (Some x));
 }
 
 -- no other is online there in between
-idle_else : (h : Hall) (k : ℕ) (s : Side) (d : ℕ) → side_of h k ≡ Some s → IsOnlineElse (idle_hall h k s) k d → IsOnlineElse h k d
+idle_else : (h : ServerState) (k : ℕ) (s : ServerConnection) (d : ℕ) → side_of h k ≡ Some s → IsOnlineElse (idle_server h k s) k d → IsOnlineElse h k d
 idle_else h k s d was (j, other, (x, at, online)) =
-    (j, other, (x, sym (sits_other h k j s (Some (side s.reached Idle)) (idle_hall h k s) record { was = was; sides = refl } other) ∙ at, online))
+    (j, other, (x, sym (sits_other h k j s (Some (side s.reached Idle)) (idle_server h k s) record { was = was; sides = refl } other) ∙ at, online))
 
 -- what a session is online with is told by what it uses
 online_use : (s : PlainSession) → online_drive_in s ≡ option_map (λ x. x.0) (use_of s)
@@ -282,13 +282,13 @@ use_online : (s t : PlainSession) → use_of s ≡ use_of t → online_drive_in 
 use_online s t same = online_use s ∙ ap (option_map (λ x. x.0)) same ∙ sym (online_use t)
 
 -- one request of a session
-comes_laid : (h : Hall) (k : ℕ) (s x : Side) (u : Hall) (opened : Option (List ℕ)) → Sits h k s (Some x) u → AreHeld h → AreLaid h
+comes_laid : (h : ServerState) (k : ℕ) (s x : ServerConnection) (u : ServerState) (opened : Option (List ℕ)) → Sits h k s (Some x) u → AreHeld h → AreLaid h
     → ((d : ℕ) → drive_in x.session ≡ Some d → slice_get (with_holder (drive_in s.session) 0 h.holders) d ≡ Some 0)
-    → Comes h.holders (scene h.library s.session) (scene u.library x.session) opened → AreLaid u
+    → Comes h.holders (session_view h.library s.session) (session_view u.library x.session) opened → AreLaid u
 comes_laid h k s x u opened t a l none (stays library session drive same) = turn_laid h k s (Some x) u t library (use_online x.session s.session session) l
 comes_laid h k s x u opened t a l none (closes library session same) = closed_laid h k s (Some x) u s.session refl t library (ap online_drive_in session) a l
 comes_laid h k s x u opened t a l none (opens drive access reel first within waits free library session new) =
-    open_laid (idle_hall h k s) k (side s.reached Idle) x u drive first (from_idle h k s x u t) refl (ap online_drive_in session) waits library within
+    open_laid (idle_server h k s) k (side s.reached Idle) x u drive first (from_idle h k s x u t) refl (ap online_drive_in session) waits library within
     (λ elsewhere. alone_free h k s drive a t.was (none drive (ap drive_in session)) (idle_else h k s drive t.was elsewhere)) (idle_laid h k s t.was a l)
 comes_laid h k s x u opened t a l none (moves drive access reel online library session same) =
     moved_laid h k s x u drive (kept_reel (entries_of reel.tape) reel.capacity) t (ap online_drive_in online) (ap online_drive_in session) (ap (λ (v : TapeLibrary). v.drives) library)
@@ -299,11 +299,11 @@ over_laid : KeepsHeldOver AreLaid
 over_laid h k s is a l = closed_laid h k s None _ s.session refl record { was = is; sides = refl } refl refl a l
 
 -- a side more, with nothing open
-joined_laid : (h : Hall) → AreLaid h → AreLaid (with_side h)
+joined_laid : (h : ServerState) → AreLaid h → AreLaid (with_side h)
 joined_laid h l = still_laid h (with_side h) refl
     (λ d (k, s, at, on). elim (joined_is h k s at) [
       | inl before ↦ (k, s, before, on)
-      | inr new ↦ (let clash : online_drive_in Idle ≡ Some d = ap (λ (z : Side). online_drive_in z.session) new ∙ on in absurd cc)
+      | inr new ↦ (let clash : online_drive_in Idle ≡ Some d = ap (λ (z : ServerConnection). online_drive_in z.session) new ∙ on in absurd cc)
     ])
     (λ d (k, s, at, on). (k, s, joined_was h k s at, on)) l
 
@@ -342,16 +342,16 @@ left_there [] xs there = there
 left_there (name ∷ names) xs there = left_there names (without name xs) (without_there (λ x. bytes_eq name x.name) xs there)
 
 -- nobody is online at a drive that has no holder
-pub free_off : (h : Hall) (d : ℕ) → AreHeld h → slice_index_or h.holders d 0 ≡ 0 → IsOnlineAt h d → ⊥
+pub free_off : (h : ServerState) (d : ℕ) → AreHeld h → slice_index_or h.holders d 0 ≡ 0 → IsOnlineAt h d → ⊥
 free_off h d a free (zero, x, at, on) = let none : numbered h.sides zero ≡ Some (Some x) = side_there h zero x at in cc
 free_off h d a free (suc k, x, at, on) =
     let holder = a.opened (suc k) d x at (online_drive x.session d on) in
     let clash : 0 ≡ suc k = sym free ∙ get_or_from_slice_get h.holders d (suc k) 0 holder in omega (arith, clash)
 
-arranged_laid : (h : Hall) (d : ℕ) (names : List (List ℕ)) → AreHeld h → slice_index_or h.holders d 0 ≡ 0 → d < length h.library.drives → AreLaid h
-    → AreLaid (hall (arranged h.library d names) h.holders h.sides)
+arranged_laid : (h : ServerState) (d : ℕ) (names : List (List ℕ)) → AreHeld h → slice_index_or h.holders d 0 ≡ 0 → d < length h.library.drives → AreLaid h
+    → AreLaid (server (arranged h.library d names) h.holders h.sides)
 arranged_laid h d names a free within l =
-    let u = hall (arranged h.library d names) h.holders h.sides in
+    let u = server (arranged h.library d names) h.holders h.sides in
     let off : IsOnlineAt h d → ⊥ = free_off h d a free in
     let pile = there_more h.library.bin (drive_at h.library d).stack l.bin (l.lying d off) in
     let r = drive_with (drive_at h.library d).name (picked names (pile_of h.library d)) in
@@ -367,17 +367,17 @@ arranged_laid h d names a free within l =
       bin = left_there names (pile_of h.library d) pile;
     }
 
-hall_laid : (h : Hall) (m : HallMove h) → AreHeld h → AreLaid h → AreLaid (hall_after h m)
-hall_laid h leaves a l = l
-hall_laid h joins a l = joined_laid h l
-hall_laid h (reads k s reached live unread) a l = turn_laid h k s (Some (side reached s.session)) _ record { was = live; sides = refl } refl refl l
-hall_laid h (serves k s x library holders opened live unread comes held) a l =
-    let v = comes_serves h.holders (scene h.library s.session) (scene library x.session) opened a.places comes in
-    comes_laid h k s x (hall library holders (with_numbered h.sides k (Some x))) opened record { was = live; sides = refl } a l
+server_laid : (h : ServerState) (m : ServerMove h) → AreHeld h → AreLaid h → AreLaid (server_after h m)
+server_laid h leaves a l = l
+server_laid h joins a l = joined_laid h l
+server_laid h (reads k s reached live unread) a l = turn_laid h k s (Some (side reached s.session)) _ record { was = live; sides = refl } refl refl l
+server_laid h (serves k s x library holders opened live unread comes held) a l =
+    let v = comes_serves h.holders (session_view h.library s.session) (session_view library x.session) opened a.places comes in
+    comes_laid h k s x (server library holders (with_numbered h.sides k (Some x))) opened record { was = live; sides = refl } a l
     (λ d drive. free_then h.holders s.session d k (a.opened k d s live) (v.drive d drive)) comes
-hall_laid h (ends k) a l = held_ended_by AreLaid over_laid h k a l
-hall_laid h restarts a l = held_all_ended_by AreLaid over_laid h (length h.sides) a l
-hall_laid h (arranges d names within free) a l = arranged_laid h d names a free within l
+server_laid h (ends k) a l = held_ended_by AreLaid over_laid h k a l
+server_laid h restarts a l = held_all_ended_by AreLaid over_laid h (length h.sides) a l
+server_laid h (arranges d names within free) a l = arranged_laid h d names a free within l
 
-pub laid_moved : (w : World) (m : Move w) → AreHeld w.hall → AreLaid w.hall → AreLaid (moved w m).hall
-laid_moved w m a l = subst AreLaid (sym (hall_moved w m)) (hall_laid w.hall (hall_move w m) a l)
+pub laid_moved : (w : World) (m : Move w) → AreHeld w.server → AreLaid w.server → AreLaid (moved w m).server
+laid_moved w m a l = subst AreLaid (sym (server_moved w m)) (server_laid w.server (server_move w m) a l)

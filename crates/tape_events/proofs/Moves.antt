@@ -13,8 +13,8 @@ use Rattle.rmt_wire.specs.declared.fault.WireFault.{WireFault}
 use Rattle.tape.specs.declared.trouble.Trouble.{Trouble}
 use Rattle.drives.specs.TapeLibrary.{TapeLibrary, IsDriveNamed}
 use Rattle.drives.specs.Arranging.{arranged}
-use Rattle.rmt_server.specs.Hall.{hall, Side, side}
-use Rattle.rmt_server.specs.Session.{PlainSession, scene}
+use Rattle.rmt_server.specs.ServerState.{server, ServerConnection, side}
+use Rattle.rmt_server.specs.Session.{PlainSession, session_view}
 use Rattle.rmt_server.specs.TroubledServe.{TroubledServe}
 use Rattle.dump_run.specs.Run.{PlainRun, IsRun}
 use Rattle.dump_run.specs.declared.count.VolumeCount.{VolumeCount}
@@ -37,8 +37,8 @@ use Rattle.tape_events.specs.Serving.{ServerTurn}
 use Rattle.tape_events.specs.Steps.{Happens, Sends, Finds, Hears, SeesEnd, IsPushed, begun, client_connected, is_failing, failed_read, asked, reached_by, carried, forgotten_from, kept_after, ComesBack, recorded, caller}
 use Rattle.tape_events.proofs.Numbers.{with_here, with_twice, less_or_more, length_changed, numbered_more}
 use Rattle.tape_events.proofs.NamedRequests.{step_comes}
-use Rattle.tape_events.proofs.HallMoves as hall_moves
-use Rattle.tape_events.proofs.HallMoves.{HallMove, hall_after}
+use Rattle.tape_events.proofs.ServerMoves as server_moves
+use Rattle.tape_events.proofs.ServerMoves.{ServerMove, server_after}
 
 -- the client sends its next request
 pub record Sender (w : World) : Type 0 where
@@ -57,7 +57,7 @@ pub record Sender (w : World) : Type 0 where
 pub record Turn (w : World) : Type 0 where
   pub k : ℕ
   pub trouble : Trouble
-  pub s : Side
+  pub s : ServerConnection
   pub request : PlainRequest
   pub bytes : List ℕ
   pub rest : List ℕ
@@ -66,11 +66,11 @@ pub record Turn (w : World) : Type 0 where
   pub library : TapeLibrary
   pub session : PlainSession
   pub holders : List ℕ
-  pub live : side_of w.hall k ≡ Some s
+  pub live : side_of w.server k ≡ Some s
   pub unread : Unread s.reached bytes
   pub gives : Gives bytes (Ok (Some request)) rest
   pub left : Unread reached rest
-  pub served : TroubledServe trouble w.hall.holders k (scene w.hall.library s.session) request reply (scene library session) holders
+  pub served : TroubledServe trouble w.server.holders k (session_view w.server.library s.session) request reply (session_view library session) holders
 
 abbrev pub turned : (w : World) → Turn w → World
 turned w t = carried w t.k t.request t.reply t.reached t.library t.session t.holders
@@ -164,7 +164,7 @@ pub data Move (w : World) : Type 0 where
   connects : (c : Caller) → w.caller ≡ Some c → c.at.stage ≡ Ready → Move w
   asks : Sender w → Move w
   fails : (k n : ℕ) (c : Caller) (reader : ReplyHeld) → w.caller ≡ Some c → c.at.stage ≡ ToSend (Block n) → w.own ≡ Some k → Move w
-  reaches : (k n : ℕ) (s : Side) (l : Link) (reached : RequestHeld) → side_of w.hall k ≡ Some s → link_of w k ≡ Some l
+  reaches : (k n : ℕ) (s : ServerConnection) (l : Link) (reached : RequestHeld) → side_of w.server k ≡ Some s → link_of w k ≡ Some l
       → IsPushed s.reached (take n l.toward) reached → Move w
   serves : Turn w → Move w
   ends : (k : ℕ) → Move w
@@ -177,7 +177,7 @@ pub data Move (w : World) : Type 0 where
   forgets : Back w → w.own ≡ None → Move w
   gives_up : Back w → (k : ℕ) → w.own ≡ Some k → Move w
   answers : (c : Caller) (answer : Answer) (reader : ReplyHeld) → w.caller ≡ Some c → c.at.stage ≡ Asking → Move w
-  arranges : (d : ℕ) (names : List (List ℕ)) → d < length w.hall.library.drives → slice_index_or w.hall.holders d 0 ≡ 0 → Move w
+  arranges : (d : ℕ) (names : List (List ℕ)) → d < length w.server.library.drives → slice_index_or w.server.holders d 0 ≡ 0 → Move w
   joins : Move w
   enters : (c : Caller) → w.caller ≡ Some c → c.at.stage ≡ Finished → (IsRunEntered w c.number → ⊥) → Move w
   saves : (c : Caller) → w.caller ≡ Some c → MayBeKept w c → Move w
@@ -217,27 +217,27 @@ moved w (forgets x none) = record (calm w) { caller = back_caller w x }
 moved w (gives_up x k own) = record (given_up (calm w) k) { caller = back_caller w x }
 moved w (answers c answer reader there stage) =
     record (calm w) { caller = Some (caller c.number (standing c.at.run c.at.counts (stage_after answer)) reader); kept = kept_after answer w.kept }
-moved w (arranges d names within free) = record (calm w) { hall = hall (arranged w.hall.library d names) w.hall.holders w.hall.sides }
+moved w (arranges d names within free) = record (calm w) { server = server (arranged w.server.library d names) w.server.holders w.server.sides }
 moved w joins = joined (calm w) None
 moved w (enters c there stage not_yet) = recorded w c
 moved w (saves c there may) = record (calm w) { kept = Some (record { run = c.number; listed = c.at.counts }) }
 
 -- what it makes of the hall
-abbrev pub hall_move : (w : World) → Move w → HallMove w.hall
-hall_move w (connects c there ready) = hall_moves.joins
-hall_move w (reaches k n s l reached live at grows) = hall_moves.reads k s reached live (grows.0.0 ++ take n l.toward, grows.1 grows.0.0 grows.0.1)
-hall_move w (serves t) =
-    hall_moves.serves t.k t.s (side t.reached t.session) t.library t.holders (opened_reel t.request t.library t.session) t.live (t.rest, t.left)
-    (step_comes t.trouble w.hall.holders (scene w.hall.library t.s.session) t.request t.reply (scene t.library t.session) t.served.step) t.served.held
-hall_move w (ends k) = hall_moves.ends k
-hall_move w restarts = hall_moves.restarts
-hall_move w (arranges d names within free) = hall_moves.arranges d names within free
-hall_move w joins = hall_moves.joins
-hall_move w m = hall_moves.leaves
+abbrev pub server_move : (w : World) → Move w → ServerMove w.server
+server_move w (connects c there ready) = server_moves.joins
+server_move w (reaches k n s l reached live at grows) = server_moves.reads k s reached live (grows.0.0 ++ take n l.toward, grows.1 grows.0.0 grows.0.1)
+server_move w (serves t) =
+    server_moves.serves t.k t.s (side t.reached t.session) t.library t.holders (opened_reel t.request t.library t.session) t.live (t.rest, t.left)
+    (step_comes t.trouble w.server.holders (session_view w.server.library t.s.session) t.request t.reply (session_view t.library t.session) t.served.step) t.served.held
+server_move w (ends k) = server_moves.ends k
+server_move w restarts = server_moves.restarts
+server_move w (arranges d names within free) = server_moves.arranges d names within free
+server_move w joins = server_moves.joins
+server_move w m = server_moves.leaves
 
-pub hall_moved : (w : World) (m : Move w) → (moved w m).hall ≡ hall_after w.hall (hall_move w m)
-hall_moved w restarts = refl
-hall_moved w m = refl
+pub server_moved : (w : World) (m : Move w) → (moved w m).server ≡ server_after w.server (server_move w m)
+server_moved w restarts = refl
+server_moved w m = refl
 
 -- no connection goes
 as_many : (f : Link → Link) (xs : List Link) (k : ℕ) → length xs ≤ length (changed f xs k)
@@ -303,7 +303,7 @@ sends_moves true w k c step b u block there stage own mine (reader, is) = let n 
 sends_moves false w k c step b u block there stage own mine (reader, fed, is) =
     (asks record { c = c; step = step; k = k; b = b; reader = reader; there = there; stage = stage; own = own; mine = mine; fed = fed }, is)
 
-abbrev pub turn_of : (w : World) (k : ℕ) (trouble : Trouble) (s : Side) (request : PlainRequest) (bytes rest : List ℕ) (u : World) → side_of w.hall k ≡ Some s → Unread s.reached bytes
+abbrev pub turn_of : (w : World) (k : ℕ) (trouble : Trouble) (s : ServerConnection) (request : PlainRequest) (bytes rest : List ℕ) (u : World) → side_of w.server k ≡ Some s → Unread s.reached bytes
     → Gives bytes (Ok (Some request)) rest → Finds w k trouble s (Ok (Some request)) rest u → ServerTurn w k trouble u
 turn_of w k trouble s request bytes rest u live unread gives (reply, reached, library, session, holders, left, served, is) = record {
   s = s;
@@ -344,7 +344,7 @@ carries_turn w u k trouble c = record {
 }
 
 -- a request is carried out, or a fault ends the server's side
-finds_carries : (w : World) (k : ℕ) (trouble : Trouble) (s : Side) (found : Result (Option PlainRequest) WireFault) (bytes rest : List ℕ) (u : World) → side_of w.hall k ≡ Some s
+finds_carries : (w : World) (k : ℕ) (trouble : Trouble) (s : ServerConnection) (found : Result (Option PlainRequest) WireFault) (bytes rest : List ℕ) (u : World) → side_of w.server k ≡ Some s
     → Unread s.reached bytes → Gives bytes found rest → Finds w k trouble s found rest u → ServerTurn w k trouble u ⊎ (u ≡ ended_at (calm w) k)
 finds_carries w k trouble s (Ok None) bytes rest u live unread gives finds = absurd finds
 finds_carries w k trouble s (Err fault) bytes rest u live unread gives is = inr is
@@ -437,7 +437,7 @@ happened w ServerRestart u (may, is) = (restarts, is)
 happened w ClientRestart u (may, back) = back_moves w w.kept u refl back
 happened w (Respond answer) u (may, (c, reader, there, stage, is)) = (answers c answer reader there stage, is)
 happened w (Arrange drive reels) u ((e, found, free, distinct, piled), (d, named, is)) =
-    (arranges d reels named.0 (subst (λ x. slice_index_or w.hall.holders x 0 ≡ 0) (one_named w.hall.library drive e d found named) free), is)
+    (arranges d reels named.0 (subst (λ x. slice_index_or w.server.holders x 0 ≡ 0) (one_named w.server.library drive e d found named) free), is)
 happened w Stranger u (may, is) = (joins, is)
 happened w (Says k bytes) u ((x, (there, other), none), is) = (talks k x (says bytes) there none, is)
 happened w Enter u ((x, at, stage, not_yet), (c, there, is)) =

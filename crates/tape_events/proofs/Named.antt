@@ -17,8 +17,8 @@ use Rattle.std.proofs.lemmas.Slice.Eq.{bytes_eq-Decides}
 use Rattle.rmt_wire.specs.Request.{PlainRequest}
 use Rattle.rmt_wire.specs.Request.PlainRequest.{Open}
 use Rattle.rmt_server.specs.Access.{writes}
-use Rattle.rmt_server.specs.Hall.{Hall, Side, side}
-use Rattle.rmt_server.specs.Session.{PlainSession, Scene, scene, closed_library}
+use Rattle.rmt_server.specs.ServerState.{ServerState, ServerConnection, side}
+use Rattle.rmt_server.specs.Session.{PlainSession, SessionView, session_view, closed_library}
 use Rattle.rmt_server.specs.Session.PlainSession.{Idle, Offline, Online}
 use Rattle.rmt_server.specs.TroubledServe.{drive_in}
 use Rattle.tape_events.specs.World.{World, Opening}
@@ -33,9 +33,9 @@ use Rattle.tape_events.proofs.Sides.{sits_here}
 use Rattle.tape_events.proofs.Held.{KeepsHeldOver, held_ended_by, held_all_ended_by}
 use Rattle.tape_events.proofs.Laid.{online_drive, drive_within}
 use Rattle.tape_events.proofs.NamedRequests.{Comes, stays, closes, opens, moves}
-use Rattle.tape_events.proofs.HallMoves.{HallMove, serves, ends, restarts, arranges, hall_after}
+use Rattle.tape_events.proofs.ServerMoves.{ServerMove, serves, ends, restarts, arranges, server_after}
 use Rattle.tape_events.proofs.Moves as move
-use Rattle.tape_events.proofs.Moves.{Move, moved, hall_move, hall_moved, happened}
+use Rattle.tape_events.proofs.Moves.{Move, moved, server_move, server_moved, happened}
 
 -- a stack has the same names where its first reel is away or lies there
 first_names : (name : List ℕ) (reel : Option KeptReel) (stack : List (ReelSlot KeptReel)) → sum_by (named name) (with_first reel stack) ≡ sum_by (named name) stack
@@ -75,14 +75,14 @@ to_bin_names s d reel within = by_sums s (to_bin s d reel) (λ name.
     omega (arith, whole, one, all, bin, part)))
 
 -- what was open is laid back
-closed_names : (h : Hall) (k : ℕ) (s : Side) → side_of h k ≡ Some s → AreHeld h → (session : PlainSession) → s.session ≡ session → SameNames h.library (closed_library h.library session)
+closed_names : (h : ServerState) (k : ℕ) (s : ServerConnection) → side_of h k ≡ Some s → AreHeld h → (session : PlainSession) → s.session ≡ session → SameNames h.library (closed_library h.library session)
 closed_names h k s was a Idle is = λ name. refl
 closed_names h k s was a (Offline drive access) is = λ name. refl
 closed_names h k s was a (Online drive access reel) is =
     at_first_names h.library drive (Some (kept_reel (entries_of reel.tape) reel.capacity)) (drive_within h k s drive a was (ap drive_in is))
 
 -- one request of a session
-comes_names : (holders : List ℕ) (h : Hall) (k : ℕ) (s : Side) (after : Scene) (opened : Option (List ℕ)) → side_of h k ≡ Some s → AreHeld h → Comes holders (scene h.library s.session) after opened
+comes_names : (holders : List ℕ) (h : ServerState) (k : ℕ) (s : ServerConnection) (after : SessionView) (opened : Option (List ℕ)) → side_of h k ≡ Some s → AreHeld h → Comes holders (session_view h.library s.session) after opened
     → SameNames h.library after.library
 comes_names holders h k s after opened was a (stays library session drive none) name = ap (λ (v : TapeLibrary). times name (names_in v)) library
 comes_names holders h k s after opened was a (closes library session none) name =
@@ -99,19 +99,19 @@ over_names : (base : TapeLibrary) → KeepsHeldOver (λ h. SameNames base h.libr
 over_names base h k s is a same name = closed_names h k s is a s.session refl name ∙ same name
 
 -- each event
-hall_names : (h : Hall) (m : HallMove h) → AreHeld h → SameNames h.library (hall_after h m).library
-hall_names h (serves k s x library holders opened live unread comes held) a = comes_names h.holders h k s (scene library x.session) opened live a comes
-hall_names h (ends k) a = held_ended_by (λ u. SameNames h.library u.library) (over_names h.library) h k a (λ name. refl)
-hall_names h restarts a = held_all_ended_by (λ u. SameNames h.library u.library) (over_names h.library) h (length h.sides) a (λ name. refl)
-hall_names h (arranges d names within free) a = times_arranged h.library d names within
-hall_names h m a = λ name. refl
+server_names : (h : ServerState) (m : ServerMove h) → AreHeld h → SameNames h.library (server_after h m).library
+server_names h (serves k s x library holders opened live unread comes held) a = comes_names h.holders h k s (session_view library x.session) opened live a comes
+server_names h (ends k) a = held_ended_by (λ u. SameNames h.library u.library) (over_names h.library) h k a (λ name. refl)
+server_names h restarts a = held_all_ended_by (λ u. SameNames h.library u.library) (over_names h.library) h (length h.sides) a (λ name. refl)
+server_names h (arranges d names within free) a = times_arranged h.library d names within
+server_names h m a = λ name. refl
 
-names_moved : (w : World) (m : Move w) → AreHeld w.hall → SameNames w.hall.library (moved w m).hall.library
-names_moved w m a = subst (λ (h : Hall). SameNames w.hall.library h.library) (sym (hall_moved w m)) (hall_names w.hall (hall_move w m) a)
+names_moved : (w : World) (m : Move w) → AreHeld w.server → SameNames w.server.library (moved w m).server.library
+names_moved w m a = subst (λ (h : ServerState). SameNames w.server.library h.library) (sym (server_moved w m)) (server_names w.server (server_move w m) a)
 
-pub names_after : (w : World) (event : PlainEvent) (u : World) → Happens w event u → AreHeld w.hall → SameNames w.hall.library u.hall.library
+pub names_after : (w : World) (event : PlainEvent) (u : World) → Happens w event u → AreHeld w.server → SameNames w.server.library u.server.library
 names_after w event u happens a =
-    let m = happened w event u happens in subst (λ (x : World). SameNames w.hall.library x.hall.library) (sym m.1) (names_moved w m.0 a)
+    let m = happened w event u happens in subst (λ (x : World). SameNames w.server.library x.server.library) (sym m.1) (names_moved w m.0 a)
 
 -- the openings, where one may have been added
 pub opening_is : (all : List Opening) (k : ℕ) (opened : Option (List ℕ)) (o : Opening) → Contains (all ++ option_to_list (option_map (opening k) opened)) o
@@ -150,25 +150,25 @@ written_is s (Offline drive access) reel is = absurd cc
 written_is s (Online drive access r) reel is = (drive, refl, written_if (writes access) (first_name (drive_at s drive).stack) reel is)
 
 -- the reel that was opened is there
-opened_is_reel : (h : Hall) (k : ℕ) (x : Side) (reel : List ℕ) → side_of h k ≡ Some x → AreHeld h → AreLaid h → written_reel h.library x.session ≡ Some reel → HasReel h.library reel
+opened_is_reel : (h : ServerState) (k : ℕ) (x : ServerConnection) (reel : List ℕ) → side_of h k ≡ Some x → AreHeld h → AreLaid h → written_reel h.library x.session ≡ Some reel → HasReel h.library reel
 opened_is_reel h k x reel live a l is =
     let w = written_is h.library x.session reel is in
     subst (HasReel h.library) w.2 (first_is_reel h.library w.0 (drive_within h k x w.0 a live (online_drive x.session w.0 w.1)) (l.latched w.0 (k, x, live, w.1)))
 
 -- the names and the openings, after an event that made no opening, or one
-same_named : (w u : World) → SameNames w.hall.library u.hall.library → u.opens ≡ w.opens → AreNamed w → AreNamed u
+same_named : (w u : World) → SameNames w.server.library u.server.library → u.opens ≡ w.opens → AreNamed w → AreNamed u
 same_named w u same made n = record {
   once = λ name. subst (λ m. m ≤ 1) (sym (same name)) (n.once name);
   opened = λ o among. subst (λ m. 0 < m) (sym (same o.reel)) (n.opened o (subst (λ l. Contains l o) made among));
 }
 
-served_named : (w u : World) (k : ℕ) (opened : Option (List ℕ)) → SameNames w.hall.library u.hall.library → u.opens ≡ w.opens ++ option_to_list (option_map (opening k) opened)
-    → ((reel : List ℕ) → opened ≡ Some reel → HasReel u.hall.library reel) → AreNamed w → AreNamed u
+served_named : (w u : World) (k : ℕ) (opened : Option (List ℕ)) → SameNames w.server.library u.server.library → u.opens ≡ w.opens ++ option_to_list (option_map (opening k) opened)
+    → ((reel : List ℕ) → opened ≡ Some reel → HasReel u.server.library reel) → AreNamed w → AreNamed u
 served_named w u k opened same made new n = record {
   once = λ name. subst (λ m. m ≤ 1) (sym (same name)) (n.once name);
   opened = λ o among. elim (opening_is w.opens k opened o (subst (λ l. Contains l o) made among)) [
     | inl before ↦ subst (λ m. 0 < m) (sym (same o.reel)) (n.opened o before)
-    | inr (reel, is, its) ↦ subst (λ (z : Opening). HasReel u.hall.library z.reel) (sym its) (new reel is)
+    | inr (reel, is, its) ↦ subst (λ (z : Opening). HasReel u.server.library z.reel) (sym its) (new reel is)
   ];
 }
 
@@ -177,18 +177,18 @@ open_reel : (request : PlainRequest) (s : TapeLibrary) (session : PlainSession) 
 open_reel (Open device mode) s session reel is = is
 open_reel request s session reel is = absurd cc
 
-pub comes_reel : (holders : List ℕ) (before after : Scene) (opened : Option (List ℕ)) → Comes holders before after opened → (reel : List ℕ) → opened ≡ Some reel
+pub comes_reel : (holders : List ℕ) (before after : SessionView) (opened : Option (List ℕ)) → Comes holders before after opened → (reel : List ℕ) → opened ≡ Some reel
     → written_reel after.library after.session ≡ Some reel
 comes_reel holders before after opened (opens drive access r first within waits free library session new) reel is = sym new ∙ is
 comes_reel holders before after opened (stays library session drive none) reel is = let clash = sym none ∙ is in absurd cc
 comes_reel holders before after opened (closes library session none) reel is = let clash = sym none ∙ is in absurd cc
 comes_reel holders before after opened (moves drive access r online library session none) reel is = let clash = sym none ∙ is in absurd cc
 
-pub named_moved : (w : World) (m : Move w) → AreHeld w.hall → AreHeld (moved w m).hall → AreLaid (moved w m).hall → AreNamed w → AreNamed (moved w m)
+pub named_moved : (w : World) (m : Move w) → AreHeld w.server → AreHeld (moved w m).server → AreLaid (moved w m).server → AreNamed w → AreNamed (moved w m)
 named_moved w (move.serves t) before a l n =
     let u = moved w (move.serves t) in
     served_named w u t.k (opened_reel t.request t.library t.session) (names_moved w (move.serves t) before) refl
-    (λ reel new. opened_is_reel u.hall t.k (side t.reached t.session) reel (sits_here w.hall t.k t.s (Some (side t.reached t.session)) u.hall record { was = t.live; sides = refl }) a l
+    (λ reel new. opened_is_reel u.server t.k (side t.reached t.session) reel (sits_here w.server t.k t.s (Some (side t.reached t.session)) u.server record { was = t.live; sides = refl }) a l
     (open_reel t.request t.library t.session reel new)) n
 named_moved w m before a l n = same_named w _ (names_moved w m before) refl n
 
@@ -251,7 +251,7 @@ first_world_names (d ∷ drives) =
 pub first_named : (drives : List PlainDriveSpec) → AreGoodDrives drives → AreNamed (first_world drives)
 first_named drives good = record {
   once = λ name.
-      (let all : names_in (first_world drives).hall.library ≡ flat_map (λ (d : PlainDriveSpec). d.reels) drives
+      (let all : names_in (first_world drives).server.library ≡ flat_map (λ (d : PlainDriveSpec). d.reels) drives
       = ap (λ l. names_of l) (append-nil (flat_map (λ (r : Drive KeptReel). r.stack) (map blank_drive drives))) ∙ first_world_names drives in
       subst (λ l. times name l ≤ 1) (sym all) (distinct_once (flat_map (λ (d : PlainDriveSpec). d.reels) drives) good.2 name));
   opened = λ o (k, within, is). absurd (omega (arith, within));

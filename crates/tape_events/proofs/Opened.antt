@@ -11,8 +11,8 @@ use Rattle.drives.specs.Arranging.{arranged}
 use Rattle.drives.proofs.Shops.{named, times_named, sum_by_with_drive}
 use Rattle.rmt_server.specs.declared.access.Access.{Access}
 use Rattle.rmt_server.specs.Access.{writes}
-use Rattle.rmt_server.specs.Hall.{Hall, hall, Side, side}
-use Rattle.rmt_server.specs.Session.{PlainSession, Scene, scene, closed_library}
+use Rattle.rmt_server.specs.ServerState.{ServerState, server, ServerConnection, side}
+use Rattle.rmt_server.specs.Session.{PlainSession, SessionView, session_view, closed_library}
 use Rattle.rmt_server.specs.Session.PlainSession.{Idle, Offline, Online}
 use Rattle.rmt_server.specs.TroubledServe.{drive_in}
 use Rattle.tape_events.specs.World.{World, Opening, with_numbered}
@@ -27,9 +27,9 @@ use Rattle.tape_events.proofs.Sides.{side_there, Sits, sits_here, sits_other, si
 use Rattle.tape_events.proofs.Held.{KeepsHeldOver, held_ended_by, held_all_ended_by}
 use Rattle.tape_events.proofs.Laid.{IsOnlineElse, IsOpenElse, online_else, apart, alone_at, drive_other, drive_within, free_off, online_drive}
 use Rattle.tape_events.proofs.NamedRequests.{use_of, Comes, stays, closes, opens, moves, step_comes}
-use Rattle.tape_events.proofs.HallMoves.{HallMove, leaves, joins, reads, serves, ends, restarts, arranges, hall_after, IsNoRequest}
+use Rattle.tape_events.proofs.ServerMoves.{ServerMove, leaves, joins, reads, serves, ends, restarts, arranges, server_after, IsNoRequest}
 use Rattle.tape_events.proofs.Moves as move
-use Rattle.tape_events.proofs.Moves.{Move, moved, hall_move, links_more}
+use Rattle.tape_events.proofs.Moves.{Move, moved, server_move, links_more}
 use Rattle.tape_events.proofs.Named.{first_times, comes_reel, written_is, opening_is}
 
 -- an opening that was the last of its reel, where one may have been added
@@ -58,8 +58,8 @@ last_new all k reel = (
 )
 
 -- of each session that may write, the last opening of its reel is its own
-abbrev AreLast : Hall → List Opening → Type 0
-AreLast h all = (k : ℕ) (s : Side) (reel : List ℕ) → side_of h k ≡ Some s → written_reel h.library s.session ≡ Some reel → IsUnopenedSince all k reel
+abbrev AreLast : ServerState → List Opening → Type 0
+AreLast h all = (k : ℕ) (s : ServerConnection) (reel : List ℕ) → side_of h k ≡ Some s → written_reel h.library s.session ≡ Some reel → IsUnopenedSince all k reel
 
 -- the reel that is written is told by the rack of its drive alone
 written_library : (s t : TapeLibrary) (session : PlainSession) (d : ℕ) → online_drive_in session ≡ Some d → drive_at s d ≡ drive_at t d → written_reel s session ≡ written_reel t session
@@ -80,10 +80,10 @@ written_use s (Offline drive access) = refl
 written_use s (Online drive access reel) = refl
 
 -- One side turns, where the racks of the others' drives stay, and a reel that was opened is none of theirs.
-turn_last : (h u : Hall) (k : ℕ) (s : Side) (o : Option Side) (all : List Opening) (opened : Option (List ℕ)) → Sits h k s o u
+turn_last : (h u : ServerState) (k : ℕ) (s : ServerConnection) (o : Option ServerConnection) (all : List Opening) (opened : Option (List ℕ)) → Sits h k s o u
     → ((d : ℕ) → IsOnlineElse h k d → drive_at u.library d ≡ drive_at h.library d)
     → ((d : ℕ) → IsOnlineElse h k d → (r : List ℕ) → opened ≡ Some r → r ≢ first_name (drive_at u.library d).stack)
-    → ((x : Side) (reel : List ℕ) → o ≡ Some x → written_reel u.library x.session ≡ Some reel → IsUnopenedSince (all ++ option_to_list (option_map (opening k) opened)) k reel)
+    → ((x : ServerConnection) (reel : List ℕ) → o ≡ Some x → written_reel u.library x.session ≡ Some reel → IsUnopenedSince (all ++ option_to_list (option_map (opening k) opened)) k reel)
     → AreLast h all → AreLast u (all ++ option_to_list (option_map (opening k) opened))
 turn_last h u k s o all opened t all_drives differs own l j x reel at written = elim (sits_is h k s o u t j x at) [
   | inl (same, mine) ↦ subst (λ m. IsUnopenedSince (all ++ option_to_list (option_map (opening k) opened)) m reel) (sym same) (own x reel mine written)
@@ -95,24 +95,24 @@ turn_last h u k s o all opened t all_drives differs own l j x reel at written = 
 ]
 
 -- the same where nothing was opened
-quiet_last : (h u : Hall) (k : ℕ) (s : Side) (o : Option Side) (all : List Opening) → Sits h k s o u
+quiet_last : (h u : ServerState) (k : ℕ) (s : ServerConnection) (o : Option ServerConnection) (all : List Opening) → Sits h k s o u
     → ((d : ℕ) → IsOnlineElse h k d → drive_at u.library d ≡ drive_at h.library d)
-    → ((x : Side) (reel : List ℕ) → o ≡ Some x → written_reel u.library x.session ≡ Some reel → IsUnopenedSince all k reel)
+    → ((x : ServerConnection) (reel : List ℕ) → o ≡ Some x → written_reel u.library x.session ≡ Some reel → IsUnopenedSince all k reel)
     → AreLast h all → AreLast u all
 quiet_last h u k s o all t all_drives own l =
     subst (AreLast u) (append-nil all) (turn_last h u k s o all None t all_drives (λ d elsewhere r is. absurd cc)
     (λ x reel is written. subst (λ m. IsUnopenedSince m k reel) (sym (append-nil all)) (own x reel is written)) l)
 
 -- the racks of drives that others have open
-pub closed_else : (h : Hall) (k : ℕ) (s : Side) → side_of h k ≡ Some s → AreHeld h → (session : PlainSession) → s.session ≡ session → (d : ℕ) → IsOpenElse h k d
+pub closed_else : (h : ServerState) (k : ℕ) (s : ServerConnection) → side_of h k ≡ Some s → AreHeld h → (session : PlainSession) → s.session ≡ session → (d : ℕ) → IsOpenElse h k d
     → drive_at (closed_library h.library session) d ≡ drive_at h.library d
 closed_else h k s was a Idle is d elsewhere = refl
 closed_else h k s was a (Offline drive access) is d elsewhere = refl
 closed_else h k s was a (Online drive access reel) is d elsewhere =
     drive_other h.library.drives drive d _ (drive_with [] []) (λ same. alone_at h k s drive a was (ap drive_in is) (subst (IsOpenElse h k) same elsewhere))
 
-pub comes_else : (holders : List ℕ) (h : Hall) (k : ℕ) (s : Side) (after : Scene) (opened : Option (List ℕ)) → side_of h k ≡ Some s → AreHeld h
-    → ((d : ℕ) → IsOpenElse h k d → drive_in after.session ≡ Some d → ⊥) → Comes holders (scene h.library s.session) after opened
+pub comes_else : (holders : List ℕ) (h : ServerState) (k : ℕ) (s : ServerConnection) (after : SessionView) (opened : Option (List ℕ)) → side_of h k ≡ Some s → AreHeld h
+    → ((d : ℕ) → IsOpenElse h k d → drive_in after.session ≡ Some d → ⊥) → Comes holders (session_view h.library s.session) after opened
     → (d : ℕ) → IsOpenElse h k d → drive_at after.library d ≡ drive_at h.library d
 comes_else holders h k s after opened was a apart (stays library session drive none) d elsewhere = ap (λ (v : TapeLibrary). drive_at v d) library
 comes_else holders h k s after opened was a apart (closes library session none) d elsewhere =
@@ -126,7 +126,7 @@ comes_else holders h k s after opened was a apart (moves drive access reel onlin
     ∙ drive_other h.library.drives drive d _ (drive_with [] []) (λ same. alone_at h k s drive a was (ap drive_in online) (subst (IsOpenElse h k) same elsewhere))
 
 -- what the session itself may write on then, it could before, or it was opened
-pub comes_own : (holders : List ℕ) (before after : Scene) (opened : Option (List ℕ)) (reel : List ℕ) → Comes holders before after opened → written_reel after.library after.session ≡ Some reel
+pub comes_own : (holders : List ℕ) (before after : SessionView) (opened : Option (List ℕ)) (reel : List ℕ) → Comes holders before after opened → written_reel after.library after.session ≡ Some reel
     → ((written_reel before.library before.session ≡ Some reel) × (opened ≡ None)) ⊎ (opened ≡ Some reel)
 comes_own holders before after opened reel (stays library session drive none) written =
     inl (
@@ -162,37 +162,37 @@ over_last all h k s is a l =
     (λ d elsewhere. closed_else h k s is a s.session refl d (online_else h k d elsewhere)) (λ x reel none written. absurd cc) l
 
 -- a side more, with nothing open
-joined_last : (h : Hall) (all : List Opening) → AreLast h all → AreLast (with_side h) all
+joined_last : (h : ServerState) (all : List Opening) → AreLast h all → AreLast (with_side h) all
 joined_last h all l k s reel at written = elim (joined_is h k s at) [
   | inl before ↦ l k s reel before written
-  | inr new ↦ (let clash : written_reel h.library Idle ≡ Some reel = ap (λ (z : Side). written_reel h.library z.session) new ∙ written in absurd cc)
+  | inr new ↦ (let clash : written_reel h.library Idle ≡ Some reel = ap (λ (z : ServerConnection). written_reel h.library z.session) new ∙ written in absurd cc)
 ]
 
 -- an operator's order
-arranged_last : (h : Hall) (d : ℕ) (names : List (List ℕ)) (all : List Opening) → AreHeld h → slice_index_or h.holders d 0 ≡ 0 → AreLast h all
-    → AreLast (hall (arranged h.library d names) h.holders h.sides) all
+arranged_last : (h : ServerState) (d : ℕ) (names : List (List ℕ)) (all : List Opening) → AreHeld h → slice_index_or h.holders d 0 ≡ 0 → AreLast h all
+    → AreLast (server (arranged h.library d names) h.holders h.sides) all
 arranged_last h d names all a free l k s reel at written =
     let w = written_is (arranged h.library d names) s.session reel written in
     let other : w.0 ≢ d = λ same. free_off h d a free (k, s, at, w.1 ∙ ap Some same) in
     l k s reel at (sym (written_library (arranged h.library d names) h.library s.session w.0 w.1 (drive_other h.library.drives d w.0 _ (drive_with [] []) other)) ∙ written)
 
 -- one request of a session
-served_last : (holders : List ℕ) (h u : Hall) (k : ℕ) (s x : Side) (all : List Opening) (opened : Option (List ℕ)) → Sits h k s (Some x) u → Comes holders (scene h.library s.session) (scene u.library x.session) opened
+served_last : (holders : List ℕ) (h u : ServerState) (k : ℕ) (s x : ServerConnection) (all : List Opening) (opened : Option (List ℕ)) → Sits h k s (Some x) u → Comes holders (session_view h.library s.session) (session_view u.library x.session) opened
     → AreHeld h → AreHeld u → AreLaid u → EachReelOnce u.library → AreLast h all → AreLast u (all ++ option_to_list (option_map (opening k) opened))
 served_last holders h u k s x all opened t comes a b laid once l =
     let here : side_of u k ≡ Some x = sits_here h k s (Some x) u t in
     let there : (d : ℕ) → IsOnlineElse h k d → IsOnlineElse u k d
     = λ d (j, other, (y, at, on)). (j, other, (y, sits_other h k j s (Some x) u t other ∙ at, on)) in
-    turn_last h u k s (Some x) all opened t (λ d elsewhere. comes_else holders h k s (scene u.library x.session) opened t.was a (apart h u k s x t b) comes d (online_else h k d elsewhere))
+    turn_last h u k s (Some x) all opened t (λ d elsewhere. comes_else holders h k s (session_view u.library x.session) opened t.was a (apart h u k s x t b) comes d (online_else h k d elsewhere))
     (λ d elsewhere r is same. (
-    let w = written_is u.library x.session r (comes_reel holders (scene h.library s.session) (scene u.library x.session) opened comes r is) in
+    let w = written_is u.library x.session r (comes_reel holders (session_view h.library s.session) (session_view u.library x.session) opened comes r is) in
     let other : w.0 ≢ d = λ e. apart h u k s x t b d (online_else h k d elsewhere) (online_drive x.session d (w.1 ∙ ap Some e)) in
     let (j, unlike, (y, at, on)) = there d elsewhere in
     names_differ u.library w.0 d once other (drive_within u k x w.0 b here (online_drive x.session w.0 w.1)) (laid.latched w.0 (k, x, here, w.1))
     (drive_within u j y d b at (online_drive y.session d on)) (laid.latched d (j, y, at, on)) (w.2 ∙ same)))
     (λ y reel same written. (
-    let its : written_reel u.library x.session ≡ Some reel = ap (λ (z : Side). written_reel u.library z.session) (same_Some x y same) ∙ written in
-    elim (comes_own holders (scene h.library s.session) (scene u.library x.session) opened reel comes its) [
+    let its : written_reel u.library x.session ≡ Some reel = ap (λ (z : ServerConnection). written_reel u.library z.session) (same_Some x y same) ∙ written in
+    elim (comes_own holders (session_view h.library s.session) (session_view u.library x.session) opened reel comes its) [
       | inl (before, none) ↦ last_stays all k k reel opened (λ r is. (let clash = sym none ∙ is in absurd cc)) (l k s reel t.was before)
       | inr new ↦ subst (λ o. IsUnopenedSince (all ++ option_to_list (option_map (opening k) o)) k reel) (sym new) (last_new all k reel)
     ]))
@@ -205,50 +205,50 @@ same_there w u made more n o among =
     let before = n.there o (subst (λ l. Contains l o) made among) in
     (before.0, (let few = before.1 in omega (arith, few, more)))
 
-served_there : (w u : World) (k : ℕ) (s : Side) (opened : Option (List ℕ)) → side_of w.hall k ≡ Some s → u.opens ≡ w.opens ++ option_to_list (option_map (opening k) opened)
+served_there : (w u : World) (k : ℕ) (s : ServerConnection) (opened : Option (List ℕ)) → side_of w.server k ≡ Some s → u.opens ≡ w.opens ++ option_to_list (option_map (opening k) opened)
     → length u.links ≡ length w.links → AreTidy w → AreOpened w → (o : Opening) → Contains u.opens o → (1 ≤ o.connection) × (o.connection ≤ length u.links)
 served_there w u k s opened live made links t n o among = elim (opening_is w.opens k opened o (subst (λ l. Contains l o) made among)) [
   | inl before ↦ (let was = n.there o before in (was.0, (let few = was.1 in omega (arith, few, links))))
   | inr (reel, is, its) ↦ (
-      let member = side_there w.hall k s live in
-      let within = numbered_within w.hall.sides k (Some s) member in
-      let first = numbered_first w.hall.sides k (Some s) member in
+      let member = side_there w.server k s live in
+      let within = numbered_within w.server.sides k (Some s) member in
+      let first = numbered_first w.server.sides k (Some s) member in
       let paired = t.paired in
       let same : o.connection ≡ k = ap (λ (z : Opening). z.connection) its in
       (omega (arith, first, same), omega (arith, within, paired, links, same)))
 ]
 
 -- each event
-hall_last : (h : Hall) (m : HallMove h) (all : List Opening) → IsNoRequest h m → AreHeld h → AreLast h all → AreLast (hall_after h m) all
-hall_last h (serves k s x library holders opened live unread comes held) all none a l = absurd none
-hall_last h leaves all none a l = l
-hall_last h joins all none a l = joined_last h all l
-hall_last h (reads k s reached live unread) all none a l =
-    quiet_last h (hall h.library h.holders (with_numbered h.sides k (Some (side reached s.session)))) k s (Some (side reached s.session)) all record { was = live; sides = refl }
+server_last : (h : ServerState) (m : ServerMove h) (all : List Opening) → IsNoRequest h m → AreHeld h → AreLast h all → AreLast (server_after h m) all
+server_last h (serves k s x library holders opened live unread comes held) all none a l = absurd none
+server_last h leaves all none a l = l
+server_last h joins all none a l = joined_last h all l
+server_last h (reads k s reached live unread) all none a l =
+    quiet_last h (server h.library h.holders (with_numbered h.sides k (Some (side reached s.session)))) k s (Some (side reached s.session)) all record { was = live; sides = refl }
     (λ d elsewhere. refl)
-    (λ y reel same written. l k s reel live (ap (λ (z : Side). written_reel h.library z.session) (same_Some (side reached s.session) y same) ∙ written)) l
-hall_last h (ends k) all none a l = held_ended_by (λ u. AreLast u all) (over_last all) h k a l
-hall_last h restarts all none a l = held_all_ended_by (λ u. AreLast u all) (over_last all) h (length h.sides) a l
-hall_last h (arranges d names within free) all none a l = arranged_last h d names all a free l
+    (λ y reel same written. l k s reel live (ap (λ (z : ServerConnection). written_reel h.library z.session) (same_Some (side reached s.session) y same) ∙ written)) l
+server_last h (ends k) all none a l = held_ended_by (λ u. AreLast u all) (over_last all) h k a l
+server_last h restarts all none a l = held_all_ended_by (λ u. AreLast u all) (over_last all) h (length h.sides) a l
+server_last h (arranges d names within free) all none a l = arranged_last h d names all a free l
 
-pub opened_moved : (w : World) (m : Move w) → AreTidy w → AreHeld w.hall → AreHeld (moved w m).hall → AreLaid (moved w m).hall → EachReelOnce (moved w m).hall.library → AreOpened w
+pub opened_moved : (w : World) (m : Move w) → AreTidy w → AreHeld w.server → AreHeld (moved w m).server → AreLaid (moved w m).server → EachReelOnce (moved w m).server.library → AreOpened w
     → AreOpened (moved w m)
 opened_moved w (move.serves t) tidy a b l once n =
     let u = moved w (move.serves t) in
     let o = opened_reel t.request t.library t.session in
     record {
       there = served_there w u t.k t.s o t.live refl (length_changed (answered t.request t.reply) w.links t.k) tidy n;
-      last = served_last w.hall.holders w.hall u.hall t.k t.s (side t.reached t.session) w.opens o record { was = t.live; sides = refl }
-          (step_comes t.trouble w.hall.holders (scene w.hall.library t.s.session) t.request t.reply (scene t.library t.session) t.served.step) a b l once n.last;
+      last = served_last w.server.holders w.server u.server t.k t.s (side t.reached t.session) w.opens o record { was = t.live; sides = refl }
+          (step_comes t.trouble w.server.holders (session_view w.server.library t.s.session) t.request t.reply (session_view t.library t.session) t.served.step) a b l once n.last;
     }
 opened_moved w m tidy a b l once n = record {
   there = same_there w (moved w m) refl (links_more w m) n;
-  last = hall_last w.hall (hall_move w m) w.opens tt a n.last;
+  last = server_last w.server (server_move w m) w.opens tt a n.last;
 }
 
 -- no side is there in the first world
 pub first_opened : (drives : List PlainDriveSpec) → AreOpened (first_world drives)
 first_opened drives = record {
   there = λ o (k, within, is). absurd (omega (arith, within));
-  last = λ k s reel at written. absurd (no_number k (Some s) (side_there (first_world drives).hall k s at));
+  last = λ k s reel at written. absurd (no_number k (Some s) (side_there (first_world drives).server k s at));
 }

@@ -2,7 +2,7 @@
 use Rattle.std.proofs.Common.{◌≡◌, ℕ, zero, suc, ◌+◌, ◌-◌, ◌^◌, ◌<◌, ◌≤◌, Bool, true, false, if◌then◌else◌, nat_lt, [], ◌∷◌, length, Option, Some, refl, sym, ap, subst, ◌∙◌, arith}
 use Rattle.std.proofs.lemmas.List.{length-append}
 use Rattle.rmt_wire.specs.Counted.{raised}
-use Rattle.rmt_server.specs.Hall.{Side}
+use Rattle.rmt_server.specs.ServerState.{ServerConnection}
 use Rattle.dump_run.specs.Run.{PlainRun, IsRun}
 use Rattle.dump_client.specs.Lawful.{steps_before, steps_to, steps_to_block, blocks_from}
 use Rattle.dump_client.specs.declared.step.Step.{Step}
@@ -88,7 +88,7 @@ few_steps run first blocks (Operation (Unload end)) has within = let most = one_
 few_steps run first blocks Close has within = let most = one_at_most (nat_lt (first + blocks) run.blocks) in omega (arith, within, most)
 
 -- an attempt has few steps
-pub done_few : (run : PlainRun) (o : Option Side) (d : Dumping) (step : Step) → IsRun run → HasDone run o d step → d.carried + 1 < 2 ^ 64
+pub done_few : (run : PlainRun) (o : Option ServerConnection) (d : Dumping) (step : Step) → IsRun run → HasDone run o d step → d.carried + 1 < 2 ^ 64
 done_few run o d step good h =
     let few = few_steps run d.first d.blocks step h.blocks h.within in
     let many = h.carried ∙ before_length run d.first (d.first + d.blocks) step in
@@ -96,8 +96,8 @@ done_few run o d step good h =
     omega (arith, few, many, limit)
 
 -- the side is over, or its session stays
-pub moved_done : (run : PlainRun) (o p : Option Side) (d : Dumping) (step : Step)
-    → ((s : Side) → p ≡ Some s → (x : Side) × (o ≡ Some x) × (s.session ≡ x.session)) → HasDone run o d step → HasDone run p d step
+pub moved_done : (run : PlainRun) (o p : Option ServerConnection) (d : Dumping) (step : Step)
+    → ((s : ServerConnection) → p ≡ Some s → (x : ServerConnection) × (o ≡ Some x) × (s.session ≡ x.session)) → HasDone run o d step → HasDone run p d step
 moved_done run o p d step same h = record {
   carried = h.carried;
   fault = h.fault;

@@ -12,8 +12,8 @@ use Rattle.rmt_wire.specs.declared.errno.TheConstants.{EIO}
 use Rattle.rmt_wire.specs.declared.mtio.TheConstants.{MTWEOF}
 use Rattle.tape.specs.declared.trouble.Trouble.{Trouble}
 use Rattle.drives.specs.TapeLibrary.{TapeLibrary}
-use Rattle.rmt_server.specs.Hall.{Side, side}
-use Rattle.rmt_server.specs.Session.{PlainSession, scene}
+use Rattle.rmt_server.specs.ServerState.{ServerConnection, side}
+use Rattle.rmt_server.specs.Session.{PlainSession, session_view}
 use Rattle.rmt_server.specs.TroubledServe.{TroubledServeStep}
 use Rattle.dump_run.specs.Run.{IsRun}
 use Rattle.dump_run.specs.Label.{label}
@@ -80,7 +80,7 @@ empty_start a b is =
     let both = length-append a b in
     (nil_from_length a (omega (arith, size, both)), nil_from_length b (omega (arith, size, both)))
 
-pub nothing_there : DroppedWrites → (s : Side) (way bytes rest : List ℕ) (found : PlainRequest) → AreUnserved (Some s) way [] → Unread s.reached bytes
+pub nothing_there : DroppedWrites → (s : ServerConnection) (way bytes rest : List ℕ) (found : PlainRequest) → AreUnserved (Some s) way [] → Unread s.reached bytes
     → Gives bytes (Ok (Some found)) rest → ⊥
 nothing_there g s way bytes rest found (reached, unread, is) other gives =
     let none = (empty_start reached way is).0 in
@@ -93,7 +93,7 @@ never_dropped b d Open n is = cc
 never_dropped b d step n is = cc
 
 -- what is carried out then is the request that was sent last
-pub serve_pending : OneReading → DroppedWrites → (b : Begun) (s : Side) (way : List ℕ) (d : Dumping) (step : Step) (bytes rest : List ℕ) (found : PlainRequest) (reply : PlainReply)
+pub serve_pending : OneReading → DroppedWrites → (b : Begun) (s : ServerConnection) (way : List ℕ) (d : Dumping) (step : Step) (bytes rest : List ℕ) (found : PlainRequest) (reply : PlainReply)
     (reached : RequestHeld) (session : PlainSession) → IsPending b (Some s) way d step → Unread s.reached bytes → Gives bytes (Ok (Some found)) rest → Unread reached rest
     → (found ≡ request_in b d step) × IsLinkSettled (Some (side reached session)) way (noted found reply d)
 serve_pending g h b s way d step bytes rest found reply reached session p unread gives left = unserved_by p.unserved
@@ -116,7 +116,7 @@ serve_pending g h b s way d step bytes rest found reply reached session p unread
           },
         )
 
-pub serve_sent : OneReading → DroppedWrites → (begun : List Begun) (s : Side) (l : Link) (d : Dumping) (bytes rest : List ℕ) (found : PlainRequest) (reply : PlainReply)
+pub serve_sent : OneReading → DroppedWrites → (begun : List Begun) (s : ServerConnection) (l : Link) (d : Dumping) (bytes rest : List ℕ) (found : PlainRequest) (reply : PlainReply)
     (reached : RequestHeld) (session : PlainSession) → IsLinkSent begun (Some s) l d → Unread s.reached bytes → Gives bytes (Ok (Some found)) rest → Unread reached rest
     → IsLinkSent begun (Some (side reached session)) (answered found reply l) (noted found reply d)
 serve_sent g h begun s l d bytes rest found reply reached session (inl settled) unread gives left =
@@ -125,57 +125,57 @@ serve_sent g h begun s l d bytes rest found reply reached session (inr (b, step,
     inl ((serve_pending g h b s l.toward d step bytes rest found reply reached session p unread gives left).1)
 
 -- the reply to each step, and where it leads
-pub served_leads : ReplyTexts → (old : Standing) (payload : List (List ℕ)) (trouble : Trouble) (holders : List ℕ) (library library' : TapeLibrary) (s : Side) (reached : RequestHeld)
+pub served_leads : ReplyTexts → (old : Standing) (payload : List (List ℕ)) (trouble : Trouble) (holders : List ℕ) (library library' : TapeLibrary) (s : ServerConnection) (reached : RequestHeld)
     (session : PlainSession) (d : Dumping) (step : Step) (reply : PlainReply) → IsRun old.run → HasDone old.run (Some s) d step → d.carried + 1 < 2 ^ 64
     → SpellsRequest (request_text (request_of old.run payload d.volume d.first step)) (request_of old.run payload d.volume d.first step)
-    → TroubledServeStep trouble holders (scene library s.session) (request_of old.run payload d.volume d.first step) reply (scene library' session)
+    → TroubledServeStep trouble holders (session_view library s.session) (request_of old.run payload d.volume d.first step) reply (session_view library' session)
     → IsBrief (wanted_of step) reply × LeadsFrom (Some (side reached session)) old d (noted (request_of old.run payload d.volume d.first step) reply d) step reply
 served_leads t old payload trouble holders library library' s reached session d Open reply good h few spelled step =
-    let r = open_first trouble holders (scene library s.session) old.run.device reply (scene library' session) step in
+    let r = open_first trouble holders (session_view library s.session) old.run.device reply (session_view library' session) step in
     (plain_brief t reply r.0, open_leads old s (side reached session) d old.run.device reply h few r.1)
 served_leads t old payload trouble holders library library' s reached session d (Operation Rewind) reply good h few spelled step =
     let on = h.stands s refl in
-    let r = rewind_first trouble holders (scene library s.session) reply (scene library' session) on.1.0 on.0 on.1.1 step in
+    let r = rewind_first trouble holders (session_view library s.session) reply (session_view library' session) on.1.0 on.0 on.1.1 step in
     (plain_brief t reply r.0, rewind_leads old s (side reached session) d reply h few r.1)
 served_leads t old payload trouble holders library library' s reached session d Look reply good h few spelled step =
     let on = h.stands s refl in
-    let r = look_online trouble holders (scene library s.session) reply (scene library' session) on.1.0 on.0 on.1.1 step in
+    let r = look_online trouble holders (session_view library s.session) reply (session_view library' session) on.1.0 on.0 on.1.1 step in
     (shown_brief t reply r.0, look_leads old s (side reached session) d reply h few r.1)
 served_leads t old payload trouble holders library library' s reached session d (Operation RewindAgain) reply good h few spelled step =
     let on = h.stands s refl in
-    let r = rewind_first trouble holders (scene library s.session) reply (scene library' session) on.1.0 on.0 on.1.1 step in
+    let r = rewind_first trouble holders (session_view library s.session) reply (session_view library' session) on.1.0 on.0 on.1.1 step in
     (plain_brief t reply r.0, again_leads old s (side reached session) d reply h few r.1)
 served_leads t old payload trouble holders library library' s reached session d Label reply good h few spelled step =
     let on = h.stands s refl in
     let limit = spelled.2 in
-    let r = write_online trouble holders (scene library s.session) (label old.run d.volume d.first) reply (scene library' session) on.1.0 on.0 (omega (arith, limit)) on.1.1 step in
+    let r = write_online trouble holders (session_view library s.session) (label old.run d.volume d.first) reply (session_view library' session) on.1.0 on.0 (omega (arith, limit)) on.1.1 step in
     (plain_brief t reply r.0, label_leads old s (side reached session) d (label old.run d.volume d.first) reply h few r.1)
 served_leads t old payload trouble holders library library' s reached session d (Block number) reply good h few spelled step =
     let on = h.stands s refl in
     let limit = spelled.2 in
-    let r = write_online trouble holders (scene library s.session) (get_or payload number []) reply (scene library' session) on.1.0 on.0 (omega (arith, limit)) on.1.1 step in
+    let r = write_online trouble holders (session_view library s.session) (get_or payload number []) reply (session_view library' session) on.1.0 on.0 (omega (arith, limit)) on.1.1 step in
     (plain_brief t reply r.0, block_leads old s (side reached session) d number (get_or payload number []) reply good h few r.1)
 served_leads t old payload trouble holders library library' s reached session d (Operation (Mark next)) reply good h few spelled step =
     let on = h.stands s refl in
-    let r = marks_online trouble holders (scene library s.session) reply (scene library' session) on.1.0 on.0 on.1.1 step in
+    let r = marks_online trouble holders (session_view library s.session) reply (session_view library' session) on.1.0 on.0 on.1.1 step in
     (plain_brief t reply r.0, mark_leads old s (side reached session) d next reply h few r.1)
 served_leads t old payload trouble holders library library' s reached session d (Operation (Unload next)) reply good h few spelled step =
     let on = h.stands s refl in
-    let r = unload_away trouble holders (scene library s.session) reply (scene library' session) on.1.0 on.0 on.1.1 step in
+    let r = unload_away trouble holders (session_view library s.session) reply (session_view library' session) on.1.0 on.0 on.1.1 step in
     (plain_brief t reply r.0, unload_leads old s (side reached session) d next reply h few r.1)
 served_leads t old payload trouble holders library library' s reached session d Close reply good h few spelled step =
     let on = h.stands s refl in (
-      plain_brief t reply (close_plain trouble holders (scene library s.session) reply (scene library' session) on.0 on.1 step),
+      plain_brief t reply (close_plain trouble holders (session_view library s.session) reply (session_view library' session) on.0 on.1 step),
       close_leads old (side reached session) d (noted CloseDevice reply d) reply,
     )
 
 -- the step's own first block is that of the checkpoint, but at the close, whose reply ends the attempt
-from_checkpoint : (o : Option Side) (old : Standing) (d noted : Dumping) (step : Step) (reply : PlainReply) → d.first ≡ (checkpoint_of old.counts).1
+from_checkpoint : (o : Option ServerConnection) (old : Standing) (d noted : Dumping) (step : Step) (reply : PlainReply) → d.first ≡ (checkpoint_of old.counts).1
     → LeadsFrom o old d noted step reply → LeadsOn old.run o old noted step reply
 from_checkpoint o old d noted step reply first leads progress new next becomes at =
     leads progress new next (subst (λ n. Becomes old (after_reply old.run old.counts n step reply) false progress new) (sym first) becomes) at
 
-at_checkpoint : (o : Option Side) (old : Standing) (d noted : Dumping) (step : Step) (reply : PlainReply) → d.first ≡ (attempt_at step old.counts).1
+at_checkpoint : (o : Option ServerConnection) (old : Standing) (d noted : Dumping) (step : Step) (reply : PlainReply) → d.first ≡ (attempt_at step old.counts).1
     → LeadsFrom o old d noted step reply → LeadsOn old.run o old noted step reply
 at_checkpoint o old d noted Open reply first leads = from_checkpoint o old d noted Open reply first leads
 at_checkpoint o old d noted (Operation op) reply first leads = from_checkpoint o old d noted (Operation op) reply first leads
@@ -185,10 +185,10 @@ at_checkpoint o old d noted (Block number) reply first leads = from_checkpoint o
 at_checkpoint o old d noted step reply first leads = leads
 
 -- the client's own connection, at which it waits
-asked_replied : ReplyTexts → OneReading → DroppedWrites → (b : Begun) (s : Side) (l : Link) (c : Caller) (d : Dumping) (step : Step) (bytes rest : List ℕ) (found : PlainRequest)
+asked_replied : ReplyTexts → OneReading → DroppedWrites → (b : Begun) (s : ServerConnection) (l : Link) (c : Caller) (d : Dumping) (step : Step) (bytes rest : List ℕ) (found : PlainRequest)
     (reply : PlainReply) (reached : RequestHeld) (trouble : Trouble) (holders : List ℕ) (library library' : TapeLibrary) (session : PlainSession) → IsRun b.run → b.run ≡ c.at.run
     → d.first ≡ (attempt_at step c.at.counts).1 → IsStepAsked b (Some s) l c d step → Unread s.reached bytes → Gives bytes (Ok (Some found)) rest → Unread reached rest
-    → TroubledServeStep trouble holders (scene library s.session) found reply (scene library' session)
+    → TroubledServeStep trouble holders (session_view library s.session) found reply (session_view library' session)
     → IsStepReplied b (Some (side reached session)) (answered found reply l) c (noted found reply d) step
 asked_replied t g h b s l c d step bytes rest found reply reached trouble holders library library' session good run first a unread gives left served =
     let p = a.pending in
@@ -198,8 +198,8 @@ asked_replied t g h b s l c d step bytes rest found reply reached trouble holder
     let led = served_leads t c.at b.payload trouble holders library library' s reached session d step reply (subst IsRun run good)
     (subst (λ r. HasDone r (Some s) d step) run p.done) (omega (arith, sent, few))
     (subst (λ r. SpellsRequest (request_text (request_of r b.payload d.volume d.first step)) (request_of r b.payload d.volume d.first step)) run p.spelled)
-    (subst (λ r. TroubledServeStep trouble holders (scene library s.session) (request_of r b.payload d.volume d.first step) reply (scene library' session)) run
-    (subst (λ r. TroubledServeStep trouble holders (scene library s.session) r reply (scene library' session)) done.0 served)) in
+    (subst (λ r. TroubledServeStep trouble holders (session_view library s.session) (request_of r b.payload d.volume d.first step) reply (session_view library' session)) run
+    (subst (λ r. TroubledServeStep trouble holders (session_view library s.session) r reply (session_view library' session)) done.0 served)) in
     let leads : LeadsOn b.run (Some (side reached session)) c.at (noted found reply d) step reply
     = subst (λ r. LeadsOn b.run (Some (side reached session)) c.at (noted r reply d) step reply) (sym done.0)
     (subst (λ r. LeadsOn r (Some (side reached session)) c.at (noted (request_of r b.payload d.volume d.first step) reply d) step reply) (sym run)
@@ -228,10 +228,10 @@ noted_attempt begun c d step b found reply a =
       first = keeps.first ∙ a.first;
     }
 
-pub serve_told : ReplyTexts → OneReading → DroppedWrites → (begun : List Begun) (stage : Stage) (s : Side) (l : Link) (c : Caller) (d : Dumping) (bytes rest : List ℕ)
+pub serve_told : ReplyTexts → OneReading → DroppedWrites → (begun : List Begun) (stage : Stage) (s : ServerConnection) (l : Link) (c : Caller) (d : Dumping) (bytes rest : List ℕ)
     (found : PlainRequest) (reply : PlainReply) (reached : RequestHeld) (trouble : Trouble) (holders : List ℕ) (library library' : TapeLibrary) (session : PlainSession)
     → ((n : ℕ) (b : Begun) → numbered begun n ≡ Some b → IsGood b) → IsLinkToldAt stage begun (Some s) l c d → Unread s.reached bytes → Gives bytes (Ok (Some found)) rest
-    → Unread reached rest → TroubledServeStep trouble holders (scene library s.session) found reply (scene library' session)
+    → Unread reached rest → TroubledServeStep trouble holders (session_view library s.session) found reply (session_view library' session)
     → IsLinkToldAt stage begun (Some (side reached session)) (answered found reply l) c (noted found reply d)
 serve_told t g h begun (ToSend step) s l c d bytes rest found reply reached trouble holders library library' session good (b, attempt, turn) unread gives left served =
     absurd (nothing_there h s l.toward bytes rest found turn.settled.unserved unread gives)

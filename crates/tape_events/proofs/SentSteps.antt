@@ -23,7 +23,7 @@ use Rattle.drives.specs.declared.fault.DriveFault.TheVariants.{NoSuchDrive}
 use Rattle.drives.specs.declared.fault.DriveFault.{DriveFault}
 use Rattle.rmt_server.specs.Refusals.{refused, text_of, number_of, tape_refusal, drive_refusal}
 use Rattle.rmt_server.specs.declared.access.Access.TheVariants.{Both}
-use Rattle.rmt_server.specs.Session.{PlainReel, plain_reel, Scene, status_of, refusal, tape_request, reel_reply}
+use Rattle.rmt_server.specs.Session.{PlainReel, plain_reel, SessionView, status_of, refusal, tape_request, reel_reply}
 use Rattle.rmt_server.specs.Session.PlainSession.{Offline, Online}
 use Rattle.rmt_server.specs.TroubledServe.{TroubledServeStep, TroubledMoveStep, TroubledDoneStep}
 use Rattle.dump_run.specs.Label.{label_bytes}
@@ -112,7 +112,7 @@ shown_brief g reply (inl (bytes, few, is)) = subst (IsBrief (DataUpTo label_byte
 shown_brief g reply (inr (n, text, line, is)) = subst (IsBrief (DataUpTo label_bytes)) (sym is) (error_brief g (DataUpTo label_bytes) n text line)
 
 -- the session stays online with its drive, for reading and writing
-abbrev pub StaysOnline : PlainReply → Scene → Type 0
+abbrev pub StaysOnline : PlainReply → SessionView → Type 0
 StaysOnline reply after = IsPlain reply × ((reel : PlainReel) × IsOnlineWith after.session reel)
 
 tape_plain : (why : TapeFault) (reply : PlainReply) → reply ≡ refused (tape_refusal why) → IsPlain reply
@@ -131,17 +131,17 @@ write_answer trouble capacity t u bytes (Fault faults.EndOrMark) reply few step 
 write_answer trouble capacity t u bytes (Fault faults.BadOperation) reply few step is = tape_plain faults.BadOperation reply is
 write_answer trouble capacity t u bytes (Fault faults.OutOfMemory) reply few step is = tape_plain faults.OutOfMemory reply is
 
-write_called : (trouble : Trouble) (before : Scene) (bytes : List ℕ) (reply : PlainReply) (after : Scene) (drive : ℕ) (reel : PlainReel) (b : Bool)
+write_called : (trouble : Trouble) (before : SessionView) (bytes : List ℕ) (reply : PlainReply) (after : SessionView) (drive : ℕ) (reel : PlainReel) (b : Bool)
     → length bytes ≤ 2147483647 → before.session ≡ Online drive Both reel
     → MatchOption (if b then Some (tape_refusal faults.BadOperation) else None) (TroubledDoneStep trouble before (Write bytes) reply after)
     (λ r. (reply ≡ refused r) × (after ≡ before)) → StaysOnline reply after
 write_called trouble before bytes reply after drive reel true few was (replies, is) =
-    (tape_plain faults.BadOperation reply replies, (reel, (drive, ap (λ (v : Scene). v.session) is ∙ was)))
+    (tape_plain faults.BadOperation reply replies, (reel, (drive, ap (λ (v : SessionView). v.session) is ∙ was)))
 write_called trouble before bytes reply after drive reel false few was done =
     let c = called trouble before (Write bytes) reply after drive reel was done in
     (write_answer trouble reel.capacity reel.tape c.now bytes c.answer reply few c.device c.replies, (plain_reel c.now reel.capacity, (drive, c.left.session)))
 
-pub write_online : (trouble : Trouble) (holders : List ℕ) (before : Scene) (bytes : List ℕ) (reply : PlainReply) (after : Scene) (drive : ℕ) (reel : PlainReel)
+pub write_online : (trouble : Trouble) (holders : List ℕ) (before : SessionView) (bytes : List ℕ) (reply : PlainReply) (after : SessionView) (drive : ℕ) (reel : PlainReel)
     → length bytes ≤ 2147483647 → before.session ≡ Online drive Both reel → TroubledServeStep trouble holders before (Write bytes) reply after → StaysOnline reply after
 write_online trouble holders before bytes reply after drive reel few was step =
     write_called trouble before bytes reply after drive reel ((length bytes == 0) || nat_lt RECORD_LIMIT (length bytes)) few was
@@ -154,7 +154,7 @@ marks_answer trouble capacity t u Did reply step is = inl (1, omega arith, is)
 marks_answer trouble capacity t u (Gave given) reply step is = absurd (step.1)
 marks_answer trouble capacity t u (Fault why) reply step is = tape_plain why reply is
 
-pub marks_online : (trouble : Trouble) (holders : List ℕ) (before : Scene) (reply : PlainReply) (after : Scene) (drive : ℕ) (reel : PlainReel)
+pub marks_online : (trouble : Trouble) (holders : List ℕ) (before : SessionView) (reply : PlainReply) (after : SessionView) (drive : ℕ) (reel : PlainReel)
     → before.session ≡ Online drive Both reel → TroubledServeStep trouble holders before (Op MTWEOF 1) reply after → StaysOnline reply after
 marks_online trouble holders before reply after drive reel was step =
     let c = called trouble before (Op MTWEOF 1) reply after drive reel was
@@ -178,7 +178,7 @@ read_answer trouble capacity t u (Gave given) reply step is = inl (given, passed
 read_answer trouble capacity t u (Fault why) reply step is = inr (number_of (tape_refusal why), text_of (tape_refusal why), tape_line why, is)
 
 -- the first record is looked at: the session stays online with its drive
-pub look_online : (trouble : Trouble) (holders : List ℕ) (before : Scene) (reply : PlainReply) (after : Scene) (drive : ℕ) (reel : PlainReel)
+pub look_online : (trouble : Trouble) (holders : List ℕ) (before : SessionView) (reply : PlainReply) (after : SessionView) (drive : ℕ) (reel : PlainReel)
     → before.session ≡ Online drive Both reel → TroubledServeStep trouble holders before (Read label_bytes) reply after
     → IsRecordShown reply × ((reel : PlainReel) × IsOnlineWith after.session reel)
 look_online trouble holders before reply after drive reel was step =
@@ -188,7 +188,7 @@ look_online trouble holders before reply after drive reel was step =
     (read_answer trouble reel.capacity reel.tape c.now c.answer reply c.device c.replies, (plain_reel c.now reel.capacity, (drive, c.left.session)))
 
 -- the reel is at its beginning, where the request was done
-abbrev pub StandsFirst : PlainReply → Scene → Type 0
+abbrev pub StandsFirst : PlainReply → SessionView → Type 0
 StandsFirst reply after = IsPlain reply × ((n : ℕ) → reply ≡ Done n → (reel : PlainReel) × IsOnlineWith after.session reel × (reel.tape.before ≡ []))
 
 rewind_answer : (trouble : Trouble) (capacity : ℕ) (t u : Tape) (answer : TapeAnswer) (reply : PlainReply)
@@ -199,7 +199,7 @@ rewind_answer trouble capacity t u (Gave given) reply step is = absurd (step.1)
 rewind_answer trouble capacity t u (Fault why) reply step is =
     (tape_plain why reply is, λ n done. (let clash : Done n ≡ refused (tape_refusal why) = sym done ∙ is in absurd cc))
 
-pub rewind_first : (trouble : Trouble) (holders : List ℕ) (before : Scene) (reply : PlainReply) (after : Scene) (drive : ℕ) (reel : PlainReel)
+pub rewind_first : (trouble : Trouble) (holders : List ℕ) (before : SessionView) (reply : PlainReply) (after : SessionView) (drive : ℕ) (reel : PlainReel)
     → before.session ≡ Online drive Both reel → TroubledServeStep trouble holders before (Op MTREW 1) reply after → StandsFirst reply after
 rewind_first trouble holders before reply after drive reel was step =
     let c = called trouble before (Op MTREW 1) reply after drive reel was
@@ -209,33 +209,33 @@ rewind_first trouble holders before reply after drive reel was step =
     (a.0, λ n is. (plain_reel c.now reel.capacity, (drive, c.left.session), a.1 n is))
 
 -- the reel is away, where the request was done
-abbrev pub StandsAway : PlainReply → Scene → Type 0
+abbrev pub StandsAway : PlainReply → SessionView → Type 0
 StandsAway reply after = IsPlain reply × ((n : ℕ) → reply ≡ Done n → (drive : ℕ) × (after.session ≡ Offline drive Both))
 
-moved_away : (trouble : Trouble) (before : Scene) (reply : PlainReply) (after : Scene) (drive : ℕ) (reel : PlainReel) → before.session ≡ Online drive Both reel
+moved_away : (trouble : Trouble) (before : SessionView) (reply : PlainReply) (after : SessionView) (drive : ℕ) (reel : PlainReel) → before.session ≡ Online drive Both reel
     → TroubledMoveStep trouble before 1 reply after → StandsAway reply after
 moved_away trouble before reply after drive reel was (e, access, x, Ok done, online, cause, replies, is) =
     let same : Online drive Both reel ≡ Online e access x = sym was ∙ online in
     let accesses : access ≡ Both = cc in
-    (inl (1, omega arith, replies), λ n so. (e, ap (λ (v : Scene). v.session) is ∙ ap (Offline e) accesses))
+    (inl (1, omega arith, replies), λ n so. (e, ap (λ (v : SessionView). v.session) is ∙ ap (Offline e) accesses))
 moved_away trouble before reply after drive reel was (e, access, x, Err why, online, cause, replies, is) =
     (drive_plain why reply replies, λ n done. (let clash : Done n ≡ refused (drive_refusal why) = sym done ∙ replies in absurd cc))
 
-pub unload_away : (trouble : Trouble) (holders : List ℕ) (before : Scene) (reply : PlainReply) (after : Scene) (drive : ℕ) (reel : PlainReel)
+pub unload_away : (trouble : Trouble) (holders : List ℕ) (before : SessionView) (reply : PlainReply) (after : SessionView) (drive : ℕ) (reel : PlainReel)
     → before.session ≡ Online drive Both reel → TroubledServeStep trouble holders before (Op MTOFFL 1) reply after → StandsAway reply after
 unload_away trouble holders before reply after drive reel was step =
     moved_away trouble before reply after drive reel was
     (subst (λ s. MatchOption (refusal (status_of s) (Op MTOFFL 1)) (TroubledDoneStep trouble before (Op MTOFFL 1) reply after) (λ r. (reply ≡ refused r) × (after ≡ before)))
     was step)
 
-pub open_first : (trouble : Trouble) (holders : List ℕ) (before : Scene) (device : List ℕ) (reply : PlainReply) (after : Scene)
+pub open_first : (trouble : Trouble) (holders : List ℕ) (before : SessionView) (device : List ℕ) (reply : PlainReply) (after : SessionView)
     → TroubledServeStep trouble holders before (Open device O_RDWR) reply after → StandsFirst reply after
 open_first trouble holders before device reply after (Ok opened, asked, (found, named, latch), cause, replies, is) =
     (inl (0, omega arith, replies), λ n done. (opened.1, (opened.0, is), ap (λ (x : Tape). x.before) latch.3))
 open_first trouble holders before device reply after (Err why, asked, opens, cause, replies, is) =
     (drive_plain why reply replies, λ n done. (let clash : Done n ≡ refused (drive_refusal why) = sym done ∙ replies in absurd cc))
 
-pub close_plain : (trouble : Trouble) (holders : List ℕ) (before : Scene) (reply : PlainReply) (after : Scene) (drive : ℕ) → before.session ≡ Offline drive Both
+pub close_plain : (trouble : Trouble) (holders : List ℕ) (before : SessionView) (reply : PlainReply) (after : SessionView) (drive : ℕ) → before.session ≡ Offline drive Both
     → TroubledServeStep trouble holders before Close reply after → IsPlain reply
 close_plain trouble holders before reply after drive was step =
     let done = subst (λ s. MatchOption (refusal (status_of s) Close) (TroubledDoneStep trouble before Close reply after) (λ r. (reply ≡ refused r) × (after ≡ before)))

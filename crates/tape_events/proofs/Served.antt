@@ -4,7 +4,7 @@ use Rattle.std.specs.Prelude.{slice_get}
 use Rattle.std.proofs.lemmas.List.{length-set}
 use Rattle.std.proofs.lemmas.Option.{same_Some, slice_get-get_or}
 use Rattle.drives.specs.TapeLibrary.{TapeLibrary}
-use Rattle.rmt_server.specs.Session.{PlainSession, Scene, closed_library}
+use Rattle.rmt_server.specs.Session.{PlainSession, SessionView, closed_library}
 use Rattle.rmt_server.specs.Session.PlainSession.{Idle, Offline, Online}
 use Rattle.rmt_server.specs.TroubledServe.{drive_in, with_holder}
 use Rattle.tape_events.proofs.NamedRequests.{Comes, stays, closes, opens, moves}
@@ -16,7 +16,7 @@ closed_drives s (Offline drive access) = refl
 closed_drives s (Online drive access reel) = length-set s.drives drive _
 
 -- What a request makes of a drive: it is the one that was open, or one that no other had.
-pub record Serves (holders : List ℕ) (before after : Scene) : Type 0 where
+pub record Serves (holders : List ℕ) (before after : SessionView) : Type 0 where
   pub drives : length after.library.drives ≡ length before.library.drives
   pub drive : (d : ℕ) → drive_in after.session ≡ Some d
       → (drive_in before.session ≡ Some d) ⊎ (slice_get (with_holder (drive_in before.session) 0 holders) d ≡ Some 0)
@@ -25,7 +25,7 @@ pub holders_length : (o : Option ℕ) (n : ℕ) (holders : List ℕ) → length 
 holders_length None n holders = refl
 holders_length (Some d) n holders = length-set holders d n
 
-pub comes_serves : (holders : List ℕ) (before after : Scene) (opened : Option (List ℕ)) → length holders ≡ length before.library.drives
+pub comes_serves : (holders : List ℕ) (before after : SessionView) (opened : Option (List ℕ)) → length holders ≡ length before.library.drives
     → Comes holders before after opened → Serves holders before after
 comes_serves holders before after opened places (stays library session drive none) = record {
   drives = ap (λ (s : TapeLibrary). length s.drives) library;

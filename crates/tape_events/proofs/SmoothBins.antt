@@ -9,7 +9,7 @@ use Rattle.drives.specs.declared.fault.DriveFault.TheVariants.{NoSuchDrive, Busy
 use Rattle.drives.specs.TapeLibrary.{KeptReel, ReelSlot, TapeLibrary}
 use Rattle.rmt_server.specs.declared.access.Access.{Access}
 use Rattle.rmt_server.specs.Access.{access_of}
-use Rattle.rmt_server.specs.Session.{PlainSession, Scene, status_of, refusal, closed, closed_library, is_offline}
+use Rattle.rmt_server.specs.Session.{PlainSession, SessionView, status_of, refusal, closed, closed_library, is_offline}
 use Rattle.rmt_server.specs.Session.PlainSession.{Idle, Offline, Online}
 use Rattle.rmt_server.specs.TroubledServe.{drive_in, with_holder, TroubledServeStep, TroubledOpens, TroubledReelStep, TroubledMoveStep, TroubledOpStep}
 
@@ -25,33 +25,33 @@ closed_bin s Idle = refl
 closed_bin s (Offline drive access) = refl
 closed_bin s (Online drive access reel) = refl
 
-as_scene : (before after : Scene) → after ≡ before → Behind before.library.bin after.library.bin
-as_scene before after is = same_bin before.library.bin after.library.bin (ap (λ (v : Scene). v.library.bin) is)
+as_session_view : (before after : SessionView) → after ≡ before → Behind before.library.bin after.library.bin
+as_session_view before after is = same_bin before.library.bin after.library.bin (ap (λ (v : SessionView). v.library.bin) is)
 
-reel_bin : (trouble : Trouble) (before : Scene) (request : PlainRequest) (reply : PlainReply) (after : Scene) → TroubledReelStep trouble before request reply after
+reel_bin : (trouble : Trouble) (before : SessionView) (request : PlainRequest) (reply : PlainReply) (after : SessionView) → TroubledReelStep trouble before request reply after
     → Behind before.library.bin after.library.bin
 reel_bin trouble before request reply after (drive, access, reel, answer, t, online, device, replies, is) =
-    same_bin before.library.bin after.library.bin (ap (λ (v : Scene). v.library.bin) is)
+    same_bin before.library.bin after.library.bin (ap (λ (v : SessionView). v.library.bin) is)
 
-move_bin : (trouble : Trouble) (before : Scene) (count : ℕ) (reply : PlainReply) (after : Scene) → TroubledMoveStep trouble before count reply after
+move_bin : (trouble : Trouble) (before : SessionView) (count : ℕ) (reply : PlainReply) (after : SessionView) → TroubledMoveStep trouble before count reply after
     → Behind before.library.bin after.library.bin
-move_bin trouble before count reply after (drive, access, reel, Ok done, online, cause, replies, is) = (_, ap (λ (v : Scene). v.library.bin) is)
+move_bin trouble before count reply after (drive, access, reel, Ok done, online, cause, replies, is) = (_, ap (λ (v : SessionView). v.library.bin) is)
 move_bin trouble before count reply after (drive, access, reel, Err why, online, cause, replies, (excused, stays, is)) =
     same_bin before.library.bin after.library.bin (ap (λ (s : TapeLibrary). s.bin) stays.0)
 
-op_bin : (offline : Bool) (trouble : Trouble) (before : Scene) (op count : ℕ) (reply : PlainReply) (after : Scene) → TroubledOpStep offline trouble before op count reply after
+op_bin : (offline : Bool) (trouble : Trouble) (before : SessionView) (op count : ℕ) (reply : PlainReply) (after : SessionView) → TroubledOpStep offline trouble before op count reply after
     → Behind before.library.bin after.library.bin
 op_bin true trouble before op count reply after step = move_bin trouble before count reply after step
 op_bin false trouble before op count reply after step = reel_bin trouble before (Op op count) reply after step
 
-close_bin : (before after : Scene) → after ≡ closed before → Behind before.library.bin after.library.bin
-close_bin before after is = same_bin before.library.bin after.library.bin (ap (λ (v : Scene). v.library.bin) is ∙ closed_bin before.library before.session)
+close_bin : (before after : SessionView) → after ≡ closed before → Behind before.library.bin after.library.bin
+close_bin before after is = same_bin before.library.bin after.library.bin (ap (λ (v : SessionView). v.library.bin) is ∙ closed_bin before.library before.session)
 
 refused_bin : {R : Type 0} (o : Option R) (A : Type 0) (B : R → Type 0) (C : Type 0) → (A → C) → ((r : R) → B r → C) → MatchOption o A B → C
 refused_bin None A B C none some step = none step
 refused_bin (Some r) A B C none some step = some r step
 
-opens_bin : (trouble : Trouble) (holders : List ℕ) (before : Scene) (device : List ℕ) (access : Option Access) (reply : PlainReply) (after : Scene)
+opens_bin : (trouble : Trouble) (holders : List ℕ) (before : SessionView) (device : List ℕ) (access : Option Access) (reply : PlainReply) (after : SessionView)
     → TroubledOpens trouble holders (closed before) device access reply after → Behind before.library.bin after.library.bin
 opens_bin trouble holders before device None reply after (replies, is) = close_bin before after is
 opens_bin trouble holders before device (Some access) reply after (Ok opened, asked, (found, named, latch), cause, replies, is) =
@@ -67,21 +67,21 @@ opens_bin trouble holders before device (Some access) reply after (Err Device, a
 opens_bin trouble holders before device (Some access) reply after (Err OutOfMemory, asked, opens, cause, replies, is) = absurd cause
 opens_bin trouble holders before device (Some access) reply after (Err NameTaken, asked, opens, cause, replies, is) = absurd cause
 
-pub served_bin : (trouble : Trouble) (holders : List ℕ) (before : Scene) (request : PlainRequest) (reply : PlainReply) (after : Scene)
+pub served_bin : (trouble : Trouble) (holders : List ℕ) (before : SessionView) (request : PlainRequest) (reply : PlainReply) (after : SessionView)
     → TroubledServeStep trouble holders before request reply after → Behind before.library.bin after.library.bin
 served_bin trouble holders before (Open device mode) reply after step =
     opens_bin trouble (with_holder (drive_in before.session) 0 holders) before device (access_of mode) reply after step
 served_bin trouble holders before Close reply after step =
-    refused_bin (refusal (status_of before.session) Close) _ _ (Behind before.library.bin after.library.bin) (λ done. close_bin before after done.1) (λ r no. as_scene before after no.1) step
+    refused_bin (refusal (status_of before.session) Close) _ _ (Behind before.library.bin after.library.bin) (λ done. close_bin before after done.1) (λ r no. as_session_view before after no.1) step
 served_bin trouble holders before (Write bytes) reply after step =
     refused_bin (refusal (status_of before.session) (Write bytes)) _ _ (Behind before.library.bin after.library.bin) (λ done. reel_bin trouble before (Write bytes) reply after done)
-    (λ r no. as_scene before after no.1) step
+    (λ r no. as_session_view before after no.1) step
 served_bin trouble holders before (WriteDropped count) reply after step =
     refused_bin (refusal (status_of before.session) (WriteDropped count)) _ _ (Behind before.library.bin after.library.bin)
-    (λ done. reel_bin trouble before (WriteDropped count) reply after done) (λ r no. as_scene before after no.1) step
+    (λ done. reel_bin trouble before (WriteDropped count) reply after done) (λ r no. as_session_view before after no.1) step
 served_bin trouble holders before (Read count) reply after step =
     refused_bin (refusal (status_of before.session) (Read count)) _ _ (Behind before.library.bin after.library.bin) (λ done. reel_bin trouble before (Read count) reply after done)
-    (λ r no. as_scene before after no.1) step
+    (λ r no. as_session_view before after no.1) step
 served_bin trouble holders before (Op op count) reply after step =
     refused_bin (refusal (status_of before.session) (Op op count)) _ _ (Behind before.library.bin after.library.bin)
-    (λ done. op_bin (is_offline op) trouble before op count reply after done) (λ r no. as_scene before after no.1) step
+    (λ done. op_bin (is_offline op) trouble before op count reply after done) (λ r no. as_session_view before after no.1) step

@@ -10,8 +10,8 @@ use Rattle.rmt_wire.specs.RequestReader.{RequestHeld, Unread}
 use Rattle.rmt_wire.specs.Reply.{PlainReply, reply_text}
 use Rattle.rmt_wire.specs.declared.fault.WireFault.{WireFault}
 use Rattle.drives.specs.TapeLibrary.{TapeLibrary}
-use Rattle.rmt_server.specs.Hall.{Side, side}
-use Rattle.rmt_server.specs.Session.{PlainSession, scene}
+use Rattle.rmt_server.specs.ServerState.{ServerConnection, side}
+use Rattle.rmt_server.specs.Session.{PlainSession, session_view}
 use Rattle.rmt_server.specs.TroubledServe.{TroubledServe}
 use Rattle.dump_client.specs.Script.{wanted_of}
 use Rattle.dump_client.specs.Standing.{standing}
@@ -55,7 +55,7 @@ request_no_fault text bytes way rest request fault spelled is (f, none, same) =
     f.hopeless (f.later ++ way, request, subst (λ l. SpellsRequest l request) stream spelled)
 
 -- where nothing is unserved, no request is found and no fault
-pub nothing_found : DroppedWrites → (w u : World) (k : ℕ) (s : Side) (way bytes rest : List ℕ) (found : Result (Option PlainRequest) WireFault) → AreUnserved (Some s) way []
+pub nothing_found : DroppedWrites → (w u : World) (k : ℕ) (s : ServerConnection) (way bytes rest : List ℕ) (found : Result (Option PlainRequest) WireFault) → AreUnserved (Some s) way []
     → Unread s.reached bytes → Gives bytes found rest → Finds w k NoTrouble s found rest u → ⊥
 nothing_found h w u k s way bytes rest (Ok None) none unread gives finds = finds
 nothing_found h w u k s way bytes rest (Ok (Some request)) none unread gives finds = nothing_there h s way bytes rest request none unread gives
@@ -67,7 +67,7 @@ nothing_found h w u k s way bytes rest (Err fault) (reached, was, is) unread giv
     no_bytes bytes fault (sym same) gives.0
 
 -- the server's side of a request that was sent finds no fault
-pending_no_fault : OneReading → DroppedWrites → (b : Begun) (s : Side) (way : List ℕ) (d : Dumping) (step : Step) (bytes rest : List ℕ) (fault : WireFault)
+pending_no_fault : OneReading → DroppedWrites → (b : Begun) (s : ServerConnection) (way : List ℕ) (d : Dumping) (step : Step) (bytes rest : List ℕ) (fault : WireFault)
     → IsPending b (Some s) way d step → Unread s.reached bytes → Gives bytes (Err fault) rest → ⊥
 pending_no_fault g h b s way d step bytes rest fault p unread gives = unserved_by p.unserved
   where
@@ -84,7 +84,7 @@ pending_no_fault g h b s way d step bytes rest fault p unread gives = unserved_b
         request_no_fault text bytes way rest (request_in b d step) fault p.spelled (is ∙ ap (λ l. l ++ way) same) gives
 
 -- what is carried out of the request that the client waits for
-record Carries (w u : World) (k : ℕ) (c : Caller) (l : Link) (d : Dumping) (b : Begun) (s : Side) (step : Step) : Type 0 where
+record Carries (w u : World) (k : ℕ) (c : Caller) (l : Link) (d : Dumping) (b : Begun) (s : ServerConnection) (step : Step) : Type 0 where
   caller : w.caller ≡ Some c
   stage : c.at.stage ≡ Waiting step
   own : IsOwnLink w k l d b s
@@ -101,7 +101,7 @@ record Carries (w u : World) (k : ℕ) (c : Caller) (l : Link) (d : Dumping) (b 
   unread : Unread s.reached bytes
   gives : Gives bytes (Ok (Some request)) rest
   left : Unread reached rest
-  served : TroubledServe NoTrouble w.hall.holders k (scene w.hall.library s.session) request reply (scene library session) holders
+  served : TroubledServe NoTrouble w.server.holders k (session_view w.server.library s.session) request reply (session_view library session) holders
   is : u ≡ carried w k request reply reached library session holders
 
 -- the bin before a step
@@ -110,17 +110,17 @@ pub before_bin : (drive : PlainDriveSpec) (t : Stock) (k : ℕ) (b : Begun) (d :
 before_bin drive t k b d session Open q = ap (λ (x : TapeLibrary). x.bin) q.0.library
 before_bin drive t k b d session step q = ap (λ (x : TapeLibrary). x.bin) q.library
 
-carried_smooth : OneReading → DroppedWrites → (drive : PlainDriveSpec) (w u : World) (k : ℕ) (c : Caller) (l : Link) (d : Dumping) (b : Begun) (s : Side) (step : Step) → IsWorldKept w → IsSmooth drive w
+carried_smooth : OneReading → DroppedWrites → (drive : PlainDriveSpec) (w u : World) (k : ℕ) (c : Caller) (l : Link) (d : Dumping) (b : Begun) (s : ServerConnection) (step : Step) → IsWorldKept w → IsSmooth drive w
     → IsStepUnanswered drive w (attempt_on k b d s.session) l step → Carries w u k c l d b s step → IsSmooth drive u
 carried_smooth g h drive w u k c l d b s step kept sm un v =
     let p = v.asked.pending in
     let all = serve_pending g h b s l.toward d step v.bytes v.rest v.request v.reply v.reached v.session p v.unread v.gives v.left in
     let good = kept.told.good d.run b v.own.begun in
-    let served : TroubledServe NoTrouble w.hall.holders k (scene w.hall.library s.session) (request_in b d step) v.reply (scene v.library v.session) v.holders
-    = subst (λ r. TroubledServe NoTrouble w.hall.holders k (scene w.hall.library s.session) r v.reply (scene v.library v.session) v.holders) all.0 v.served in
+    let served : TroubledServe NoTrouble w.server.holders k (session_view w.server.library s.session) (request_in b d step) v.reply (session_view v.library v.session) v.holders
+    = subst (λ r. TroubledServe NoTrouble w.server.holders k (session_view w.server.library s.session) r v.reply (session_view v.library v.session) v.holders) all.0 v.served in
     let few = (let sent = p.sent in let many = p.few in let limit : d.carried + 1 ≡ d.sent = omega (arith, sent) in subst (λ n. suc n ≤ 18446744073709551616) (sym limit) many) in
     let brief : IsBrief (wanted_of step) v.reply
-    = (served_leads reply_texts (standing b.run [] Ready) b.payload NoTrouble w.hall.holders w.hall.library v.library s v.reached v.session d step v.reply good.run p.done few p.spelled
+    = (served_leads reply_texts (standing b.run [] Ready) b.payload NoTrouble w.server.holders w.server.library v.library s v.reached v.session d step v.reply good.run p.done few p.spelled
     served.step).0 in
     let leads : Leads drive (stock_then (stock_of w) k v.request v.library v.session v.holders) (attempt_on k b (noted v.request v.reply d) v.session) c.at step v.reply
     = subst (λ r. Leads drive (stock_then (stock_of w) k r v.library v.session v.holders) (attempt_on k b (noted r v.reply d) v.session) c.at step v.reply) (sym all.0)
@@ -133,10 +133,10 @@ carried_smooth g h drive w u k c l d b s step kept sm un v =
       first = v.attempt.first;
       done = p.done;
     } un.stands served) in
-    let bins = served_bin NoTrouble w.hall.holders (scene w.hall.library s.session) (request_in b d step) v.reply (scene v.library v.session) served.step in
+    let bins = served_bin NoTrouble w.server.holders (session_view w.server.library s.session) (request_in b d step) v.reply (session_view v.library v.session) served.step in
     let x : World = carried w k v.request v.reply v.reached v.library v.session v.holders in
-    let y : Side = side v.reached v.session in
-    let live : side_of x.hall k ≡ Some y = turned_here w x k s (Some y) v.own.live refl in
+    let y : ServerConnection = side v.reached v.session in
+    let live : side_of x.server k ≡ Some y = turned_here w x k s (Some y) v.own.live refl in
     let way : [] ++ sent_on l.cut l.back (reply_text v.reply) ≡ reply_text v.reply
     = ap (λ cut. sent_on cut l.back (reply_text v.reply)) v.own.whole ∙ ap (λ back. back ++ reply_text v.reply) un.back in
     let mine : IsOwnLink x k (answered v.request v.reply l) (noted v.request v.reply d) b y
@@ -183,14 +183,14 @@ carried_smooth g h drive w u k c l d b s step kept sm un v =
     }
 
 -- what is told of the client's own connection
-pub own_told : (w : World) (k : ℕ) (l : Link) (d : Dumping) (b : Begun) (s : Side) (c : Caller) (stage : Stage) → IsWorldKept w → IsOwnLink w k l d b s → w.caller ≡ Some c
+pub own_told : (w : World) (k : ℕ) (l : Link) (d : Dumping) (b : Begun) (s : ServerConnection) (c : Caller) (stage : Stage) → IsWorldKept w → IsOwnLink w k l d b s → w.caller ≡ Some c
     → c.at.stage ≡ stage → IsLinkToldAt stage w.begun (Some s) l c d
 own_told w k l d b s c stage kept own there at =
     subst (λ o. IsLinkToldAt stage w.begun o l c d) own.live
-    (subst (λ x. IsLinkToldAt x w.begun (side_of w.hall k) l c d) at ((kept.told.each k l own.there).own d c own.dump own.own there))
+    (subst (λ x. IsLinkToldAt x w.begun (side_of w.server k) l c d) at ((kept.told.each k l own.there).own d c own.dump own.own there))
 
 -- the server finds something on a connection where the client waits
-found_smooth : OneReading → DroppedWrites → (drive : PlainDriveSpec) (w u : World) (k : ℕ) (c : Caller) (l : Link) (d : Dumping) (b : Begun) (s : Side) (step : Step)
+found_smooth : OneReading → DroppedWrites → (drive : PlainDriveSpec) (w u : World) (k : ℕ) (c : Caller) (l : Link) (d : Dumping) (b : Begun) (s : ServerConnection) (step : Step)
     (found : Result (Option PlainRequest) WireFault) (bytes rest : List ℕ) → IsWorldKept w → IsSmooth drive w → w.caller ≡ Some c → c.at.stage ≡ Waiting step → IsOwnLink w k l d b s
     → IsStepUnanswered drive w (attempt_on k b d s.session) l step → IsLinkToldAt (Waiting step) w.begun (Some s) l c d → Unread s.reached bytes → Gives bytes found rest
     → Finds w k NoTrouble s found rest u → IsSmooth drive u
@@ -223,28 +223,28 @@ found_smooth g h drive w u k c l d b s step (Ok (Some request)) bytes rest kept 
     }
 
 -- What may be unserved on a connection: nothing is, or it is the client's own, whose request was not carried out.
-pub data Unserved (drive : PlainDriveSpec) (w : World) (k : ℕ) (s : Side) (l : Link) : Type 0 where
+pub data Unserved (drive : PlainDriveSpec) (w : World) (k : ℕ) (s : ServerConnection) (l : Link) : Type 0 where
   none_left : AreUnserved (Some s) l.toward [] → Unserved drive w k s l
   one_left : (c : Caller) (step : Step) (d : Dumping) (b : Begun) → w.caller ≡ Some c → c.at.stage ≡ Waiting step → IsOwnLink w k l d b s
       → IsStepUnanswered drive w (attempt_on k b d s.session) l step → Unserved drive w k s l
 
 -- on the client's own, by its stage
-unserved_at : (drive : PlainDriveSpec) (w : World) (k : ℕ) (s : Side) (l : Link) (c : Caller) (stage : Stage) → IsWorldKept w → side_of w.hall k ≡ Some s → link_of w k ≡ Some l
+unserved_at : (drive : PlainDriveSpec) (w : World) (k : ℕ) (s : ServerConnection) (l : Link) (c : Caller) (stage : Stage) → IsWorldKept w → side_of w.server k ≡ Some s → link_of w k ≡ Some l
     → w.own ≡ Some k → w.caller ≡ Some c → c.at.stage ≡ stage → IsTrue (is_in_attempt stage) → ReelsStandAt stage drive w c → Unserved drive w k s l
 unserved_at drive w k s l c (ToSend step) kept live link mine there at under (j, x, d, b, y, own, stands) =
     let same : j ≡ k = same_Some j k (sym own.own ∙ mine) in
     let links : x ≡ l = same_Some x l (sym own.there ∙ ap (link_of w) same ∙ link) in
-    let sides : y ≡ s = same_Some y s (sym own.live ∙ ap (side_of w.hall) same ∙ live) in
+    let sides : y ≡ s = same_Some y s (sym own.live ∙ ap (side_of w.server) same ∙ live) in
     let told = own_told w j x d b y c (ToSend step) kept own there at in
     none_left (subst (λ (z : Link). AreUnserved (Some s) z.toward []) links (subst (λ z. AreUnserved (Some z) x.toward []) sides told.2.settled.unserved))
 unserved_at drive w k s l c (Waiting step) kept live link mine there at under (j, x, d, b, y, own, inr done) =
     let same : j ≡ k = same_Some j k (sym own.own ∙ mine) in
     let links : x ≡ l = same_Some x l (sym own.there ∙ ap (link_of w) same ∙ link) in
-    none_left (subst (λ (z : Link). AreUnserved (Some s) z.toward []) links (subst (λ o. AreUnserved o x.toward []) (ap (side_of w.hall) same ∙ live) done.served))
+    none_left (subst (λ (z : Link). AreUnserved (Some s) z.toward []) links (subst (λ o. AreUnserved o x.toward []) (ap (side_of w.server) same ∙ live) done.served))
 unserved_at drive w k s l c (Waiting step) kept live link mine there at under (j, x, d, b, y, own, inl un) =
     let same : j ≡ k = same_Some j k (sym own.own ∙ mine) in
     let links : l ≡ x = sym (same_Some x l (sym own.there ∙ ap (link_of w) same ∙ link)) in
-    let sides : y ≡ s = same_Some y s (sym own.live ∙ ap (side_of w.hall) same ∙ live) in
+    let sides : y ≡ s = same_Some y s (sym own.live ∙ ap (side_of w.server) same ∙ live) in
     one_left c step d b there at
     record {
       own = mine;
@@ -256,11 +256,11 @@ unserved_at drive w k s l c (Waiting step) kept live link mine there at under (j
     }
     record {
       back = ap (λ (z : Link). z.back) links ∙ un.back;
-      stands = subst (λ m. StandsBefore step drive (stock_of w) m b d s.session) same (subst (λ (z : Side). StandsBefore step drive (stock_of w) j b d z.session) sides un.stands);
+      stands = subst (λ m. StandsBefore step drive (stock_of w) m b d s.session) same (subst (λ (z : ServerConnection). StandsBefore step drive (stock_of w) j b d z.session) sides un.stands);
     }
 unserved_at drive w k s l c stage kept live link mine there at under stands = absurd cc
 
-pub unserved_on : (drive : PlainDriveSpec) (w : World) (k : ℕ) (s : Side) (l : Link) → IsWorldKept w → IsSmooth drive w → side_of w.hall k ≡ Some s → link_of w k ≡ Some l
+pub unserved_on : (drive : PlainDriveSpec) (w : World) (k : ℕ) (s : ServerConnection) (l : Link) → IsWorldKept w → IsSmooth drive w → side_of w.server k ≡ Some s → link_of w k ≡ Some l
     → Unserved drive w k s l
 unserved_on drive w k s l kept sm live link = by_own w.own refl
   where
@@ -278,13 +278,13 @@ unserved_on drive w k s l kept sm live link = by_own w.own refl
     ]
 
 -- the server carries a request out
-pub serve_smooth : OneReading → DroppedWrites → (drive : PlainDriveSpec) (w u : World) (k : ℕ) (s : Side) (found : Result (Option PlainRequest) WireFault) (bytes rest : List ℕ)
-    → IsWorldKept w → IsSmooth drive w → side_of w.hall k ≡ Some s → Unread s.reached bytes → Gives bytes found rest → Finds w k NoTrouble s found rest u → IsSmooth drive u
+pub serve_smooth : OneReading → DroppedWrites → (drive : PlainDriveSpec) (w u : World) (k : ℕ) (s : ServerConnection) (found : Result (Option PlainRequest) WireFault) (bytes rest : List ℕ)
+    → IsWorldKept w → IsSmooth drive w → side_of w.server k ≡ Some s → Unread s.reached bytes → Gives bytes found rest → Finds w k NoTrouble s found rest u → IsSmooth drive u
 serve_smooth g h drive w u k s found bytes rest kept sm live unread gives finds =
     let paired = kept.tidy.paired in
-    let here = side_there w.hall k s live in
-    let within = numbered_within w.hall.sides k (Some s) here in
-    let l = numbered_there w.links k (numbered_first w.hall.sides k (Some s) here) (omega (arith, paired, within)) in
+    let here = side_there w.server k s live in
+    let within = numbered_within w.server.sides k (Some s) here in
+    let l = numbered_there w.links k (numbered_first w.server.sides k (Some s) here) (omega (arith, paired, within)) in
     elim (unserved_on drive w k s l.0 kept sm live l.1) [
       | none_left none ↦ absurd (nothing_found h w u k s l.0.toward bytes rest found none unread gives finds)
       | one_left c step d b there at own un ↦

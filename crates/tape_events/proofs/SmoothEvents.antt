@@ -5,7 +5,7 @@ use Rattle.std.proofs.lemmas.Option.{same_Some}
 use Rattle.rmt_wire.specs.RequestReader.{RequestHeld, held}
 use Rattle.rmt_wire.specs.ReplyReader.{ReplyHeld}
 use Rattle.drives.specs.TapeLibrary.{kept_reel, slot}
-use Rattle.rmt_server.specs.Hall.{Side, side}
+use Rattle.rmt_server.specs.ServerState.{ServerConnection, side}
 use Rattle.rmt_server.specs.Session.{PlainSession}
 use Rattle.rmt_server.specs.Session.PlainSession.{Idle}
 use Rattle.dump_run.specs.Run.{PlainRun}
@@ -76,13 +76,13 @@ connected_smooth drive w c kept sm there ready =
     let u : World = client_connected w c in
     let k = length w.links + 1 in
     let l : Link = new_link (Some (fresh c)) in
-    let s : Side = side (held [] 0) Idle in
+    let s : ServerConnection = side (held [] 0) Idle in
     let last : suc (length w.links) ≡ k = omega arith in
     let paired = kept.tidy.paired in
     let b = kept.booked.begun c there in
     let free : IsFree drive (stock_of w) = subst (λ x. ReelsStandAt x drive w c) ready (subst (λ o. StandsWith o drive w) there sm.stands) in
-    let live : side_of u.hall k ≡ Some s
-    = ap (side_of u.hall) (let same : k ≡ suc (length w.hall.sides) = omega (arith, paired) in same) ∙ ap (option_and_then (λ y. y)) (numbered_last w.hall.sides (Some s)) in
+    let live : side_of u.server k ≡ Some s
+    = ap (side_of u.server) (let same : k ≡ suc (length w.server.sides) = omega (arith, paired) in same) ∙ ap (option_and_then (λ y. y)) (numbered_last w.server.sides (Some s)) in
     let mine : IsOwnLink u k l (fresh c) b.0 s
     = record {
       own = refl;
@@ -100,9 +100,9 @@ connected_smooth drive w c kept sm there ready =
       still = λ j y at not_own. elim (pushed_is w.links l j y at) [
         | inl on ↦ (
             let within = numbered_within w.links j y on in
-            let o = numbered_there w.hall.sides j (numbered_first w.links j y on) (omega (arith, within, paired)) in
-            let same : side_of u.hall j ≡ side_of w.hall j
-            = ap (option_and_then (λ x. x)) (numbered_more w.hall.sides (Some s ∷ []) j o.0 o.1 ∙ sym o.1) in
+            let o = numbered_there w.server.sides j (numbered_first w.links j y on) (omega (arith, within, paired)) in
+            let same : side_of u.server j ≡ side_of w.server j
+            = ap (option_and_then (λ x. x)) (numbered_more w.server.sides (Some s ∷ []) j o.0 o.1 ∙ sym o.1) in
             subst (λ x. AreUnserved x y.toward []) (sym same) (sm.still j y on (λ own. idle_own w c kept there ready j own)))
         | inr (here, new) ↦ absurd (not_own (ap Some (sym last ∙ sym here)))
       ];
@@ -164,14 +164,14 @@ asked_smooth drive w k c payload step reader kept sm mine there stage =
         })
 
 -- nothing is on the way where nothing is unserved
-no_way : (s : Side) (way : List ℕ) (n : ℕ) → AreUnserved (Some s) way [] → 1 ≤ n → n ≤ length way → ⊥
+no_way : (s : ServerConnection) (way : List ℕ) (n : ℕ) → AreUnserved (Some s) way [] → 1 ≤ n → n ≤ length way → ⊥
 no_way s way n (reached, unread, is) first within =
     let size : length (reached ++ way) ≡ 0 = ap length (sym is) in
     let both = length-append reached way in
     omega (arith, size, both, first, within)
 
 -- bytes reach the server
-pub reached_smooth : (drive : PlainDriveSpec) (w : World) (k n : ℕ) (s : Side) (l : Link) (reached : RequestHeld) → IsWorldKept w → IsSmooth drive w → side_of w.hall k ≡ Some s
+pub reached_smooth : (drive : PlainDriveSpec) (w : World) (k n : ℕ) (s : ServerConnection) (l : Link) (reached : RequestHeld) → IsWorldKept w → IsSmooth drive w → side_of w.server k ≡ Some s
     → link_of w k ≡ Some l → 1 ≤ n → n ≤ length l.toward → IsSmooth drive (reached_by w k n s reached)
 reached_smooth drive w k n s l reached kept sm live link first within = elim (unserved_on drive w k s l kept sm live link) [
   | none_left none ↦ absurd (no_way s l.toward n none first within)
@@ -182,7 +182,7 @@ reached_smooth drive w k n s l reached kept sm live link first within = elim (un
         → l.back ≡ [] → StandsBefore step drive (stock_of w) k b d s.session → IsSmooth drive (reached_by w k n s reached)
     moved_on d b c step there stage own back stands =
         let u : World = reached_by w k n s reached in
-        let z : Side = side reached s.session in
+        let z : ServerConnection = side reached s.session in
         let now : IsOwnLink u k (record l { toward = drop n l.toward }) d b z
         = record {
           own = own.own;

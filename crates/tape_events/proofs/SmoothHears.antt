@@ -6,7 +6,7 @@ use Rattle.std.proofs.lemmas.Option.{same_Some}
 use Rattle.rmt_wire.specs.Reply.{reply_text}
 use Rattle.rmt_wire.specs.ReplyReader.{ReplyHeld}
 use Rattle.drives.specs.TapeLibrary.{kept_reel, slot}
-use Rattle.rmt_server.specs.Hall.{Side}
+use Rattle.rmt_server.specs.ServerState.{ServerConnection}
 use Rattle.dump_client.specs.Standing.{Standing, checkpoint_of, count_to, counted_to, FedAt}
 use Rattle.dump_client.specs.Client.{HasFedAt, unanswered}
 use Rattle.dump_client.specs.declared.fault.AttemptFault.{AttemptFault}
@@ -56,8 +56,8 @@ changed_links w u k f links dumps j y at = elim (changed_is f w.links k j y (ap 
 pub record Settles (drive : PlainDriveSpec) (w u : World) (k : ℕ) : Type 0 where
   pub own : w.own ≡ Some k
   pub links : LinksFrom w u k
-  pub sides : (j : ℕ) → j ≢ k → side_of u.hall j ≡ side_of w.hall j
-  pub here : (y : Link) → link_of u k ≡ Some y → u.own ≢ Some k → AreUnserved (side_of u.hall k) y.toward []
+  pub sides : (j : ℕ) → j ≢ k → side_of u.server j ≡ side_of w.server j
+  pub here : (y : Link) → link_of u k ≡ Some y → u.own ≢ Some k → AreUnserved (side_of u.server k) y.toward []
   pub begun : u.begun ≡ w.begun
   pub reels : map (λ (x : Count). x.reel) u.counts ≡ take (length u.counts) drive.reels
   pub stands : StandsWith u.caller drive u
@@ -68,10 +68,10 @@ settles drive w u k sm v = record {
   clients = λ j y at. (let x = v.links j y at in let d = sm.clients j x.0 x.1 in x.2 d.0 d.1);
   still = λ j y at not_own. elim (eqb_tells j k) [
     | inl (equal, same) ↦
-        subst (λ n. AreUnserved (side_of u.hall n) y.toward []) (sym same) (v.here y (ap (link_of u) (sym same) ∙ at) (λ mine. not_own (mine ∙ ap Some (sym same))))
+        subst (λ n. AreUnserved (side_of u.server n) y.toward []) (sym same) (v.here y (ap (link_of u) (sym same) ∙ at) (λ mine. not_own (mine ∙ ap Some (sym same))))
     | inr (unequal, other) ↦ (
         let x = v.links j y at in
-        subst (λ way. AreUnserved (side_of u.hall j) way []) (sym (x.3 other))
+        subst (λ way. AreUnserved (side_of u.server j) way []) (sym (x.3 other))
         (subst (λ o. AreUnserved o x.0.toward []) (sym (v.sides j other)) (sm.still j x.0 x.1 (λ mine. other (same_Some j k (sym mine ∙ v.own))))))
   ];
   reels = v.reels;
@@ -94,7 +94,7 @@ back_dumps : (n : ℕ) (l : Link) (d : Dumping) → l.dump ≡ Some d → (e : D
 back_dumps n l d is = (d, is)
 
 -- the client goes on
-goes_on : (drive : PlainDriveSpec) (w : World) (k n : ℕ) (c : Caller) (l : Link) (d : Dumping) (b : Begun) (s : Side) (at : Standing) (reader : ReplyHeld) (progress : Progress)
+goes_on : (drive : PlainDriveSpec) (w : World) (k n : ℕ) (c : Caller) (l : Link) (d : Dumping) (b : Begun) (s : ServerConnection) (at : Standing) (reader : ReplyHeld) (progress : Progress)
     (counts : List Count) → IsSmooth drive w → IsOwnLink w k l d b s → (came : heard w k n c at reader progress ≡ heard w k n c at reader moved.Send)
     → w.counts ++ map (counts_of w c.number k) (drop (length c.at.counts) at.counts) ≡ counts
     → map (λ (x : Count). x.reel) counts ≡ take (length counts) drive.reels
@@ -122,7 +122,7 @@ goes_on drive w k n c l d b s at reader progress counts sm own came are reels st
     })
 
 -- it goes on to a step that is not its close
-goes_to : (drive : PlainDriveSpec) (w : World) (k n : ℕ) (c : Caller) (l : Link) (d : Dumping) (b : Begun) (s : Side) (at : Standing) (reader : ReplyHeld) (next : Step)
+goes_to : (drive : PlainDriveSpec) (w : World) (k n : ℕ) (c : Caller) (l : Link) (d : Dumping) (b : Begun) (s : ServerConnection) (at : Standing) (reader : ReplyHeld) (next : Step)
     → IsSmooth drive w → IsOwnLink w k l d b s → at.stage ≡ ToSend next → at.counts ≡ c.at.counts → StandsBefore next drive (stock_of w) k b d s.session
     → IsSmooth drive (heard w k n c at reader moved.Send)
 goes_to drive w k n c l d b s at reader next sm own stage same stands =
@@ -133,7 +133,7 @@ goes_to drive w k n c l d b s at reader next sm own stage same stands =
     (k, record l { back = drop n l.back }, d, b, s, mine, subst (λ cs. StandsBefore next drive (with_counts (stock_of w) cs) k b d s.session) (sym counts) stands))
 
 -- it counts its volume, and goes on to its close
-counts_now : (drive : PlainDriveSpec) (w : World) (k n : ℕ) (c : Caller) (l : Link) (d : Dumping) (b : Begun) (s : Side) (step : Step) (at : Standing) (reader : ReplyHeld)
+counts_now : (drive : PlainDriveSpec) (w : World) (k n : ℕ) (c : Caller) (l : Link) (d : Dumping) (b : Begun) (s : ServerConnection) (step : Step) (at : Standing) (reader : ReplyHeld)
     → IsWorldKept w → IsSmooth drive w → IsOwnLink w k l d b s → IsAttempt w.begun c d step b → step ≢ Close → at.stage ≡ ToSend Close
     → at.counts ≡ counted_to c.at.counts (d.first + d.blocks) → IsMoved drive (stock_of w) k b d s.session → IsSmooth drive (heard w k n c at reader moved.Send)
 counts_now drive w k n c l d b s step at reader kept sm own attempt other stage counted q =
@@ -195,17 +195,17 @@ over_links w u k n links j y at =
     ]
 
 -- the attempt is over
-is_over : (drive : PlainDriveSpec) (w u : World) (k n : ℕ) (l : Link) (d : Dumping) (b : Begun) (s : Side) → IsSmooth drive w → IsOwnLink w k l d b s
-    → AreUnserved (side_of w.hall k) l.toward [] → u.hall ≡ w.hall → u.links ≡ changed over_there (changed (λ x. record x { back = drop n x.back }) w.links k) k → u.begun ≡ w.begun
+is_over : (drive : PlainDriveSpec) (w u : World) (k n : ℕ) (l : Link) (d : Dumping) (b : Begun) (s : ServerConnection) → IsSmooth drive w → IsOwnLink w k l d b s
+    → AreUnserved (side_of w.server k) l.toward [] → u.server ≡ w.server → u.links ≡ changed over_there (changed (λ x. record x { back = drop n x.back }) w.links k) k → u.begun ≡ w.begun
     → u.counts ≡ w.counts → StandsWith u.caller drive u → FailsFaultless drive u → IsSmooth drive u
-is_over drive w u k n l d b s sm own served hall links begun counts stands failure = settles drive w u k sm record {
+is_over drive w u k n l d b s sm own served server links begun counts stands failure = settles drive w u k sm record {
   own = own.own;
   links = λ j y at. (let x = over_links w u k n links j y at in (x.0, x.1, (λ e is. (e, x.2 ∙ is)), λ other. x.3));
-  sides = λ j other. ap (λ h. side_of h j) hall;
+  sides = λ j other. ap (λ h. side_of h j) server;
   here = λ y at none. (
       let x = over_links w u k n links k y at in
       let same = same_Some x.0 l (sym x.1 ∙ own.there) in
-      subst (λ way. AreUnserved (side_of u.hall k) way []) (sym (x.3 ∙ ap (λ (z : Link). z.toward) same)) (subst (λ h. AreUnserved (side_of h k) l.toward []) (sym hall) served));
+      subst (λ way. AreUnserved (side_of u.server k) way []) (sym (x.3 ∙ ap (λ (z : Link). z.toward) same)) (subst (λ h. AreUnserved (side_of h k) l.toward []) (sym server) served));
   begun = begun;
   reels = subst (λ cs. map (λ (x : Count). x.reel) cs ≡ take (length cs) drive.reels) (sym counts) sm.reels;
   stands = stands;
@@ -213,15 +213,15 @@ is_over drive w u k n l d b s sm own served hall links begun counts stands failu
 }
 
 -- it failed
-has_failed : (drive : PlainDriveSpec) (w : World) (k n : ℕ) (c : Caller) (l : Link) (d : Dumping) (b : Begun) (s : Side) (step : Step) (at : Standing) (reader : ReplyHeld) (fault : AttemptFault)
-    → IsSmooth drive w → IsOwnLink w k l d b s → AreUnserved (side_of w.hall k) l.toward [] → at.stage ≡ Asking → at.counts ≡ c.at.counts → b.run ≡ at.run
-    → IsFaultlessFailure drive.capacity b.run fault → w.hall.library.bin ≡ volume_slots drive (stock_of w) → IsSmooth drive (heard w k n c at reader (moved.Failed fault))
+has_failed : (drive : PlainDriveSpec) (w : World) (k n : ℕ) (c : Caller) (l : Link) (d : Dumping) (b : Begun) (s : ServerConnection) (step : Step) (at : Standing) (reader : ReplyHeld) (fault : AttemptFault)
+    → IsSmooth drive w → IsOwnLink w k l d b s → AreUnserved (side_of w.server k) l.toward [] → at.stage ≡ Asking → at.counts ≡ c.at.counts → b.run ≡ at.run
+    → IsFaultlessFailure drive.capacity b.run fault → w.server.library.bin ≡ volume_slots drive (stock_of w) → IsSmooth drive (heard w k n c at reader (moved.Failed fault))
 has_failed drive w k n c l d b s step at reader fault sm own served stage same run why bin =
     let u : World = heard w k n c at reader (moved.Failed fault) in
     let counts = none_counted w c.number k c.at at same in
     is_over drive w u k n l d b s sm own served refl refl refl counts
     (subst (λ x. ReelsStandAt x drive u (caller c.number at reader)) (sym stage)
-    (subst (λ cs. w.hall.library.bin ≡ volume_slots drive (with_counts (stock_of w) cs)) (sym counts) bin))
+    (subst (λ cs. w.server.library.bin ≡ volume_slots drive (with_counts (stock_of w) cs)) (sym counts) bin))
     (λ volume other is. (
       caller c.number at reader,
       refl,
@@ -230,8 +230,8 @@ has_failed drive w k n c l d b s step at reader fault sm own served stage same r
     ))
 
 -- it ended
-has_ended : (drive : PlainDriveSpec) (w : World) (k n : ℕ) (c : Caller) (l : Link) (d : Dumping) (b : Begun) (s : Side) (at : Standing) (reader : ReplyHeld) (stage : Stage)
-    → IsSmooth drive w → IsOwnLink w k l d b s → AreUnserved (side_of w.hall k) l.toward [] → at.stage ≡ stage → at.counts ≡ c.at.counts
+has_ended : (drive : PlainDriveSpec) (w : World) (k n : ℕ) (c : Caller) (l : Link) (d : Dumping) (b : Begun) (s : ServerConnection) (at : Standing) (reader : ReplyHeld) (stage : Stage)
+    → IsSmooth drive w → IsOwnLink w k l d b s → AreUnserved (side_of w.server k) l.toward [] → at.stage ≡ stage → at.counts ≡ c.at.counts
     → ((u : World) (x : Caller) → IsFree drive (stock_of u) → ReelsStandAt stage drive u x) → IsFree drive (stock_of w) → IsSmooth drive (heard w k n c at reader moved.Ended)
 has_ended drive w k n c l d b s at reader stage sm own served is same stands free =
     let u : World = heard w k n c at reader moved.Ended in
@@ -242,8 +242,8 @@ has_ended drive w k n c l d b s at reader stage sm own served is same stands fre
     (λ volume fault failed. absurd cc)
 
 -- by what came of it
-by_then : (drive : PlainDriveSpec) (w : World) (k n : ℕ) (c : Caller) (l : Link) (d : Dumping) (b : Begun) (s : Side) (step : Step) (at : Standing) (reader : ReplyHeld)
-    (progress : Progress) (stage : Stage) → IsWorldKept w → IsSmooth drive w → IsOwnLink w k l d b s → IsAttempt w.begun c d step b → AreUnserved (side_of w.hall k) l.toward []
+by_then : (drive : PlainDriveSpec) (w : World) (k n : ℕ) (c : Caller) (l : Link) (d : Dumping) (b : Begun) (s : ServerConnection) (step : Step) (at : Standing) (reader : ReplyHeld)
+    (progress : Progress) (stage : Stage) → IsWorldKept w → IsSmooth drive w → IsOwnLink w k l d b s → IsAttempt w.begun c d step b → AreUnserved (side_of w.server k) l.toward []
     → ((next : Step) → at.stage ≡ ToSend next → step ≢ Close) → b.run ≡ at.run → at.stage ≡ stage → StandsThen progress stage drive (stock_of w) k b d s.session
     → CountsThen stage c.at.counts d at.counts → IsSmooth drive (heard w k n c at reader progress)
 by_then drive w k n c l d b s step at reader moved.Send (ToSend Close) kept sm own attempt served early run is stands counts =
@@ -267,7 +267,7 @@ by_then drive w k n c l d b s step at reader moved.Ended Finished kept sm own at
 by_then drive w k n c l d b s step at reader progress stage kept sm own attempt served early run is stands counts = absurd stands
 
 -- it waits for more
-waits_on : (drive : PlainDriveSpec) (w : World) (k n : ℕ) (c : Caller) (l : Link) (d : Dumping) (b : Begun) (s : Side) (step : Step) (at : Standing) (reader : ReplyHeld)
+waits_on : (drive : PlainDriveSpec) (w : World) (k n : ℕ) (c : Caller) (l : Link) (d : Dumping) (b : Begun) (s : ServerConnection) (step : Step) (at : Standing) (reader : ReplyHeld)
     (bytes : List ℕ) → IsSmooth drive w → IsOwnLink w k l d b s → (a : IsStepAnswered drive w (attempt_on k b d s.session) l c step) → c.at.stage ≡ Waiting step → at ≡ c.at
     → reply_text a.reply ≡ bytes ++ drop n l.back → HasFedAt at.stage reader (unanswered at.stage bytes) → IsSmooth drive (heard w k n c at reader moved.Waiting)
 waits_on drive w k n c l d b s step at reader bytes sm own a was same text has =
@@ -289,14 +289,14 @@ waits_on drive w k n c l d b s step at reader bytes sm own a was same text has =
         reply = a.reply;
         text = sym text;
         brief = a.brief;
-        bin = (a.bin.0, subst (λ cs. w.hall.library.bin ≡ volume_slots drive (with_counts (stock_of w) cs) ++ a.bin.0) (sym counts) a.bin.1);
+        bin = (a.bin.0, subst (λ cs. w.server.library.bin ≡ volume_slots drive (with_counts (stock_of w) cs) ++ a.bin.0) (sym counts) a.bin.1);
         leads = subst (λ x. Leads drive (stock_of u) (attempt_on k b d s.session) x step a.reply) (sym same)
             (subst (λ cs. Leads drive (with_counts (stock_of w) cs) (attempt_on k b d s.session) c.at step a.reply) (sym counts) a.leads);
       },
     ))
 
 -- by what it makes of the bytes
-hearing_smooth : (drive : PlainDriveSpec) (w : World) (k n : ℕ) (c : Caller) (l : Link) (d : Dumping) (b : Begun) (s : Side) (step : Step) (at : Standing) (reader : ReplyHeld)
+hearing_smooth : (drive : PlainDriveSpec) (w : World) (k n : ℕ) (c : Caller) (l : Link) (d : Dumping) (b : Begun) (s : ServerConnection) (step : Step) (at : Standing) (reader : ReplyHeld)
     (bytes : List ℕ) (progress : Progress) → IsWorldKept w → IsSmooth drive w → IsOwnLink w k l d b s → IsAttempt w.begun c d step b
     → (a : IsStepAnswered drive w (attempt_on k b d s.session) l c step) → c.at.stage ≡ Waiting step → at.run ≡ c.at.run → HearsPiece c.at step a.reply bytes (drop n l.back) progress at
     → HasFedAt at.stage reader (unanswered at.stage bytes) → IsSmooth drive (heard w k n c at reader progress)
@@ -308,7 +308,7 @@ hearing_smooth drive w k n c l d b s step at reader bytes progress kept sm own a
     (attempt.run ∙ sym run) refl led.0 led.1
 
 -- what reached the client that waits
-fed_smooth : OneReply → Goings → (drive : PlainDriveSpec) (w : World) (k n : ℕ) (c : Caller) (l : Link) (d : Dumping) (b : Begun) (s : Side) (step : Step) (at : Standing)
+fed_smooth : OneReply → Goings → (drive : PlainDriveSpec) (w : World) (k n : ℕ) (c : Caller) (l : Link) (d : Dumping) (b : Begun) (s : ServerConnection) (step : Step) (at : Standing)
     (reader : ReplyHeld) (fed : List ℕ) (progress : Progress) → IsWorldKept w → IsSmooth drive w → IsOwnLink w k l d b s → IsAttempt w.begun c d step b
     → IsStepAnswered drive w (attempt_on k b d s.session) l c step → c.at.stage ≡ Waiting step → HasFedAt (Waiting step) c.reader fed
     → FedAt c.at.stage c.at fed (take n l.back) progress at → FedAt (Waiting step) c.at fed (take n l.back) progress at

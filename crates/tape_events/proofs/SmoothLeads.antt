@@ -15,8 +15,8 @@ use Rattle.rmt_wire.specs.declared.fcntl.TheConstants.{O_RDWR}
 use Rattle.rmt_wire.specs.declared.mtio.TheConstants.{MTOFFL, MTREW, MTWEOF}
 use Rattle.drives.specs.TapeLibrary.{kept_reel, slot, TapeLibrary}
 use Rattle.rmt_server.specs.declared.access.Access.TheVariants.{Both}
-use Rattle.rmt_server.specs.Hall.{Side}
-use Rattle.rmt_server.specs.Session.{plain_reel, PlainSession, Scene, scene}
+use Rattle.rmt_server.specs.ServerState.{ServerConnection}
+use Rattle.rmt_server.specs.Session.{plain_reel, PlainSession, SessionView, session_view}
 use Rattle.rmt_server.specs.Session.PlainSession.{Idle, Offline, Online}
 use Rattle.dump_run.specs.Run.{PlainRun, IsRun}
 use Rattle.dump_run.specs.Label.{label, label_bytes}
@@ -67,7 +67,7 @@ nothing_written b d none few bare =
     ap (λ t. label_if t b.run d.volume d.first ++ (block_records b.payload d.first d.blocks ++ mark_if d.mark)) none
     ∙ ap (λ n. block_records b.payload d.first n ++ mark_if d.mark) few ∙ ap (λ t. mark_if t) bare
 
-pub opened_leads : (drive : PlainDriveSpec) (t : Stock) (k : ℕ) (old : Standing) (b : Begun) (d : Dumping) (device : List ℕ) (o : Option Side) (reply : PlainReply) (after : Scene)
+pub opened_leads : (drive : PlainDriveSpec) (t : Stock) (k : ℕ) (old : Standing) (b : Begun) (d : Dumping) (device : List ℕ) (o : Option ServerConnection) (reply : PlainReply) (after : SessionView)
     (holders : List ℕ) (opens : List Opening) → HasDone b.run o d Open → holders ≡ k ∷ []
     → (q : Opened drive (names_left drive t) (volume_slots drive t) reply after) → Contains opens (opening k q.name)
     → Leads drive (then_stock t after.library holders opens) (attempt_on k b (noted (OpenDevice device O_RDWR) reply d) after.session) old Open reply
@@ -87,7 +87,7 @@ opened_leads drive t k old b d device o reply after holders opens h held q among
       room = λ labelled bare. (let clash = sym h.label ∙ labelled in absurd cc);
     } refl)
 
-pub refused_leads : (drive : PlainDriveSpec) (t : Stock) (k : ℕ) (old : Standing) (b : Begun) (d : Dumping) (device : List ℕ) (before : TapeLibrary) (reply : PlainReply) (after : Scene)
+pub refused_leads : (drive : PlainDriveSpec) (t : Stock) (k : ℕ) (old : Standing) (b : Begun) (d : Dumping) (device : List ℕ) (before : TapeLibrary) (reply : PlainReply) (after : SessionView)
     (holders : List ℕ) (opens : List Opening) → Refused before reply after → before.bin ≡ volume_slots drive t
     → Leads drive (then_stock t after.library holders opens) (attempt_on k b (noted (OpenDevice device O_RDWR) reply d) after.session) old Open reply
 refused_leads drive t k old b d device before reply after holders opens q bin =
@@ -101,7 +101,7 @@ refused_leads drive t k old b d device before reply after holders opens q bin =
     (ap (λ (x : TapeLibrary). x.bin) q.library ∙ bin) moves is)
 
 -- the reel is still in the drive, with these entries
-again : (drive : PlainDriveSpec) (t : Stock) (k : ℕ) (b : Begun) (d e : Dumping) (session : PlainSession) (after : Scene) (holders : List ℕ) (opens : List Opening)
+again : (drive : PlainDriveSpec) (t : Stock) (k : ℕ) (b : Begun) (d e : Dumping) (session : PlainSession) (after : SessionView) (holders : List ℕ) (opens : List Opening)
     (entries : List PlainEntry) (q : IsLatched drive t k b d session) → IsOnline t.library drive.capacity (tape entries []) after → holders ≡ k ∷ []
     → Contains opens (opening k q.name) → attempt_written b.run b.payload e ≡ entries
     → (e.label ≡ true → e.mark ≡ false → offset_of entries + 4 ≤ drive.capacity) → IsLatched drive (then_stock t after.library holders opens) k b e after.session
@@ -109,26 +109,26 @@ again drive t k b d e session after holders opens entries q online held among sa
   name = q.name;
   others = q.others;
   next = q.next;
-  library = ap (λ (v : Scene). v.library) online ∙ q.library;
+  library = ap (λ (v : SessionView). v.library) online ∙ q.library;
   holders = held;
-  online = ap (λ (v : Scene). v.session) online ∙ ap (λ l. Online 0 Both (plain_reel (tape l []) drive.capacity)) (sym same);
+  online = ap (λ (v : SessionView). v.session) online ∙ ap (λ l. Online 0 Both (plain_reel (tape l []) drive.capacity)) (sym same);
   opened = among;
   room = λ labelled bare. subst (λ l. offset_of l + 4 ≤ drive.capacity) (sym same) (room labelled bare);
 }
 
-latched_bin : (drive : PlainDriveSpec) (t : Stock) (k : ℕ) (b : Begun) (d : Dumping) (session : PlainSession) (after : Scene) → IsLatched drive t k b d session
+latched_bin : (drive : PlainDriveSpec) (t : Stock) (k : ℕ) (b : Begun) (d : Dumping) (session : PlainSession) (after : SessionView) → IsLatched drive t k b d session
     → after.library ≡ t.library → after.library.bin ≡ volume_slots drive t
 latched_bin drive t k b d session after q same = ap (λ (x : TapeLibrary). x.bin) same ∙ ap (λ (x : TapeLibrary). x.bin) q.library
 
 -- before the label the reel is blank still
-still_blank : (drive : PlainDriveSpec) (t : Stock) (k : ℕ) (b : Begun) (d : Dumping) (session : PlainSession) (after : Scene) (holders : List ℕ) (opens : List Opening)
+still_blank : (drive : PlainDriveSpec) (t : Stock) (k : ℕ) (b : Begun) (d : Dumping) (session : PlainSession) (after : SessionView) (holders : List ℕ) (opens : List Opening)
     → d.label ≡ false → d.blocks ≡ 0 → d.mark ≡ false → holders ≡ k ∷ [] → (q : IsLatched drive t k b d session) → Contains opens (opening k q.name)
     → IsOnline t.library drive.capacity (tape [] []) after → IsLatched drive (then_stock t after.library holders opens) k b (record d { carried = raised d.carried }) after.session
 still_blank drive t k b d session after holders opens none few bare held q among online =
     again drive t k b d (record d { carried = raised d.carried }) session after holders opens [] q online held among (nothing_written b d none few bare)
     (λ labelled unmarked. (let clash = sym none ∙ labelled in absurd cc))
 
-pub rewound_leads : (drive : PlainDriveSpec) (t : Stock) (k : ℕ) (old : Standing) (b : Begun) (d : Dumping) (o : Option Side) (session : PlainSession) (reply : PlainReply) (after : Scene)
+pub rewound_leads : (drive : PlainDriveSpec) (t : Stock) (k : ℕ) (old : Standing) (b : Begun) (d : Dumping) (o : Option ServerConnection) (session : PlainSession) (reply : PlainReply) (after : SessionView)
     (holders : List ℕ) (opens : List Opening) → HasDone b.run o d (Operation Rewind) → holders ≡ k ∷ [] → (q : IsLatched drive t k b d session) → Contains opens (opening k q.name)
     → (reply ≡ Done 1) × IsOnline t.library drive.capacity (tape [] []) after
     → Leads drive (then_stock t after.library holders opens) (attempt_on k b (noted (Op MTREW 1) reply d) after.session) old (Operation Rewind) reply
@@ -137,7 +137,7 @@ rewound_leads drive t k old b d o session reply after holders opens h held q amo
     (λ progress new (moves, is). led drive (then_stock t after.library holders opens) k old b (record d { carried = raised d.carried }) after.session (ToSend Look) old.counts moved.Send
     progress new moves is (still_blank drive t k b d session after holders opens h.label h.blocks h.mark held q among online) refl)
 
-pub again_leads : (drive : PlainDriveSpec) (t : Stock) (k : ℕ) (old : Standing) (b : Begun) (d : Dumping) (o : Option Side) (session : PlainSession) (reply : PlainReply) (after : Scene)
+pub again_leads : (drive : PlainDriveSpec) (t : Stock) (k : ℕ) (old : Standing) (b : Begun) (d : Dumping) (o : Option ServerConnection) (session : PlainSession) (reply : PlainReply) (after : SessionView)
     (holders : List ℕ) (opens : List Opening) → HasDone b.run o d (Operation RewindAgain) → holders ≡ k ∷ [] → (q : IsLatched drive t k b d session)
     → Contains opens (opening k q.name) → (reply ≡ Done 1) × IsOnline t.library drive.capacity (tape [] []) after
     → Leads drive (then_stock t after.library holders opens) (attempt_on k b (noted (Op MTREW 1) reply d) after.session) old (Operation RewindAgain) reply
@@ -151,7 +151,7 @@ no_label : (run : PlainRun) (counts : List VolumeCount) → counted_label run co
 no_label run [] = refl
 no_label run (c ∷ counts) = no_label run counts
 
-pub look_leads : (drive : PlainDriveSpec) (t : Stock) (k : ℕ) (old : Standing) (b : Begun) (d : Dumping) (o : Option Side) (session : PlainSession) (reply : PlainReply) (after : Scene)
+pub look_leads : (drive : PlainDriveSpec) (t : Stock) (k : ℕ) (old : Standing) (b : Begun) (d : Dumping) (o : Option ServerConnection) (session : PlainSession) (reply : PlainReply) (after : SessionView)
     (holders : List ℕ) (opens : List Opening) → HasDone b.run o d Look → holders ≡ k ∷ [] → (q : IsLatched drive t k b d session) → Contains opens (opening k q.name)
     → (reply ≡ Data []) × IsOnline t.library drive.capacity (tape [] []) after
     → Leads drive (then_stock t after.library holders opens) (attempt_on k b (noted (Read label_bytes) reply d) after.session) old Look reply
@@ -207,7 +207,7 @@ label_written b d few bare =
     ap (λ n. Record (label b.run d.volume d.first) ∷ (block_records b.payload d.first n ++ mark_if d.mark)) few
     ∙ ap (λ t. Record (label b.run d.volume d.first) ∷ mark_if t) bare
 
-pub label_leads : (drive : PlainDriveSpec) (t : Stock) (k : ℕ) (old : Standing) (b : Begun) (d : Dumping) (o : Option Side) (session : PlainSession) (reply : PlainReply) (after : Scene)
+pub label_leads : (drive : PlainDriveSpec) (t : Stock) (k : ℕ) (old : Standing) (b : Begun) (d : Dumping) (o : Option ServerConnection) (session : PlainSession) (reply : PlainReply) (after : SessionView)
     (holders : List ℕ) (opens : List Opening) → HasDone b.run o d Label → holders ≡ k ∷ [] → (q : IsLatched drive t k b d session) → Contains opens (opening k q.name)
     → length (label b.run d.volume d.first) ≡ label_bytes
     → Writes t.library drive.capacity (attempt_written b.run b.payload d) (label b.run d.volume d.first) reply after
@@ -227,11 +227,11 @@ label_leads drive t k old b d o session reply after holders opens h held q among
     let none : offset_of (attempt_written b.run b.payload d) ≡ 0 = ap offset_of (nothing_written b d h.label h.blocks h.mark) in
     subst (λ r. Leads drive (then_stock t after.library holders opens) (attempt_on k b (noted (Write (label b.run d.volume d.first)) r d) after.session) old Label r) (sym replies)
     (λ progress new (moves, is). too_small drive (then_stock t after.library holders opens) k old b (carried_on d) after.session progress new
-    (omega (arith, tight, none, size)) (latched_bin drive t k b d session after q (ap (λ (v : Scene). v.library) online)) moves is)
+    (omega (arith, tight, none, size)) (latched_bin drive t k b d session after q (ap (λ (v : SessionView). v.library) online)) moves is)
 label_leads drive t k old b d o session reply after holders opens h held q among size (scarce (words, replies) online) =
     subst (λ r. Leads drive (then_stock t after.library holders opens) (attempt_on k b (noted (Write (label b.run d.volume d.first)) r d) after.session) old Label r) (sym replies)
     (λ progress new (moves, is). fails_with drive (then_stock t after.library holders opens) k old b (carried_on d) after.session progress new 12 (inr (inr refl))
-    (latched_bin drive t k b d session after q (ap (λ (v : Scene). v.library) online)) moves is)
+    (latched_bin drive t k b d session after q (ap (λ (v : SessionView). v.library) online)) moves is)
 
 -- a block more was written
 block_written : (b : Begun) (d : Dumping) (number : ℕ) → d.label ≡ true → d.mark ≡ false → number ≡ d.first + d.blocks → raised d.blocks ≡ suc d.blocks
@@ -290,8 +290,8 @@ block_full drive t k old b d session number bytes some q small progress new beco
         let few : number ≤ (checkpoint_of old.counts).1 = grind (arith, nat_tests) in
         too_small drive t k old b (carried_on d) session progress new (small few) (ap (λ (x : TapeLibrary). x.bin) q.library) moves is
 
-pub block_leads : (drive : PlainDriveSpec) (t : Stock) (k : ℕ) (old : Standing) (b : Begun) (d : Dumping) (o : Option Side) (session : PlainSession) (number : ℕ) (reply : PlainReply)
-    (after : Scene) (holders : List ℕ) (opens : List Opening) → HasDone b.run o d (Block number) → holders ≡ k ∷ [] → (q : IsLatched drive t k b d session)
+pub block_leads : (drive : PlainDriveSpec) (t : Stock) (k : ℕ) (old : Standing) (b : Begun) (d : Dumping) (o : Option ServerConnection) (session : PlainSession) (number : ℕ) (reply : PlainReply)
+    (after : SessionView) (holders : List ℕ) (opens : List Opening) → HasDone b.run o d (Block number) → holders ≡ k ∷ [] → (q : IsLatched drive t k b d session)
     → Contains opens (opening k q.name) → IsRun b.run → b.run ≡ old.run → d.first ≡ (checkpoint_of old.counts).1
     → length (get_or b.payload number []) ≡ b.run.block_bytes → length (label b.run d.volume d.first) ≡ label_bytes
     → Writes t.library drive.capacity (attempt_written b.run b.payload d) (get_or b.payload number []) reply after
@@ -322,7 +322,7 @@ block_leads drive t k old b d o session number reply after holders opens h held 
 block_leads drive t k old b d o session number reply after holders opens h held q among good run first size label_size (scarce (words, replies) online) =
     subst (λ r. Leads drive (then_stock t after.library holders opens) (attempt_on k b (noted (Write (get_or b.payload number [])) r d) after.session) old (Block number) r) (sym replies)
     (λ progress new (moves, is). fails_with drive (then_stock t after.library holders opens) k old b (carried_on d) after.session progress new 12 (inr (inr refl))
-    (latched_bin drive t k b d session after q (ap (λ (v : Scene). v.library) online)) moves is)
+    (latched_bin drive t k b d session after q (ap (λ (v : SessionView). v.library) online)) moves is)
 
 -- the mark was written
 mark_written : (b : Begun) (d : Dumping) → d.mark ≡ false → attempt_written b.run b.payload (record d { mark = true; carried = raised d.carried })
@@ -334,8 +334,8 @@ mark_written b d bare =
     ∙ ap (λ l. (front ++ l) ++ TapeMark ∷ []) (sym (append-nil blocks))
     ∙ ap (λ t. (front ++ (blocks ++ mark_if t)) ++ TapeMark ∷ []) (sym bare)
 
-pub mark_leads : (drive : PlainDriveSpec) (t : Stock) (k : ℕ) (old : Standing) (b : Begun) (d : Dumping) (o : Option Side) (session : PlainSession) (next : ℕ) (reply : PlainReply)
-    (after : Scene) (holders : List ℕ) (opens : List Opening) → HasDone b.run o d (Operation (Mark next)) → holders ≡ k ∷ [] → (q : IsLatched drive t k b d session)
+pub mark_leads : (drive : PlainDriveSpec) (t : Stock) (k : ℕ) (old : Standing) (b : Begun) (d : Dumping) (o : Option ServerConnection) (session : PlainSession) (next : ℕ) (reply : PlainReply)
+    (after : SessionView) (holders : List ℕ) (opens : List Opening) → HasDone b.run o d (Operation (Mark next)) → holders ≡ k ∷ [] → (q : IsLatched drive t k b d session)
     → Contains opens (opening k q.name)
     → ((reply ≡ Done 1) × IsOnline t.library drive.capacity (tape (attempt_written b.run b.payload d ++ TapeMark ∷ []) []) after)
     ⊎ (IsScarce reply × IsOnline t.library drive.capacity (tape (attempt_written b.run b.payload d) []) after)
@@ -349,7 +349,7 @@ mark_leads drive t k old b d o session next reply after holders opens h held q a
 mark_leads drive t k old b d o session next reply after holders opens h held q among (inr ((words, replies), online)) =
     subst (λ r. Leads drive (then_stock t after.library holders opens) (attempt_on k b (noted (Op MTWEOF 1) r d) after.session) old (Operation (Mark next)) r) (sym replies)
     (λ progress new (moves, is). fails_with drive (then_stock t after.library holders opens) k old b (carried_on d) after.session progress new 12 (inr (inr refl))
-    (latched_bin drive t k b d session after q (ap (λ (v : Scene). v.library) online)) moves is)
+    (latched_bin drive t k b d session after q (ap (λ (v : SessionView). v.library) online)) moves is)
 
 -- a volume with its label and mark
 volume_written : (b : Begun) (d : Dumping) → d.label ≡ true → d.mark ≡ true → attempt_written b.run b.payload d ≡ whole_volume b.run b.payload d.volume d.first d.blocks
@@ -357,14 +357,14 @@ volume_written b d labelled marked =
     ap (λ t. label_if t b.run d.volume d.first ++ (block_records b.payload d.first d.blocks ++ mark_if d.mark)) labelled
     ∙ ap (λ t. Record (label b.run d.volume d.first) ∷ (block_records b.payload d.first d.blocks ++ mark_if t)) marked
 
-pub unload_leads : (drive : PlainDriveSpec) (t : Stock) (k : ℕ) (old : Standing) (b : Begun) (d : Dumping) (o : Option Side) (session : PlainSession) (next : ℕ) (reply : PlainReply)
-    (after : Scene) (holders : List ℕ) (opens : List Opening) → HasDone b.run o d (Operation (Unload next)) → (after.session ≡ Offline 0 Both → holders ≡ k ∷ [])
+pub unload_leads : (drive : PlainDriveSpec) (t : Stock) (k : ℕ) (old : Standing) (b : Begun) (d : Dumping) (o : Option ServerConnection) (session : PlainSession) (next : ℕ) (reply : PlainReply)
+    (after : SessionView) (holders : List ℕ) (opens : List Opening) → HasDone b.run o d (Operation (Unload next)) → (after.session ≡ Offline 0 Both → holders ≡ k ∷ [])
     → (q : IsLatched drive t k b d session) → Contains opens (opening k q.name)
     → (reply ≡ Done 1)
-    × (after ≡ scene (one_drive drive (blanks drive q.others) (volume_slots drive t ++ slot q.name (Some (kept_reel (attempt_written b.run b.payload d) drive.capacity)) ∷ [])) (Offline 0 Both))
+    × (after ≡ session_view (one_drive drive (blanks drive q.others) (volume_slots drive t ++ slot q.name (Some (kept_reel (attempt_written b.run b.payload d) drive.capacity)) ∷ [])) (Offline 0 Both))
     → Leads drive (then_stock t after.library holders opens) (attempt_on k b (noted (Op MTOFFL 1) reply d) after.session) old (Operation (Unload next)) reply
 unload_leads drive t k old b d o session next reply after holders opens h held q among (replies, is_after) =
-    let off : after.session ≡ Offline 0 Both = ap (λ (v : Scene). v.session) is_after in
+    let off : after.session ≡ Offline 0 Both = ap (λ (v : SessionView). v.session) is_after in
     subst (λ r. Leads drive (then_stock t after.library holders opens) (attempt_on k b (noted (Op MTOFFL 1) r d) after.session) old (Operation (Unload next)) r) (sym replies)
     (λ progress new (moves, is). led drive (then_stock t after.library holders opens) k old b (carried_on d) after.session (ToSend Close) (counted_to old.counts next) moved.Send progress new
     moves is
@@ -372,7 +372,7 @@ unload_leads drive t k old b d o session next reply after holders opens h held q
       name = q.name;
       others = q.others;
       next = q.next;
-      library = ap (λ (v : Scene). v.library) is_after
+      library = ap (λ (v : SessionView). v.library) is_after
           ∙ ap (λ l. one_drive drive (blanks drive q.others) (volume_slots drive t ++ slot q.name (Some (kept_reel l drive.capacity)) ∷ [])) (volume_written b d h.label h.mark);
       holders = held off;
       offline = off;
@@ -385,10 +385,10 @@ over_leads : (drive : PlainDriveSpec) (t : Stock) (k : ℕ) (old : Standing) (b 
 over_leads drive t k old b d session progress new q moves (inl (covers, is)) = led drive t k old b d session Finished old.counts moved.Ended progress new moves is q refl
 over_leads drive t k old b d session progress new q moves (inr (left, is)) = led drive t k old b d session Ready old.counts moved.Ended progress new moves is q refl
 
-pub close_leads : (drive : PlainDriveSpec) (t : Stock) (k : ℕ) (old : Standing) (b : Begun) (d : Dumping) (session : PlainSession) (reply : PlainReply) (after : Scene) (holders : List ℕ)
-    (opens : List Opening) → holders ≡ 0 ∷ [] → IsOffline drive t k session → (reply ≡ Done 0) × (after ≡ scene t.library Idle)
+pub close_leads : (drive : PlainDriveSpec) (t : Stock) (k : ℕ) (old : Standing) (b : Begun) (d : Dumping) (session : PlainSession) (reply : PlainReply) (after : SessionView) (holders : List ℕ)
+    (opens : List Opening) → holders ≡ 0 ∷ [] → IsOffline drive t k session → (reply ≡ Done 0) × (after ≡ session_view t.library Idle)
     → Leads drive (then_stock t after.library holders opens) (attempt_on k b (noted CloseDevice reply d) after.session) old Close reply
 close_leads drive t k old b d session reply after holders opens held q (replies, is) =
     subst (λ r. Leads drive (then_stock t after.library holders opens) (attempt_on k b (noted CloseDevice r d) after.session) old Close r) (sym replies)
     (λ progress new (moves, over). over_leads drive (then_stock t after.library holders opens) k old b (carried_on d) after.session progress new
-    record { library = ap (λ (v : Scene). v.library) is ∙ q.library; holders = held } moves over)
+    record { library = ap (λ (v : SessionView). v.library) is ∙ q.library; holders = held } moves over)

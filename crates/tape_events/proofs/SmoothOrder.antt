@@ -8,7 +8,7 @@ use Rattle.std.proofs.lemmas.Slice.Eq.{bytes_eq-Decides}
 use Rattle.tape.specs.Tape.{PlainEntry}
 use Rattle.drives.specs.TapeLibrary.{KeptReel, kept_reel, ReelSlot, Drive, drive_with, TapeLibrary, drive_at, with_drive_at, slots_in, EachReelOnce, names_of}
 use Rattle.drives.proofs.Shops.{bit, named, times_named, sum_by_with_drive}
-use Rattle.rmt_server.specs.Hall.{Hall}
+use Rattle.rmt_server.specs.ServerState.{ServerState}
 use Rattle.dump_client.specs.declared.stage.Stage.{Stage}
 use Rattle.dump_client.specs.declared.stage.Stage.TheVariants.{Ready, ToSend, Waiting, Asking, Finished, Abandoned}
 use Rattle.tape_events.specs.World.{World, Link, Begun, Caller, Count, numbered}
@@ -73,19 +73,19 @@ runs_smooth g drive first w all kept sm whole (one_more {events = events} {befor
     (kept_after g before w event was.0 happens, smooth_after g drive before w event was.0 was.1 parts.1 happens)
 
 -- the reels of the counts come first in the bin
-bin_at : (drive : PlainDriveSpec) (w : World) (c : Caller) (stage : Stage) → ReelsStandAt stage drive w c → Behind (volume_slots drive (stock_of w)) w.hall.library.bin
+bin_at : (drive : PlainDriveSpec) (w : World) (c : Caller) (stage : Stage) → ReelsStandAt stage drive w c → Behind (volume_slots drive (stock_of w)) w.server.library.bin
 bin_at drive w c (ToSend step) (k, l, d, b, s, own, stands) =
-    same_bin (volume_slots drive (stock_of w)) w.hall.library.bin (before_bin drive (stock_of w) k b d s.session step stands)
+    same_bin (volume_slots drive (stock_of w)) w.server.library.bin (before_bin drive (stock_of w) k b d s.session step stands)
 bin_at drive w c (Waiting step) (k, l, d, b, s, own, inl un) =
-    same_bin (volume_slots drive (stock_of w)) w.hall.library.bin (before_bin drive (stock_of w) k b d s.session step un.stands)
+    same_bin (volume_slots drive (stock_of w)) w.server.library.bin (before_bin drive (stock_of w) k b d s.session step un.stands)
 bin_at drive w c (Waiting step) (k, l, d, b, s, own, inr done) = done.bin
-bin_at drive w c Ready free = same_bin (volume_slots drive (stock_of w)) w.hall.library.bin (ap (λ (x : TapeLibrary). x.bin) free.library)
-bin_at drive w c Finished free = same_bin (volume_slots drive (stock_of w)) w.hall.library.bin (ap (λ (x : TapeLibrary). x.bin) free.library)
-bin_at drive w c Asking bin = same_bin (volume_slots drive (stock_of w)) w.hall.library.bin bin
+bin_at drive w c Ready free = same_bin (volume_slots drive (stock_of w)) w.server.library.bin (ap (λ (x : TapeLibrary). x.bin) free.library)
+bin_at drive w c Finished free = same_bin (volume_slots drive (stock_of w)) w.server.library.bin (ap (λ (x : TapeLibrary). x.bin) free.library)
+bin_at drive w c Asking bin = same_bin (volume_slots drive (stock_of w)) w.server.library.bin bin
 bin_at drive w c Abandoned never = absurd never
 
-bin_with : (drive : PlainDriveSpec) (w : World) (o : Option Caller) → StandsWith o drive w → Behind (volume_slots drive (stock_of w)) w.hall.library.bin
-bin_with drive w None free = same_bin (volume_slots drive (stock_of w)) w.hall.library.bin (ap (λ (x : TapeLibrary). x.bin) free.library)
+bin_with : (drive : PlainDriveSpec) (w : World) (o : Option Caller) → StandsWith o drive w → Behind (volume_slots drive (stock_of w)) w.server.library.bin
+bin_with drive w None free = same_bin (volume_slots drive (stock_of w)) w.server.library.bin (ap (λ (x : TapeLibrary). x.bin) free.library)
 bin_with drive w (Some c) stands = bin_at drive w c c.at.stage stands
 
 -- the reel of a count lies there with its volume
@@ -141,7 +141,7 @@ drive_there (r ∷ drives) zero name entries lies = omega arith
 drive_there (r ∷ drives) (suc d) name entries lies = let on = drive_there drives d name entries lies in omega (arith, on)
 
 -- what lies in the bin stands nowhere else
-bin_alone : (h : Hall) (name : List ℕ) (entries other : List PlainEntry) → AreHeld h → AreLaid h → EachReelOnce h.library → ReelLiesIn h.library.bin name entries → StandsOn h name other
+bin_alone : (h : ServerState) (name : List ℕ) (entries other : List PlainEntry) → AreHeld h → AreLaid h → EachReelOnce h.library → ReelLiesIn h.library.bin name entries → StandsOn h name other
     → other ≡ entries
 bin_alone h name entries other held laid once lies (inl (inl (d, two))) =
     let t = with_drive_at h.library d (drive_with [] []) in
@@ -161,7 +161,7 @@ bin_alone h name entries other held laid once lies (inr (k, s, at, (drive, acces
     sym holds ∙ sym (stands_one h k s drive access reel name entries at online first held laid once (inl (inr lies)))
 
 between_names : (drive : PlainDriveSpec) (w : World) (c : Caller) (stage : Stage) → is_between stage ≡ true → ReelsStandAt stage drive w c
-    → names_of w.hall.library.bin ≡ map (λ (x : Count). x.reel) w.counts
+    → names_of w.server.library.bin ≡ map (λ (x : Count). x.reel) w.counts
 between_names drive w c Ready is free = ap (λ (x : TapeLibrary). names_of x.bin) free.library ∙ slot_names drive.capacity w.begun w.counts
 between_names drive w c Finished is free = ap (λ (x : TapeLibrary). names_of x.bin) free.library ∙ slot_names drive.capacity w.begun w.counts
 between_names drive w c stage is stands = absurd cc
@@ -181,7 +181,7 @@ in_order drive w kept sm = record {
           begun = b;
           begun_as = e.3.begun;
           stands = inl (inr lies);
-          alone = λ entries on. bin_alone w.hall x.reel _ entries kept.held kept.laid kept.once.once lies on;
+          alone = λ entries on. bin_alone w.server x.reel _ entries kept.held kept.laid kept.once.once lies on;
         },
       ));
   bin = λ (c, there, between). between_names drive w c c.at.stage between (subst (λ o. StandsWith o drive w) there sm.stands);

@@ -5,8 +5,8 @@ use Rattle.std.proofs.lemmas.Option.{same_Some}
 use Rattle.rmt_wire.specs.Reply.{PlainReply, SpellsReply, reply_text}
 use Rattle.rmt_wire.specs.Reply.PlainReply.{Done, Data, Error}
 use Rattle.rmt_wire.specs.Reply.Wanted.{DataUpTo}
-use Rattle.rmt_server.specs.Hall.{Side}
-use Rattle.rmt_server.specs.Session.{scene}
+use Rattle.rmt_server.specs.ServerState.{ServerConnection}
+use Rattle.rmt_server.specs.Session.{session_view}
 use Rattle.rmt_server.specs.TroubledServe.{TroubledServeStep}
 use Rattle.dump_run.specs.Run.{PlainRun}
 use Rattle.dump_run.specs.Label.{label_bytes}
@@ -91,9 +91,9 @@ reply_is : OneReply → (w : World) (v : Turn w) (c : Caller) (l : Link) (d : Du
 reply_is g w v c l d progress new a =
     let is = step_is w v c l d progress new a in
     let on = subst (λ s. StandsFor s v.s.session) is.1 (a.served.done.stands v.s refl) in
-    let served = subst (λ q. TroubledServeStep v.trouble w.hall.holders (scene w.hall.library v.s.session) q v.reply (scene v.library v.session))
+    let served = subst (λ q. TroubledServeStep v.trouble w.server.holders (session_view w.server.library v.s.session) q v.reply (session_view v.library v.session))
     (a.served.asks ∙ ap (request_in a.served.b d) is.1) v.served.step in
-    let shown = look_online v.trouble w.hall.holders (scene w.hall.library v.s.session) v.reply (scene v.library v.session) on.1.0 on.0 on.1.1 served in
+    let shown = look_online v.trouble w.server.holders (session_view w.server.library v.s.session) v.reply (session_view v.library v.session) on.1.0 on.0 on.1.1 served in
     let mine = shown_brief reply_texts v.reply shown.0 in
     let its : IsBrief (DataUpTo label_bytes) a.reply = subst (λ s. IsBrief (wanted_of s) a.reply) is.0 a.brief in
     (g (DataUpTo label_bytes) (reply_text v.reply) [] v.reply a.reply mine.spelled
@@ -163,7 +163,7 @@ record IsServedHere (w : World) (v : Turn w) (c : Caller) (l m : Link) (d : Dump
   since : HasOpenedSince w x v.k ⊎ ((v.k ≡ v.k) × OpensNow w v)
 
 -- its request is the one that the client waits for
-asked_past : OneReply → (w : World) (v : Turn w) (c : Caller) (l m : Link) (d : Dumping) (step : Step) (b e : Begun) (o : Option Side) (fed : List ℕ)
+asked_past : OneReply → (w : World) (v : Turn w) (c : Caller) (l m : Link) (d : Dumping) (step : Step) (b e : Begun) (o : Option ServerConnection) (fed : List ℕ)
     (progress : Progress) (new : Standing) (x : Count) → Grounds w → HasLawful w → IsServedHere w v c l m d new x → c.at.stage ≡ Waiting step
     → IsAttempt w.begun c d step b → IsStepAsked b (Some v.s) l c d step → (r : IsStepReplied e o m c (noted v.request v.reply d) step)
     → HasFedAt (Waiting step) c.reader fed → FedAt (Waiting step) c.at fed m.back progress new → ⊥
@@ -192,7 +192,7 @@ asked_past g w v c l m d step b e o fed progress new x k lawful s stage attempt 
     } s.counted s.spared s.since
 
 -- at the stage where the client stands
-stage_past : DroppedWrites → OneReply → (w : World) (v : Turn w) (stage : Stage) (c : Caller) (l m : Link) (d : Dumping) (begun : List Begun) (o : Option Side)
+stage_past : DroppedWrites → OneReply → (w : World) (v : Turn w) (stage : Stage) (c : Caller) (l m : Link) (d : Dumping) (begun : List Begun) (o : Option ServerConnection)
     (fed : List ℕ) (progress : Progress) (new : Standing) (x : Count) → Grounds w → HasLawful w → IsServedHere w v c l m d new x → c.at.stage ≡ stage
     → IsTrue (is_in_attempt stage) → IsLinkToldAt stage w.begun (Some v.s) l c d → IsLinkToldAt stage begun o m c (noted v.request v.reply d)
     → HasFedAt stage c.reader fed → FedAt stage c.at fed m.back progress new → ⊥
@@ -237,7 +237,7 @@ own_looked r h g w v c y l fed progress new x k owned lawful told own there was 
       spared = spared;
       since = since;
     } in
-    stage_past h g w v c.at.stage c y l d w.begun (side_of (turned w v).hall v.k) fed progress new x k lawful here refl inside before after had feeds
+    stage_past h g w v c.at.stage c y l d w.begun (side_of (turned w v).server v.k) fed progress new x k lawful here refl inside before after had feeds
 
 pub served_looked : OneReading → DroppedWrites → OneReply → (w : World) (v : Turn w) → Grounds w → IsOwned w → HasLawful w → AreTold (turned w v)
     → AreCountsEarned (turned w v) → AreSingle (turned w v) → HasLooked (turned w v)

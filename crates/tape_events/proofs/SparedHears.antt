@@ -48,12 +48,12 @@ pub record IsHearing (w : World) (t : Listens w) : Type 0 where
   pub reply : PlainReply
   pub stage : t.c.at.stage ≡ Waiting step
   pub brief : IsBrief (wanted_of step) reply
-  pub leads : LeadsOn run (side_of w.hall t.k) t.c.at t.d step reply
+  pub leads : LeadsOn run (side_of w.server t.k) t.c.at t.d step reply
   pub piece : HearsPiece t.c.at step reply (t.fed ++ take t.n t.l.back) (drop t.n t.l.back) t.progress t.at
 
 replied_hearing : OneReply → (w : World) (t : Listens w) (step : Step) (b : Begun) → t.c.at.stage ≡ Waiting step
-    → (r : IsStepReplied b (side_of w.hall t.k) t.l t.c t.d step)
-    → IsStepReply b.run (side_of w.hall t.k) t.c.at t.d step (r.fed ++ t.l.back) → HasFedAt (Waiting step) t.c.reader t.fed
+    → (r : IsStepReplied b (side_of w.server t.k) t.l t.c t.d step)
+    → IsStepReply b.run (side_of w.server t.k) t.c.at t.d step (r.fed ++ t.l.back) → HasFedAt (Waiting step) t.c.reader t.fed
     → FedAt (Waiting step) t.c.at t.fed (take t.n t.l.back) t.progress t.at → IsHearing w t
 replied_hearing g w t step b stage r (inl none) had feeds =
     let size : length (r.fed ++ t.l.back) ≡ 0 = ap length none in
@@ -72,7 +72,7 @@ replied_hearing g w t step b stage r (inr (reply, is, brief, leads)) had feeds =
 }
 
 stage_hearing : OneReply → (w : World) (t : Listens w) (stage : Stage) → t.c.at.stage ≡ stage → IsTrue (is_in_attempt stage)
-    → IsLinkToldAt stage w.begun (side_of w.hall t.k) t.l t.c t.d → HasFedAt stage t.c.reader t.fed
+    → IsLinkToldAt stage w.begun (side_of w.server t.k) t.l t.c t.d → HasFedAt stage t.c.reader t.fed
     → FedAt stage t.c.at t.fed (take t.n t.l.back) t.progress t.at → IsHearing w t
 stage_hearing g w t (ToSend step) stage inside (b, attempt, turn) had feeds = absurd (some_way t.l t.n t.some t.within turn.back)
 stage_hearing g w t (Waiting step) stage inside (b, attempt, inl asked) had feeds = absurd (some_way t.l t.n t.some t.within asked.back)

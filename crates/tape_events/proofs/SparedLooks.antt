@@ -14,7 +14,7 @@ use Rattle.tape.specs.declared.trouble.Trouble.{Trouble}
 use Rattle.drives.specs.TapeLibrary.{drive_at}
 use Rattle.rmt_server.specs.declared.access.Access.TheVariants.{Both}
 use Rattle.rmt_server.specs.Refusals.{number_of, text_of, refused, tape_refusal}
-use Rattle.rmt_server.specs.Session.{PlainReel, Scene, scene, status_of, refusal, tape_request, reel_reply}
+use Rattle.rmt_server.specs.Session.{PlainReel, SessionView, session_view, status_of, refusal, tape_request, reel_reply}
 use Rattle.rmt_server.specs.Session.PlainSession.{Online}
 use Rattle.rmt_server.specs.TroubledServe.{TroubledServeStep, TroubledDoneStep}
 use Rattle.dump_run.specs.Run.{PlainRun, IsRun}
@@ -58,7 +58,7 @@ look_answer trouble capacity t u (Gave given) reply written rest after step is =
 look_answer trouble capacity t u (Fault why) reply written rest after step is = inl (number_of (tape_refusal why), text_of (tape_refusal why), is)
 
 -- the record that stands there is looked at
-look_shows : (trouble : Trouble) (holders : List ℕ) (before : Scene) (reply : PlainReply) (after : Scene) (drive : ℕ) (reel : PlainReel) (written : List ℕ)
+look_shows : (trouble : Trouble) (holders : List ℕ) (before : SessionView) (reply : PlainReply) (after : SessionView) (drive : ℕ) (reel : PlainReel) (written : List ℕ)
     (rest : List PlainEntry)
     → before.session ≡ Online drive Both reel → reel.tape.after ≡ Record written ∷ rest
     → TroubledServeStep trouble holders before (Read label_bytes) reply after → ShowsRecord reply written
@@ -98,8 +98,8 @@ pub record IsLooking (w : World) (v : Turn w) (c : Caller) (x : Count) : Type 0 
 
 -- What stays so, as far as the look rests on it.
 pub record Grounds (w : World) : Type 0 where
-  pub held : AreHeld w.hall
-  pub laid : AreLaid w.hall
+  pub held : AreHeld w.server
+  pub laid : AreLaid w.server
   pub named : AreNamed w
   pub opened : AreOpened w
   pub writers : AreWritersLast w
@@ -121,10 +121,10 @@ record IsCountedThere (w : World) (v : Turn w) (c : Caller) (x : Count) : Type 0
 
 -- the session's reel is that of the count
 its_reel : (w : World) (v : Turn w) (c : Caller) (x : Count) → Grounds w → (g : IsLooking w v c x) → (drive : ℕ) (reel : PlainReel)
-    → v.s.session ≡ Online drive Both reel → first_name (drive_at w.hall.library drive).stack ≡ x.reel
+    → v.s.session ≡ Online drive Both reel → first_name (drive_at w.server.library drive).stack ≡ x.reel
 its_reel w v c x k g drive reel online =
-    let name = first_name (drive_at w.hall.library drive).stack in
-    let last = k.opened.last v.k v.s name v.live (ap (written_reel w.hall.library) online) in
+    let name = first_name (drive_at w.server.library drive).stack in
+    let last = k.opened.last v.k v.s name v.live (ap (written_reel w.server.library) online) in
     let (i, m, place, less, opened) = g.since in
     one_reel w.opens v.k g.d (k.single v.k g.l g.d g.at g.dump) (opening v.k name) (opening v.k x.reel) (among_at w.opens last.0 (opening v.k name) last.1)
     (among_at w.opens m (opening v.k x.reel) opened) refl refl
@@ -147,7 +147,7 @@ counted_there : (w : World) (v : Turn w) (c : Caller) (x : Count) → Grounds w 
 counted_there w v c x k g =
     let on = subst (λ s. StandsFor s v.s.session) g.look (g.served.done.stands v.s refl) in
     let r = counted_reels w k.held k.laid k.named k.writers k.told k.labelled k.earned k.spared x g.counted in
-    let stands : StandsOn w.hall x.reel (entries_of on.0.tape)
+    let stands : StandsOn w.server x.reel (entries_of on.0.tape)
     = inr (v.k, v.s, v.live, (on.1.0, Both, on.0, on.1.1, its_reel w v c x k g on.1.0 on.0 on.1.1, refl)) in
     let count = its_count w v c x k g in
     let begun : r.begun ≡ g.b = same_Some r.begun g.b (sym r.begun_as ∙ ap (numbered w.begun) (sym count.0) ∙ g.attempt.begun_as) in
@@ -171,14 +171,14 @@ pub look_finds : (w : World) (v : Turn w) (c : Caller) (x : Count) → Grounds w
 look_finds w v c x k g =
     let t = counted_there w v c x k g in
     let asks : v.request ≡ Read label_bytes = g.served.asks ∙ ap (request_in g.served.b g.d) g.look in
-    let step = subst (λ r. TroubledServeStep v.trouble w.hall.holders (scene w.hall.library v.s.session) r v.reply (scene v.library v.session)) asks v.served.step in
+    let step = subst (λ r. TroubledServeStep v.trouble w.server.holders (session_view w.server.library v.s.session) r v.reply (session_view v.library v.session)) asks v.served.step in
     let (z, among, volume, first) = t.has in
     let before = before_checkpoint c.at.run 1 0 c.at.counts z g.lawful.counts among in
     let most = (few_volumes c.at.run 1 0 c.at.counts (omega arith) (omega arith) g.lawful.counts).0 in
     let limit = g.lawful.run.blocks in
     let few = t.few in
     let all = label_whole c.at.run x.volume x.first g.lawful.run (omega (arith, volume, before, most, limit)) (omega (arith, few, limit)) in
-    elim (look_shows v.trouble w.hall.holders (scene w.hall.library v.s.session) v.reply (scene v.library v.session) t.drive t.reel
+    elim (look_shows v.trouble w.server.holders (session_view w.server.library v.s.session) v.reply (session_view v.library v.session) t.drive t.reel
     (label c.at.run x.volume x.first) t.rest t.online t.first
     step) [
       | inl error ↦ inl error

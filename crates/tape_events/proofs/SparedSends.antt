@@ -52,9 +52,9 @@ sent_back w t = record {
 
 -- it is the client's turn, and it has heard nothing
 its_turn : (w : World) (t : Sender w) (x : Link) (e : Dumping) → AreTold w → link_of w t.k ≡ Some x → x.dump ≡ Some e
-    → (b : Begun) × IsAttempt w.begun t.c e t.step b × IsItsTurn b (side_of w.hall t.k) x t.c e t.step
+    → (b : Begun) × IsAttempt w.begun t.c e t.step b × IsItsTurn b (side_of w.server t.k) x t.c e t.step
 its_turn w t x e told at dump =
-    subst (λ s. IsLinkToldAt s w.begun (side_of w.hall t.k) x t.c e) t.stage ((told.each t.k x at).own e t.c dump t.own t.there)
+    subst (λ s. IsLinkToldAt s w.begun (side_of w.server t.k) x t.c e) t.stage ((told.each t.k x at).own e t.c dump t.own t.there)
 
 -- a step up to the look is among the first
 early_steps : (run : PlainRun) (first next : ℕ) (step : Step) → step ≢ Operation RewindAgain → steps_len run first next step ≤ 3

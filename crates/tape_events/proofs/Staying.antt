@@ -63,11 +63,11 @@ first_kept drives good = record {
   tidy = record { paired = refl; each = λ k l at. absurd (no_number k l at) };
   held = record {
     places = length-replicate (length drives) 0 ∙ sym (length-map drives blank_drive);
-    opened = λ k d s at drive. absurd (no_number k (Some s) (side_there (first_world drives).hall k s at));
+    opened = λ k d s at drive. absurd (no_number k (Some s) (side_there (first_world drives).server k s at));
     holds = λ k d at. absurd (no_holder (length drives) d k at);
   };
   laid = record {
-    latched = λ d (k, s, at, on). absurd (no_number k (Some s) (side_there (first_world drives).hall k s at));
+    latched = λ d (k, s, at, on). absurd (no_number k (Some s) (side_there (first_world drives).server k s at));
     lying = λ d off. first_there drives d;
     bin = tt;
   };
@@ -86,7 +86,7 @@ first_kept drives good = record {
   opened = first_opened drives;
   writers = first_writers drives;
   spared = first_spared drives;
-  readable = λ k s at. absurd (no_number k (Some s) (side_there (first_world drives).hall k s at));
+  readable = λ k s at. absurd (no_number k (Some s) (side_there (first_world drives).server k s at));
 }
 
 -- What other crates say of a client, and of requests and replies.
@@ -147,7 +147,7 @@ pub runs_kept : Laws → (first w : World) (events : List PlainEvent) → IsWorl
 runs_kept g first w events k none = k
 runs_kept g first w events k (one_more {before = before} event run happens) = kept_after g before w event (runs_kept g first before _ k run) happens
 
-pub kept_names : (w u : World) (event : PlainEvent) → IsWorldKept w → Happens w event u → SameNames w.hall.library u.hall.library
+pub kept_names : (w u : World) (event : PlainEvent) → IsWorldKept w → Happens w event u → SameNames w.server.library u.server.library
 kept_names w u event k happens = names_after w event u happens k.held
 
 pub no_two_holders : (w : World) → IsWorldKept w → NoTwoHolders w
@@ -178,8 +178,8 @@ latched_reels w kept = record {
   once = λ j k d e s t one on two off same. elim (eqb_tells d e) [
     | inl (equal, its) ↦ no_two_holders w kept j k e (s, one, online_drive s.session e (on ∙ ap Some its)) (t, two, online_drive t.session e off)
     | inr (unequal, other) ↦
-        absurd (names_differ w.hall.library d e kept.once.once other (drive_within w.hall j s d kept.held one (online_drive s.session d on)) (kept.laid.latched d (j, s, one, on))
-        (drive_within w.hall k t e kept.held two (online_drive t.session e off)) (kept.laid.latched e (k, t, two, off)) same)
+        absurd (names_differ w.server.library d e kept.once.once other (drive_within w.server j s d kept.held one (online_drive s.session d on)) (kept.laid.latched d (j, s, one, on))
+        (drive_within w.server k t e kept.held two (online_drive t.session e off)) (kept.laid.latched e (k, t, two, off)) same)
   ];
 }
 

@@ -7,8 +7,8 @@ use Rattle.rmt_wire.specs.ReplyFront.{kept_of}
 use Rattle.rmt_wire.specs.ReplyReader.{ReplyHeld, reply_held}
 use Rattle.rmt_wire.specs.RequestReader.{held}
 use Rattle.rmt_wire.specs.declared.fault.WireFault.{WireFault}
-use Rattle.rmt_server.specs.Hall.{Side}
-use Rattle.rmt_server.specs.Session.{scene}
+use Rattle.rmt_server.specs.ServerState.{ServerConnection}
+use Rattle.rmt_server.specs.Session.{session_view}
 use Rattle.rmt_server.specs.TroubledServe.{drive_in, with_holder}
 use Rattle.tape.specs.declared.trouble.Trouble.{Trouble}
 use Rattle.dump_client.specs.Client.{HasFedAt, unanswered}
@@ -36,19 +36,19 @@ sends_can : SomeAnswer → (failing : Bool) (w : World) (k : ℕ) (c : Caller) (
 sends_can g true w k c payload step = (_, (reply_held None [], refl))
 sends_can g false w k c payload step = (_, (reply_held (Some (wanted_of step)) (kept_of []), asks_can g (wanted_of step), refl))
 
-finds_can : (w : World) (k : ℕ) (trouble : Trouble) (s : Side) (found : Result (Option PlainRequest) WireFault) (rest : List ℕ) → (found ≡ Ok None → ⊥)
+finds_can : (w : World) (k : ℕ) (trouble : Trouble) (s : ServerConnection) (found : Result (Option PlainRequest) WireFault) (rest : List ℕ) → (found ≡ Ok None → ⊥)
     → (u : World) × Finds w k trouble s found rest u
 finds_can w k trouble s (Ok None) rest some = absurd (some refl)
 finds_can w k trouble s (Err fault) rest some = (_, refl)
 finds_can w k trouble s (Ok (Some request)) rest some =
-    let v = serve_can trouble w.hall.holders (scene w.hall.library s.session) request in (
+    let v = serve_can trouble w.server.holders (session_view w.server.library s.session) request in (
       _,
       (
         v.0,
         held rest 0,
         v.1.library,
         v.1.session,
-        with_holder (drive_in v.1.session) k (with_holder (drive_in s.session) 0 w.hall.holders),
+        with_holder (drive_in v.1.session) k (with_holder (drive_in s.session) 0 w.server.holders),
         held_can rest,
         record { step = v.2; held = refl },
         refl,
@@ -64,7 +64,7 @@ client_of w k l d kept at other dump =
 
 -- what a client that waits hears of a part of what is on the way
 hears_at : SomeAnswer → (w : World) (l : Link) (k n : ℕ) (d : Dumping) (c : Caller) (stage : Stage) → c.at.stage ≡ stage → IsTrue (is_in_attempt stage) → 1 ≤ n
-    → n ≤ length l.back → IsLinkToldAt stage w.begun (side_of w.hall k) l c d
+    → n ≤ length l.back → IsLinkToldAt stage w.begun (side_of w.server k) l c d
     → (fed : List ℕ) × (at : Standing) × (reader : ReplyHeld) × (progress : Progress) × HasFedAt stage c.reader fed × FedAt stage c.at fed (take n l.back) progress at
     × HasFedAt at.stage reader (unanswered at.stage (fed ++ take n l.back))
 hears_at g w l k n d c (ToSend step) is attempt some within (b, mine, turn) =

@@ -21,7 +21,7 @@ use Rattle.drives.specs.declared.fault.DriveFault.TheVariants as drive
 use Rattle.rmt_server.specs.declared.access.Access.{Access}
 use Rattle.rmt_server.specs.Access.{access_of}
 use Rattle.rmt_server.specs.Refusals.{refused}
-use Rattle.rmt_server.specs.Session.{PlainReel, plain_reel, PlainSession, Scene, scene, status_of, refusal, tape_request, reel_reply, closed, open_reply, move_reply, is_offline}
+use Rattle.rmt_server.specs.Session.{PlainReel, plain_reel, PlainSession, SessionView, session_view, status_of, refusal, tape_request, reel_reply, closed, open_reply, move_reply, is_offline}
 use Rattle.rmt_server.specs.Session.PlainSession.{Idle, Offline, Online}
 use Rattle.tape_events.specs.Serving.{is_open}
 use Rattle.rmt_server.specs.TroubledServe.{drive_in, with_holder, holder_of, TroubledReelStep, TroubledOpStep, TroubledDoneStep, TroubledOpens, TroubledServeStep}
@@ -113,28 +113,28 @@ can_call capacity set t Rewind = (Did, tape [] (entries_of t), (inr (λ comes. c
 can_call capacity set t Nothing = (Did, t, (inr (λ comes. comes), refl))
 can_call capacity set t Unknown = (Fault fault.BadOperation, t, (inr (λ comes. comes), refl))
 
-reel_can : (set : Trouble) (before : Scene) (request : PlainRequest) (d : ℕ) (access : Access) (reel : PlainReel) → before.session ≡ Online d access reel
-    → (reply : PlainReply) × (after : Scene) × TroubledReelStep set before request reply after
+reel_can : (set : Trouble) (before : SessionView) (request : PlainRequest) (d : ℕ) (access : Access) (reel : PlainReel) → before.session ≡ Online d access reel
+    → (reply : PlainReply) × (after : SessionView) × TroubledReelStep set before request reply after
 unfolding CanCall
 reel_can set before request d access reel online =
     let call = can_call reel.capacity set reel.tape (tape_request request) in (
       reel_reply request call.0,
-      scene before.library (Online d access (plain_reel call.1 reel.capacity)),
+      session_view before.library (Online d access (plain_reel call.1 reel.capacity)),
       (d, access, reel, call.0, call.1, online, call.2, refl, refl),
     )
 
-op_can : (offline : Bool) (set : Trouble) (before : Scene) (op count d : ℕ) (access : Access) (reel : PlainReel) → before.session ≡ Online d access reel
-    → (reply : PlainReply) × (after : Scene) × TroubledOpStep offline set before op count reply after
+op_can : (offline : Bool) (set : Trouble) (before : SessionView) (op count d : ℕ) (access : Access) (reel : PlainReel) → before.session ≡ Online d access reel
+    → (reply : PlainReply) × (after : SessionView) × TroubledOpStep offline set before op count reply after
 op_can false set before op count d access reel online = reel_can set before (Op op count) d access reel online
 op_can true set before op count d access reel online = elim (none_or_set set) [
   | inl none ↦ (
     Done count,
-    scene (after_offline before.library d (entries_of reel.tape) reel.capacity) (Offline d access),
+    session_view (after_offline before.library d (entries_of reel.tape) reel.capacity) (Offline d access),
     (d, access, reel, Ok tt, online, none, refl, refl),
   )
   | inr other ↦ (
     move_reply count (Err drive.Device),
-    scene before.library (Online d access (plain_reel (tape [] (entries_of reel.tape)) reel.capacity)),
+    session_view before.library (Online d access (plain_reel (tape [] (entries_of reel.tape)) reel.capacity)),
     (d, access, reel, Err drive.Device, online, other.0, refl, (other.1, (refl, λ taken. cc), refl)),
   )
 ]
@@ -161,14 +161,14 @@ has_reel Idle request is none = absurd (idle_refused request is none)
 has_reel (Offline d access) request is none = absurd (away_refused request d access is none)
 has_reel (Online d access reel) request is none = (d, access, reel, refl)
 
-call_can : (set : Trouble) (before : Scene) (request : PlainRequest) → is_call request ≡ true → refusal (status_of before.session) request ≡ None
-    → (reply : PlainReply) × (after : Scene) × TroubledReelStep set before request reply after
+call_can : (set : Trouble) (before : SessionView) (request : PlainRequest) → is_call request ≡ true → refusal (status_of before.session) request ≡ None
+    → (reply : PlainReply) × (after : SessionView) × TroubledReelStep set before request reply after
 call_can set before request is none =
     let r = has_reel before.session request is none in
     reel_can set before request r.0 r.1 r.2 r.3
 
-done_can : (set : Trouble) (before : Scene) (request : PlainRequest) → refusal (status_of before.session) request ≡ None → is_open request ≡ false
-    → (reply : PlainReply) × (after : Scene) × TroubledDoneStep set before request reply after
+done_can : (set : Trouble) (before : SessionView) (request : PlainRequest) → refusal (status_of before.session) request ≡ None → is_open request ≡ false
+    → (reply : PlainReply) × (after : SessionView) × TroubledDoneStep set before request reply after
 unfolding is_call
 done_can set before (Open device mode) none is = absurd cc
 done_can set before Close none is = (Done 0, closed before, (refl, refl))
@@ -177,9 +177,9 @@ done_can set before (Op op count) none is =
     op_can (is_offline op) set before op count r.0 r.1 r.2 r.3
 done_can set before request none is = call_can set before request refl none
 
-refused_can : {R : Type 0} (says : R → PlainReply) (set : Trouble) (before : Scene) (request : PlainRequest) (o : Option R)
-    → (o ≡ None → (reply : PlainReply) × (after : Scene) × TroubledDoneStep set before request reply after)
-    → (reply : PlainReply) × (after : Scene) × MatchOption o (TroubledDoneStep set before request reply after) (λ r. (reply ≡ says r) × (after ≡ before))
+refused_can : {R : Type 0} (says : R → PlainReply) (set : Trouble) (before : SessionView) (request : PlainRequest) (o : Option R)
+    → (o ≡ None → (reply : PlainReply) × (after : SessionView) × TroubledDoneStep set before request reply after)
+    → (reply : PlainReply) × (after : SessionView) × MatchOption o (TroubledDoneStep set before request reply after) (λ r. (reply ≡ says r) × (after ≡ before))
 refused_can says set before request None done = done refl
 refused_can says set before request (Some r) done = (says r, before, (refl, refl))
 
@@ -209,46 +209,46 @@ find_named name (r ∷ rs) = by_test (bytes_eq r.name name) refl (find_named nam
     )
 
 -- an open, once nothing is open
-free_can : (set : Trouble) (holders : List ℕ) (before : Scene) (device : List ℕ) (access : Access) (d : ℕ) (o : Option KeptReel) → IsDriveNamed device before.library (Some d)
-    → holder_of holders (Some d) ≡ 0 → waiting_reel before.library d ≡ o → (reply : PlainReply) × (after : Scene) × TroubledOpens set holders before device (Some access) reply after
+free_can : (set : Trouble) (holders : List ℕ) (before : SessionView) (device : List ℕ) (access : Access) (d : ℕ) (o : Option KeptReel) → IsDriveNamed device before.library (Some d)
+    → holder_of holders (Some d) ≡ 0 → waiting_reel before.library d ≡ o → (reply : PlainReply) × (after : SessionView) × TroubledOpens set holders before device (Some access) reply after
 free_can set holders before device access d None named free waits =
-    (open_reply {R = PlainReel} (Err drive.NoReel), scene before.library Idle, (Err drive.NoReel, Some d, (d, refl, named, (waits, refl)), free, refl, refl))
+    (open_reply {R = PlainReel} (Err drive.NoReel), session_view before.library Idle, (Err drive.NoReel, Some d, (d, refl, named, (waits, refl)), free, refl, refl))
 free_can set holders before device access d (Some first) named free waits = elim (none_or_set set) [
   | inl none ↦
       let reel = plain_reel (tape [] first.entries) first.capacity in (
         Done 0,
-        scene (after_latch before.library d) (Online d access reel),
+        session_view (after_latch before.library d) (Online d access reel),
         (Ok (d, reel), Some d, (refl, named, (first, waits, refl, refl, refl)), (free, none), refl, refl),
       )
   | inr other ↦ (
     open_reply {R = PlainReel} (Err drive.Device),
-    scene before.library Idle,
+    session_view before.library Idle,
     (Err drive.Device, Some d, (d, refl, named, (λ e. (let clash = sym waits ∙ e in cc), refl)), (free, other.0), refl, refl),
   )
 ]
 
-held_can : (set : Trouble) (holders : List ℕ) (before : Scene) (device : List ℕ) (access : Access) (d n : ℕ) → IsDriveNamed device before.library (Some d) → holder_of holders (Some d) ≡ n
-    → (reply : PlainReply) × (after : Scene) × TroubledOpens set holders before device (Some access) reply after
+held_can : (set : Trouble) (holders : List ℕ) (before : SessionView) (device : List ℕ) (access : Access) (d n : ℕ) → IsDriveNamed device before.library (Some d) → holder_of holders (Some d) ≡ n
+    → (reply : PlainReply) × (after : SessionView) × TroubledOpens set holders before device (Some access) reply after
 held_can set holders before device access d zero named free = free_can set holders before device access d (waiting_reel before.library d) named free refl
 held_can set holders before device access d (suc m) named held = (
   open_reply {R = PlainReel} (Err (drive.Busy (suc m))),
-  scene before.library Idle,
+  session_view before.library Idle,
   (Err (drive.Busy (suc m)), Some d, (d, refl, named, refl), (omega (arith, held), sym held), refl, refl),
 )
 
-open_can : (set : Trouble) (holders : List ℕ) (before : Scene) (device : List ℕ) (access : Option Access)
-    → (reply : PlainReply) × (after : Scene) × TroubledOpens set holders before device access reply after
+open_can : (set : Trouble) (holders : List ℕ) (before : SessionView) (device : List ℕ) (access : Option Access)
+    → (reply : PlainReply) × (after : SessionView) × TroubledOpens set holders before device access reply after
 open_can set holders before device None = (_, before, (refl, refl))
 open_can set holders before device (Some access) = named_can (find_named device before.library.drives)
   where
     named_can : (o : Option ℕ) × IsNamedIn device before.library.drives o
-        → (reply : PlainReply) × (after : Scene) × TroubledOpens set holders before device (Some access) reply after
+        → (reply : PlainReply) × (after : SessionView) × TroubledOpens set holders before device (Some access) reply after
     named_can (None, named) =
-        (open_reply {R = PlainReel} (Err drive.NoSuchDrive), scene before.library Idle, (Err drive.NoSuchDrive, None, (named, refl), tt, refl, refl))
+        (open_reply {R = PlainReel} (Err drive.NoSuchDrive), session_view before.library Idle, (Err drive.NoSuchDrive, None, (named, refl), tt, refl, refl))
     named_can (Some d, named) = held_can set holders before device access d (holder_of holders (Some d)) named refl
 
 -- whatever is asked
-pub serve_can : (set : Trouble) (holders : List ℕ) (before : Scene) (request : PlainRequest)
-    → (reply : PlainReply) × (after : Scene) × TroubledServeStep set holders before request reply after
+pub serve_can : (set : Trouble) (holders : List ℕ) (before : SessionView) (request : PlainRequest)
+    → (reply : PlainReply) × (after : SessionView) × TroubledServeStep set holders before request reply after
 serve_can set holders before (Open device mode) = open_can set (with_holder (drive_in before.session) 0 holders) (closed before) device (access_of mode)
 serve_can set holders before request = refused_can refused set before request _ (λ none. done_can set before request none refl)

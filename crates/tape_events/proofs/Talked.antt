@@ -7,7 +7,7 @@ use Rattle.rmt_wire.specs.Request.{PlainRequest}
 use Rattle.rmt_wire.specs.RequestParts.{Gives}
 use Rattle.rmt_wire.specs.RequestReader.{Unread}
 use Rattle.rmt_wire.specs.declared.fault.WireFault.{WireFault}
-use Rattle.rmt_server.specs.Hall.{Side}
+use Rattle.rmt_server.specs.ServerState.{ServerConnection}
 use Rattle.tape.specs.declared.trouble.Trouble.{Trouble}
 use Rattle.dump_run.specs.Run.{PlainRun}
 use Rattle.dump_client.specs.Lawful.{attempt_at}
@@ -253,7 +253,7 @@ still_talked w u k sent carried more done on dumped nothing idle t =
     })
 
 -- the client sends its next request
-sent_is_next : (w u : World) (c : Caller) (b x : Begun) (o : Option Side) (l : Link) (d : Dumping) (step : Step) → IsWorldKept w → GoesOn w u → IsAttempt w.begun c d step x
+sent_is_next : (w u : World) (c : Caller) (b x : Begun) (o : Option ServerConnection) (l : Link) (d : Dumping) (step : Step) → IsWorldKept w → GoesOn w u → IsAttempt w.begun c d step x
     → IsItsTurn x o l c d step → numbered w.begun c.number ≡ Some b
     → IsNextSent u (noted_sent d) (request_of c.at.run b.payload (checkpoint_of c.at.counts).0 (checkpoint_of c.at.counts).1 step)
 sent_is_next w u c b x o l d step kept on attempt turn begun =
@@ -293,8 +293,8 @@ asks_talked w u k c b step f sent carried kept on own there stage begun links no
     | inr (other, was) ↦ absurd (other refl)
     | inl (same, (x, was, new)) ↦
         let m = mapped noted_sent x.dump d (sym (notes x) ∙ ap (λ (z : Link). z.dump) (sym new) ∙ is) in
-        let a = subst (λ s. IsLinkToldAt s w.begun (side_of w.hall k) x c m.0) stage ((kept.told.each k x was).own m.0 c m.1 own there) in
-        let next = sent_is_next w u c b a.0 (side_of w.hall k) x m.0 step kept on a.1 a.2 begun in
+        let a = subst (λ s. IsLinkToldAt s w.begun (side_of w.server k) x c m.0) stage ((kept.told.each k x was).own m.0 c m.1 own there) in
+        let next = sent_is_next w u c b a.0 (side_of w.server k) x m.0 step kept on a.1 a.2 begun in
         elim (t.told m.0 (x, was, m.1)) [
           | inl (equal, all) ↦ inr (request, subst (λ e. IsNextSent u e request) (sym m.2) next, ap (λ s. s ++ request ∷ []) (sym all))
           | inr (r, n, last) ↦ (let one = n.sent in let two = a.2.settled.sent in absurd (omega (arith, one, two)))
@@ -329,7 +329,7 @@ serves_talked : OneReading → DroppedWrites → (w : World) (v : Turn w) (sent 
     → IsTalked (turned w v) v.k sent (carried ++ v.request ∷ [])
 serves_talked g h w v sent carried kept on t = record {
   absent = λ past. (
-      let within = numbered_within w.hall.sides v.k (Some v.s) (side_there w.hall v.k v.s v.live) in
+      let within = numbered_within w.server.sides v.k (Some v.s) (side_there w.server v.k v.s v.live) in
       let paired = kept.tidy.paired in
       let more = on.links in
       absurd (omega (arith, within, paired, more, past)));
@@ -351,8 +351,8 @@ serves_talked g h w v sent carried kept on t = record {
   ];
 }
 
-finds_talked : OneReading → DroppedWrites → (w u : World) (k j : ℕ) (trouble : Trouble) (s : Side) (found : Result (Option PlainRequest) WireFault) (bytes rest : List ℕ)
-    (sent carried more done : List PlainRequest) → IsWorldKept w → GoesOn w u → side_of w.hall j ≡ Some s → Unread s.reached bytes → Gives bytes found rest
+finds_talked : OneReading → DroppedWrites → (w u : World) (k j : ℕ) (trouble : Trouble) (s : ServerConnection) (found : Result (Option PlainRequest) WireFault) (bytes rest : List ℕ)
+    (sent carried more done : List PlainRequest) → IsWorldKept w → GoesOn w u → side_of w.server j ≡ Some s → Unread s.reached bytes → Gives bytes found rest
     → Finds w j trouble s found rest u → more ≡ [] → done ≡ carried_here (j == k) found → IsTalked w k sent carried → IsTalked u k (sent ++ more) (carried ++ done)
 finds_talked g h w u k j trouble s (Ok None) bytes rest sent carried more done kept on live unread gives finds nothing some t = absurd finds
 finds_talked g h w u k j trouble s (Err fault) bytes rest sent carried more done kept on live unread gives is nothing some t =

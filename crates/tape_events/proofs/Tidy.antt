@@ -3,7 +3,7 @@ use Rattle.std.proofs.Common.{◌≡◌, ℕ, zero, suc, ◌+◌, Bool, true, fa
 use Rattle.std.specs.Prelude.{option_and_then}
 use Rattle.std.proofs.lemmas.List.{length-map, length-append}
 use Rattle.rmt_wire.specs.RequestReader.{held}
-use Rattle.rmt_server.specs.Hall.{Hall, Side, side}
+use Rattle.rmt_server.specs.ServerState.{ServerState, ServerConnection, side}
 use Rattle.rmt_server.specs.Session.PlainSession.{Idle}
 use Rattle.tape_events.specs.World.{World, Link, Dumping, numbered, with_numbered}
 use Rattle.tape_events.specs.Changes.{changed, side_of, new_link, with_side, sent_on, over_there, over_here, ended_from, ended, all_ended, answered}
@@ -14,33 +14,33 @@ use Rattle.tape_events.proofs.Numbers.{map_at, with_here, with_other, length_wit
 
 -- a change of a connection that leaves it tidy, beside whatever side
 abbrev pub KeepsTidy : (Link → Link) → Type 0
-KeepsTidy f = (s : Option Side) (l : Link) → IsTidy s l → IsTidy s (f l)
+KeepsTidy f = (s : Option ServerConnection) (l : Link) → IsTidy s l → IsTidy s (f l)
 
 -- the same sides and connections
-same_tidy : (w u : World) → u.hall.sides ≡ w.hall.sides → u.links ≡ w.links → AreTidy w → AreTidy u
+same_tidy : (w u : World) → u.server.sides ≡ w.server.sides → u.links ≡ w.links → AreTidy w → AreTidy u
 same_tidy w u sides links t = record {
   paired = ap length sides ∙ t.paired ∙ sym (ap length links);
   each = λ k l at. subst (λ ss. IsTidy (option_and_then (λ s. s) (numbered ss k)) l) (sym sides) (t.each k l (ap (λ ls. numbered ls k) (sym links) ∙ at));
 }
 
 -- one connection is changed
-changed_tidy : (f : Link → Link) → KeepsTidy f → (w u : World) (k : ℕ) → u.hall.sides ≡ w.hall.sides → u.links ≡ changed f w.links k → AreTidy w → AreTidy u
+changed_tidy : (f : Link → Link) → KeepsTidy f → (w u : World) (k : ℕ) → u.server.sides ≡ w.server.sides → u.links ≡ changed f w.links k → AreTidy w → AreTidy u
 changed_tidy f keeps w u k sides links t = record {
   paired = ap length sides ∙ t.paired ∙ sym (ap length links ∙ length_changed f w.links k);
   each = λ j l at. subst (λ ss. IsTidy (option_and_then (λ s. s) (numbered ss j)) l) (sym sides)
       (elim (changed_is f w.links k j l (ap (λ ls. numbered ls j) (sym links) ∙ at)) [
-        | inl (same, (x, was, new)) ↦ subst (λ y. IsTidy (side_of w.hall j) y) (sym new)
-            (keeps (side_of w.hall j) x (t.each j x (ap (numbered w.links) same ∙ was)))
+        | inl (same, (x, was, new)) ↦ subst (λ y. IsTidy (side_of w.server j) y) (sym new)
+            (keeps (side_of w.server j) x (t.each j x (ap (numbered w.links) same ∙ was)))
         | inr (other, on) ↦ t.each j l on
       ]);
 }
 
 -- a connection beside a side that is live
-live_tidy : (s : Side) (l : Link) → (l.other ≡ false → l.cut ≡ true) → IsTidy (Some s) l
+live_tidy : (s : ServerConnection) (l : Link) → (l.other ≡ false → l.cut ≡ true) → IsTidy (Some s) l
 live_tidy s l there = record { here = λ e. absurd cc; there = there; nothing = λ e. absurd cc }
 
 -- what the two ends of a connection say of it when they are over
-over_here_tidy : (s : Option Side) (l : Link) → IsTidy s (over_here l)
+over_here_tidy : (s : Option ServerConnection) (l : Link) → IsTidy s (over_here l)
 over_here_tidy s l = record { here = λ e. refl; there = λ e. refl; nothing = λ e. refl }
 
 over_there_tidy : KeepsTidy over_there
@@ -60,69 +60,69 @@ cut_tidy s l t = record { here = λ e. refl; there = λ e. refl; nothing = t.not
 
 -- a live side is another, and its connection is changed
 side_tidy : (f : Link → Link) → ((l : Link) → (l.other ≡ false → l.cut ≡ true) → (f l).other ≡ false → (f l).cut ≡ true)
-    → (w u : World) (k : ℕ) (s x : Side) → side_of w.hall k ≡ Some s → u.hall.sides ≡ with_numbered w.hall.sides k (Some x)
+    → (w u : World) (k : ℕ) (s x : ServerConnection) → side_of w.server k ≡ Some s → u.server.sides ≡ with_numbered w.server.sides k (Some x)
     → u.links ≡ changed f w.links k → AreTidy w → AreTidy u
 side_tidy f keeps w u k s x live sides links t = record {
-  paired = ap length sides ∙ length_with w.hall.sides k (Some x) ∙ t.paired ∙ sym (ap length links ∙ length_changed f w.links k);
+  paired = ap length sides ∙ length_with w.server.sides k (Some x) ∙ t.paired ∙ sym (ap length links ∙ length_changed f w.links k);
   each = λ j l at. subst (λ ss. IsTidy (option_and_then (λ y. y) (numbered ss j)) l) (sym sides)
       (elim (changed_is f w.links k j l (ap (λ ls. numbered ls j) (sym links) ∙ at)) [
         | inl (same, (y, was, new)) ↦
             let within = numbered_within w.links k y was in
-            let there = numbered_there w.hall.sides k (numbered_first w.links k y was) (omega (arith, t.paired, within)) in
-            let now : numbered (with_numbered w.hall.sides k (Some x)) j ≡ Some (Some x)
-            = ap (numbered (with_numbered w.hall.sides k (Some x))) same ∙ with_here w.hall.sides k there.0 (Some x) there.1 in
+            let there = numbered_there w.server.sides k (numbered_first w.links k y was) (omega (arith, t.paired, within)) in
+            let now : numbered (with_numbered w.server.sides k (Some x)) j ≡ Some (Some x)
+            = ap (numbered (with_numbered w.server.sides k (Some x))) same ∙ with_here w.server.sides k there.0 (Some x) there.1 in
             subst (λ o. IsTidy (option_and_then (λ z. z) o) l) (sym now)
             (subst (λ z. IsTidy (Some x) z) (sym new) (live_tidy x (f y) (keeps y ((t.each k y was).there))))
-        | inr (other, on) ↦ subst (λ o. IsTidy (option_and_then (λ z. z) o) l) (sym (with_other w.hall.sides k j (Some x) other)) (t.each j l on)
+        | inr (other, on) ↦ subst (λ o. IsTidy (option_and_then (λ z. z) o) l) (sym (with_other w.server.sides k j (Some x) other)) (t.each j l on)
       ]);
 }
 
 -- a side that was ended, and all others
-ended_length : (h : Hall) (k : ℕ) (o : Option Side) → length (ended_from h k o).sides ≡ length h.sides
+ended_length : (h : ServerState) (k : ℕ) (o : Option ServerConnection) → length (ended_from h k o).sides ≡ length h.sides
 ended_length h k None = refl
 ended_length h k (Some s) = length_with h.sides k None
 
-ended_other : (h : Hall) (k j : ℕ) (o : Option Side) → ((j ≡ k) → ⊥) → numbered (ended_from h k o).sides j ≡ numbered h.sides j
+ended_other : (h : ServerState) (k j : ℕ) (o : Option ServerConnection) → ((j ≡ k) → ⊥) → numbered (ended_from h k o).sides j ≡ numbered h.sides j
 ended_other h k j None other = refl
 ended_other h k j (Some s) other = with_other h.sides k j None other
 
-ended_tidy : (w u : World) (k : ℕ) → u.hall.sides ≡ (ended w.hall k).sides → u.links ≡ changed over_here w.links k → AreTidy w → AreTidy u
+ended_tidy : (w u : World) (k : ℕ) → u.server.sides ≡ (ended w.server k).sides → u.links ≡ changed over_here w.links k → AreTidy w → AreTidy u
 ended_tidy w u k sides links t = record {
-  paired = ap length sides ∙ ended_length w.hall k (side_of w.hall k) ∙ t.paired ∙ sym (ap length links ∙ length_changed over_here w.links k);
+  paired = ap length sides ∙ ended_length w.server k (side_of w.server k) ∙ t.paired ∙ sym (ap length links ∙ length_changed over_here w.links k);
   each = λ j l at. elim (changed_is over_here w.links k j l (ap (λ ls. numbered ls j) (sym links) ∙ at)) [
-    | inl (same, (x, was, new)) ↦ subst (λ y. IsTidy (side_of u.hall j) y) (sym new) (over_here_tidy (side_of u.hall j) x)
+    | inl (same, (x, was, new)) ↦ subst (λ y. IsTidy (side_of u.server j) y) (sym new) (over_here_tidy (side_of u.server j) x)
     | inr (other, on) ↦ subst (λ o. IsTidy (option_and_then (λ s. s) o) l)
-        (sym (ap (λ ss. numbered ss j) sides ∙ ended_other w.hall k j (side_of w.hall k) other)) (t.each j l on)
+        (sym (ap (λ ss. numbered ss j) sides ∙ ended_other w.server k j (side_of w.server k) other)) (t.each j l on)
   ];
 }
 
-all_ended_length : (h : Hall) (n : ℕ) → length (all_ended h n).sides ≡ length h.sides
+all_ended_length : (h : ServerState) (n : ℕ) → length (all_ended h n).sides ≡ length h.sides
 all_ended_length h zero = refl
 all_ended_length h (suc n) = ended_length (all_ended h n) (suc n) (side_of (all_ended h n) (suc n)) ∙ all_ended_length h n
 
-restarted_tidy : (w u : World) → u.hall.sides ≡ (all_ended w.hall (length w.hall.sides)).sides → u.links ≡ map over_here w.links → AreTidy w → AreTidy u
+restarted_tidy : (w u : World) → u.server.sides ≡ (all_ended w.server (length w.server.sides)).sides → u.links ≡ map over_here w.links → AreTidy w → AreTidy u
 restarted_tidy w u sides links t = record {
-  paired = ap length sides ∙ all_ended_length w.hall (length w.hall.sides) ∙ t.paired ∙ sym (ap length links ∙ length-map w.links over_here);
+  paired = ap length sides ∙ all_ended_length w.server (length w.server.sides) ∙ t.paired ∙ sym (ap length links ∙ length-map w.links over_here);
   each = λ j l at. (let found = map_at over_here w.links j l (ap (λ ls. numbered ls j) (sym links) ∙ at) in
-      subst (λ y. IsTidy (side_of u.hall j) y) (sym found.2) (over_here_tidy (side_of u.hall j) found.0));
+      subst (λ y. IsTidy (side_of u.server j) y) (sym found.2) (over_here_tidy (side_of u.server j) found.0));
 }
 
 -- a connection more
-joined_tidy : (w u : World) (dump : Option Dumping) → u.hall.sides ≡ (with_side w.hall).sides → u.links ≡ w.links ++ new_link dump ∷ [] → AreTidy w → AreTidy u
+joined_tidy : (w u : World) (dump : Option Dumping) → u.server.sides ≡ (with_side w.server).sides → u.links ≡ w.links ++ new_link dump ∷ [] → AreTidy w → AreTidy u
 joined_tidy w u dump sides links t = record {
-  paired = ap length sides ∙ length-append w.hall.sides (Some (side (held [] 0) Idle) ∷ []) ∙ ap (λ n. n + 1) t.paired
+  paired = ap length sides ∙ length-append w.server.sides (Some (side (held [] 0) Idle) ∷ []) ∙ ap (λ n. n + 1) t.paired
       ∙ sym (ap length links ∙ length-append w.links (new_link dump ∷ []));
   each = λ j l at. subst (λ ss. IsTidy (option_and_then (λ s. s) (numbered ss j)) l) (sym sides)
       (elim (pushed_is w.links (new_link dump) j l (ap (λ ls. numbered ls j) (sym links) ∙ at)) [
         | inl on ↦
             let within = numbered_within w.links j l on in
-            let there = numbered_there w.hall.sides j (numbered_first w.links j l on) (omega (arith, t.paired, within)) in
-            subst (λ o. IsTidy (option_and_then (λ s. s) o) l) (sym (numbered_more w.hall.sides (Some (side (held [] 0) Idle) ∷ []) j there.0 there.1))
+            let there = numbered_there w.server.sides j (numbered_first w.links j l on) (omega (arith, t.paired, within)) in
+            subst (λ o. IsTidy (option_and_then (λ s. s) o) l) (sym (numbered_more w.server.sides (Some (side (held [] 0) Idle) ∷ []) j there.0 there.1))
             (subst (λ o. IsTidy (option_and_then (λ s. s) o) l) there.1 (t.each j l on))
         | inr (last, new) ↦
-            let here : numbered (w.hall.sides ++ Some (side (held [] 0) Idle) ∷ []) j ≡ Some (Some (side (held [] 0) Idle))
-            = ap (numbered (w.hall.sides ++ Some (side (held [] 0) Idle) ∷ [])) (last ∙ ap suc (sym t.paired))
-            ∙ numbered_last w.hall.sides (Some (side (held [] 0) Idle)) in
+            let here : numbered (w.server.sides ++ Some (side (held [] 0) Idle) ∷ []) j ≡ Some (Some (side (held [] 0) Idle))
+            = ap (numbered (w.server.sides ++ Some (side (held [] 0) Idle) ∷ [])) (last ∙ ap suc (sym t.paired))
+            ∙ numbered_last w.server.sides (Some (side (held [] 0) Idle)) in
             subst (λ o. IsTidy (option_and_then (λ s. s) o) l) (sym here)
             (subst (λ y. IsTidy (Some (side (held [] 0) Idle)) y) (sym new) (live_tidy (side (held [] 0) Idle) (new_link dump) (λ e. absurd cc)))
       ]);

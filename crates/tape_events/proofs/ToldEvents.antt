@@ -4,7 +4,7 @@ use Rattle.std.specs.Prelude.{option_and_then}
 use Rattle.std.proofs.lemmas.Bool.Decides.{eqb_tells}
 use Rattle.std.proofs.lemmas.Option.{same_Some}
 use Rattle.rmt_wire.specs.RequestReader.{RequestHeld, Unread}
-use Rattle.rmt_server.specs.Hall.{Hall, Side, side}
+use Rattle.rmt_server.specs.ServerState.{ServerState, ServerConnection, side}
 use Rattle.tape_events.specs.World.{World, Link, numbered, with_numbered}
 use Rattle.tape_events.specs.Changes.{changed, side_of, link_of, over_there, over_here, ended_from, all_ended, answered, noted}
 use Rattle.tape_events.specs.Kept.{AreTidy}
@@ -19,24 +19,24 @@ use Rattle.tape_events.proofs.Moves.{Turn, reaches, serves, ends, restarts, cuts
 use Rattle.tape_events.proofs.ToldMoves.{Moves, sent_moves, told_moves, no_move, lost_move, reached_move, changed_told}
 
 -- a side that is another, and those beside it
-pub turned_here : (w u : World) (k : ℕ) (s : Side) (x : Option Side) → side_of w.hall k ≡ Some s → u.hall.sides ≡ with_numbered w.hall.sides k x → side_of u.hall k ≡ x
+pub turned_here : (w u : World) (k : ℕ) (s : ServerConnection) (x : Option ServerConnection) → side_of w.server k ≡ Some s → u.server.sides ≡ with_numbered w.server.sides k x → side_of u.server k ≡ x
 turned_here w u k s x live sides =
-    ap (λ ss. option_and_then (λ y. y) (numbered ss k)) sides ∙ ap (option_and_then (λ y. y)) (with_here w.hall.sides k (Some s) x (side_there w.hall k s live))
+    ap (λ ss. option_and_then (λ y. y) (numbered ss k)) sides ∙ ap (option_and_then (λ y. y)) (with_here w.server.sides k (Some s) x (side_there w.server k s live))
 
-pub turned_beside : (w u : World) (k : ℕ) (x : Option Side) → u.hall.sides ≡ with_numbered w.hall.sides k x → (j : ℕ) → j ≢ k → side_of u.hall j ≡ side_of w.hall j
+pub turned_beside : (w u : World) (k : ℕ) (x : Option ServerConnection) → u.server.sides ≡ with_numbered w.server.sides k x → (j : ℕ) → j ≢ k → side_of u.server j ≡ side_of w.server j
 turned_beside w u k x sides j other =
-    ap (λ ss. option_and_then (λ y. y) (numbered ss j)) sides ∙ ap (option_and_then (λ y. y)) (with_other w.hall.sides k j x other)
+    ap (λ ss. option_and_then (λ y. y) (numbered ss j)) sides ∙ ap (option_and_then (λ y. y)) (with_other w.server.sides k j x other)
 
-ended_here : (h : Hall) (k : ℕ) (o : Option Side) → side_of h k ≡ o → side_of (ended_from h k o) k ≡ None
+ended_here : (h : ServerState) (k : ℕ) (o : Option ServerConnection) → side_of h k ≡ o → side_of (ended_from h k o) k ≡ None
 ended_here h k None is = is
 ended_here h k (Some s) is = ap (option_and_then (λ y. y)) (with_here h.sides k (Some s) None (side_there h k s is))
 
-ended_beside : (h : Hall) (k j : ℕ) (o : Option Side) → j ≢ k → side_of (ended_from h k o) j ≡ side_of h j
+ended_beside : (h : ServerState) (k j : ℕ) (o : Option ServerConnection) → j ≢ k → side_of (ended_from h k o) j ≡ side_of h j
 ended_beside h k j None other = refl
 ended_beside h k j (Some s) other = ap (option_and_then (λ y. y)) (with_other h.sides k j None other)
 
 -- the first so many sides are over
-none_live : (h : Hall) (n j : ℕ) → j ≤ n → side_of (all_ended h n) j ≡ None
+none_live : (h : ServerState) (n j : ℕ) → j ≤ n → side_of (all_ended h n) j ≡ None
 none_live h zero zero within = refl
 none_live h zero (suc j) within = absurd (omega (arith, within))
 none_live h (suc n) j within = elim (eqb_tells j (suc n)) [
@@ -50,25 +50,25 @@ mapped f None y is = absurd cc
 mapped f (Some x) y is = (x, refl, same_Some y (f x) (sym is))
 
 -- the connection is the client's, which has none under way
-still_sent : (w u : World) (k : ℕ) (l y : Link) → u.begun ≡ w.begun → side_of u.hall k ≡ side_of w.hall k → y.toward ≡ l.toward → y.dump ≡ l.dump
-    → (u.own ≡ Some k → ⊥) → IsLinkTold w k (side_of w.hall k) l → IsLinkTold u k (side_of u.hall k) y
+still_sent : (w u : World) (k : ℕ) (l y : Link) → u.begun ≡ w.begun → side_of u.server k ≡ side_of w.server k → y.toward ≡ l.toward → y.dump ≡ l.dump
+    → (u.own ≡ Some k → ⊥) → IsLinkTold w k (side_of w.server k) l → IsLinkTold u k (side_of u.server k) y
 still_sent w u k l y begun sides way dump none h = record {
   sent = λ d is. subst (λ o. IsLinkSent u.begun o y d) (sym sides)
-      (subst (λ bs. IsLinkSent bs (side_of w.hall k) y d) (sym begun)
-      (sent_moves w.begun (side_of w.hall k) (side_of w.hall k) l y d (subst (Moves (side_of w.hall k) (side_of w.hall k) l.toward) (sym way) (no_move (side_of w.hall k) l.toward))
+      (subst (λ bs. IsLinkSent bs (side_of w.server k) y d) (sym begun)
+      (sent_moves w.begun (side_of w.server k) (side_of w.server k) l y d (subst (Moves (side_of w.server k) (side_of w.server k) l.toward) (sym way) (no_move (side_of w.server k) l.toward))
       (h.sent d (sym dump ∙ is))));
   own = λ d c is mine there. absurd (none mine);
 }
 
 -- a stranger's
-pub strangers : (u : World) (k : ℕ) (o : Option Side) (y : Link) → y.dump ≡ None → IsLinkTold u k o y
+pub strangers : (u : World) (k : ℕ) (o : Option ServerConnection) (y : Link) → y.dump ≡ None → IsLinkTold u k o y
 strangers u k o y none = record {
   sent = λ d is. (let clash = sym none ∙ is in absurd cc);
   own = λ d c is mine there. (let clash = sym none ∙ is in absurd cc);
 }
 
 -- the server's side is another, or what is on the way to it
-link_moves : (w u : World) (k : ℕ) (o p : Option Side) (l y : Link) → u.begun ≡ w.begun → u.own ≡ w.own → u.caller ≡ w.caller → Moves o p l.toward y.toward → y.back ≡ l.back
+link_moves : (w u : World) (k : ℕ) (o p : Option ServerConnection) (l y : Link) → u.begun ≡ w.begun → u.own ≡ w.own → u.caller ≡ w.caller → Moves o p l.toward y.toward → y.back ≡ l.back
     → y.dump ≡ l.dump → IsLinkTold w k o l → IsLinkTold u k p y
 link_moves w u k o p l y begun own caller m back dump h = record {
   sent = λ d is. subst (λ bs. IsLinkSent bs p y d) (sym begun) (sent_moves w.begun o p l y d m (h.sent d (sym dump ∙ is)));
@@ -76,23 +76,23 @@ link_moves w u k o p l y begun own caller m back dump h = record {
       (told_moves c.at.stage w.begun o p l y c d m back (h.own d c (sym dump ∙ is) (sym own ∙ mine) (sym caller ∙ there)));
 }
 
-over_link : (w u : World) (k : ℕ) (l : Link) → u.begun ≡ w.begun → u.own ≡ w.own → u.caller ≡ w.caller → side_of u.hall k ≡ None → IsLinkTold w k (side_of w.hall k) l
-    → IsLinkTold u k (side_of u.hall k) (over_here l)
+over_link : (w u : World) (k : ℕ) (l : Link) → u.begun ≡ w.begun → u.own ≡ w.own → u.caller ≡ w.caller → side_of u.server k ≡ None → IsLinkTold w k (side_of w.server k) l
+    → IsLinkTold u k (side_of u.server k) (over_here l)
 over_link w u k l begun own caller over h =
     subst (λ o. IsLinkTold u k o (over_here l)) (sym over)
-    (link_moves w u k (side_of w.hall k) None l (over_here l) begun own caller (lost_move (side_of w.hall k) l.toward) refl refl h)
+    (link_moves w u k (side_of w.server k) None l (over_here l) begun own caller (lost_move (side_of w.server k) l.toward) refl refl h)
 
 -- the connection is cut
 pub cut_told : (w : World) (k : ℕ) → AreTold w → AreTold (moved w (cuts k))
 cut_told w k t =
     changed_told w _ k (λ l. record l { cut = true }) refl refl (λ j other. refl) (λ j other own. (own, refl))
-    (λ l at h. link_moves w (moved w (cuts k)) k (side_of w.hall k) (side_of w.hall k) l (record l { cut = true }) refl refl refl (no_move (side_of w.hall k) l.toward) refl refl h) t
+    (λ l at h. link_moves w (moved w (cuts k)) k (side_of w.server k) (side_of w.server k) l (record l { cut = true }) refl refl refl (no_move (side_of w.server k) l.toward) refl refl h) t
 
 -- the server's side is over
 pub ended_told : (w : World) (k : ℕ) → AreTold w → AreTold (moved w (ends k))
 ended_told w k t =
-    changed_told w _ k over_here refl refl (λ j other. ended_beside w.hall k j (side_of w.hall k) other) (λ j other mine. (mine, refl))
-    (λ l at h. over_link w (moved w (ends k)) k l refl refl refl (ended_here w.hall k (side_of w.hall k) refl) h) t
+    changed_told w _ k over_here refl refl (λ j other. ended_beside w.server k j (side_of w.server k) other) (λ j other mine. (mine, refl))
+    (λ l at h. over_link w (moved w (ends k)) k l refl refl refl (ended_here w.server k (side_of w.server k) refl) h) t
 
 pub restarted_told : (w : World) → AreTidy w → AreTold w → AreTold (moved w restarts)
 restarted_told w tidy t = record {
@@ -101,19 +101,19 @@ restarted_told w tidy t = record {
       let x = map_at over_here w.links j y at in
       let within = numbered_within w.links j x.0 x.1 in
       let paired = tidy.paired in
-      subst (λ l. IsLinkTold (moved w restarts) j (side_of (moved w restarts).hall j) l) (sym x.2)
-      (over_link w (moved w restarts) j x.0 refl refl refl (none_live w.hall (length w.hall.sides) j (omega (arith, within, paired))) (t.each j x.0 x.1)));
+      subst (λ l. IsLinkTold (moved w restarts) j (side_of (moved w restarts).server j) l) (sym x.2)
+      (over_link w (moved w restarts) j x.0 refl refl refl (none_live w.server (length w.server.sides) j (omega (arith, within, paired))) (t.each j x.0 x.1)));
 }
 
 -- the client's side is over, and there is no attempt
-pub left_told : (w u : World) (k : ℕ) → u.begun ≡ w.begun → u.hall.sides ≡ w.hall.sides → u.links ≡ changed over_there w.links k → u.own ≡ None → AreTold w → AreTold u
+pub left_told : (w u : World) (k : ℕ) → u.begun ≡ w.begun → u.server.sides ≡ w.server.sides → u.links ≡ changed over_there w.links k → u.own ≡ None → AreTold w → AreTold u
 left_told w u k begun sides links none t =
-    let same : (j : ℕ) → side_of u.hall j ≡ side_of w.hall j = λ j. ap (λ ss. option_and_then (λ s. s) (numbered ss j)) sides in
+    let same : (j : ℕ) → side_of u.server j ≡ side_of w.server j = λ j. ap (λ ss. option_and_then (λ s. s) (numbered ss j)) sides in
     changed_told w u k over_there begun links (λ j other. same j) (λ j other mine. (let clash = sym none ∙ mine in absurd cc))
     (λ l at h. still_sent w u k l (over_there l) begun (same k) refl refl (λ mine. (let clash = sym none ∙ mine in absurd cc)) h) t
 
 -- bytes reach the server
-pub reached_told : (w : World) (k n : ℕ) (s : Side) (l : Link) (reached : RequestHeld) (live : side_of w.hall k ≡ Some s) (at : link_of w k ≡ Some l)
+pub reached_told : (w : World) (k n : ℕ) (s : ServerConnection) (l : Link) (reached : RequestHeld) (live : side_of w.server k ≡ Some s) (at : link_of w k ≡ Some l)
     (grows : IsPushed s.reached (take n l.toward) reached) → AreTold w → AreTold (moved w (reaches k n s l reached live at grows))
 reached_told w k n s l reached live at grows t =
     changed_told w u k (λ x. record x { toward = drop n x.toward }) refl refl (turned_beside w u k (Some p) refl) (λ j other mine. (mine, refl))
@@ -123,7 +123,7 @@ reached_told w k n s l reached live at grows t =
     (λ bytes unread. subst (λ (z : Link). Unread reached (bytes ++ take n z.toward)) (same_Some l x (sym at ∙ here)) (grows.1 bytes unread)))
     refl refl (subst (λ o. IsLinkTold w k o x) live h))) t
   where
-    p : Side
+    p : ServerConnection
     p = side reached s.session
 
     u : World
@@ -142,11 +142,11 @@ served_told x g h w v t =
       own = λ d c dump mine there. (
           let m = mapped (noted v.request v.reply) l.dump d dump in
           subst (IsLinkToldAt c.at.stage w.begun (Some s) (answered v.request v.reply l) c) (sym m.2)
-          (serve_told x g h w.begun c.at.stage v.s l c m.0 v.bytes v.rest v.request v.reply v.reached v.trouble w.hall.holders w.hall.library v.library v.session t.good
+          (serve_told x g h w.begun c.at.stage v.s l c m.0 v.bytes v.rest v.request v.reply v.reached v.trouble w.server.holders w.server.library v.library v.session t.good
           (subst (λ o. IsLinkToldAt c.at.stage w.begun o l c m.0) v.live (told.own m.0 c m.1 mine there)) v.unread v.gives v.left v.served.step));
     }) t
   where
-    s : Side
+    s : ServerConnection
     s = side v.reached v.session
 
     u : World

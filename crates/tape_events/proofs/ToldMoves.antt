@@ -5,7 +5,7 @@ use Rattle.std.proofs.lemmas.List.{take-append-drop}
 use Rattle.std.proofs.lemmas.Option.{same_Some}
 use Rattle.rmt_wire.specs.Request.{request_text}
 use Rattle.rmt_wire.specs.RequestReader.{RequestHeld, held, Unread}
-use Rattle.rmt_server.specs.Hall.{Side, side}
+use Rattle.rmt_server.specs.ServerState.{ServerConnection, side}
 use Rattle.rmt_server.specs.Session.PlainSession.{Idle}
 use Rattle.dump_run.specs.Run.{PlainRun}
 use Rattle.dump_client.specs.Standing.{Standing}
@@ -20,20 +20,20 @@ use Rattle.tape_events.proofs.Numbers.{changed_is, pushed_is, numbered_more, num
 use Rattle.tape_events.proofs.Sent.{moved_done}
 
 -- The server's side is another, or what is on the way to it: the session stays, or is over, and what is unserved too, or is lost.
-pub record Moves (o p : Option Side) (way new : List ℕ) : Type 0 where
-  pub session : (s : Side) → p ≡ Some s → (x : Side) × (o ≡ Some x) × (s.session ≡ x.session)
+pub record Moves (o p : Option ServerConnection) (way new : List ℕ) : Type 0 where
+  pub session : (s : ServerConnection) → p ≡ Some s → (x : ServerConnection) × (o ≡ Some x) × (s.session ≡ x.session)
   pub stays : (bytes : List ℕ) → AreUnserved o way bytes → AreUnserved p new bytes ⊎ AreUnserved p new []
   pub nothing : AreUnserved o way [] → AreUnserved p new []
 
-pub settled_moves : (o p : Option Side) (way new : List ℕ) (d : Dumping) → Moves o p way new → IsLinkSettled o way d → IsLinkSettled p new d
+pub settled_moves : (o p : Option ServerConnection) (way new : List ℕ) (d : Dumping) → Moves o p way new → IsLinkSettled o way d → IsLinkSettled p new d
 settled_moves o p way new d m h = record { sent = h.sent; unserved = m.nothing h.unserved }
 
-unserved_moves : (o p : Option Side) (way new bytes : List ℕ) → Moves o p way new → AreUnserved o way bytes ⊎ AreUnserved o way []
+unserved_moves : (o p : Option ServerConnection) (way new bytes : List ℕ) → Moves o p way new → AreUnserved o way bytes ⊎ AreUnserved o way []
     → AreUnserved p new bytes ⊎ AreUnserved p new []
 unserved_moves o p way new bytes m (inl on) = m.stays bytes on
 unserved_moves o p way new bytes m (inr none) = inr (m.nothing none)
 
-pub pending_moves : (b : Begun) (o p : Option Side) (way new : List ℕ) (d : Dumping) (step : Step) → Moves o p way new → IsPending b o way d step → IsPending b p new d step
+pub pending_moves : (b : Begun) (o p : Option ServerConnection) (way new : List ℕ) (d : Dumping) (step : Step) → Moves o p way new → IsPending b o way d step → IsPending b p new d step
 pending_moves b o p way new d step m h = record {
   done = moved_done b.run o p d step m.session h.done;
   sent = h.sent;
@@ -42,22 +42,22 @@ pending_moves b o p way new d step m h = record {
   unserved = unserved_moves o p way new (request_text (request_in b d step)) m h.unserved;
 }
 
-pub sent_moves : (begun : List Begun) (o p : Option Side) (l y : Link) (d : Dumping) → Moves o p l.toward y.toward → IsLinkSent begun o l d → IsLinkSent begun p y d
+pub sent_moves : (begun : List Begun) (o p : Option ServerConnection) (l y : Link) (d : Dumping) → Moves o p l.toward y.toward → IsLinkSent begun o l d → IsLinkSent begun p y d
 sent_moves begun o p l y d m (inl settled) = inl (settled_moves o p l.toward y.toward d m settled)
 sent_moves begun o p l y d m (inr (b, step, at, pending)) = inr (b, step, at, pending_moves b o p l.toward y.toward d step m pending)
 
-leads_moves : (run : PlainRun) (o p : Option Side) (old : Standing) (d : Dumping) (step : Step) (reply : PlainReply)
-    → ((s : Side) → p ≡ Some s → (x : Side) × (o ≡ Some x) × (s.session ≡ x.session)) → LeadsOn run o old d step reply → LeadsOn run p old d step reply
+leads_moves : (run : PlainRun) (o p : Option ServerConnection) (old : Standing) (d : Dumping) (step : Step) (reply : PlainReply)
+    → ((s : ServerConnection) → p ≡ Some s → (x : ServerConnection) × (o ≡ Some x) × (s.session ≡ x.session)) → LeadsOn run o old d step reply → LeadsOn run p old d step reply
 leads_moves run o p old d step reply m leads progress new next becomes at =
     let g = leads progress new next becomes at in
     record { done = moved_done run o p d next m g.done; same_run = g.same_run; counts = g.counts }
 
-reply_moves : (run : PlainRun) (o p : Option Side) (old : Standing) (d : Dumping) (step : Step) (bytes : List ℕ)
-    → ((s : Side) → p ≡ Some s → (x : Side) × (o ≡ Some x) × (s.session ≡ x.session)) → IsStepReply run o old d step bytes → IsStepReply run p old d step bytes
+reply_moves : (run : PlainRun) (o p : Option ServerConnection) (old : Standing) (d : Dumping) (step : Step) (bytes : List ℕ)
+    → ((s : ServerConnection) → p ≡ Some s → (x : ServerConnection) × (o ≡ Some x) × (s.session ≡ x.session)) → IsStepReply run o old d step bytes → IsStepReply run p old d step bytes
 reply_moves run o p old d step bytes m (inl none) = inl none
 reply_moves run o p old d step bytes m (inr (reply, is, brief, leads)) = inr (reply, is, brief, leads_moves run o p old d step reply m leads)
 
-pub told_moves : (stage : Stage) (begun : List Begun) (o p : Option Side) (l y : Link) (c : Caller) (d : Dumping) → Moves o p l.toward y.toward → y.back ≡ l.back
+pub told_moves : (stage : Stage) (begun : List Begun) (o p : Option ServerConnection) (l y : Link) (c : Caller) (d : Dumping) → Moves o p l.toward y.toward → y.back ≡ l.back
     → IsLinkToldAt stage begun o l c d → IsLinkToldAt stage begun p y c d
 told_moves (ToSend step) begun o p l y c d m back (b, attempt, turn) = (
   b,
@@ -92,15 +92,15 @@ told_moves (Waiting step) begun o p l y c d m back (b, attempt, inr replied) = (
 told_moves stage begun o p l y c d m back told = tt
 
 -- nothing changes
-pub no_move : (o : Option Side) (way : List ℕ) → Moves o o way way
+pub no_move : (o : Option ServerConnection) (way : List ℕ) → Moves o o way way
 no_move o way = record { session = λ s at. (s, at, refl); stays = λ bytes un. inl un; nothing = λ un. un }
 
 -- the server's side is over
-pub lost_move : (o : Option Side) (way : List ℕ) → Moves o None way []
+pub lost_move : (o : Option ServerConnection) (way : List ℕ) → Moves o None way []
 lost_move o way = record { session = λ s at. absurd cc; stays = λ bytes un. inr (refl, refl); nothing = λ un. (refl, refl) }
 
 -- bytes reach it
-pub reached_move : (s : Side) (reached : RequestHeld) (way : List ℕ) (n : ℕ) → ((bytes : List ℕ) → Unread s.reached bytes → Unread reached (bytes ++ take n way))
+pub reached_move : (s : ServerConnection) (reached : RequestHeld) (way : List ℕ) (n : ℕ) → ((bytes : List ℕ) → Unread s.reached bytes → Unread reached (bytes ++ take n way))
     → Moves (Some s) (Some (side reached s.session)) way (drop n way)
 reached_move s reached way n grows =
     let more : (bytes : List ℕ) → AreUnserved (Some s) way bytes → AreUnserved (Some (side reached s.session)) (drop n way) bytes
@@ -110,27 +110,27 @@ reached_move s reached way n grows =
       is ∙ ap (λ x. mine ++ x) (sym (take-append-drop n way)) ∙ sym (append_assoc mine (take n way) (drop n way)),
     ) in
     record {
-      session = λ x at. (s, refl, ap (λ (y : Side). y.session) (sym (same_Some (side reached s.session) x at)));
+      session = λ x at. (s, refl, ap (λ (y : ServerConnection). y.session) (sym (same_Some (side reached s.session) x at)));
       stays = λ bytes un. inl (more bytes un);
       nothing = more [];
     }
 
 -- one that is as it was, beside a client that is as it was, or has another connection or none
-pub other_told : (w u : World) (k : ℕ) (l : Link) → u.begun ≡ w.begun → side_of u.hall k ≡ side_of w.hall k
-    → (u.own ≡ Some k → (w.own ≡ Some k) × (u.caller ≡ w.caller)) → IsLinkTold w k (side_of w.hall k) l → IsLinkTold u k (side_of u.hall k) l
+pub other_told : (w u : World) (k : ℕ) (l : Link) → u.begun ≡ w.begun → side_of u.server k ≡ side_of w.server k
+    → (u.own ≡ Some k → (w.own ≡ Some k) × (u.caller ≡ w.caller)) → IsLinkTold w k (side_of w.server k) l → IsLinkTold u k (side_of u.server k) l
 other_told w u k l begun sides own h = record {
-  sent = λ d dump. subst (λ o. IsLinkSent u.begun o l d) (sym sides) (subst (λ bs. IsLinkSent bs (side_of w.hall k) l d) (sym begun) (h.sent d dump));
+  sent = λ d dump. subst (λ o. IsLinkSent u.begun o l d) (sym sides) (subst (λ bs. IsLinkSent bs (side_of w.server k) l d) (sym begun) (h.sent d dump));
   own = λ d c dump mine there. (
       let was = own mine in
       subst (λ o. IsLinkToldAt c.at.stage u.begun o l c d) (sym sides)
-      (subst (λ bs. IsLinkToldAt c.at.stage bs (side_of w.hall k) l c d) (sym begun) (h.own d c dump was.0 (sym was.1 ∙ there))));
+      (subst (λ bs. IsLinkToldAt c.at.stage bs (side_of w.server k) l c d) (sym begun) (h.own d c dump was.0 (sym was.1 ∙ there))));
 }
 
 good_same : (w u : World) → u.begun ≡ w.begun → ((n : ℕ) (b : Begun) → numbered w.begun n ≡ Some b → IsGood b) → (n : ℕ) (b : Begun) → numbered u.begun n ≡ Some b → IsGood b
 good_same w u begun good n b at = good n b (ap (λ bs. numbered bs n) (sym begun) ∙ at)
 
 -- all connections are as they were
-pub same_told : (w u : World) → u.begun ≡ w.begun → u.links ≡ w.links → u.hall.sides ≡ w.hall.sides
+pub same_told : (w u : World) → u.begun ≡ w.begun → u.links ≡ w.links → u.server.sides ≡ w.server.sides
     → ((k : ℕ) → u.own ≡ Some k → (w.own ≡ Some k) × (u.caller ≡ w.caller)) → AreTold w → AreTold u
 same_told w u begun links sides own t = record {
   good = good_same w u begun t.good;
@@ -140,38 +140,38 @@ same_told w u begun links sides own t = record {
 
 -- one connection is changed
 pub changed_told : (w u : World) (k : ℕ) (f : Link → Link) → u.begun ≡ w.begun → u.links ≡ changed f w.links k
-    → ((j : ℕ) → j ≢ k → side_of u.hall j ≡ side_of w.hall j) → ((j : ℕ) → j ≢ k → u.own ≡ Some j → (w.own ≡ Some j) × (u.caller ≡ w.caller))
-    → ((l : Link) → link_of w k ≡ Some l → IsLinkTold w k (side_of w.hall k) l → IsLinkTold u k (side_of u.hall k) (f l)) → AreTold w → AreTold u
+    → ((j : ℕ) → j ≢ k → side_of u.server j ≡ side_of w.server j) → ((j : ℕ) → j ≢ k → u.own ≡ Some j → (w.own ≡ Some j) × (u.caller ≡ w.caller))
+    → ((l : Link) → link_of w k ≡ Some l → IsLinkTold w k (side_of w.server k) l → IsLinkTold u k (side_of u.server k) (f l)) → AreTold w → AreTold u
 changed_told w u k f begun links beside own here t = record {
   good = good_same w u begun t.good;
   each = λ j l at. elim (changed_is f w.links k j l (ap (λ ls. numbered ls j) (sym links) ∙ at)) [
-    | inl (same, (x, was, new)) ↦ subst (λ i. IsLinkTold u i (side_of u.hall i) l) (sym same)
-        (subst (λ y. IsLinkTold u k (side_of u.hall k) y) (sym new) (here x was (t.each k x was)))
+    | inl (same, (x, was, new)) ↦ subst (λ i. IsLinkTold u i (side_of u.server i) l) (sym same)
+        (subst (λ y. IsLinkTold u k (side_of u.server k) y) (sym new) (here x was (t.each k x was)))
     | inr (other, on) ↦ other_told w u j l begun (beside j other) (own j other) (t.each j l on)
   ];
 }
 
 -- a connection more
-pub joined_told : (w u : World) (dump : Option Dumping) → length w.hall.sides ≡ length w.links → u.begun ≡ w.begun → u.links ≡ w.links ++ new_link dump ∷ []
-    → u.hall.sides ≡ (with_side w.hall).sides → ((j : ℕ) → j ≤ length w.links → u.own ≡ Some j → (w.own ≡ Some j) × (u.caller ≡ w.caller))
+pub joined_told : (w u : World) (dump : Option Dumping) → length w.server.sides ≡ length w.links → u.begun ≡ w.begun → u.links ≡ w.links ++ new_link dump ∷ []
+    → u.server.sides ≡ (with_side w.server).sides → ((j : ℕ) → j ≤ length w.links → u.own ≡ Some j → (w.own ≡ Some j) × (u.caller ≡ w.caller))
     → IsLinkTold u (suc (length w.links)) (Some (side (held [] 0) Idle)) (new_link dump) → AreTold w → AreTold u
 joined_told w u dump paired begun links sides own here t = record {
   good = good_same w u begun t.good;
   each = λ j l at. elim (pushed_is w.links (new_link dump) j l (ap (λ ls. numbered ls j) (sym links) ∙ at)) [
     | inl on ↦
         let within = numbered_within w.links j l on in
-        let there = numbered_there w.hall.sides j (numbered_first w.links j l on) (omega (arith, paired, within)) in
-        let same : side_of u.hall j ≡ side_of w.hall j
+        let there = numbered_there w.server.sides j (numbered_first w.links j l on) (omega (arith, paired, within)) in
+        let same : side_of u.server j ≡ side_of w.server j
         = ap (λ ss. option_and_then (λ s. s) (numbered ss j)) sides
-        ∙ ap (option_and_then (λ s. s)) (numbered_more w.hall.sides (Some (side (held [] 0) Idle) ∷ []) j there.0 there.1 ∙ sym there.1) in
+        ∙ ap (option_and_then (λ s. s)) (numbered_more w.server.sides (Some (side (held [] 0) Idle) ∷ []) j there.0 there.1 ∙ sym there.1) in
         other_told w u j l begun same (own j within) (t.each j l on)
     | inr (last, new) ↦
-        let new_side : side_of u.hall (suc (length w.links)) ≡ Some (side (held [] 0) Idle)
+        let new_side : side_of u.server (suc (length w.links)) ≡ Some (side (held [] 0) Idle)
         = ap (λ ss. option_and_then (λ s. s) (numbered ss (suc (length w.links)))) sides
-        ∙ ap (λ n. option_and_then (λ s. s) (numbered (with_side w.hall).sides (suc n))) (sym paired)
-        ∙ ap (option_and_then (λ s. s)) (numbered_last w.hall.sides (Some (side (held [] 0) Idle))) in
-        subst (λ i. IsLinkTold u i (side_of u.hall i) l) (sym last)
-        (subst (λ y. IsLinkTold u (suc (length w.links)) (side_of u.hall (suc (length w.links))) y) (sym new)
+        ∙ ap (λ n. option_and_then (λ s. s) (numbered (with_side w.server).sides (suc n))) (sym paired)
+        ∙ ap (option_and_then (λ s. s)) (numbered_last w.server.sides (Some (side (held [] 0) Idle))) in
+        subst (λ i. IsLinkTold u i (side_of u.server i) l) (sym last)
+        (subst (λ y. IsLinkTold u (suc (length w.links)) (side_of u.server (suc (length w.links))) y) (sym new)
         (subst (λ o. IsLinkTold u (suc (length w.links)) o (new_link dump)) (sym new_side) here))
   ];
 }

@@ -6,7 +6,7 @@ use Rattle.rmt_wire.specs.declared.limits.TheConstants.{RECORD_LIMIT}
 use Rattle.rmt_wire.specs.Request.{HasSpelling, SpellsRequest, request_text, unsent}
 use Rattle.rmt_wire.specs.RequestReader.{held}
 use Rattle.rmt_wire.specs.ReplyReader.{ReplyHeld, reply_held}
-use Rattle.rmt_server.specs.Hall.{Side, side}
+use Rattle.rmt_server.specs.ServerState.{ServerConnection, side}
 use Rattle.rmt_server.specs.Session.PlainSession.{Idle}
 use Rattle.dump_run.specs.Run.{PlainRun, IsRun}
 use Rattle.dump_run.specs.Label.{label}
@@ -58,21 +58,21 @@ cut_most zero size payload i = omega arith
 cut_most (suc n) size payload zero = take_most size payload
 cut_most (suc n) size payload (suc i) = cut_most n size (drop size payload) i
 
-more_sent : (begun more : List Begun) (o : Option Side) (l : Link) (d : Dumping) → IsLinkSent begun o l d → IsLinkSent (begun ++ more) o l d
+more_sent : (begun more : List Begun) (o : Option ServerConnection) (l : Link) (d : Dumping) → IsLinkSent begun o l d → IsLinkSent (begun ++ more) o l d
 more_sent begun more o l d (inl settled) = inl settled
 more_sent begun more o l d (inr (b, step, at, pending)) = inr (b, step, numbered_more begun more d.run b at, pending)
 
 -- a run is begun
-pub begun_told : (w u : World) (b : Begun) → IsGood b → u.begun ≡ w.begun ++ b ∷ [] → u.links ≡ w.links → u.hall ≡ w.hall → ((k : ℕ) → u.own ≡ Some k → ⊥) → AreTold w → AreTold u
-begun_told w u b good begun links hall none t = record {
+pub begun_told : (w u : World) (b : Begun) → IsGood b → u.begun ≡ w.begun ++ b ∷ [] → u.links ≡ w.links → u.server ≡ w.server → ((k : ℕ) → u.own ≡ Some k → ⊥) → AreTold w → AreTold u
+begun_told w u b good begun links server none t = record {
   good = λ n x at. elim (pushed_is w.begun b n x (ap (λ bs. numbered bs n) (sym begun) ∙ at)) [
     | inl on ↦ t.good n x on
     | inr (last, new) ↦ subst IsGood (sym new) good
   ];
   each = λ k l at. record {
-    sent = λ d is. subst (λ h. IsLinkSent u.begun (side_of h k) l d) (sym hall)
-        (subst (λ bs. IsLinkSent bs (side_of w.hall k) l d) (sym begun)
-        (more_sent w.begun (b ∷ []) (side_of w.hall k) l d ((t.each k l (ap (λ ls. numbered ls k) (sym links) ∙ at)).sent d is)));
+    sent = λ d is. subst (λ h. IsLinkSent u.begun (side_of h k) l d) (sym server)
+        (subst (λ bs. IsLinkSent bs (side_of w.server k) l d) (sym begun)
+        (more_sent w.begun (b ∷ []) (side_of w.server k) l d ((t.each k l (ap (λ ls. numbered ls k) (sym links) ∙ at)).sent d is)));
     own = λ d c is mine there. absurd (none k mine);
   };
 }
@@ -142,7 +142,7 @@ connected_told w c tidy booked lawful there ready t =
           let run = ap (λ (r : PlainRun). r.blocks) b.2 in
           omega (arith, fits, run));
       mark = refl;
-      stands = λ s at. ap (λ (z : Side). z.session) (sym (same_Some (side (held [] 0) Idle) s at));
+      stands = λ s at. ap (λ (z : ServerConnection). z.session) (sym (same_Some (side (held [] 0) Idle) s at));
     }
 
 -- the label of a lawful client's next volume fits a record
@@ -185,7 +185,7 @@ next_spelled x g s payload step lawful few =
     (x request (has_spelling g s payload step lawful few) [] (sym (none_to_follow s.run payload (checkpoint_of s.counts).0 (checkpoint_of s.counts).1 step)))
 
 -- what is sent is unserved, or lost after a cut; a side that is over is cut
-sent_unserved : (o : Option Side) (cut : Bool) (way text : List ℕ) → (o ≡ None → cut ≡ true) → AreUnserved o way []
+sent_unserved : (o : Option ServerConnection) (cut : Bool) (way text : List ℕ) → (o ≡ None → cut ≡ true) → AreUnserved o way []
     → AreUnserved o (sent_on cut way text) text ⊎ AreUnserved o (sent_on cut way text) []
 sent_unserved o true way text here none = inr none
 sent_unserved None false way text here none = let clash = here refl in absurd cc
@@ -193,7 +193,7 @@ sent_unserved (Some s) false way text here (mine, unread, is) =
     inl (mine, unread, ap (λ l. l ++ text) is ∙ append_assoc mine way text)
 
 -- the numbers once it was sent
-noted_done : (run : PlainRun) (o : Option Side) (d : Dumping) (step : Step) → HasDone run o d step → HasDone run o (noted_sent d) step
+noted_done : (run : PlainRun) (o : Option ServerConnection) (d : Dumping) (step : Step) → HasDone run o d step → HasDone run o (noted_sent d) step
 noted_done run o d step h = record {
   carried = h.carried;
   fault = h.fault;
@@ -205,7 +205,7 @@ noted_done run o d step h = record {
 }
 
 -- the client sends what its turn is
-sent_pending : RequestTexts → ShortLabels → (b : Begun) (o : Option Side) (l : Link) (c : Caller) (d : Dumping) (step : Step) (begun : List Begun) → IsGood b → IsLawful c.at
+sent_pending : RequestTexts → ShortLabels → (b : Begun) (o : Option ServerConnection) (l : Link) (c : Caller) (d : Dumping) (step : Step) (begun : List Begun) → IsGood b → IsLawful c.at
     → (o ≡ None → l.cut ≡ true) → IsAttempt begun c d step b → IsItsTurn b o l c d step
     → IsPending b o (sent_on l.cut l.toward (next_text c b.payload step)) (noted_sent d) step
 sent_pending x g b o l c d step begun good lawful here attempt turn =
@@ -230,18 +230,18 @@ sends_pending : RequestTexts → ShortLabels → (w : World) (k : ℕ) (l : Link
     → w.own ≡ Some k → link_of w k ≡ Some l → l.dump ≡ Some d → w.caller ≡ Some c → c.at.stage ≡ ToSend step → numbered w.begun c.number ≡ Some x
     → HasFedAt (Waiting step) reader []
     → (b : Begun) × IsAttempt w.begun (caller c.number (standing c.at.run c.at.counts (Waiting step)) reader) (noted_sent d) step b
-    × IsStepAsked b (side_of w.hall k) (sent_link (next_text c x.payload step) l) (caller c.number (standing c.at.run c.at.counts (Waiting step)) reader) (noted_sent d) step
+    × IsStepAsked b (side_of w.server k) (sent_link (next_text c x.payload step) l) (caller c.number (standing c.at.run c.at.counts (Waiting step)) reader) (noted_sent d) step
 sends_pending t g w k l c x d step reader tidy lawful told own at dump there stage mine fed =
-    let h = subst (λ s. IsLinkToldAt s w.begun (side_of w.hall k) l c d) stage ((told.each k l at).own d c dump own there) in
+    let h = subst (λ s. IsLinkToldAt s w.begun (side_of w.server k) l c d) stage ((told.each k l at).own d c dump own there) in
     let b = h.0 in
     let attempt = h.1 in
     let turn = h.2 in
     let same : b ≡ x = same_Some b x (sym attempt.begun_as ∙ ap (numbered w.begun) attempt.number ∙ mine) in
-    let pending = sent_pending t g b (side_of w.hall k) l c d step w.begun (told.good d.run b attempt.begun_as) lawful (tidy.each k l at).here attempt turn in (
+    let pending = sent_pending t g b (side_of w.server k) l c d step w.begun (told.good d.run b attempt.begun_as) lawful (tidy.each k l at).here attempt turn in (
       b,
       record { begun_as = attempt.begun_as; run = attempt.run; number = attempt.number; volume = attempt.volume; first = attempt.first },
       record {
-        pending = subst (λ y. IsPending b (side_of w.hall k) (sent_on l.cut l.toward (next_text c y.payload step)) (noted_sent d) step) same pending;
+        pending = subst (λ y. IsPending b (side_of w.server k) (sent_on l.cut l.toward (next_text c y.payload step)) (noted_sent d) step) same pending;
         back = turn.back;
         fed = fed;
       },
@@ -255,12 +255,12 @@ asked_told t g w a tidy lawful told =
       sent = λ d is. (
           let m = mapped noted_sent l.dump d is in
           let p = sends_pending t g w a.k l a.c a.b m.0 a.step a.reader tidy lawful told a.own at m.1 a.there a.stage a.mine a.fed in
-          subst (IsLinkSent w.begun (side_of w.hall a.k) (sent_link text l)) (sym m.2) (inr (p.0, a.step, p.1.begun_as, p.2.pending)));
+          subst (IsLinkSent w.begun (side_of w.server a.k) (sent_link text l)) (sym m.2) (inr (p.0, a.step, p.1.begun_as, p.2.pending)));
       own = λ d y is now here. (
           let m = mapped noted_sent l.dump d is in
           let p = sends_pending t g w a.k l a.c a.b m.0 a.step a.reader tidy lawful told a.own at m.1 a.there a.stage a.mine a.fed in
-          subst (λ (z : Caller). IsLinkToldAt z.at.stage w.begun (side_of w.hall a.k) (sent_link text l) z d) (same_Some waits y here)
-          (subst (IsLinkToldAt (Waiting a.step) w.begun (side_of w.hall a.k) (sent_link text l) waits) (sym m.2) (p.0, p.1, inl p.2)));
+          subst (λ (z : Caller). IsLinkToldAt z.at.stage w.begun (side_of w.server a.k) (sent_link text l) z d) (same_Some waits y here)
+          (subst (IsLinkToldAt (Waiting a.step) w.begun (side_of w.server a.k) (sent_link text l) waits) (sym m.2) (p.0, p.1, inl p.2)));
     }) told
   where
     text : List ℕ

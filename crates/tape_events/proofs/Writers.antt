@@ -13,7 +13,7 @@ use Rattle.rmt_wire.specs.declared.mtio.TheConstants.{MTWEOF}
 use Rattle.tape.specs.declared.trouble.Trouble.{Trouble}
 use Rattle.drives.specs.TapeLibrary.{TapeLibrary}
 use Rattle.rmt_server.specs.Refusals.{refused}
-use Rattle.rmt_server.specs.Session.{PlainSession, Scene, scene, status_of, refusal, tape_request}
+use Rattle.rmt_server.specs.Session.{PlainSession, SessionView, session_view, status_of, refusal, tape_request}
 use Rattle.rmt_server.specs.TroubledServe.{TroubledReelStep, TroubledServeStep}
 use Rattle.tape_events.specs.World.{World, Opening, Writing, numbered}
 use Rattle.tape_events.specs.Changes.{opening, opened_reel, writing, reel_written, written_reel}
@@ -28,17 +28,17 @@ use Rattle.tape_events.proofs.Opened.{comes_own}
 use Rattle.tape_events.proofs.LabelledSteps.{is_write, WritesOn}
 
 -- a request that writes leaves what the session has open
-step_keeps : (trouble : Trouble) (before : Scene) (request : PlainRequest) (reply : PlainReply) (after : Scene) (name : List ℕ)
+step_keeps : (trouble : Trouble) (before : SessionView) (request : PlainRequest) (reply : PlainReply) (after : SessionView) (name : List ℕ)
     → TroubledReelStep trouble before request reply after → written_reel before.library before.session ≡ Some name
     → written_reel after.library after.session ≡ Some name
 step_keeps trouble before request reply after name (drive, access, reel, answer, t, online, call, replies, is) written =
-    ap (λ (v : Scene). written_reel v.library v.session) is ∙ sym (ap (written_reel before.library) online) ∙ written
+    ap (λ (v : SessionView). written_reel v.library v.session) is ∙ sym (ap (written_reel before.library) online) ∙ written
 
-refused_keeps : {R : Type 0} (o : Option R) (say : R → PlainReply) (trouble : Trouble) (before : Scene) (request : PlainRequest) (reply : PlainReply)
-    (after : Scene) (name : List ℕ) → MatchOption o (TroubledReelStep trouble before request reply after) (λ r. (reply ≡ say r) × (after ≡ before))
+refused_keeps : {R : Type 0} (o : Option R) (say : R → PlainReply) (trouble : Trouble) (before : SessionView) (request : PlainRequest) (reply : PlainReply)
+    (after : SessionView) (name : List ℕ) → MatchOption o (TroubledReelStep trouble before request reply after) (λ r. (reply ≡ say r) × (after ≡ before))
     → written_reel before.library before.session ≡ Some name → written_reel after.library after.session ≡ Some name
 refused_keeps None say trouble before request reply after name step written = step_keeps trouble before request reply after name step written
-refused_keeps (Some r) say trouble before request reply after name it written = ap (λ (v : Scene). written_reel v.library v.session) it.1 ∙ written
+refused_keeps (Some r) say trouble before request reply after name it written = ap (λ (v : SessionView). written_reel v.library v.session) it.1 ∙ written
 
 -- an operation that writes is that of marks
 marks_alone : (op count : ℕ) → is_write (tape_request (Op op count)) ≡ true → op ≡ MTWEOF
@@ -50,7 +50,7 @@ marks_alone op count is = elim (eqb_tells op MTWEOF) [
     no_marks : (op count : ℕ) → (op ≡ MTWEOF → ⊥) → is_write (tape_request (Op op count)) ≡ true → ⊥
     no_marks op count other is = grind arith
 
-write_stays : (trouble : Trouble) (holders : List ℕ) (before : Scene) (request : PlainRequest) (reply : PlainReply) (after : Scene) (name : List ℕ)
+write_stays : (trouble : Trouble) (holders : List ℕ) (before : SessionView) (request : PlainRequest) (reply : PlainReply) (after : SessionView) (name : List ℕ)
     → TroubledServeStep trouble holders before request reply after → WritesOn before request name
     → reel_written request after.library after.session ≡ Some name
 write_stays trouble holders before (Open device mode) reply after name step (is, written) = absurd cc
@@ -81,7 +81,7 @@ writing_none (Op op count) s session name is = (refl, if_so (op == MTWEOF) (writ
     if_so false o name is = absurd cc
 
 -- it was so before the request
-was_open : (trouble : Trouble) (holders : List ℕ) (before : Scene) (request : PlainRequest) (reply : PlainReply) (after : Scene) (name : List ℕ)
+was_open : (trouble : Trouble) (holders : List ℕ) (before : SessionView) (request : PlainRequest) (reply : PlainReply) (after : SessionView) (name : List ℕ)
     → TroubledServeStep trouble holders before request reply after → reel_written request after.library after.session ≡ Some name
     → written_reel before.library before.session ≡ Some name
 was_open trouble holders before request reply after name step is =
@@ -105,11 +105,11 @@ pub writings_after : (w : World) (v : Turn w) (x : Writing) → Contains w.writi
 writings_after w v x among = Contains-append_left w.writings _ x among
 
 -- the writing of the request, where it writes on this reel
-pub writing_there : (w : World) (v : Turn w) (name : List ℕ) → WritesOn (scene w.hall.library v.s.session) v.request name
+pub writing_there : (w : World) (v : Turn w) (name : List ℕ) → WritesOn (session_view w.server.library v.s.session) v.request name
     → Contains (turned w v).writings (writing v.k (length w.opens) name)
 writing_there w v name writes =
     let new = writing v.k (length w.opens) name in
-    let stays = write_stays v.trouble w.hall.holders (scene w.hall.library v.s.session) v.request v.reply (scene v.library v.session) name v.served.step writes in
+    let stays = write_stays v.trouble w.server.holders (session_view w.server.library v.s.session) v.request v.reply (session_view v.library v.session) name v.served.step writes in
     subst (λ o. Contains (w.writings ++ option_to_list (option_map (writing v.k (length w.opens)) o)) new) (sym stays)
     (Contains-append_right w.writings (new ∷ []) new (0, omega arith, refl))
 
@@ -141,7 +141,7 @@ served_writers w v opened writers x among =
 
     now : (reel : List ℕ) → reel_written v.request v.library v.session ≡ Some reel → Holds (writing v.k (length w.opens) reel)
     now reel is =
-        let was = was_open v.trouble w.hall.holders (scene w.hall.library v.s.session) v.request v.reply (scene v.library v.session) reel v.served.step is in (
+        let was = was_open v.trouble w.server.holders (session_view w.server.library v.s.session) v.request v.reply (session_view v.library v.session) reel v.served.step is in (
           more,
           subst (λ os. IsUnopenedSince os v.k reel) (sym (front (length w.opens) (omega arith) ∙ take_all (length w.opens) w.opens (omega arith)))
               (opened.last v.k v.s reel v.live was),

@@ -2,7 +2,7 @@
 -- points. Public contracts stand on it (through Kept).
 use Rattle.std.specs.Prelude.{◌≡◌, ℕ, ◌+◌, ◌≤◌, true, false, List, [], length, Contains, Some}
 use Rattle.tape.specs.Tape.{PlainEntry}
-use Rattle.rmt_server.specs.Hall.{Side}
+use Rattle.rmt_server.specs.ServerState.{ServerConnection}
 use Rattle.rmt_server.specs.Session.{PlainReel}
 use Rattle.dump_client.specs.Lawful.{steps_before}
 use Rattle.dump_client.specs.declared.step.Step.TheVariants.{Close}
@@ -14,8 +14,8 @@ use Rattle.tape_events.specs.Written.{attempt_written, IsQuiet, IsBeforeOffline}
 -- What stands on the reel is what the attempt wrote, and nothing else. While its session has the reel in its drive and was not
 -- asked for MTOFFL, its place is the end.
 pub record IsReelWritten (w : World) (k : ℕ) (b : Begun) (d : Dumping) (reel : List ℕ) : Type 0 where
-  pub stands : (entries : List PlainEntry) → StandsOn w.hall reel entries → entries ≡ attempt_written b.run b.payload d
-  pub behind : (s : Side) (r : PlainReel) → side_of w.hall k ≡ Some s → IsOnlineWith s.session r → IsBeforeOffline b.run d
+  pub stands : (entries : List PlainEntry) → StandsOn w.server reel entries → entries ≡ attempt_written b.run b.payload d
+  pub behind : (s : ServerConnection) (r : PlainReel) → side_of w.server k ≡ Some s → IsOnlineWith s.session r → IsBeforeOffline b.run d
       → r.tape.after ≡ []
 
 -- An attempt whose label was accepted: its run was begun, and while it is quiet, that stands on its reel.

@@ -13,7 +13,7 @@ use Rattle.rmt_server.specs.Access.{writes}
 use Rattle.rmt_server.specs.Session.{PlainSession, closed_library}
 use Rattle.rmt_server.specs.Session.PlainSession.{Idle, Online}
 use Rattle.rmt_server.specs.TroubledServe.{drive_in, with_holder}
-use Rattle.rmt_server.specs.Hall.{Hall, hall, Side, side}
+use Rattle.rmt_server.specs.ServerState.{ServerState, server, ServerConnection, side}
 use Rattle.dump_client.specs.Standing.{Standing, checkpoint_of}
 use Rattle.dump_run.specs.declared.count.VolumeCount.{VolumeCount}
 use Rattle.dump_client.specs.declared.stage.Progress.{Progress}
@@ -29,7 +29,7 @@ abbrev pub changed : {X : Type 0} → (X → X) → List X → ℕ → List X
 changed f xs n = changed_from f xs n (numbered xs n)
 
 -- the server's side of a connection, while it is live
-abbrev pub side_of : Hall → ℕ → Option Side
+abbrev pub side_of : ServerState → ℕ → Option ServerConnection
 side_of h k = option_and_then (λ s. s) (numbered h.sides k)
 
 abbrev pub link_of : World → ℕ → Option Link
@@ -47,11 +47,11 @@ calm w = record w { failure = None }
 abbrev pub new_link : Option Dumping → Link
 new_link dump = record { toward = []; back = []; cut = false; other = true; dump = dump }
 
-abbrev pub with_side : Hall → Hall
-with_side h = hall h.library h.holders (h.sides ++ Some (side (held [] 0) Idle) ∷ [])
+abbrev pub with_side : ServerState → ServerState
+with_side h = server h.library h.holders (h.sides ++ Some (side (held [] 0) Idle) ∷ [])
 
 abbrev pub joined : World → Option Dumping → World
-joined w dump = record w { hall = with_side w.hall; links = w.links ++ new_link dump ∷ [] }
+joined w dump = record w { server = with_side w.server; links = w.links ++ new_link dump ∷ [] }
 
 -- bytes are sent: after a cut they are lost
 abbrev pub sent_on : Bool → List ℕ → List ℕ → List ℕ
@@ -74,24 +74,24 @@ abbrev pub given_up : World → ℕ → World
 given_up w k = record (other_left w k) { own = None }
 
 -- the server's side is over: what was open is closed, and its drive has no holder
-abbrev pub ended_from : Hall → ℕ → Option Side → Hall
+abbrev pub ended_from : ServerState → ℕ → Option ServerConnection → ServerState
 ended_from h k None = h
 ended_from h k (Some s) =
-    hall (closed_library h.library s.session) (with_holder (drive_in s.session) 0 h.holders) (with_numbered h.sides k None)
+    server (closed_library h.library s.session) (with_holder (drive_in s.session) 0 h.holders) (with_numbered h.sides k None)
 
-abbrev pub ended : Hall → ℕ → Hall
+abbrev pub ended : ServerState → ℕ → ServerState
 ended h k = ended_from h k (side_of h k)
 
 -- the sides of the first so many connections are over
-abbrev pub all_ended : Hall → ℕ → Hall
+abbrev pub all_ended : ServerState → ℕ → ServerState
 all_ended h zero = h
 all_ended h (suc k) = ended (all_ended h k) (suc k)
 
 abbrev pub ended_at : World → ℕ → World
-ended_at w k = record w { hall = ended w.hall k; links = changed over_here w.links k }
+ended_at w k = record w { server = ended w.server k; links = changed over_here w.links k }
 
 abbrev pub restarted : World → World
-restarted w = record w { hall = all_ended w.hall (length w.hall.sides); links = map over_here w.links }
+restarted w = record w { server = all_ended w.server (length w.server.sides); links = map over_here w.links }
 
 -- the name of the first reel of a stack
 abbrev pub first_name : {X : Type 0} → List (ReelSlot X) → List ℕ

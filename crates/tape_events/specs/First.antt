@@ -5,7 +5,7 @@ use Rattle.drives.specs.TapeLibrary.{KeptReel, kept_reel, slot, Drive, drive_wit
 use Rattle.drives.specs.Arranging.{are_distinct}
 use Rattle.drives.specs.declared.holds.TheConstants.{DRIVE_LIMIT}
 use Rattle.rmt_wire.specs.RequestReader.{Unread}
-use Rattle.rmt_server.specs.Hall.{hall, Side}
+use Rattle.rmt_server.specs.ServerState.{server, ServerConnection}
 use Rattle.tape_events.specs.World.{World}
 use Rattle.tape_events.specs.Events.{PlainEvent}
 use Rattle.tape_events.specs.Changes.{side_of}
@@ -29,7 +29,7 @@ AreGoodDrives drives =
 -- nothing has happened: empty reels, no connection, no run
 abbrev pub first_world : List PlainDriveSpec → World
 first_world drives = record {
-  hall = hall (library (map blank_drive drives) []) (replicate (length drives) 0) [];
+  server = server (library (map blank_drive drives) []) (replicate (length drives) 0) [];
   links = [];
   begun = [];
   caller = None;
@@ -50,9 +50,9 @@ IsReached w = (drives : List PlainDriveSpec) × (events : List PlainEvent) × Ar
 
 -- each connection has a server's side, live or over, and each drive a holder, or 0
 pub record IsPaired (w : World) : Type 0 where
-  pub links : length w.hall.sides ≡ length w.links
-  pub holders : length w.hall.holders ≡ length w.hall.library.drives
+  pub links : length w.server.sides ≡ length w.links
+  pub holders : length w.server.holders ≡ length w.server.library.drives
 
 -- something is unread by each live side, if only no bytes
 abbrev pub IsReadable : World → Type 0
-IsReadable w = (k : ℕ) (s : Side) → side_of w.hall k ≡ Some s → (bytes : List ℕ) × Unread s.reached bytes
+IsReadable w = (k : ℕ) (s : ServerConnection) → side_of w.server k ≡ Some s → (bytes : List ℕ) × Unread s.reached bytes

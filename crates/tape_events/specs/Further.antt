@@ -1,7 +1,7 @@
 -- What is told of each world beside the headline. Public contracts cite it.
 use Rattle.std.specs.Prelude.{◌≡◌, ◌≢◌, ◌⊎◌, ℕ, ◌+◌, ◌<◌, ◌≤◌, ◌++◌, true, List, [], length, map, slice_get, Contains, Some}
 use Rattle.drives.specs.TapeLibrary.{drive_at}
-use Rattle.rmt_server.specs.Hall.{Side}
+use Rattle.rmt_server.specs.ServerState.{ServerConnection}
 use Rattle.rmt_server.specs.Session.{PlainReel}
 use Rattle.dump_run.specs.declared.count.VolumeCount.{VolumeCount}
 use Rattle.dump_client.specs.Standing.{IsAtStep}
@@ -23,18 +23,18 @@ SentRequests w = (k : ℕ) (d : Dumping) → HasDump w k d → (d.sent ≡ d.car
 
 -- A latched reel is first on the stack of the drive that its session holds, and no other session has it.
 pub record LatchedReels (w : World) : Type 0 where
-  pub first : (k d : ℕ) (s : Side) → side_of w.hall k ≡ Some s → online_drive_in s.session ≡ Some d
-      → IsFirstAway (drive_at w.hall.library d).stack × (slice_get w.hall.holders d ≡ Some k)
-  pub once : (j k d e : ℕ) (s t : Side) → side_of w.hall j ≡ Some s → online_drive_in s.session ≡ Some d → side_of w.hall k ≡ Some t
-      → online_drive_in t.session ≡ Some e → first_name (drive_at w.hall.library d).stack ≡ first_name (drive_at w.hall.library e).stack → j ≡ k
+  pub first : (k d : ℕ) (s : ServerConnection) → side_of w.server k ≡ Some s → online_drive_in s.session ≡ Some d
+      → IsFirstAway (drive_at w.server.library d).stack × (slice_get w.server.holders d ≡ Some k)
+  pub once : (j k d e : ℕ) (s t : ServerConnection) → side_of w.server j ≡ Some s → online_drive_in s.session ≡ Some d → side_of w.server k ≡ Some t
+      → online_drive_in t.session ≡ Some e → first_name (drive_at w.server.library d).stack ≡ first_name (drive_at w.server.library e).stack → j ≡ k
 
 -- What the attempt wrote stands on the reel, and nothing else. While its session has that reel in its drive and was not asked for
 -- MTOFFL, its place is the end.
 pub record IsOnReel (w : World) (k : ℕ) (d : Dumping) (reel : List ℕ) : Type 0 where
   pub begun : Begun
   pub begun_as : numbered w.begun d.run ≡ Some begun
-  pub holds : ReelHoldsJust w.hall reel (attempt_written begun.run begun.payload d)
-  pub at_end : (s : Side) (r : PlainReel) → side_of w.hall k ≡ Some s → IsOnlineWith s.session r → IsBeforeOffline begun.run d
+  pub holds : ReelHoldsJust w.server reel (attempt_written begun.run begun.payload d)
+  pub at_end : (s : ServerConnection) (r : PlainReel) → side_of w.server k ≡ Some s → IsOnlineWith s.session r → IsBeforeOffline begun.run d
       → r.tape.after ≡ []
 
 -- each attempt whose label was accepted, while no write of it met a device fault and no other session wrote on its reel since

@@ -29,15 +29,15 @@ pub record IsOnItsReel (w : World) (x : Count) : Type 0 where
   pub begun_as : numbered w.begun x.run ≡ Some begun
   pub within : x.first + x.count ≤ begun.run.blocks
   pub opened : Contains w.opens (opening x.connection x.reel)
-  pub there : HasReel w.hall.library x.reel
-  pub whole : IsSpared w x → ReelHoldsJust w.hall x.reel (whole_volume begun.run begun.payload x.volume x.first x.count)
+  pub there : HasReel w.server.library x.reel
+  pub whole : IsSpared w x → ReelHoldsJust w.server x.reel (whole_volume begun.run begun.payload x.volume x.first x.count)
 
 abbrev pub CountedReels : World → Type 0
 CountedReels w = (x : Count) → Contains w.counts x → IsOnItsReel w x
 
 -- 2. No two sessions have one drive, with its reel, or after MTOFFL without it.
 abbrev pub NoTwoHolders : World → Type 0
-NoTwoHolders w = (j k d : ℕ) → HasOpen w.hall j d → HasOpen w.hall k d → j ≡ k
+NoTwoHolders w = (j k d : ℕ) → HasOpen w.server j d → HasOpen w.server k d → j ≡ k
 
 -- 3. Every dump that was entered in dumpdates has all its blocks on counted volumes, in order: those of the list that the client had
 -- then. Each was entered once, and dumpdates has their entries and no other.

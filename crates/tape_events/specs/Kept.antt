@@ -1,7 +1,7 @@
 -- How the headline is proved: all that stays so, whatever happens. No sentence of the headline names these points. Public contracts
 -- cite it.
 use Rattle.std.specs.Prelude.{◌≡◌, ◌≢◌, ℕ, ◌<◌, true, false, [], length, Contains, Option, Some, None}
-use Rattle.rmt_server.specs.Hall.{Hall, Side}
+use Rattle.rmt_server.specs.ServerState.{ServerState, ServerConnection}
 use Rattle.drives.specs.TapeLibrary.{drive_at}
 use Rattle.dump_run.specs.Run.{IsRun}
 use Rattle.dump_run.specs.Counts.{AreVolumes}
@@ -21,18 +21,18 @@ use Rattle.tape_events.specs.Sparing.{AreSpared}
 use Rattle.tape_events.specs.First.{IsReadable}
 
 -- A connection of which either side is over is cut, and where the server's is, nothing is on the way to that.
-pub record IsTidy (s : Option Side) (l : Link) : Type 0 where
+pub record IsTidy (s : Option ServerConnection) (l : Link) : Type 0 where
   pub here : s ≡ None → l.cut ≡ true
   pub there : l.other ≡ false → l.cut ≡ true
   pub nothing : s ≡ None → l.toward ≡ []
 
 -- each connection is so, and has a server's side, live or over
 pub record AreTidy (w : World) : Type 0 where
-  pub paired : length w.hall.sides ≡ length w.links
-  pub each : (k : ℕ) (l : Link) → link_of w k ≡ Some l → IsTidy (side_of w.hall k) l
+  pub paired : length w.server.sides ≡ length w.links
+  pub each : (k : ℕ) (l : Link) → link_of w k ≡ Some l → IsTidy (side_of w.server k) l
 
 -- A reel is away from its slot only as the first of its stack, and exactly while a session is online at the drive.
-pub record AreLaid (h : Hall) : Type 0 where
+pub record AreLaid (h : ServerState) : Type 0 where
   pub latched : (d : ℕ) → IsOnlineAt h d → IsFirstAway (drive_at h.library d).stack
   pub lying : (d : ℕ) → (IsOnlineAt h d → ⊥) → AreThere (drive_at h.library d).stack
   pub bin : AreThere h.library.bin
@@ -76,8 +76,8 @@ pub record IsWorldKept (w : World) : Type 0 where
   pub labelled : AreLabelled w
   pub counted : AreCountsEarned w
   pub tidy : AreTidy w
-  pub held : AreHeld w.hall
-  pub laid : AreLaid w.hall
+  pub held : AreHeld w.server
+  pub laid : AreLaid w.server
   pub booked : AreBooked w
   pub once : AreNamed w
   pub opened : AreOpened w

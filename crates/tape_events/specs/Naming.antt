@@ -2,7 +2,7 @@
 -- points. Public contracts stand on it (through Kept).
 use Rattle.std.specs.Prelude.{◌≡◌, ◌≢◌, ℕ, ◌<◌, ◌≤◌, List, length, take, Contains, Some}
 use Rattle.drives.specs.TapeLibrary.{TapeLibrary, names_in, times, EachReelOnce}
-use Rattle.rmt_server.specs.Hall.{Side}
+use Rattle.rmt_server.specs.ServerState.{ServerConnection}
 use Rattle.tape_events.specs.World.{World, Opening, Writing, numbered}
 use Rattle.tape_events.specs.Changes.{side_of, written_reel, opening}
 use Rattle.tape_events.specs.Standing.{HasReel}
@@ -13,8 +13,8 @@ SameNames before after = (name : List ℕ) → times name (names_in after) ≡ t
 
 -- No two reels have one name, and the reel of each opening is there.
 pub record AreNamed (w : World) : Type 0 where
-  pub once : EachReelOnce w.hall.library
-  pub opened : (o : Opening) → Contains w.opens o → HasReel w.hall.library o.reel
+  pub once : EachReelOnce w.server.library
+  pub opened : (o : Opening) → Contains w.opens o → HasReel w.server.library o.reel
 
 -- Of the opens for writing after that of connection k none is of this reel.
 abbrev pub IsUnopenedSince : List Opening → ℕ → List ℕ → Type 0
@@ -24,8 +24,8 @@ IsUnopenedSince opens k reel = (i : ℕ) × (numbered opens i ≡ Some (opening 
 -- Each opening is that of a connection that is there. While a session may write on a reel, no other opened that reel since.
 pub record AreOpened (w : World) : Type 0 where
   pub there : (o : Opening) → Contains w.opens o → (1 ≤ o.connection) × (o.connection ≤ length w.links)
-  pub last : (k : ℕ) (s : Side) (reel : List ℕ) → side_of w.hall k ≡ Some s
-      → written_reel w.hall.library s.session ≡ Some reel → IsUnopenedSince w.opens k reel
+  pub last : (k : ℕ) (s : ServerConnection) (reel : List ℕ) → side_of w.server k ≡ Some s
+      → written_reel w.server.library s.session ≡ Some reel → IsUnopenedSince w.opens k reel
 
 -- Each writing was by the connection that opened its reel last, of the opens for writing that had been accepted by then.
 abbrev pub AreWritersLast : World → Type 0

@@ -8,7 +8,7 @@ use Rattle.rmt_wire.specs.declared.fault.WireFault.{WireFault}
 use Rattle.drives.specs.TapeLibrary.{IsDriveNamed}
 use Rattle.drives.specs.Arranging.{are_distinct, is_piled}
 use Rattle.std.specs.List.{list_all}
-use Rattle.rmt_server.specs.Hall.{Hall, Side}
+use Rattle.rmt_server.specs.ServerState.{ServerState, ServerConnection}
 use Rattle.dump_run.specs.Run.{IsRun}
 use Rattle.dump_client.specs.declared.step.Step.{Step}
 use Rattle.dump_client.specs.declared.stage.Stage.{Stage}
@@ -36,8 +36,8 @@ abbrev pub IsRunEntered : World → ℕ → Type 0
 IsRunEntered w number = (e : Entered) × Contains w.entered e × (e.run ≡ number)
 
 -- the server's side is live, and there it has reached this
-abbrev pub IsLiveHere : World → ℕ → Side → Type 0
-IsLiveHere w k s = side_of w.hall k ≡ Some s
+abbrev pub IsLiveHere : World → ℕ → ServerConnection → Type 0
+IsLiveHere w k s = side_of w.server k ≡ Some s
 
 -- the other side is live
 abbrev pub IsLiveThere : World → ℕ → Link → Type 0
@@ -56,7 +56,7 @@ abbrev pub IsRequestFound : RequestHeld → Result (Option PlainRequest) WireFau
 IsRequestFound h found = (bytes : List ℕ) × (rest : List ℕ) × Unread h bytes × Gives bytes found rest × (found ≢ Ok None)
 
 -- the drive is there and free, and these reels may lie on its stack
-abbrev pub MayArrange : Hall → List ℕ → List (List ℕ) → Type 0
+abbrev pub MayArrange : ServerState → List ℕ → List (List ℕ) → Type 0
 MayArrange h drive reels =
     (d : ℕ) × IsDriveNamed drive h.library (Some d) × (slice_index_or h.holders d 0 ≡ 0)
     × IsTrue (are_distinct reels) × IsTrue (list_all (is_piled h.library d) reels)
@@ -70,17 +70,17 @@ Possible w (StartRun run payload) = NoRun w × IsRun run × (length payload ≡ 
 Possible w Connect = StandsIn w (λ stage. stage ≡ Ready)
 Possible w (Send fails) = StandsIn w (λ stage. (step : Step) × (stage ≡ ToSend step))
 Possible w (ToServer k n) =
-    (s : Side) × (l : Link) × IsLiveHere w k s × (link_of w k ≡ Some l) × IsPart n l.toward × HasRoomFor s.reached n
+    (s : ServerConnection) × (l : Link) × IsLiveHere w k s × (link_of w k ≡ Some l) × IsPart n l.toward × HasRoomFor s.reached n
 Possible w (Serve k trouble) =
-    (s : Side) × (found : Result (Option PlainRequest) WireFault) × IsLiveHere w k s × IsRequestFound s.reached found
+    (s : ServerConnection) × (found : Result (Option PlainRequest) WireFault) × IsLiveHere w k s × IsRequestFound s.reached found
 Possible w (ToClient k n) = (l : Link) × IsLiveThere w k l × IsPart n l.back
 Possible w (Cut k) = (l : Link) × (link_of w k ≡ Some l) × (l.cut ≡ false)
-Possible w (EndAtServer k) = (s : Side) × (l : Link) × IsLiveHere w k s × (link_of w k ≡ Some l) × IsTrue l.cut
+Possible w (EndAtServer k) = (s : ServerConnection) × (l : Link) × IsLiveHere w k s × (link_of w k ≡ Some l) × IsTrue l.cut
 Possible w (EndAtClient k) = (l : Link) × IsLiveThere w k l × IsTrue l.cut
 Possible w ServerRestart = Unit {0}
 Possible w ClientRestart = (c : Caller) × (w.caller ≡ Some c)
 Possible w (Respond answer) = StandsIn w (λ stage. stage ≡ Asking)
-Possible w (Arrange drive reels) = MayArrange w.hall drive reels
+Possible w (Arrange drive reels) = MayArrange w.server drive reels
 Possible w Stranger = Unit {0}
 Possible w (Says k bytes) = (l : Link) × IsLiveThere w k l × (l.dump ≡ None)
 Possible w Enter =

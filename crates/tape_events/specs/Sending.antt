@@ -6,7 +6,7 @@ use Rattle.rmt_wire.specs.Request.{PlainRequest, SpellsRequest, request_text}
 use Rattle.rmt_wire.specs.Reply.{PlainReply, Wanted, SpellsReply, reply_text}
 use Rattle.rmt_wire.specs.Reply.PlainReply.{Data}
 use Rattle.rmt_wire.specs.RequestReader.{Unread}
-use Rattle.rmt_server.specs.Hall.{Side}
+use Rattle.rmt_server.specs.ServerState.{ServerConnection}
 use Rattle.rmt_server.specs.Session.{PlainReel, PlainSession}
 use Rattle.rmt_server.specs.Session.PlainSession.{Idle, Offline}
 use Rattle.rmt_server.specs.declared.access.Access.TheVariants.{Both}
@@ -61,18 +61,18 @@ StandsFor step session = (reel : PlainReel) × IsOnlineWith session reel
 
 -- All was done of the attempt before this step, and nothing else: so many requests were carried out, without a device fault, and
 -- of its writes those were accepted that come before. While the server's side is live, its session stands so.
-pub record HasDone (run : PlainRun) (o : Option Side) (d : Dumping) (step : Step) : Type 0 where
+pub record HasDone (run : PlainRun) (o : Option ServerConnection) (d : Dumping) (step : Step) : Type 0 where
   pub carried : d.carried ≡ length (steps_before run d.first (d.first + d.blocks) step)
   pub fault : d.fault ≡ false
   pub label : d.label ≡ is_labelled step
   pub blocks : VolumeHasBlocks run d.first step d.blocks
   pub within : d.first + d.blocks ≤ run.blocks
   pub mark : d.mark ≡ is_marked step
-  pub stands : (s : Side) → o ≡ Some s → StandsFor step s.session
+  pub stands : (s : ServerConnection) → o ≡ Some s → StandsFor step s.session
 
 -- These bytes reached the server's side or are on the way to it, and no request of them was carried out. Where that side is over
 -- there are none.
-abbrev pub AreUnserved : Option Side → List ℕ → List ℕ → Type 0
+abbrev pub AreUnserved : Option ServerConnection → List ℕ → List ℕ → Type 0
 AreUnserved None way bytes = (way ≡ []) × (bytes ≡ [])
 AreUnserved (Some s) way bytes = (reached : List ℕ) × Unread s.reached reached × (bytes ≡ reached ++ way)
 
@@ -81,7 +81,7 @@ abbrev pub request_in : Begun → Dumping → Step → PlainRequest
 request_in b d step = request_of b.run b.payload d.volume d.first step
 
 -- The request of this step was sent and not carried out: its text is unserved, whole, or nothing is, where it was lost.
-pub record IsPending (b : Begun) (o : Option Side) (way : List ℕ) (d : Dumping) (step : Step) : Type 0 where
+pub record IsPending (b : Begun) (o : Option ServerConnection) (way : List ℕ) (d : Dumping) (step : Step) : Type 0 where
   pub done : HasDone b.run o d step
   pub sent : d.sent ≡ d.carried + 1
   pub few : d.sent < 2 ^ 64
@@ -89,12 +89,12 @@ pub record IsPending (b : Begun) (o : Option Side) (way : List ℕ) (d : Dumping
   pub unserved : AreUnserved o way (request_text (request_in b d step)) ⊎ AreUnserved o way []
 
 -- all that was sent was carried out
-pub record IsLinkSettled (o : Option Side) (way : List ℕ) (d : Dumping) : Type 0 where
+pub record IsLinkSettled (o : Option ServerConnection) (way : List ℕ) (d : Dumping) : Type 0 where
   pub sent : d.sent ≡ d.carried
   pub unserved : AreUnserved o way []
 
 -- Of a connection of the client's all that was sent was carried out, or all but the last request.
-abbrev pub IsLinkSent : List Begun → Option Side → Link → Dumping → Type 0
+abbrev pub IsLinkSent : List Begun → Option ServerConnection → Link → Dumping → Type 0
 IsLinkSent begun o l d =
     IsLinkSettled o l.toward d
     ⊎ ((b : Begun) × (step : Step) × (numbered begun d.run ≡ Some b) × IsPending b o l.toward d step)
@@ -105,13 +105,13 @@ AreCounted Close counts d new = new ≡ counted_to counts (d.first + d.blocks)
 AreCounted step counts d new = new ≡ counts
 
 -- The client goes on to this step, before which all was done.
-pub record GoesTo (run : PlainRun) (o : Option Side) (old : Standing) (d : Dumping) (new : Standing) (next : Step) : Type 0 where
+pub record GoesTo (run : PlainRun) (o : Option ServerConnection) (old : Standing) (d : Dumping) (new : Standing) (next : Step) : Type 0 where
   pub done : HasDone run o d next
   pub same_run : new.run ≡ old.run
   pub counts : AreCounted next old.counts d new.counts
 
 -- where the reply leads the client on to a step, all was done before that
-abbrev pub LeadsOn : PlainRun → Option Side → Standing → Dumping → Step → PlainReply → Type 0
+abbrev pub LeadsOn : PlainRun → Option ServerConnection → Standing → Dumping → Step → PlainReply → Type 0
 LeadsOn run o old d step reply =
     (progress : Progress) (new : Standing) (next : Step) → HearsAt old step (Reply reply) false progress new
     → new.stage ≡ ToSend next → GoesTo run o old d new next
@@ -127,7 +127,7 @@ pub record IsBrief (wanted : Wanted) (reply : PlainReply) : Type 0 where
   pub short : length (reply_text reply) < whole_below reply
 
 -- What the client heard and what is on the way to it are the reply to this step, or nothing, where that was lost.
-abbrev pub IsStepReply : PlainRun → Option Side → Standing → Dumping → Step → List ℕ → Type 0
+abbrev pub IsStepReply : PlainRun → Option ServerConnection → Standing → Dumping → Step → List ℕ → Type 0
 IsStepReply run o at d step bytes =
     (bytes ≡ []) ⊎ ((reply : PlainReply) × (bytes ≡ reply_text reply) × IsBrief (wanted_of step) reply
     × LeadsOn run o at d step reply)
@@ -141,34 +141,34 @@ pub record IsAttempt (begun : List Begun) (c : Caller) (d : Dumping) (step : Ste
   pub first : d.first ≡ (attempt_at step c.at.counts).1
 
 -- it is the client's turn, and it has heard nothing yet
-pub record IsItsTurn (b : Begun) (o : Option Side) (l : Link) (c : Caller) (d : Dumping) (step : Step) : Type 0 where
+pub record IsItsTurn (b : Begun) (o : Option ServerConnection) (l : Link) (c : Caller) (d : Dumping) (step : Step) : Type 0 where
   pub done : HasDone b.run o d step
   pub settled : IsLinkSettled o l.toward d
   pub back : l.back ≡ []
   pub fed : HasFedAt (ToSend step) c.reader []
 
 -- its request was sent, and not carried out
-pub record IsStepAsked (b : Begun) (o : Option Side) (l : Link) (c : Caller) (d : Dumping) (step : Step) : Type 0 where
+pub record IsStepAsked (b : Begun) (o : Option ServerConnection) (l : Link) (c : Caller) (d : Dumping) (step : Step) : Type 0 where
   pub pending : IsPending b o l.toward d step
   pub back : l.back ≡ []
   pub fed : HasFedAt (Waiting step) c.reader []
 
 -- its request was carried out
-pub record IsStepReplied (b : Begun) (o : Option Side) (l : Link) (c : Caller) (d : Dumping) (step : Step) : Type 0 where
+pub record IsStepReplied (b : Begun) (o : Option ServerConnection) (l : Link) (c : Caller) (d : Dumping) (step : Step) : Type 0 where
   pub settled : IsLinkSettled o l.toward d
   pub fed : List ℕ
   pub has : HasFedAt (Waiting step) c.reader fed
   pub reply : IsStepReply b.run o c.at d step (fed ++ l.back)
 
 -- what is told of the client's own connection, by the stage
-abbrev pub IsLinkToldAt : Stage → List Begun → Option Side → Link → Caller → Dumping → Type 0
+abbrev pub IsLinkToldAt : Stage → List Begun → Option ServerConnection → Link → Caller → Dumping → Type 0
 IsLinkToldAt (ToSend step) begun o l c d = (b : Begun) × IsAttempt begun c d step b × IsItsTurn b o l c d step
 IsLinkToldAt (Waiting step) begun o l c d =
     (b : Begun) × IsAttempt begun c d step b × (IsStepAsked b o l c d step ⊎ IsStepReplied b o l c d step)
 IsLinkToldAt stage begun o l c d = Unit {0}
 
 -- all that is told of a connection: of a stranger's nothing
-pub record IsLinkTold (w : World) (k : ℕ) (o : Option Side) (l : Link) : Type 0 where
+pub record IsLinkTold (w : World) (k : ℕ) (o : Option ServerConnection) (l : Link) : Type 0 where
   pub sent : (d : Dumping) → l.dump ≡ Some d → IsLinkSent w.begun o l d
   pub own : (d : Dumping) (c : Caller) → l.dump ≡ Some d → w.own ≡ Some k → w.caller ≡ Some c → IsLinkToldAt c.at.stage w.begun o l c d
 
@@ -181,4 +181,4 @@ pub record IsGood (b : Begun) : Type 0 where
 -- of each connection that is told
 pub record AreTold (w : World) : Type 0 where
   pub good : (n : ℕ) (b : Begun) → numbered w.begun n ≡ Some b → IsGood b
-  pub each : (k : ℕ) (l : Link) → link_of w k ≡ Some l → IsLinkTold w k (side_of w.hall k) l
+  pub each : (k : ℕ) (l : Link) → link_of w k ≡ Some l → IsLinkTold w k (side_of w.server k) l

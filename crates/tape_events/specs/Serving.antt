@@ -10,8 +10,8 @@ use Rattle.rmt_wire.specs.declared.mtio.TheConstants.{MTOFFL}
 use Rattle.tape.specs.declared.trouble.Trouble.{Trouble}
 use Rattle.drives.specs.TapeLibrary.{TapeLibrary, KeptReel, kept_reel, ReelSlot, slot, drive_at}
 use Rattle.rmt_server.specs.Refusals.{refused}
-use Rattle.rmt_server.specs.Hall.{Side}
-use Rattle.rmt_server.specs.Session.{PlainSession, Scene, scene, status_of, refusal as check, closed, closed_library}
+use Rattle.rmt_server.specs.ServerState.{ServerConnection}
+use Rattle.rmt_server.specs.Session.{PlainSession, SessionView, session_view, status_of, refusal as check, closed, closed_library}
 use Rattle.rmt_server.specs.TroubledServe.{drive_in, with_holder, holder_of, TroubledServe}
 use Rattle.dump_client.specs.Lawful.{steps_before}
 use Rattle.dump_client.specs.declared.step.Step.{Step}
@@ -23,7 +23,7 @@ use Rattle.tape_events.specs.Written.{whole_volume}
 
 -- The server carries out a request that reached it on connection k, and this is the world after it.
 pub record ServerTurn (w : World) (k : ℕ) (trouble : Trouble) (u : World) : Type 0 where
-  pub s : Side
+  pub s : ServerConnection
   pub request : PlainRequest
   pub bytes : List ℕ
   pub rest : List ℕ
@@ -32,11 +32,11 @@ pub record ServerTurn (w : World) (k : ℕ) (trouble : Trouble) (u : World) : Ty
   pub library : TapeLibrary
   pub session : PlainSession
   pub holders : List ℕ
-  pub live : side_of w.hall k ≡ Some s
+  pub live : side_of w.server k ≡ Some s
   pub unread : Unread s.reached bytes
   pub gives : Gives bytes (Ok (Some request)) rest
   pub left : Unread reached rest
-  pub served : TroubledServe trouble w.hall.holders k (scene w.hall.library s.session) request reply (scene library session) holders
+  pub served : TroubledServe trouble w.server.holders k (session_view w.server.library s.session) request reply (session_view library session) holders
   pub is : u ≡ carried w k request reply reached library session holders
 
 -- It is the one request of the attempt that was sent and not carried out: that of the step after those that were. Of the attempt's
@@ -58,7 +58,7 @@ is_open request = false
 
 -- What stands if nothing of the request is done: all as before it. An open closes what the session had open in every case, so all
 -- is as after that close.
-abbrev pub undone : PlainRequest → Scene → Scene
+abbrev pub undone : PlainRequest → SessionView → SessionView
 undone (Open device mode) before = closed before
 undone request before = before
 
@@ -77,8 +77,8 @@ Refuses session request reply = MatchOption (check (status_of session) request) 
 pub record IsRefused (w : World) (session : PlainSession) (request : PlainRequest) (reply : PlainReply) (u : World)
     (after : PlainSession) : Type 0 where
   pub answer : Refuses session request reply
-  pub same : scene u.hall.library after ≡ undone request (scene w.hall.library session)
-  pub held : u.hall.holders ≡ undone_holders request session w.hall.holders
+  pub same : session_view u.server.library after ≡ undone request (session_view w.server.library session)
+  pub held : u.server.holders ≡ undone_holders request session w.server.holders
 
 -- Only drive d changes: the stacks of all other drives stay, and so does the bin, but that reels can be added at its end.
 pub record ChangesAt (d : ℕ) (s t : TapeLibrary) : Type 0 where
@@ -92,17 +92,17 @@ pub data Meets (w : World) (k : ℕ) (session : PlainSession) (request : PlainRe
     (after : PlainSession) : Type 0 where
   refusal : IsRefused w session request reply u after → Meets w k session request reply u after
   own : (d : ℕ) → is_open request ≡ false → check (status_of session) request ≡ None → drive_in session ≡ Some d
-      → slice_get w.hall.holders d ≡ Some k → ((e : ℕ) → drive_in after ≡ Some e → e ≡ d)
-      → ChangesAt d w.hall.library u.hall.library → Meets w k session request reply u after
+      → slice_get w.server.holders d ≡ Some k → ((e : ℕ) → drive_in after ≡ Some e → e ≡ d)
+      → ChangesAt d w.server.library u.server.library → Meets w k session request reply u after
   free : (d : ℕ) → is_open request ≡ true → reply ≡ Done 0 → drive_in after ≡ Some d
-      → holder_of (with_holder (drive_in session) 0 w.hall.holders) (Some d) ≡ 0
-      → ChangesAt d (closed_library w.hall.library session) u.hall.library → Meets w k session request reply u after
+      → holder_of (with_holder (drive_in session) 0 w.server.holders) (Some d) ≡ 0
+      → ChangesAt d (closed_library w.server.library session) u.server.library → Meets w k session request reply u after
 
 -- of a drive that another has open the holder stays, and the stack, and so does that other's session
 abbrev pub OthersStay : World → ℕ → World → Type 0
 OthersStay w k u =
-    (j d : ℕ) (y : Side) → j ≢ k → side_of w.hall j ≡ Some y → drive_in y.session ≡ Some d
-    → (side_of u.hall j ≡ Some y) × (slice_get u.hall.holders d ≡ Some j) × (drive_at u.hall.library d ≡ drive_at w.hall.library d)
+    (j d : ℕ) (y : ServerConnection) → j ≢ k → side_of w.server j ≡ Some y → drive_in y.session ≡ Some d
+    → (side_of u.server j ≡ Some y) × (slice_get u.server.holders d ≡ Some j) × (drive_at u.server.library d ≡ drive_at w.server.library d)
 
 -- The reel that the session had in its drive, which it opened, lies last in the bin, and holds the whole volume of the attempt.
 pub record IsWholeInBin (w : World) (k : ℕ) (d : Dumping) (u : World) : Type 0 where
@@ -112,8 +112,8 @@ pub record IsWholeInBin (w : World) (k : ℕ) (d : Dumping) (u : World) : Type 0
   pub name : List ℕ
   pub opened : Contains w.opens (opening k name)
   pub capacity : ℕ
-  pub bin : u.hall.library.bin
-      ≡ w.hall.library.bin ++ slot name (Some (kept_reel (whole_volume begun.run begun.payload d.volume d.first d.blocks) capacity)) ∷ []
+  pub bin : u.server.library.bin
+      ≡ w.server.library.bin ++ slot name (Some (kept_reel (whole_volume begun.run begun.payload d.volume d.first d.blocks) capacity)) ∷ []
 
 -- an MTOFFL that was done
 abbrev pub IsMoveDone : PlainRequest → PlainReply → Type 0

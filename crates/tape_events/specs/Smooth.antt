@@ -5,7 +5,7 @@ use Rattle.tape.specs.declared.trouble.Trouble.TheVariants.{None as NoTrouble}
 use Rattle.drives.specs.TapeLibrary.{KeptReel, kept_reel, ReelSlot, slot, drive_with, TapeLibrary, library, names_of}
 use Rattle.rmt_wire.specs.Reply.{PlainReply, reply_text}
 use Rattle.rmt_wire.specs.declared.errno.TheConstants.{ENOENT, ENOMEM, ENXIO}
-use Rattle.rmt_server.specs.Hall.{Side}
+use Rattle.rmt_server.specs.ServerState.{ServerConnection}
 use Rattle.rmt_server.specs.Session.{plain_reel, PlainSession}
 use Rattle.rmt_server.specs.Session.PlainSession.{Idle, Offline, Online}
 use Rattle.rmt_server.specs.declared.access.Access.TheVariants.{Both}
@@ -71,8 +71,8 @@ FailsFaultless drive w =
 pub record HoldsVolume (w : World) (x : Count) : Type 0 where
   pub begun : Begun
   pub begun_as : numbered w.begun x.run ≡ Some begun
-  pub stands : StandsOn w.hall x.reel (whole_volume begun.run begun.payload x.volume x.first x.count)
-  pub alone : (entries : List PlainEntry) → StandsOn w.hall x.reel entries
+  pub stands : StandsOn w.server x.reel (whole_volume begun.run begun.payload x.volume x.first x.count)
+  pub alone : (entries : List PlainEntry) → StandsOn w.server x.reel entries
       → entries ≡ whole_volume begun.run begun.payload x.volume x.first x.count
 
 abbrev pub is_between : Stage → Bool
@@ -85,7 +85,7 @@ is_between stage = false
 pub record VolumesInOrder (drive : PlainDriveSpec) (w : World) : Type 0 where
   pub failure : FailsFaultless drive w
   pub reels : (i : ℕ) (x : Count) → slice_get w.counts i ≡ Some x → (slice_get drive.reels i ≡ Some x.reel) × HoldsVolume w x
-  pub bin : StandsIn w (λ stage. is_between stage ≡ true) → names_of w.hall.library.bin ≡ map (λ x. x.reel) w.counts
+  pub bin : StandsIn w (λ stage. is_between stage ≡ true) → names_of w.server.library.bin ≡ map (λ x. x.reel) w.counts
 
 -- as much of a world as tells where its reels are
 pub record Stock : Type 0 where
@@ -96,7 +96,7 @@ pub record Stock : Type 0 where
   pub opens : List Opening
 
 abbrev pub stock_of : World → Stock
-stock_of w = record { library = w.hall.library; holders = w.hall.holders; counts = w.counts; begun = w.begun; opens = w.opens }
+stock_of w = record { library = w.server.library; holders = w.server.holders; counts = w.counts; begun = w.begun; opens = w.opens }
 
 -- reels of these names, on which nothing was written
 abbrev pub blanks : PlainDriveSpec → List (List ℕ) → List (ReelSlot KeptReel)
@@ -195,13 +195,13 @@ Leads drive t a old step reply =
     → StandsThen progress new.stage drive t a.connection a.begun a.dump a.session × CountsThen new.stage old.counts a.dump new.counts
 
 -- the connection of the client's attempt, which no fault met
-pub record IsOwnLink (w : World) (k : ℕ) (l : Link) (d : Dumping) (b : Begun) (s : Side) : Type 0 where
+pub record IsOwnLink (w : World) (k : ℕ) (l : Link) (d : Dumping) (b : Begun) (s : ServerConnection) : Type 0 where
   pub own : w.own ≡ Some k
   pub there : link_of w k ≡ Some l
   pub whole : l.cut ≡ false
   pub dump : l.dump ≡ Some d
   pub begun : numbered w.begun d.run ≡ Some b
-  pub live : side_of w.hall k ≡ Some s
+  pub live : side_of w.server k ≡ Some s
 
 -- the request was sent, and nothing is on the way back
 pub record IsStepUnanswered (drive : PlainDriveSpec) (w : World) (a : Attempt) (l : Link) (step : Step) : Type 0 where
@@ -211,24 +211,24 @@ pub record IsStepUnanswered (drive : PlainDriveSpec) (w : World) (a : Attempt) (
 -- The request was carried out: what the client heard and what is on the way to it are the reply. The reels of the counts come first
 -- in the bin.
 pub record IsStepAnswered (drive : PlainDriveSpec) (w : World) (a : Attempt) (l : Link) (c : Caller) (step : Step) : Type 0 where
-  pub served : AreUnserved (side_of w.hall a.connection) l.toward []
+  pub served : AreUnserved (side_of w.server a.connection) l.toward []
   pub fed : List ℕ
   pub has : HasFedAt (Waiting step) c.reader fed
   pub reply : PlainReply
   pub text : fed ++ l.back ≡ reply_text reply
   pub brief : IsBrief (wanted_of step) reply
-  pub bin : (more : List (ReelSlot KeptReel)) × (w.hall.library.bin ≡ volume_slots drive (stock_of w) ++ more)
+  pub bin : (more : List (ReelSlot KeptReel)) × (w.server.library.bin ≡ volume_slots drive (stock_of w) ++ more)
   pub leads : Leads drive (stock_of w) a c.at step reply
 
 -- how all stands, by the stage of the client
 abbrev pub ReelsStandAt : Stage → PlainDriveSpec → World → Caller → Type 0
 ReelsStandAt (ToSend step) drive w c =
-    (k : ℕ) × (l : Link) × (d : Dumping) × (b : Begun) × (s : Side) × IsOwnLink w k l d b s
+    (k : ℕ) × (l : Link) × (d : Dumping) × (b : Begun) × (s : ServerConnection) × IsOwnLink w k l d b s
     × StandsBefore step drive (stock_of w) k b d s.session
 ReelsStandAt (Waiting step) drive w c =
-    (k : ℕ) × (l : Link) × (d : Dumping) × (b : Begun) × (s : Side) × IsOwnLink w k l d b s
+    (k : ℕ) × (l : Link) × (d : Dumping) × (b : Begun) × (s : ServerConnection) × IsOwnLink w k l d b s
     × (IsStepUnanswered drive w (attempt_on k b d s.session) l step ⊎ IsStepAnswered drive w (attempt_on k b d s.session) l c step)
-ReelsStandAt Asking drive w c = w.hall.library.bin ≡ volume_slots drive (stock_of w)
+ReelsStandAt Asking drive w c = w.server.library.bin ≡ volume_slots drive (stock_of w)
 ReelsStandAt Abandoned drive w c = ⊥
 ReelsStandAt stage drive w c = IsFree drive (stock_of w)
 
@@ -240,7 +240,7 @@ StandsWith (Some c) drive w = ReelsStandAt c.at.stage drive w c
 -- the counts are the first of the opening stack, in order.
 pub record IsSmooth (drive : PlainDriveSpec) (w : World) : Type 0 where
   pub clients : (j : ℕ) (l : Link) → link_of w j ≡ Some l → (d : Dumping) × (l.dump ≡ Some d)
-  pub still : (j : ℕ) (l : Link) → link_of w j ≡ Some l → w.own ≢ Some j → AreUnserved (side_of w.hall j) l.toward []
+  pub still : (j : ℕ) (l : Link) → link_of w j ≡ Some l → w.own ≢ Some j → AreUnserved (side_of w.server j) l.toward []
   pub reels : map (λ (x : Count). x.reel) w.counts ≡ take (length w.counts) drive.reels
   pub stands : StandsWith w.caller drive w
   pub failure : FailsFaultless drive w

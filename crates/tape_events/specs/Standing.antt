@@ -7,18 +7,18 @@ use Rattle.rmt_server.specs.declared.access.Access.TheVariants.{Both}
 use Rattle.rmt_server.specs.Session.{PlainReel, PlainSession}
 use Rattle.rmt_server.specs.Session.PlainSession.{Idle, Offline, Online}
 use Rattle.rmt_server.specs.TroubledServe.{drive_in}
-use Rattle.rmt_server.specs.Hall.{Hall, Side}
+use Rattle.rmt_server.specs.ServerState.{ServerState, ServerConnection}
 use Rattle.tape_events.specs.Changes.{side_of, first_name}
 
 -- the session of connection k has drive d open, with its reel or without it
-abbrev pub HasOpen : Hall → ℕ → ℕ → Type 0
-HasOpen h k d = (s : Side) × (side_of h k ≡ Some s) × (drive_in s.session ≡ Some d)
+abbrev pub HasOpen : ServerState → ℕ → ℕ → Type 0
+HasOpen h k d = (s : ServerConnection) × (side_of h k ≡ Some s) × (drive_in s.session ≡ Some d)
 
 -- The holder of a drive is the connection whose live side has it open, with its reel or without it. A drive that none has open
 -- has no holder.
-pub record AreHeld (h : Hall) : Type 0 where
+pub record AreHeld (h : ServerState) : Type 0 where
   pub places : length h.holders ≡ length h.library.drives
-  pub opened : (k d : ℕ) (s : Side) → side_of h k ≡ Some s → drive_in s.session ≡ Some d → slice_get h.holders d ≡ Some k
+  pub opened : (k d : ℕ) (s : ServerConnection) → side_of h k ≡ Some s → drive_in s.session ≡ Some d → slice_get h.holders d ≡ Some k
   pub holds : (k d : ℕ) → slice_get h.holders d ≡ Some (suc k) → HasOpen h (suc k) d
 
 -- the drive that a session has open with its reel
@@ -28,8 +28,8 @@ online_drive_in (Offline drive access) = None
 online_drive_in (Online drive access reel) = Some drive
 
 -- a session is online at that drive
-abbrev pub IsOnlineAt : Hall → ℕ → Type 0
-IsOnlineAt h d = (k : ℕ) × (s : Side) × (side_of h k ≡ Some s) × (online_drive_in s.session ≡ Some d)
+abbrev pub IsOnlineAt : ServerState → ℕ → Type 0
+IsOnlineAt h d = (k : ℕ) × (s : ServerConnection) × (side_of h k ≡ Some s) × (online_drive_in s.session ≡ Some d)
 
 -- the session has its drive open for reading and writing, with this reel
 abbrev pub IsOnlineWith : PlainSession → PlainReel → Type 0
@@ -72,13 +72,13 @@ HasInDrive s session name entries =
     × (first_name (drive_at s drive).stack ≡ name) × (entries_of reel.tape ≡ entries)
 
 -- one of the live sides has it in a drive
-abbrev pub IsInDrive : Hall → List ℕ → List PlainEntry → Type 0
-IsInDrive h name entries = (k : ℕ) × (s : Side) × (side_of h k ≡ Some s) × HasInDrive h.library s.session name entries
+abbrev pub IsInDrive : ServerState → List ℕ → List PlainEntry → Type 0
+IsInDrive h name entries = (k : ℕ) × (s : ServerConnection) × (side_of h k ≡ Some s) × HasInDrive h.library s.session name entries
 
 -- These entries stand on the reel of that name, wherever it is.
-abbrev pub StandsOn : Hall → List ℕ → List PlainEntry → Type 0
+abbrev pub StandsOn : ServerState → List ℕ → List PlainEntry → Type 0
 StandsOn h name entries = ReelLiesOn h.library name entries ⊎ IsInDrive h name entries
 
 -- They do, and no others.
-abbrev pub ReelHoldsJust : Hall → List ℕ → List PlainEntry → Type 0
+abbrev pub ReelHoldsJust : ServerState → List ℕ → List PlainEntry → Type 0
 ReelHoldsJust h name entries = StandsOn h name entries × ((others : List PlainEntry) → StandsOn h name others → others ≡ entries)

@@ -9,9 +9,9 @@ use Rattle.rmt_wire.specs.declared.fault.WireFault.{WireFault}
 use Rattle.tape.specs.declared.trouble.Trouble.{Trouble}
 use Rattle.drives.specs.TapeLibrary.{TapeLibrary, IsDriveNamed}
 use Rattle.drives.specs.Arranging.{arranged}
-use Rattle.rmt_server.specs.Session.{PlainSession, scene}
+use Rattle.rmt_server.specs.Session.{PlainSession, session_view}
 use Rattle.rmt_server.specs.TroubledServe.{TroubledServe}
-use Rattle.rmt_server.specs.Hall.{hall, Side, side}
+use Rattle.rmt_server.specs.ServerState.{server, ServerConnection, side}
 use Rattle.dumpdates.specs.Entry.{DatesEntry}
 use Rattle.dumpdates.specs.Dates.{entered}
 use Rattle.dump_run.specs.Run.{PlainRun}
@@ -104,16 +104,16 @@ IsPushed before piece after =
     ((bytes : List ℕ) × Unread before bytes) × ((bytes : List ℕ) → Unread before bytes → Unread after (bytes ++ piece))
 
 -- so many bytes are pushed
-abbrev pub reached_by : World → ℕ → ℕ → Side → RequestHeld → World
+abbrev pub reached_by : World → ℕ → ℕ → ServerConnection → RequestHeld → World
 reached_by w k n s reached = record (calm w) {
-  hall = hall w.hall.library w.hall.holders (with_numbered w.hall.sides k (Some (side reached s.session)));
+  server = server w.server.library w.server.holders (with_numbered w.server.sides k (Some (side reached s.session)));
   links = changed (λ l. record l { toward = drop n l.toward }) w.links k;
 }
 
 -- one request is carried out, and its reply is on the way back
 abbrev pub carried : World → ℕ → PlainRequest → PlainReply → RequestHeld → TapeLibrary → PlainSession → List ℕ → World
 carried w k request reply reached library session holders = record (calm w) {
-  hall = hall library holders (with_numbered w.hall.sides k (Some (side reached session)));
+  server = server library holders (with_numbered w.server.sides k (Some (side reached session)));
   links = changed (answered request reply) w.links k;
   opens = w.opens ++ option_to_list (option_map (opening k) (opened_reel request library session));
   lists = w.lists ++ option_to_list (option_map (λ reel. list_in w.caller) (opened_reel request library session));
@@ -121,11 +121,11 @@ carried w k request reply reached library session holders = record (calm w) {
 }
 
 -- the server's side finds a request, or a fault, which ends it
-abbrev pub Finds : World → ℕ → Trouble → Side → Result (Option PlainRequest) WireFault → List ℕ → World → Type 0
+abbrev pub Finds : World → ℕ → Trouble → ServerConnection → Result (Option PlainRequest) WireFault → List ℕ → World → Type 0
 Finds w k trouble s (Ok None) rest u = ⊥
 Finds w k trouble s (Ok (Some request)) rest u =
     (reply : PlainReply) × (reached : RequestHeld) × (library : TapeLibrary) × (session : PlainSession) × (holders : List ℕ) × Unread reached rest
-    × TroubledServe trouble w.hall.holders k (scene w.hall.library s.session) request reply (scene library session) holders
+    × TroubledServe trouble w.server.holders k (session_view w.server.library s.session) request reply (session_view library session) holders
     × (u ≡ carried w k request reply reached library session holders)
 Finds w k trouble s (Err fault) rest u = u ≡ ended_at (calm w) k
 
@@ -190,10 +190,10 @@ WorldStep w (Send fails) u =
     (c : Caller) × (step : Step) × (k : ℕ) × (b : Begun) × (w.caller ≡ Some c) × (c.at.stage ≡ ToSend step) × (w.own ≡ Some k)
     × (numbered w.begun c.number ≡ Some b) × Sends (is_failing fails step) w k c b.payload step u
 WorldStep w (ToServer k n) u =
-    (s : Side) × (l : Link) × (reached : RequestHeld) × (side_of w.hall k ≡ Some s) × (link_of w k ≡ Some l)
+    (s : ServerConnection) × (l : Link) × (reached : RequestHeld) × (side_of w.server k ≡ Some s) × (link_of w k ≡ Some l)
     × IsPushed s.reached (take n l.toward) reached × (u ≡ reached_by w k n s reached)
 WorldStep w (Serve k trouble) u =
-    (s : Side) × (found : Result (Option PlainRequest) WireFault) × (bytes : List ℕ) × (rest : List ℕ) × (side_of w.hall k ≡ Some s)
+    (s : ServerConnection) × (found : Result (Option PlainRequest) WireFault) × (bytes : List ℕ) × (rest : List ℕ) × (side_of w.server k ≡ Some s)
     × Unread s.reached bytes × Gives bytes found rest × Finds w k trouble s found rest u
 WorldStep w (ToClient k n) u = (l : Link) × (link_of w k ≡ Some l) × Hears l.dump w k n (take n l.back) u
 WorldStep w (Cut k) u = u ≡ record (calm w) { links = changed (λ l. record l { cut = true }) w.links k }
@@ -208,8 +208,8 @@ WorldStep w (Respond answer) u =
       kept = kept_after answer w.kept;
     })
 WorldStep w (Arrange drive reels) u =
-    (d : ℕ) × IsDriveNamed drive w.hall.library (Some d)
-    × (u ≡ record (calm w) { hall = hall (arranged w.hall.library d reels) w.hall.holders w.hall.sides })
+    (d : ℕ) × IsDriveNamed drive w.server.library (Some d)
+    × (u ≡ record (calm w) { server = server (arranged w.server.library d reels) w.server.holders w.server.sides })
 WorldStep w Stranger u = u ≡ joined (calm w) None
 WorldStep w (Says k bytes) u =
     u ≡ record (calm w) { links = changed (λ l. record l { toward = sent_on l.cut l.toward bytes }) w.links k }

@@ -4,7 +4,7 @@ use Rattle.rmt_wire.specs.Request.{PlainRequest}
 use Rattle.rmt_wire.specs.RequestParts.{Gives}
 use Rattle.rmt_wire.specs.RequestReader.{Unread}
 use Rattle.rmt_wire.specs.declared.fault.WireFault.{WireFault}
-use Rattle.rmt_server.specs.Hall.{Side}
+use Rattle.rmt_server.specs.ServerState.{ServerConnection}
 use Rattle.dump_client.specs.Script.{request_of}
 use Rattle.dump_client.specs.Standing.{checkpoint_of}
 use Rattle.dump_client.specs.declared.step.Step.{Step}
@@ -43,7 +43,7 @@ carried_here here found = []
 -- what the server carries out of connection k in this event
 abbrev pub CarriedOut : ℕ → World → PlainEvent → World → List PlainRequest → Type 0
 CarriedOut k w (Serve j trouble) u requests =
-    (s : Side) × (found : Result (Option PlainRequest) WireFault) × (bytes : List ℕ) × (rest : List ℕ) × (side_of w.hall j ≡ Some s)
+    (s : ServerConnection) × (found : Result (Option PlainRequest) WireFault) × (bytes : List ℕ) × (rest : List ℕ) × (side_of w.server j ≡ Some s)
     × Unread s.reached bytes × Gives bytes found rest × Finds w j trouble s found rest u × (requests ≡ carried_here (j == k) found)
 CarriedOut k w event u requests = requests ≡ []
 

@@ -6,7 +6,7 @@ use Rattle.dump_run.specs.Run.{PlainRun}
 use Rattle.dump_client.specs.Standing.{Standing}
 use Rattle.dump_run.specs.declared.count.VolumeCount.{VolumeCount}
 use Rattle.dump_client.specs.declared.fault.AttemptFault.{AttemptFault}
-use Rattle.rmt_server.specs.Hall.{Hall}
+use Rattle.rmt_server.specs.ServerState.{ServerState}
 
 -- What an attempt of the client came to on its connection: the number of its run, its volume and first block, how many requests
 -- were sent and how many carried out; of its writes whether the label was accepted, how many blocks were, whether the mark was,
@@ -78,7 +78,7 @@ pub record Kept : Type 0 where
 -- while that is under way, `kept` what is kept of a run outside of the client, and `failure` what the last event made fail: the
 -- volume, and why.
 pub record World : Type 0 where
-  pub hall : Hall
+  pub server : ServerState
   pub links : List Link
   pub begun : List Begun
   pub caller : Option Caller

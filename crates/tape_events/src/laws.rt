@@ -60,9 +60,9 @@ pub fn kept()
         Runs (first_world drives) events w → IsWorldKept w }
     ensures reached { (w : World) → IsReached w → IsWorldKept w }
     ensures steps { (w : World) (event : PlainEvent) → IsWorldKept w → Possible w event → (u : World) × Happens w event u }
-    ensures names { (w u : World) (event : PlainEvent) → IsWorldKept w → Happens w event u → SameNames w.hall.library u.hall.library }
+    ensures names { (w u : World) (event : PlainEvent) → IsWorldKept w → Happens w event u → SameNames w.server.library u.server.library }
     ensures headline { (w : World) → IsWorldKept w → Headline w }
-    ensures holders { (w : World) → IsWorldKept w → AreHeld w.hall }
+    ensures holders { (w : World) → IsWorldKept w → AreHeld w.server }
     ensures no_two_holders { (w : World) → IsWorldKept w → NoTwoHolders w }
     ensures spared_reels { (w : World) → IsWorldKept w → SparedReels w }
     ensures unopened { (w : World) (x : Count) → IsUnopenedSince w.opens x.connection x.reel → IsSpared w x }

@@ -7,25 +7,25 @@ use Rattle.tape.specs.declared.trouble.Trouble.{Trouble}
 use Rattle.tape.specs.declared.trouble.Trouble.TheVariants.{None as NoTrouble}
 use Rattle.drives.specs.ListLibrary.{troubled_in}
 use Rattle.drives.specs.TapeLibrary.{EachReelOnce}
-use Rattle.rmt_server.specs.declared.session.desk.Opened.{Opened}
-use Rattle.rmt_server.specs.Session.{Scene}
+use Rattle.rmt_server.specs.declared.session.session_state.Opened.{Opened}
+use Rattle.rmt_server.specs.Session.{SessionView}
 use Rattle.rmt_server.specs.State.{drive_of, IsAt, Tells, KeepsDrives}
 use Rattle.rmt_server.specs.Carrying.{IsCarriedOut}
 use Rattle.rmt_server.specs.Troubling.{with_trouble}
-use Rattle.rmt_server.specs.Memory.{MemoryState, in_memory, scene_seen}
+use Rattle.rmt_server.specs.Memory.{MemoryState, in_memory, session_view_seen}
 use Rattle.rmt_server.specs.TroubledServe.{TroubledServe, IsTroubled, IsSetFor, set_for, with_troubles, IsServedUnder}
 use Rattle.tape_host.specs.Hosting.{IsCalmAt, IsCarried}
-use Rattle.tape_host.proofs.Ended.{TellsScene}
+use Rattle.tape_host.proofs.Ended.{TellsSessionView}
 
 -- what the laws of sessions say
 pub record Laws : Type 0 where
   pub at : (reel : Trouble) (stacks : Bool) (x : MemoryState) → IsAt in_memory x → IsAt in_memory (with_troubles reel stacks x)
-  pub told : (reel : Trouble) (stacks : Bool) (x : MemoryState) (v : Scene) → Tells in_memory x v → Tells in_memory (with_troubles reel stacks x) v
+  pub told : (reel : Trouble) (stacks : Bool) (x : MemoryState) (v : SessionView) → Tells in_memory x v → Tells in_memory (with_troubles reel stacks x) v
   pub set : (reel : Trouble) (stacks : Bool) (x : MemoryState) → troubled_in x.drives.stacks.library ≡ 0 → IsTroubled reel stacks (with_troubles reel stacks x)
   pub request : (trouble : Trouble) (request : PlainRequest) (x : MemoryState) → troubled_in x.drives.stacks.library ≡ 0 → IsSetFor trouble request (set_for trouble request x)
-  pub scene : TellsScene
-  pub one : (x : MemoryState) (v : Scene) → Tells in_memory x v → v ≡ scene_seen x
-  pub serves : (trouble : Trouble) (old new : MemoryState) (before : Scene) (request : PlainRequest) (reply : PlainReply) → IsAt in_memory old → Tells in_memory old before
+  pub session_view : TellsSessionView
+  pub one : (x : MemoryState) (v : SessionView) → Tells in_memory x v → v ≡ session_view_seen x
+  pub serves : (trouble : Trouble) (old new : MemoryState) (before : SessionView) (request : PlainRequest) (reply : PlainReply) → IsAt in_memory old → Tells in_memory old before
       → IsSetFor trouble request old → IsCarriedOut in_memory old request reply new → IsServedUnder trouble old before request reply new
 
 same_drive : (trouble : Trouble) (opened : Option (Opened TroubledTape)) → drive_of (with_trouble trouble opened) ≡ drive_of opened
@@ -35,9 +35,9 @@ same_drive trouble (Some device) = refl
 module _ (laws : Laws) (trouble : Trouble) (request : PlainRequest) (reply : PlainReply) (reel : Trouble) (stacks : Bool) (old middle : MemoryState)
     (placed : set_for trouble request old ≡ with_troubles reel stacks old) (calm : IsCalmAt old)
     (carried : IsCarriedOut in_memory (with_troubles reel stacks old) request reply middle) where
-  under : IsServedUnder trouble (with_troubles reel stacks old) (scene_seen old) request reply middle
-  under = laws.serves trouble (with_troubles reel stacks old) middle (scene_seen old) request reply (laws.at reel stacks old calm.at)
-      (laws.told reel stacks old (scene_seen old) (laws.scene old calm.told))
+  under : IsServedUnder trouble (with_troubles reel stacks old) (session_view_seen old) request reply middle
+  under = laws.serves trouble (with_troubles reel stacks old) middle (session_view_seen old) request reply (laws.at reel stacks old calm.at)
+      (laws.told reel stacks old (session_view_seen old) (laws.session_view old calm.told))
       (subst (IsSetFor trouble request) placed (laws.request trouble request old calm.calm.lying)) carried
 
   tells : Tells in_memory (with_troubles NoTrouble false middle) under.after
@@ -55,7 +55,7 @@ module _ (laws : Laws) (trouble : Trouble) (request : PlainRequest) (reply : Pla
 
   pub carried_so : IsCarried trouble old request reply (with_troubles NoTrouble false middle)
   carried_so = record {
-    served = subst (λ v. TroubledServe trouble old.drives.holds.numbers old.seat.number (scene_seen old) request reply v middle.drives.holds.numbers)
+    served = subst (λ v. TroubledServe trouble old.drives.holds.numbers old.seat.number (session_view_seen old) request reply v middle.drives.holds.numbers)
         (laws.one (with_troubles NoTrouble false middle) under.after tells) under.served;
     calm = record {
       at = laws.at NoTrouble false middle carried.at;

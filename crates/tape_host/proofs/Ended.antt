@@ -8,17 +8,17 @@ use Rattle.drives.specs.Local.{IsHeldBy}
 use Rattle.drives.specs.ListLibrary.{library_of, IsLibrary}
 use Rattle.drives.specs.TapeLibrary.{TapeLibrary, EachReelOnce}
 use Rattle.drives.specs.Stacking.{ReelCanFail}
-use Rattle.rmt_server.specs.Session.{Scene}
+use Rattle.rmt_server.specs.Session.{SessionView}
 use Rattle.rmt_server.specs.State.{state, drive_of, reel_of, IsAt, Tells, SessionCanFail, KeepsDrives}
 use Rattle.rmt_server.specs.Opening.{word_after_close, IsClosed}
-use Rattle.rmt_server.specs.Memory.{MemoryState, in_memory, session_seen, scene_seen}
+use Rattle.rmt_server.specs.Memory.{MemoryState, in_memory, session_seen, session_view_seen}
 use Rattle.rmt_server.specs.TroubledServe.{IsTroubled, IsEnded}
-use Rattle.rmt_server.specs.Hall.{hall, Side}
-use Rattle.tape_host.specs.declared.side.Side.{Side as RealSide}
+use Rattle.rmt_server.specs.ServerState.{server, ServerConnection}
+use Rattle.tape_host.specs.declared.side.ServerConnection.{ServerConnection as RealServerConnection}
 use Rattle.tape_host.specs.declared.side.Next.{Next}
 use Rattle.tape_host.specs.declared.side.Next.TheVariants.{Nothing, Seat, Whole}
-use Rattle.tape_host.specs.Halls.{side_at, with_side_at, ended_from, ended}
-use Rattle.tape_host.specs.Hosting.{MemoryDrives, MemoryDesk, idle_desk, seen_side, hall_of, IsLive, IsIdleAt, IsNextWaiting, IsHosting}
+use Rattle.tape_host.specs.Servers.{side_at, with_side_at, ended_from, ended}
+use Rattle.tape_host.specs.Hosting.{MemoryDrives, MemorySessionState, idle_session_state, seen_side, server_of, IsLive, IsIdleAt, IsNextWaiting, IsHosting}
 use Rattle.tape_host.proofs.Sides.{side_within, side_other, side_same, side_map, length_with, map_with}
 use Rattle.tape_host.specs.Lying.{LieBut, IsOnlineAt}
 use Rattle.tape_host.proofs.Tidied.{Either, OnlineBeside, closed_fits, side_tidy}
@@ -26,15 +26,15 @@ use Rattle.tape_host.proofs.Hosted.{false_unless, holds_open}
 
 -- what the laws of sessions say
 abbrev pub OthersStay : Type 0
-OthersStay = (old new : MemoryDrives) (one after other : MemoryDesk) → IsAt in_memory (state old one) → IsAt in_memory (state old other)
+OthersStay = (old new : MemoryDrives) (one after other : MemorySessionState) → IsAt in_memory (state old one) → IsAt in_memory (state old other)
     → other.seat.number ≢ one.seat.number → IsAt in_memory (state new after) → KeepsDrives in_memory (state old one) (state new after)
     → IsAt in_memory (state new other)
 
-abbrev pub TellsScene : Type 0
-TellsScene = (x : MemoryState) → IsLibrary x.drives.stacks (library_of x.drives.stacks) → Tells in_memory x (scene_seen x)
+abbrev pub TellsSessionView : Type 0
+TellsSessionView = (x : MemoryState) → IsLibrary x.drives.stacks (library_of x.drives.stacks) → Tells in_memory x (session_view_seen x)
 
 abbrev pub EndsUntroubled : Type 0
-EndsUntroubled = (stacks : Bool) (old new : MemoryState) (before : Scene) → IsAt in_memory old → Tells in_memory old before
+EndsUntroubled = (stacks : Bool) (old new : MemoryState) (before : SessionView) → IsAt in_memory old → Tells in_memory old before
     → IsTroubled NoTrouble stacks old → IsClosed in_memory old new → IsEnded old before new
 
 eq_or_ne : (m n : ℕ) → (m ≡ n) ⊎ (m ≢ n)
@@ -43,12 +43,12 @@ eq_or_ne m n = grind arith
 some_is : (a b : ℕ) → Some a ≡ Some b → a ≡ b
 some_is a b o = cc
 
-hall_is : {x y : TapeLibrary} {a b : List ℕ} {m n : List (Option Side)} → x ≡ y → a ≡ b → m ≡ n → hall x a m ≡ hall y b n
-hall_is {x} {y} {a} {b} {m} {n} e f g = ap (λ z. hall z a m) e ∙ ap (λ z. hall y z m) f ∙ ap (λ z. hall y b z) g
+server_is : {x y : TapeLibrary} {a b : List ℕ} {m n : List (Option ServerConnection)} → x ≡ y → a ≡ b → m ≡ n → server x a m ≡ server y b n
+server_is {x} {y} {a} {b} {m} {n} e f g = ap (λ z. server z a m) e ∙ ap (λ z. server y z m) f ∙ ap (λ z. server y b z) g
 
 -- a side that is not live has no end
-pub ended_none : (drives : MemoryDrives) (sides : List (Option RealSide)) (k : ℕ) → side_at sides k ≡ None → hall_of drives sides ≡ ended (hall_of drives sides) k
-ended_none drives sides k e = ap (ended_from (hall_of drives sides) k) (sym (side_map seen_side sides k ∙ ap (option_map seen_side) e))
+pub ended_none : (drives : MemoryDrives) (sides : List (Option RealServerConnection)) (k : ℕ) → side_at sides k ≡ None → server_of drives sides ≡ ended (server_of drives sides) k
+ended_none drives sides k e = ap (ended_from (server_of drives sides) k) (sym (side_map seen_side sides k ∙ ap (option_map seen_side) e))
 
 -- who held a drive that is held after a close
 still_held : (drive : Option ℕ) (d m n : ℕ) → word_after_close drive d m ≡ n → 0 < n → (m ≡ n) × (drive ≢ Some d)
@@ -62,30 +62,30 @@ calm_reel : (reel : Option TroubledTape) → MatchOption reel (Unit {0}) (λ r. 
 calm_reel None calm f = f
 calm_reel (Some r) calm f = f calm
 
-module _ (others : OthersStay) {drives drives' : MemoryDrives} {k : ℕ} {one after : MemoryDesk} (number : one.seat.number ≡ k)
+module _ (others : OthersStay) {drives drives' : MemoryDrives} {k : ℕ} {one after : MemorySessionState} (number : one.seat.number ≡ k)
     (at : IsAt in_memory (state drives one)) (at' : IsAt in_memory (state drives' after))
     (kept : KeepsDrives in_memory (state drives one) (state drives' after)) where
-  pub desk_stays : (n : ℕ) (desk : MemoryDesk) → n ≢ k → desk.seat.number ≡ n → IsAt in_memory (state drives desk) → IsAt in_memory (state drives' desk)
-  desk_stays n desk apart e a = others drives drives' one after desk at a (λ same. apart (sym e ∙ same ∙ number)) at' kept
+  pub session_state_stays : (n : ℕ) (session_state : MemorySessionState) → n ≢ k → session_state.seat.number ≡ n → IsAt in_memory (state drives session_state) → IsAt in_memory (state drives' session_state)
+  session_state_stays n session_state apart e a = others drives drives' one after session_state at a (λ same. apart (sym e ∙ same ∙ number)) at' kept
 
-  pub live_stays : (n : ℕ) (s : RealSide) → n ≢ k → IsLive drives n s → IsLive drives' n s
+  pub live_stays : (n : ℕ) (s : RealServerConnection) → n ≢ k → IsLive drives n s → IsLive drives' n s
   live_stays n s apart l = record {
-    at = desk_stays n s.session apart l.number l.at;
+    at = session_state_stays n s.session apart l.number l.at;
     number = l.number;
     readable = l.readable;
     calm = l.calm;
   }
 
-  idle_stays : (n : ℕ) (desk : MemoryDesk) → n ≢ k → IsIdleAt drives n desk → IsIdleAt drives' n desk
-  idle_stays n desk apart i = record { at = desk_stays n desk apart i.number i.at; number = i.number; idle = i.idle }
+  idle_stays : (n : ℕ) (session_state : MemorySessionState) → n ≢ k → IsIdleAt drives n session_state → IsIdleAt drives' n session_state
+  idle_stays n session_state apart i = record { at = session_state_stays n session_state apart i.number i.at; number = i.number; idle = i.idle }
 
   pub waiting_stays : (n : ℕ) (next : Next) → k ≤ n → drives'.holds.last ≡ drives.holds.last → IsNextWaiting drives n next → IsNextWaiting drives' n next
   waiting_stays n Nothing within same w = same ∙ w
-  waiting_stays n (Seat seat) within same w = (same ∙ w.0, idle_stays (n + 1) (idle_desk seat) (λ e. absurd (omega (arith, e, within))) w.1)
+  waiting_stays n (Seat seat) within same w = (same ∙ w.0, idle_stays (n + 1) (idle_session_state seat) (λ e. absurd (omega (arith, e, within))) w.1)
   waiting_stays n (Whole s) within same w = (same ∙ w.0, idle_stays (n + 1) s.session (λ e. absurd (omega (arith, e, within))) w.1, w.2)
 
-module _ (others : OthersStay) (scene : TellsScene) (ends : EndsUntroubled) {drives : MemoryDrives} {sides : List (Option RealSide)}
-    {next : Next} (h : IsHosting drives sides next) (k : ℕ) (s : RealSide) (is : side_at sides k ≡ Some s) (drives' : MemoryDrives) (after : MemoryDesk)
+module _ (others : OthersStay) (session_view : TellsSessionView) (ends : EndsUntroubled) {drives : MemoryDrives} {sides : List (Option RealServerConnection)}
+    {next : Next} (h : IsHosting drives sides next) (k : ℕ) (s : RealServerConnection) (is : side_at sides k ≡ Some s) (drives' : MemoryDrives) (after : MemorySessionState)
     (c : IsClosed in_memory (state drives s.session) (state drives' after)) where
   live : IsLive drives k s
   live = h.live k s is
@@ -95,11 +95,11 @@ module _ (others : OthersStay) (scene : TellsScene) (ends : EndsUntroubled) {dri
   calm_before (inl (inr f)) = absurd (omega (arith, f, h.lying))
   calm_before (inr f) = calm_reel (reel_of s.session.opened) live.calm f
 
-  left : IsEnded (state drives s.session) (scene_seen (state drives s.session)) (state drives' after)
-  left = ends false (state drives s.session) (state drives' after) (scene_seen (state drives s.session)) live.at (scene (state drives s.session) h.told)
+  left : IsEnded (state drives s.session) (session_view_seen (state drives s.session)) (state drives' after)
+  left = ends false (state drives s.session) (state drives' after) (session_view_seen (state drives s.session)) live.at (session_view (state drives s.session) h.told)
       record { online = live.calm; next = h.quiet; lying = h.lying } c
 
-  ended_live : (n : ℕ) (x : RealSide) → side_at (with_side_at sides k None) n ≡ Some x → IsLive drives' n x
+  ended_live : (n : ℕ) (x : RealServerConnection) → side_at (with_side_at sides k None) n ≡ Some x → IsLive drives' n x
   ended_live n x e = elim (eq_or_ne n k) [
     | inl same ↦ (
         let within = side_within sides k s is in
@@ -108,7 +108,7 @@ module _ (others : OthersStay) (scene : TellsScene) (ends : EndsUntroubled) {dri
     | inr apart ↦ live_stays others live.number live.at c.at c.kept n x apart (h.live n x (sym (side_other sides k n None apart) ∙ e))
   ]
 
-  ended_held : (d n : ℕ) → IsHeldBy drives'.holds d n → 0 < n → (x : RealSide) × (side_at (with_side_at sides k None) n ≡ Some x)
+  ended_held : (d n : ℕ) → IsHeldBy drives'.holds d n → 0 < n → (x : RealServerConnection) × (side_at (with_side_at sides k None) n ≡ Some x)
   ended_held d n holder x =
       let l : d < length drives.holds.numbers = subst (λ m. d < m) c.kept.same_holds holder.0 in
       let word = c.told d (slice_index drives.holds.numbers d) (l, refl) in
@@ -136,7 +136,7 @@ module _ (others : OthersStay) (scene : TellsScene) (ends : EndsUntroubled) {dri
     tidy = ended_tidy;
   }
 
-  pub ended_hall : hall_of drives' (with_side_at sides k None) ≡ ended (hall_of drives sides) k
-  ended_hall =
-      hall_is (sym left.tells.library.0) left.held (map_with seen_side sides k None)
-      ∙ ap (ended_from (hall_of drives sides) k) (sym (side_map seen_side sides k ∙ ap (option_map seen_side) is))
+  pub ended_server : server_of drives' (with_side_at sides k None) ≡ ended (server_of drives sides) k
+  ended_server =
+      server_is (sym left.tells.library.0) left.held (map_with seen_side sides k None)
+      ∙ ap (ended_from (server_of drives sides) k) (sym (side_map seen_side sides k ∙ ap (option_map seen_side) is))

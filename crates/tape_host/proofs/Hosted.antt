@@ -12,21 +12,21 @@ use Rattle.drives.specs.Holding.{newcomer, HoldsJust}
 use Rattle.drives.specs.Local.{Holders, holders, IsSeatOf, IsHeldBy}
 use Rattle.drives.specs.ListLibrary.{library_of, IsLibrary, troubled_in, StacksCanFail}
 use Rattle.rmt_server.specs.declared.access.Access.{Access}
-use Rattle.rmt_server.specs.declared.session.desk.Opened.{Opened}
+use Rattle.rmt_server.specs.declared.session.session_state.Opened.{Opened}
 use Rattle.rmt_server.specs.Session.PlainSession.{Idle}
 use Rattle.rmt_server.specs.State.{state, drive_of, IsAt}
 use Rattle.rmt_server.specs.Memory.{in_memory, session_seen, session_with}
 use Rattle.rmt_server.specs.TroubledServe.{drive_in}
-use Rattle.rmt_server.specs.Hall.{hall, side}
-use Rattle.tape_host.specs.declared.side.Side.{Side as RealSide}
+use Rattle.rmt_server.specs.ServerState.{server, side}
+use Rattle.tape_host.specs.declared.side.ServerConnection.{ServerConnection as RealServerConnection}
 use Rattle.tape_host.specs.declared.side.Next.{Next}
 use Rattle.tape_host.specs.declared.side.Next.TheVariants.{Nothing, Seat, Whole}
-use Rattle.tape_host.specs.Halls.{side_at, drive_open_by, IsHeldOnce, joined}
+use Rattle.tape_host.specs.Servers.{side_at, drive_open_by, IsHeldOnce, joined}
 use Rattle.tape_host.proofs.Lying.{lie_first, none_away}
 use Rattle.tape_host.proofs.Sides.{side_within, side_map, at_more}
 use Rattle.tape_host.proofs.Tidied.{joined_tidy, none_online}
 use Rattle.tape_host.specs.Lying.{AllLie, IsOnlineAt}
-use Rattle.tape_host.specs.Hosting.{MemoryDrives, MemoryDesk, seen_side, hall_of, is_nothing, IsIdle, IsMade, IsCalm, IsLive, IsIdleAt, IsNextWaiting, IsHosting}
+use Rattle.tape_host.specs.Hosting.{MemoryDrives, MemorySessionState, seen_side, server_of, is_nothing, IsIdle, IsMade, IsCalm, IsLive, IsIdleAt, IsNextWaiting, IsHosting}
 
 -- without connections no side is live
 none_live : {S : Type 0} (k : ℕ) (s : S) → side_at [] k ≡ Some s → ⊥
@@ -75,22 +75,22 @@ number_is n a e = grind (arith, nat_tests)
 is_number : (n a : ℕ) → n ≡ a → (n == a) ≡ true
 is_number n a e = grind (arith, nat_tests)
 
-module _ {drives : MemoryDrives} {sides : List (Option RealSide)} {next : Next} (h : IsHosting drives sides next) where
+module _ {drives : MemoryDrives} {sides : List (Option RealServerConnection)} {next : Next} (h : IsHosting drives sides next) where
   -- the holder of a drive is the number of the side that has it open
-  pub holds_open : (d k : ℕ) (s : RealSide) → IsLive drives k s → IsHeldBy drives.holds d k → drive_of s.session.opened ≡ Some d
+  pub holds_open : (d k : ℕ) (s : RealServerConnection) → IsLive drives k s → IsHeldBy drives.holds d k → drive_of s.session.opened ≡ Some d
   holds_open d k s live (l, e) = (live.at.held d).0 (live.at.own.agrees d l ∙ is_number (slice_index drives.holds.numbers d) s.session.seat.number (e ∙ sym live.number))
 
-  open_holds : (d k : ℕ) (s : RealSide) → IsLive drives k s → drive_of s.session.opened ≡ Some d → IsHeldBy drives.holds d k
+  open_holds : (d k : ℕ) (s : RealServerConnection) → IsLive drives k s → drive_of s.session.opened ≡ Some d → IsHeldBy drives.holds d k
   open_holds d k s live o =
       let l : d < length drives.holds.numbers = omega (arith, live.at.below d o, h.paired) in
       (l, number_is (slice_index drives.holds.numbers d) s.session.seat.number (sym (live.at.own.agrees d l) ∙ (live.at.held d).1 o) ∙ live.number)
 
-  open_back : (d k : ℕ) (side : Option RealSide) → side_at sides k ≡ side → drive_open_by (option_map seen_side side) ≡ Some d → IsHeldBy drives.holds d k
+  open_back : (d k : ℕ) (side : Option RealServerConnection) → side_at sides k ≡ side → drive_open_by (option_map seen_side side) ≡ Some d → IsHeldBy drives.holds d k
   open_back d k None e o = absurd cc
   open_back d k (Some s) e o = open_holds d k s (h.live k s e) (sym (seen_drive s.session.opened) ∙ o)
 
   -- one holder
-  pub held_once : IsHeldOnce (hall_of drives sides)
+  pub held_once : IsHeldOnce (server_of drives sides)
   held_once d k x = (
     λ holder. (
         let found = h.held d k holder x in
@@ -108,8 +108,8 @@ module _ {drives : MemoryDrives} {sides : List (Option RealSide)} {next : Next} 
 
 -- what the law of more seats says
 abbrev pub KeepsSeats : Type 0
-KeepsSeats = (old : MemoryDrives) (desk : MemoryDesk) (last : ℕ) → IsAt in_memory (state old desk) → old.holds.last ≤ last
-    → IsAt in_memory (state (record old { holds = holders old.holds.numbers last }) desk)
+KeepsSeats = (old : MemoryDrives) (session_state : MemorySessionState) (last : ℕ) → IsAt in_memory (state old session_state) → old.holds.last ≤ last
+    → IsAt in_memory (state (record old { holds = holders old.holds.numbers last }) session_state)
 
 pub nothing_is : (next : Next) → is_nothing next ≡ true → next ≡ Nothing
 nothing_is Nothing e = refl
@@ -117,7 +117,7 @@ nothing_is (Seat seat) e = absurd cc
 nothing_is (Whole s) e = absurd cc
 
 -- the next connection got a seat
-pub seated_hosting : KeepsSeats → (drives : MemoryDrives) (sides : List (Option RealSide)) → IsHosting drives sides Nothing → (seat : View) (new : Holders)
+pub seated_hosting : KeepsSeats → (drives : MemoryDrives) (sides : List (Option RealServerConnection)) → IsHosting drives sides Nothing → (seat : View) (new : Holders)
     → new ≡ holders drives.holds.numbers (drives.holds.last + 1) → seat ≡ newcomer (drives.holds.last + 1) → IsSeatOf new seat → HoldsJust seat None
     → IsHosting (record { holds = new; stacks = drives.stacks }) sides (Seat seat)
 seated_hosting more drives sides h seat new e number own idle =
@@ -151,14 +151,14 @@ seated_hosting more drives sides h seat new e number own idle =
     }) own
 
 -- the next connection's side was made of its seat
-pub made_hosting : (drives : MemoryDrives) (sides : List (Option RealSide)) (old next : Next) → IsHosting drives sides old → IsMade old next
+pub made_hosting : (drives : MemoryDrives) (sides : List (Option RealServerConnection)) (old next : Next) → IsHosting drives sides old → IsMade old next
     → IsHosting drives sides next
 made_hosting drives sides Nothing next h m = subst (IsHosting drives sides) (sym m) h
 made_hosting drives sides (Seat seat) next h (inl e) = subst (IsHosting drives sides) (sym e) h
 made_hosting drives sides (Seat seat) next h (inr (s, e, fresh)) = subst (IsHosting drives sides) (sym e) record {
   live = h.live;
   held = h.held;
-  waiting = (h.waiting.0, subst (λ desk. IsIdleAt drives (length sides + 1) desk) (sym fresh.session) h.waiting.1, fresh.reader);
+  waiting = (h.waiting.0, subst (λ session_state. IsIdleAt drives (length sides + 1) session_state) (sym fresh.session) h.waiting.1, fresh.reader);
   told = h.told;
   paired = h.paired;
   quiet = h.quiet;
@@ -184,7 +184,7 @@ at_push (y ∷ ys) s (suc i) x e = elim (at_push ys s i x e) [
   | inr last ↦ inr (ap suc last.0, last.1)
 ]
 
-module _ {drives : MemoryDrives} {sides : List (Option RealSide)} {s : RealSide} (h : IsHosting drives sides (Whole s)) where
+module _ {drives : MemoryDrives} {sides : List (Option RealServerConnection)} {s : RealServerConnection} (h : IsHosting drives sides (Whole s)) where
   -- the side that was admitted is live
   admitted : (k : ℕ) → k ≡ length sides + 1 → IsLive drives k s
   admitted k e = record {
@@ -194,14 +194,14 @@ module _ {drives : MemoryDrives} {sides : List (Option RealSide)} {s : RealSide}
     calm = subst IsCalm (sym h.waiting.1.idle) tt;
   }
 
-  joined_live : (k : ℕ) (x : RealSide) → side_at (sides ++ Some s ∷ []) k ≡ Some x → IsLive drives k x
+  joined_live : (k : ℕ) (x : RealServerConnection) → side_at (sides ++ Some s ∷ []) k ≡ Some x → IsLive drives k x
   joined_live zero x e = absurd cc
   joined_live (suc i) x e = elim (at_push sides s i x e) [
     | inl before ↦ h.live (suc i) x before
     | inr last ↦ subst (IsLive drives (suc i)) last.1 (admitted (suc i) (omega (arith, last.0)))
   ]
 
-  still_live : (k : ℕ) (x : RealSide) → side_at sides k ≡ Some x → side_at (sides ++ Some s ∷ []) k ≡ Some x
+  still_live : (k : ℕ) (x : RealServerConnection) → side_at sides k ≡ Some x → side_at (sides ++ Some s ∷ []) k ≡ Some x
   still_live zero x e = absurd cc
   still_live (suc i) x e = at_more sides s i x e
 
@@ -230,9 +230,9 @@ unread_nothing r u =
     ap (λ kept. held kept r.dropped) k ∙ ap (held []) v.0
 
 -- it is seen as one connection more
-pub joined_hall : (drives : MemoryDrives) (sides : List (Option RealSide)) (s : RealSide) → IsHosting drives sides (Whole s)
-    → hall_of drives (sides ++ Some s ∷ []) ≡ joined (hall_of drives sides)
-joined_hall drives sides s h =
+pub joined_server : (drives : MemoryDrives) (sides : List (Option RealServerConnection)) (s : RealServerConnection) → IsHosting drives sides (Whole s)
+    → server_of drives (sides ++ Some s ∷ []) ≡ joined (server_of drives sides)
+joined_server drives sides s h =
     let fresh : seen_side s ≡ side (held [] 0) Idle = ap (λ r. side r (session_seen s.session.opened)) (unread_nothing s.reader h.waiting.2) ∙ ap (λ o. side (held [] 0) (session_seen o)) h.waiting.1.idle in
-    ap (λ xs. hall (library_of drives.stacks) drives.holds.numbers xs)
+    ap (λ xs. server (library_of drives.stacks) drives.holds.numbers xs)
     (map-append (option_map seen_side) sides (Some s ∷ []) ∙ ap (λ x. map (option_map seen_side) sides ++ Some x ∷ []) fresh)

@@ -5,16 +5,16 @@ use Rattle.std.proofs.lemmas.Option.{same_Some}
 use Rattle.rmt_wire.specs.RequestReader.{RequestHeld, Unread}
 use Rattle.drives.specs.Local.{IsHeldBy}
 use Rattle.drives.specs.ListLibrary.{library_of}
-use Rattle.rmt_server.specs.Hall.{hall}
-use Rattle.tape_host.specs.declared.side.Side.{Side as RealSide}
+use Rattle.rmt_server.specs.ServerState.{server}
+use Rattle.tape_host.specs.declared.side.ServerConnection.{ServerConnection as RealServerConnection}
 use Rattle.tape_host.specs.declared.side.Next.{Next}
-use Rattle.tape_host.specs.Halls.{Hosted, hosted, side_at, with_side_at, TakesIn, IsPiecePushed}
-use Rattle.tape_host.specs.Hosting.{MemoryDrives, seen_side, hall_of, IsLive, IsNextWaiting, IsHosting}
+use Rattle.tape_host.specs.Servers.{Hosted, hosted, side_at, with_side_at, TakesIn, IsPiecePushed}
+use Rattle.tape_host.specs.Hosting.{MemoryDrives, seen_side, server_of, IsLive, IsNextWaiting, IsHosting}
 use Rattle.tape_host.proofs.Tidied.{side_tidy}
 use Rattle.tape_host.proofs.Sides.{side_within, side_other, side_same, side_map, length_with, map_with}
 
 -- a side with another reader
-abbrev pub with_reader : RealSide → RequestHeld → RealSide
+abbrev pub with_reader : RealServerConnection → RequestHeld → RealServerConnection
 with_reader s reader = record { reader = reader; session = s.session }
 
 pub put_back : {S : Type 0} (sides : List (Option S)) (k : ℕ) (x y : Option S) → with_side_at (with_side_at sides k x) k y ≡ with_side_at sides k y
@@ -24,7 +24,7 @@ put_back sides (suc i) x y = set-set sides i x y
 eq_or_ne : (m n : ℕ) → (m ≡ n) ⊎ (m ≢ n)
 eq_or_ne m n = grind arith
 
-module _ {drives : MemoryDrives} {sides : List (Option RealSide)} {next : Next} (h : IsHosting drives sides next) (k : ℕ) (s : RealSide)
+module _ {drives : MemoryDrives} {sides : List (Option RealServerConnection)} {next : Next} (h : IsHosting drives sides next) (k : ℕ) (s : RealServerConnection)
     (is : side_at sides k ≡ Some s) (reader : RequestHeld) (readable : (bytes : List ℕ) × Unread reader bytes) where
   here : side_at (with_side_at sides k (Some (with_reader s reader))) k ≡ Some (with_reader s reader)
   here = let within = side_within sides k s is in side_same sides k (Some (with_reader s reader)) within.0 within.1
@@ -32,7 +32,7 @@ module _ {drives : MemoryDrives} {sides : List (Option RealSide)} {next : Next} 
   read_live : IsLive drives k (with_reader s reader)
   read_live = let l = h.live k s is in record { at = l.at; number = l.number; readable = readable; calm = l.calm }
 
-  pushed_live : (n : ℕ) (x : RealSide) → side_at (with_side_at sides k (Some (with_reader s reader))) n ≡ Some x → IsLive drives n x
+  pushed_live : (n : ℕ) (x : RealServerConnection) → side_at (with_side_at sides k (Some (with_reader s reader))) n ≡ Some x → IsLive drives n x
   pushed_live n x e = elim (eq_or_ne n k) [
     | inl same ↦ (
         let found = subst (λ m. side_at (with_side_at sides k (Some (with_reader s reader))) m ≡ Some x) same e in
@@ -41,7 +41,7 @@ module _ {drives : MemoryDrives} {sides : List (Option RealSide)} {next : Next} 
   ]
 
   pushed_held : (d n : ℕ) → IsHeldBy drives.holds d n → 0 < n
-      → (x : RealSide) × (side_at (with_side_at sides k (Some (with_reader s reader))) n ≡ Some x)
+      → (x : RealServerConnection) × (side_at (with_side_at sides k (Some (with_reader s reader))) n ≡ Some x)
   pushed_held d n holder x = elim (eq_or_ne n k) [
     | inl same ↦ (with_reader s reader, ap (side_at (with_side_at sides k (Some (with_reader s reader)))) same ∙ here)
     | inr apart ↦ (let found = h.held d n holder x in (found.0, side_other sides k n (Some (with_reader s reader)) apart ∙ found.1))
@@ -60,16 +60,16 @@ module _ {drives : MemoryDrives} {sides : List (Option RealSide)} {next : Next} 
   }
 
 -- it is seen as a piece that was taken in
-pub pushed_seen : (drives : MemoryDrives) (sides : List (Option RealSide)) (ready : Bool) (k : ℕ) (s : RealSide) (piece : List ℕ) (count : ℕ) (reader : RequestHeld) (new : Hosted)
+pub pushed_seen : (drives : MemoryDrives) (sides : List (Option RealServerConnection)) (ready : Bool) (k : ℕ) (s : RealServerConnection) (piece : List ℕ) (count : ℕ) (reader : RequestHeld) (new : Hosted)
     → side_at sides k ≡ Some s → TakesIn s.reader piece count reader
-    → new ≡ hosted (hall_of drives (with_side_at sides k (Some (with_reader s reader)))) ready
-    → IsPiecePushed (hosted (hall_of drives sides) ready) k piece (side_at (map (option_map seen_side) sides) k) count new
+    → new ≡ hosted (server_of drives (with_side_at sides k (Some (with_reader s reader)))) ready
+    → IsPiecePushed (hosted (server_of drives sides) ready) k piece (side_at (map (option_map seen_side) sides) k) count new
 pushed_seen drives sides ready k s piece count reader new is takes e =
-    subst (λ o. IsPiecePushed (hosted (hall_of drives sides) ready) k piece o count new) (sym (side_map seen_side sides k ∙ ap (option_map seen_side) is))
-    (reader, takes, e ∙ ap (λ xs. hosted (hall (library_of drives.stacks) drives.holds.numbers xs) ready) (map_with seen_side sides k (Some (with_reader s reader))))
+    subst (λ o. IsPiecePushed (hosted (server_of drives sides) ready) k piece o count new) (sym (side_map seen_side sides k ∙ ap (option_map seen_side) is))
+    (reader, takes, e ∙ ap (λ xs. hosted (server (library_of drives.stacks) drives.holds.numbers xs) ready) (map_with seen_side sides k (Some (with_reader s reader))))
 
-pub pushed_none : (drives : MemoryDrives) (sides : List (Option RealSide)) (ready : Bool) (k : ℕ) (piece : List ℕ) (new : Hosted)
-    → side_at sides k ≡ None → new ≡ hosted (hall_of drives sides) ready
-    → IsPiecePushed (hosted (hall_of drives sides) ready) k piece (side_at (map (option_map seen_side) sides) k) 0 new
+pub pushed_none : (drives : MemoryDrives) (sides : List (Option RealServerConnection)) (ready : Bool) (k : ℕ) (piece : List ℕ) (new : Hosted)
+    → side_at sides k ≡ None → new ≡ hosted (server_of drives sides) ready
+    → IsPiecePushed (hosted (server_of drives sides) ready) k piece (side_at (map (option_map seen_side) sides) k) 0 new
 pushed_none drives sides ready k piece new is e =
-    subst (λ o. IsPiecePushed (hosted (hall_of drives sides) ready) k piece o 0 new) (sym (side_map seen_side sides k ∙ ap (option_map seen_side) is)) (refl, e)
+    subst (λ o. IsPiecePushed (hosted (server_of drives sides) ready) k piece o 0 new) (sym (side_map seen_side sides k ∙ ap (option_map seen_side) is)) (refl, e)

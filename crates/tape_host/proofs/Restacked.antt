@@ -8,12 +8,12 @@ use Rattle.drives.specs.ListLibrary.{ListLibrary, library_of, IsLibrary, trouble
 use Rattle.drives.specs.Stacking.{HasLatched}
 use Rattle.rmt_server.specs.State.{state, drive_of, IsAt}
 use Rattle.rmt_server.specs.Memory.{in_memory}
-use Rattle.rmt_server.specs.Hall.{hall}
-use Rattle.tape_host.specs.declared.side.Side.{Side as RealSide}
+use Rattle.rmt_server.specs.ServerState.{server}
+use Rattle.tape_host.specs.declared.side.ServerConnection.{ServerConnection as RealServerConnection}
 use Rattle.tape_host.specs.declared.side.Next.{Next}
 use Rattle.tape_host.specs.declared.side.Next.TheVariants.{Nothing, Seat, Whole}
-use Rattle.tape_host.specs.Halls.{hosted, restacked}
-use Rattle.tape_host.specs.Hosting.{MemoryDrives, MemoryDesk, idle_desk, seen_side, hall_of, IsIdleAt, IsNextWaiting, IsHosting}
+use Rattle.tape_host.specs.Servers.{hosted, restacked}
+use Rattle.tape_host.specs.Hosting.{MemoryDrives, MemorySessionState, idle_session_state, seen_side, server_of, IsIdleAt, IsNextWaiting, IsHosting}
 use Rattle.tape_host.specs.Lying.{LieBut, IsOnlineAt}
 use Rattle.tape_host.proofs.Lying.{lie_arranged}
 use Rattle.tape_host.proofs.Tidied.{none_online}
@@ -21,34 +21,34 @@ use Rattle.tape_host.proofs.Hosted.{false_unless, none_unless}
 
 -- what the laws of sessions say
 abbrev pub LeavesFree : Type 0
-LeavesFree = (drives : MemoryDrives) (desk : MemoryDesk) (d : ℕ) → IsAt in_memory (state drives desk) → IsHeldBy drives.holds d 0 → drive_of desk.opened ≢ Some d
+LeavesFree = (drives : MemoryDrives) (session_state : MemorySessionState) (d : ℕ) → IsAt in_memory (state drives session_state) → IsHeldBy drives.holds d 0 → drive_of session_state.opened ≢ Some d
 
 abbrev pub StaysElsewhere : Type 0
-StaysElsewhere = (old new : MemoryDrives) (desk : MemoryDesk) (d : ℕ) → IsAt in_memory (state old desk) → drive_of desk.opened ≢ Some d
-    → IsSeatOf new.holds desk.seat → length new.holds.numbers ≡ length old.holds.numbers
+StaysElsewhere = (old new : MemoryDrives) (session_state : MemorySessionState) (d : ℕ) → IsAt in_memory (state old session_state) → drive_of session_state.opened ≢ Some d
+    → IsSeatOf new.holds session_state.seat → length new.holds.numbers ≡ length old.holds.numbers
     → length new.stacks.library.drives ≡ length old.stacks.library.drives
-    → ((e : ℕ) → e ≢ d → HasLatched IsLibrary old.stacks e → HasLatched IsLibrary new.stacks e) → IsAt in_memory (state new desk)
+    → ((e : ℕ) → e ≢ d → HasLatched IsLibrary old.stacks e → HasLatched IsLibrary new.stacks e) → IsAt in_memory (state new session_state)
 
 cannot : (stacks : ListLibrary) → stacks.trouble ≡ false → troubled_in stacks.library ≡ 0 → StacksCanFail stacks → ⊥
 cannot stacks quiet lying (inl f) = absurd cc
 cannot stacks quiet lying (inr f) = absurd (omega (arith, f, lying))
 
-module _ (free : LeavesFree) (elsewhere : StaysElsewhere) {drives : MemoryDrives} {sides : List (Option RealSide)} {next : Next}
+module _ (free : LeavesFree) (elsewhere : StaysElsewhere) {drives : MemoryDrives} {sides : List (Option RealServerConnection)} {next : Next}
     (h : IsHosting drives sides next) (d : ℕ) (none : IsHeldBy drives.holds d 0) (stacks : ListLibrary)
     (same : length stacks.library.drives ≡ length drives.stacks.library.drives)
     (others : (e : ℕ) → e ≢ d → HasLatched IsLibrary drives.stacks e → HasLatched IsLibrary stacks e) where
   abbrev after : MemoryDrives
   after = record { holds = drives.holds; stacks = stacks }
 
-  desk_stays : (desk : MemoryDesk) → IsAt in_memory (state drives desk) → IsAt in_memory (state after desk)
-  desk_stays desk at = elsewhere drives after desk d at (free drives desk d at none) at.own refl same others
+  session_state_stays : (session_state : MemorySessionState) → IsAt in_memory (state drives session_state) → IsAt in_memory (state after session_state)
+  session_state_stays session_state at = elsewhere drives after session_state d at (free drives session_state d at none) at.own refl same others
 
-  idle_stays : (n : ℕ) (desk : MemoryDesk) → IsIdleAt drives n desk → IsIdleAt after n desk
-  idle_stays n desk i = record { at = desk_stays desk i.at; number = i.number; idle = i.idle }
+  idle_stays : (n : ℕ) (session_state : MemorySessionState) → IsIdleAt drives n session_state → IsIdleAt after n session_state
+  idle_stays n session_state i = record { at = session_state_stays session_state i.at; number = i.number; idle = i.idle }
 
   waiting_stays : (n : ℕ) (x : Next) → IsNextWaiting drives n x → IsNextWaiting after n x
   waiting_stays n Nothing w = w
-  waiting_stays n (Seat seat) w = (w.0, idle_stays (n + 1) (idle_desk seat) w.1)
+  waiting_stays n (Seat seat) w = (w.0, idle_stays (n + 1) (idle_session_state seat) w.1)
   waiting_stays n (Whole s) w = (w.0, idle_stays (n + 1) s.session w.1, w.2)
 
   -- no side is online at the drive
@@ -69,7 +69,7 @@ module _ (free : LeavesFree) (elsewhere : StaysElsewhere) {drives : MemoryDrives
   restacked_hosting names result order told quiet =
       let calm : StacksCanFail drives.stacks → ⊥ = cannot drives.stacks h.quiet h.lying in
       record {
-        live = λ k s e. (let l = h.live k s e in record { at = desk_stays s.session l.at; number = l.number; readable = l.readable; calm = l.calm });
+        live = λ k s e. (let l = h.live k s e in record { at = session_state_stays s.session l.at; number = l.number; readable = l.readable; calm = l.calm });
         held = h.held;
         waiting = waiting_stays (length sides) next h.waiting;
         told = told;
@@ -80,9 +80,9 @@ module _ (free : LeavesFree) (elsewhere : StaysElsewhere) {drives : MemoryDrives
       }
 
 -- the order is seen, or nothing where it was refused
-pub restacked_seen : {U : Type 0} (drives : MemoryDrives) (stacks : ListLibrary) (sides : List (Option RealSide)) (ready : Bool) (d : ℕ) (names : List (List ℕ)) (result : Result U DriveFault)
+pub restacked_seen : {U : Type 0} (drives : MemoryDrives) (stacks : ListLibrary) (sides : List (Option RealServerConnection)) (ready : Bool) (d : ℕ) (names : List (List ℕ)) (result : Result U DriveFault)
     → MatchResult result (λ _. library_of stacks ≡ arranged (library_of drives.stacks) d names) (λ _. library_of stacks ≡ library_of drives.stacks)
-    → MatchResult result (λ _. hosted (hall_of (record { holds = drives.holds; stacks = stacks }) sides) ready ≡ hosted (restacked (hall_of drives sides) d names) ready)
-    (λ _. hosted (hall_of (record { holds = drives.holds; stacks = stacks }) sides) ready ≡ hosted (hall_of drives sides) ready)
-restacked_seen drives stacks sides ready d names (Ok x) e = ap (λ s. hosted (hall s drives.holds.numbers (map (option_map seen_side) sides)) ready) e
-restacked_seen drives stacks sides ready d names (Err why) e = ap (λ s. hosted (hall s drives.holds.numbers (map (option_map seen_side) sides)) ready) e
+    → MatchResult result (λ _. hosted (server_of (record { holds = drives.holds; stacks = stacks }) sides) ready ≡ hosted (restacked (server_of drives sides) d names) ready)
+    (λ _. hosted (server_of (record { holds = drives.holds; stacks = stacks }) sides) ready ≡ hosted (server_of drives sides) ready)
+restacked_seen drives stacks sides ready d names (Ok x) e = ap (λ s. hosted (server s drives.holds.numbers (map (option_map seen_side) sides)) ready) e
+restacked_seen drives stacks sides ready d names (Err why) e = ap (λ s. hosted (server s drives.holds.numbers (map (option_map seen_side) sides)) ready) e

@@ -1,7 +1,7 @@
 -- Sides of connections at their places.
 use Rattle.std.proofs.Common.{◌≡◌, ◌≢◌, ◌⊎◌, ℕ, zero, suc, ◌<◌, ◌≤◌, List, [], ◌∷◌, ◌++◌, length, map, slice_index_or, option_map, Option, Some, None, refl, ap, subst, inl, inr, arith}
 use Rattle.std.proofs.lemmas.List.{get_or_past, get_or-set_same, get_or-set_other, length-set, map-set, set-get_or}
-use Rattle.tape_host.specs.Halls.{side_at, with_side_at}
+use Rattle.tape_host.specs.Servers.{side_at, with_side_at}
 
 le_or_lt : (m n : ℕ) → (m ≤ n) ⊎ (n < m)
 le_or_lt m n = grind arith

@@ -12,18 +12,18 @@ use Rattle.drives.specs.declared.fault.DriveFault.TheVariants.{NoSuchDrive, Busy
 use Rattle.drives.specs.TapeLibrary.{TapeLibrary, kept_reel}
 use Rattle.drives.specs.Opening.{OpenStep}
 use Rattle.rmt_server.specs.declared.access.Access.{Access}
-use Rattle.rmt_server.specs.declared.session.desk.Opened.{Opened}
+use Rattle.rmt_server.specs.declared.session.session_state.Opened.{Opened}
 use Rattle.rmt_server.specs.Access.{access_of}
 use Rattle.rmt_server.specs.Refusals.{refused}
-use Rattle.rmt_server.specs.Session.{PlainReel, PlainSession, Scene, status_of, refusal, closed, closed_library, session_after, is_offline, MovesAs}
+use Rattle.rmt_server.specs.Session.{PlainReel, PlainSession, SessionView, status_of, refusal, closed, closed_library, session_after, is_offline, MovesAs}
 use Rattle.rmt_server.specs.Session.PlainSession.{Idle, Offline, Online}
 use Rattle.rmt_server.specs.State.{drive_of}
 use Rattle.rmt_server.specs.Memory.{session_with, session_seen}
 use Rattle.rmt_server.specs.TroubledServe.{drive_in, with_holder, TroubledReelStep, TroubledMoveStep, TroubledOpStep, TroubledDoneStep, TroubledOpens, TroubledServeStep}
-use Rattle.rmt_server.specs.Hall.{Side}
+use Rattle.rmt_server.specs.ServerState.{ServerConnection}
 use Rattle.drives.specs.ListLibrary.{is_set}
-use Rattle.tape_host.specs.declared.side.Side.{Side as RealSide}
-use Rattle.tape_host.specs.Halls.{side_at, with_side_at}
+use Rattle.tape_host.specs.declared.side.ServerConnection.{ServerConnection as RealServerConnection}
+use Rattle.tape_host.specs.Servers.{side_at, with_side_at}
 use Rattle.tape_host.specs.Lying.{LieBut, online_drive_in, online_by, IsOnlineAt}
 use Rattle.tape_host.specs.Hosting.{seen_side}
 use Rattle.tape_host.proofs.Lying.{lie_laid, lie_latched, lie_moved}
@@ -53,8 +53,8 @@ module _ (others : ℕ → Type 0) where
   closed_fits s (Online drive access reel) h =
       lie_laid s drive (Either (Some drive) others) (Either None others) h (given_up drive) (kept_reel (entries_of reel.tape) reel.capacity)
 
-  same_fits : (v w : Scene) → w ≡ v → Fits v.library v.session → Fits w.library w.session
-  same_fits v w same h = subst (λ (x : Scene). Fits x.library x.session) (sym same) h
+  same_fits : (v w : SessionView) → w ≡ v → Fits v.library v.session → Fits w.library w.session
+  same_fits v w same h = subst (λ (x : SessionView). Fits x.library x.session) (sym same) h
 
   same_library : (s now : TapeLibrary) → now ≡ s → Fits s Idle → Fits now Idle
   same_library s now same h = subst (λ (x : TapeLibrary). Fits x Idle) (sym same) h
@@ -71,42 +71,42 @@ module _ (others : ℕ → Type 0) where
   latched_fits device asked access (Err OutOfMemory) s now step h = same_library s now step.3.1 h
   latched_fits device asked access (Err NameTaken) s now step h = same_library s now step.3.1 h
 
-  opened_fits : (trouble : Trouble) (holders : List ℕ) (v : Scene) (device : List ℕ) (access : Option Access) (reply : PlainReply) (w : Scene)
+  opened_fits : (trouble : Trouble) (holders : List ℕ) (v : SessionView) (device : List ℕ) (access : Option Access) (reply : PlainReply) (w : SessionView)
       → v.session ≡ Idle → TroubledOpens trouble holders v device access reply w → Fits v.library v.session → Fits w.library w.session
   opened_fits trouble holders v device None reply w idle step h = same_fits v w step.1 h
   opened_fits trouble holders v device (Some access) reply w idle step h =
       subst (Fits w.library) (sym step.5) (latched_fits device step.1 access step.0 v.library w.library step.2 (subst (Fits v.library) idle h))
 
-  reel_fits : (trouble : Trouble) (v : Scene) (request : PlainRequest) (reply : PlainReply) (w : Scene) → TroubledReelStep trouble v request reply w
+  reel_fits : (trouble : Trouble) (v : SessionView) (request : PlainRequest) (reply : PlainReply) (w : SessionView) → TroubledReelStep trouble v request reply w
       → Fits v.library v.session → Fits w.library w.session
   reel_fits trouble v request reply w (drive, access, reel, answer, t, is, step, told, after) h =
-      subst (λ (x : Scene). Fits x.library x.session) (sym after) (subst (Fits v.library) is h)
+      subst (λ (x : SessionView). Fits x.library x.session) (sym after) (subst (Fits v.library) is h)
 
-  moved_fits : (troubled : Bool) (drive : ℕ) (access : Access) (reel : PlainReel) (result : Result Unit DriveFault) (s : TapeLibrary) (w : Scene)
+  moved_fits : (troubled : Bool) (drive : ℕ) (access : Access) (reel : PlainReel) (result : Result Unit DriveFault) (s : TapeLibrary) (w : SessionView)
       → MovesAs troubled drive access reel result s w → Fits s (Online drive access reel) → Fits w.library w.session
   moved_fits troubled drive access reel (Ok done) s w moved h =
-      subst (λ (x : Scene). Fits x.library x.session) (sym moved)
+      subst (λ (x : SessionView). Fits x.library x.session) (sym moved)
       (lie_moved s drive (Either (Some drive) others) (Either None others) h (given_up drive) (kept_reel (entries_of reel.tape) reel.capacity))
   moved_fits troubled drive access reel (Err why) s w moved h =
       subst (Fits w.library) (sym moved.2) (subst (λ (x : TapeLibrary). Fits x (Online drive access reel)) (sym moved.1.0) h)
 
-  move_fits : (trouble : Trouble) (v : Scene) (count : ℕ) (reply : PlainReply) (w : Scene) → TroubledMoveStep trouble v count reply w
+  move_fits : (trouble : Trouble) (v : SessionView) (count : ℕ) (reply : PlainReply) (w : SessionView) → TroubledMoveStep trouble v count reply w
       → Fits v.library v.session → Fits w.library w.session
   move_fits trouble v count reply w (drive, access, reel, result, is, cause, told, moved) h =
       moved_fits (is_set trouble) drive access reel result v.library w moved (subst (Fits v.library) is h)
 
-  op_fits : (off : Bool) (trouble : Trouble) (v : Scene) (op count : ℕ) (reply : PlainReply) (w : Scene) → TroubledOpStep off trouble v op count reply w
+  op_fits : (off : Bool) (trouble : Trouble) (v : SessionView) (op count : ℕ) (reply : PlainReply) (w : SessionView) → TroubledOpStep off trouble v op count reply w
       → Fits v.library v.session → Fits w.library w.session
   op_fits true trouble v op count reply w step h = move_fits trouble v count reply w step h
   op_fits false trouble v op count reply w step h = reel_fits trouble v (Op op count) reply w step h
 
   -- a request is refused, or is done so
-  unless_refused : {R : Type 0} (o : Option R) (why : R → PlainReply) (Done : Type 0) (v : Scene) (reply : PlainReply) (w : Scene) → MatchOption o Done (λ r. (reply ≡ why r) × (w ≡ v))
+  unless_refused : {R : Type 0} (o : Option R) (why : R → PlainReply) (Done : Type 0) (v : SessionView) (reply : PlainReply) (w : SessionView) → MatchOption o Done (λ r. (reply ≡ why r) × (w ≡ v))
       → (Done → Fits w.library w.session) → Fits v.library v.session → Fits w.library w.session
   unless_refused None why Done v reply w m done h = done m
   unless_refused (Some r) why Done v reply w m done h = same_fits v w m.1 h
 
-  pub served_fits : (trouble : Trouble) (holders : List ℕ) (v : Scene) (request : PlainRequest) (reply : PlainReply) (w : Scene)
+  pub served_fits : (trouble : Trouble) (holders : List ℕ) (v : SessionView) (request : PlainRequest) (reply : PlainReply) (w : SessionView)
       → TroubledServeStep trouble holders v request reply w → Fits v.library v.session → Fits w.library w.session
   served_fits trouble holders v (Open device mode) reply w step h =
       opened_fits trouble (with_holder (drive_in v.session) 0 holders) (closed v) device (access_of mode) reply w refl step (closed_fits v.library v.session h)
@@ -132,16 +132,16 @@ eq_or_ne : (m n : ℕ) → (m ≡ n) ⊎ (m ≢ n)
 eq_or_ne m n = grind arith
 
 -- the side of a connection other than k has that drive open with its reel
-abbrev pub OnlineBeside : List (Option Side) → ℕ → ℕ → Type 0
+abbrev pub OnlineBeside : List (Option ServerConnection) → ℕ → ℕ → Type 0
 OnlineBeside sides k d = (j : ℕ) × (j ≢ k) × (online_by (side_at sides j) ≡ Some d)
 
-by_one : (sides : List (Option Side)) (k d : ℕ) (own : Option Side) → side_at sides k ≡ own → IsOnlineAt sides d → Either (online_by own) (OnlineBeside sides k) d
+by_one : (sides : List (Option ServerConnection)) (k d : ℕ) (own : Option ServerConnection) → side_at sides k ≡ own → IsOnlineAt sides d → Either (online_by own) (OnlineBeside sides k) d
 by_one sides k d own is (j, online) = elim (eq_or_ne j k) [
   | inl same ↦ inl (sym (ap online_by (ap (side_at sides) same ∙ is)) ∙ online)
   | inr apart ↦ inr (j, apart, online)
 ]
 
-by_all : (sides : List (Option Side)) (k d : ℕ) (x : Option Side) → 1 ≤ k → k ≤ length sides → Either (online_by x) (OnlineBeside sides k) d → IsOnlineAt (with_side_at sides k x) d
+by_all : (sides : List (Option ServerConnection)) (k d : ℕ) (x : Option ServerConnection) → 1 ≤ k → k ≤ length sides → Either (online_by x) (OnlineBeside sides k) d → IsOnlineAt (with_side_at sides k x) d
 by_all sides k d x first last (inl own) = (k, ap online_by (side_same sides k x first last) ∙ own)
 by_all sides k d x first last (inr (j, apart, online)) = (j, ap online_by (side_other sides k j x apart) ∙ online)
 
@@ -150,7 +150,7 @@ pub lie_while : {s : TapeLibrary} (before after : ℕ → Type 0) → LieBut s b
 lie_while before after h more = record { bin = h.bin; below = h.below; first = λ d away. more d (h.first d away) }
 
 -- what one side did
-pub side_tidy : (sides : List (Option RealSide)) (k : ℕ) (s : RealSide) → side_at sides k ≡ Some s → (x : Option RealSide) (old new : TapeLibrary)
+pub side_tidy : (sides : List (Option RealServerConnection)) (k : ℕ) (s : RealServerConnection) → side_at sides k ≡ Some s → (x : Option RealServerConnection) (old new : TapeLibrary)
     → LieBut old (IsOnlineAt (map (option_map seen_side) sides))
     → (LieBut old (Either (online_drive_in (session_seen s.session.opened)) (OnlineBeside (map (option_map seen_side) sides) k))
     → LieBut new (Either (online_by (option_map seen_side x)) (OnlineBeside (map (option_map seen_side) sides) k)))
@@ -164,16 +164,16 @@ side_tidy sides k s is x old new h step =
     (lie_while (Either (online_by (option_map seen_side x)) (OnlineBeside all k)) (IsOnlineAt (with_side_at all k (option_map seen_side x))) (step out)
     (λ d. by_all all k d (option_map seen_side x) within.0 within.1))
 
-online_some : (o : Option Side) (d : ℕ) → online_by o ≡ Some d → (x : Side) × (o ≡ Some x)
+online_some : (o : Option ServerConnection) (d : ℕ) → online_by o ≡ Some d → (x : ServerConnection) × (o ≡ Some x)
 online_some None d online = absurd cc
 online_some (Some x) d online = (x, refl)
 
-still_at : (sides : List (Option Side)) (y : Side) (k : ℕ) (x : Side) → side_at sides k ≡ Some x → side_at (sides ++ Some y ∷ []) k ≡ Some x
+still_at : (sides : List (Option ServerConnection)) (y : ServerConnection) (k : ℕ) (x : ServerConnection) → side_at sides k ≡ Some x → side_at (sides ++ Some y ∷ []) k ≡ Some x
 still_at sides y zero x is = is
 still_at sides y (suc i) x is = at_more sides y i x is
 
 -- one side more
-pub joined_tidy : (sides : List (Option RealSide)) (s : RealSide) (library : TapeLibrary) → LieBut library (IsOnlineAt (map (option_map seen_side) sides))
+pub joined_tidy : (sides : List (Option RealServerConnection)) (s : RealServerConnection) (library : TapeLibrary) → LieBut library (IsOnlineAt (map (option_map seen_side) sides))
     → LieBut library (IsOnlineAt (map (option_map seen_side) (sides ++ Some s ∷ [])))
 joined_tidy sides s library h =
     let all = map (option_map seen_side) sides in
@@ -192,12 +192,12 @@ online_open : (opened : Option (Opened TroubledTape)) (d : ℕ) → online_drive
 online_open None d online = absurd cc
 online_open (Some device) d online = online_with device.drive device.access device.reel d online
 
-none_online_at : (side : Option RealSide) (d : ℕ) → ((s : RealSide) → side ≡ Some s → drive_of s.session.opened ≢ Some d) → online_by (option_map seen_side side) ≡ Some d → ⊥
+none_online_at : (side : Option RealServerConnection) (d : ℕ) → ((s : RealServerConnection) → side ≡ Some s → drive_of s.session.opened ≢ Some d) → online_by (option_map seen_side side) ≡ Some d → ⊥
 none_online_at None d free online = absurd cc
 none_online_at (Some s) d free online = free s refl (online_open s.session.opened d online)
 
 -- a drive that is open in no session has no side that is online there
-pub none_online : (sides : List (Option RealSide)) (d : ℕ) → ((k : ℕ) (s : RealSide) → side_at sides k ≡ Some s → drive_of s.session.opened ≢ Some d)
+pub none_online : (sides : List (Option RealServerConnection)) (d : ℕ) → ((k : ℕ) (s : RealServerConnection) → side_at sides k ≡ Some s → drive_of s.session.opened ≢ Some d)
     → IsOnlineAt (map (option_map seen_side) sides) d → ⊥
 none_online sides d free (k, online) =
     none_online_at (side_at sides k) d (free k) (sym (ap online_by (side_map seen_side sides k)) ∙ online)

@@ -9,16 +9,16 @@ use Rattle.tape.specs.declared.trouble.Trouble.{Trouble}
 use Rattle.drives.specs.Local.{IsHeldBy}
 use Rattle.drives.specs.ListLibrary.{library_of}
 use Rattle.rmt_server.specs.State.{state}
-use Rattle.rmt_server.specs.Memory.{MemoryState, session_seen, scene_seen}
+use Rattle.rmt_server.specs.Memory.{MemoryState, session_seen, session_view_seen}
 use Rattle.rmt_server.specs.TroubledServe.{drive_in, with_holder, TroubledServe}
-use Rattle.rmt_server.specs.Hall.{hall}
-use Rattle.tape_host.specs.declared.side.Side.{Side as RealSide}
+use Rattle.rmt_server.specs.ServerState.{server}
+use Rattle.tape_host.specs.declared.side.ServerConnection.{ServerConnection as RealServerConnection}
 use Rattle.tape_host.specs.declared.side.Next.{Next}
 use Rattle.tape_host.specs.declared.turn.Turn.{Turn}
 use Rattle.tape_host.specs.declared.turn.Turn.TheVariants as turns
-use Rattle.tape_host.specs.Halls.{Hosted, hosted, side_at, with_side_at}
+use Rattle.tape_host.specs.Servers.{Hosted, hosted, side_at, with_side_at}
 use Rattle.tape_host.specs.Turns.{TurnsAt, with_back}
-use Rattle.tape_host.specs.Hosting.{MemoryDrives, seen_side, hall_of, IsLive, IsNextWaiting, IsHosting, IsCalmAt, IsCarried, TurnsSession, session_back}
+use Rattle.tape_host.specs.Hosting.{MemoryDrives, seen_side, server_of, IsLive, IsNextWaiting, IsHosting, IsCalmAt, IsCarried, TurnsSession, session_back}
 use Rattle.tape_host.proofs.Sides.{side_within, side_other, side_same, side_map, length_with, map_with, with_own}
 use Rattle.tape_host.specs.Lying.{LieBut, IsOnlineAt}
 use Rattle.tape_host.proofs.Tidied.{OnlineBeside, served_fits, side_tidy}
@@ -51,12 +51,12 @@ holder_after before after k d n holders l e x =
       ]
     ]
 
-pub calm_at : (drives : MemoryDrives) (sides : List (Option RealSide)) (next : Next) (k : ℕ) (s : RealSide) → IsHosting drives sides next → side_at sides k ≡ Some s
+pub calm_at : (drives : MemoryDrives) (sides : List (Option RealServerConnection)) (next : Next) (k : ℕ) (s : RealServerConnection) → IsHosting drives sides next → side_at sides k ≡ Some s
     → IsCalmAt (state drives s.session)
 calm_at drives sides next k s h is = let l = h.live k s is in record { at = l.at; told = h.told; calm = record { online = l.calm; next = h.quiet; lying = h.lying } }
 
-module _ (others : OthersStay) {drives drives' : MemoryDrives} {sides : List (Option RealSide)} {next : Next} (h : IsHosting drives sides next) (k : ℕ)
-    (s after : RealSide) (is : side_at sides k ≡ Some s) (readable : (bytes : List ℕ) × Unread after.reader bytes) (trouble : Trouble)
+module _ (others : OthersStay) {drives drives' : MemoryDrives} {sides : List (Option RealServerConnection)} {next : Next} (h : IsHosting drives sides next) (k : ℕ)
+    (s after : RealServerConnection) (is : side_at sides k ≡ Some s) (readable : (bytes : List ℕ) × Unread after.reader bytes) (trouble : Trouble)
     (request : PlainRequest) (reply : PlainReply) (c : IsCarried trouble (state drives s.session) request reply (state drives' after.session)) where
   live : IsLive drives k s
   live = h.live k s is
@@ -67,7 +67,7 @@ module _ (others : OthersStay) {drives drives' : MemoryDrives} {sides : List (Op
   after_live : IsLive drives' k after
   after_live = record { at = c.calm.at; number = c.kept.number ∙ live.number; readable = readable; calm = c.calm.calm.online }
 
-  carried_live : (n : ℕ) (x : RealSide) → side_at (with_side_at sides k (Some after)) n ≡ Some x → IsLive drives' n x
+  carried_live : (n : ℕ) (x : RealServerConnection) → side_at (with_side_at sides k (Some after)) n ≡ Some x → IsLive drives' n x
   carried_live n x e = elim (eq_or_ne n k) [
     | inl same ↦ (
         let found = subst (λ m. side_at (with_side_at sides k (Some after)) m ≡ Some x) same e in
@@ -76,13 +76,13 @@ module _ (others : OthersStay) {drives drives' : MemoryDrives} {sides : List (Op
   ]
 
   -- a side stays at its place
-  still_there : (n : ℕ) → (x : RealSide) × (side_at sides n ≡ Some x) → (x : RealSide) × (side_at (with_side_at sides k (Some after)) n ≡ Some x)
+  still_there : (n : ℕ) → (x : RealServerConnection) × (side_at sides n ≡ Some x) → (x : RealServerConnection) × (side_at (with_side_at sides k (Some after)) n ≡ Some x)
   still_there n found = elim (eq_or_ne n k) [
     | inl same ↦ (after, ap (side_at (with_side_at sides k (Some after))) same ∙ here)
     | inr apart ↦ (found.0, side_other sides k n (Some after) apart ∙ found.1)
   ]
 
-  carried_held : (d n : ℕ) → IsHeldBy drives'.holds d n → 0 < n → (x : RealSide) × (side_at (with_side_at sides k (Some after)) n ≡ Some x)
+  carried_held : (d n : ℕ) → IsHeldBy drives'.holds d n → 0 < n → (x : RealServerConnection) × (side_at (with_side_at sides k (Some after)) n ≡ Some x)
   carried_held d n holder x =
       let l : d < length drives.holds.numbers = subst (λ m. d < m) c.kept.same_holds holder.0 in
       elim (holder_after (drive_in (session_seen s.session.opened)) (drive_in (session_seen after.session.opened)) s.session.seat.number d n drives.holds.numbers l
@@ -94,8 +94,8 @@ module _ (others : OthersStay) {drives drives' : MemoryDrives} {sides : List (Op
   carried_tidy : LieBut (library_of drives'.stacks) (IsOnlineAt (map (option_map seen_side) (with_side_at sides k (Some after))))
   carried_tidy =
       side_tidy sides k s is (Some after) (library_of drives.stacks) (library_of drives'.stacks) h.tidy
-      (served_fits (OnlineBeside (map (option_map seen_side) sides) k) trouble drives.holds.numbers (scene_seen (state drives s.session)) request reply
-      (scene_seen (state drives' after.session)) c.served.step)
+      (served_fits (OnlineBeside (map (option_map seen_side) sides) k) trouble drives.holds.numbers (session_view_seen (state drives s.session)) request reply
+      (session_view_seen (state drives' after.session)) c.served.step)
 
   pub carried_hosting : IsHosting drives' (with_side_at sides k (Some after)) next
   carried_hosting = record {
@@ -111,10 +111,10 @@ module _ (others : OthersStay) {drives drives' : MemoryDrives} {sides : List (Op
   }
 
 -- a side of this reader and this session
-abbrev side_from : RequestHeld → MemoryState → RealSide
+abbrev side_from : RequestHeld → MemoryState → RealServerConnection
 side_from reader x = record { reader = reader; session = record { seat = x.seat; opened = x.opened } }
 
-module _ (drives drives' : MemoryDrives) (sides : List (Option RealSide)) (k : ℕ) (s after : RealSide) (is : side_at sides k ≡ Some s)
+module _ (drives drives' : MemoryDrives) (sides : List (Option RealServerConnection)) (k : ℕ) (s after : RealServerConnection) (is : side_at sides k ≡ Some s)
     (reader : after.reader ≡ s.reader) (same : state drives' after.session ≡ state drives s.session) where
   same_side : after ≡ s
   same_side = ap (λ r. side_from r (state drives' after.session)) reader ∙ ap (side_from s.reader) same
@@ -129,11 +129,11 @@ module _ (drives drives' : MemoryDrives) (sides : List (Option RealSide)) (k : �
   pub same_hosting : (next : Next) → IsHosting drives sides next → IsHosting drives' (with_side_at sides k (Some after)) next
   same_hosting next h = subst (λ d. IsHosting d (with_side_at sides k (Some after)) next) (sym same_drives) (subst (λ xs. IsHosting drives xs next) (sym same_sides) h)
 
-  pub same_hall : hall_of drives' (with_side_at sides k (Some after)) ≡ hall_of drives sides
-  same_hall = ap (λ d. hall_of d (with_side_at sides k (Some after))) same_drives ∙ ap (hall_of drives) same_sides
+  pub same_server : server_of drives' (with_side_at sides k (Some after)) ≡ server_of drives sides
+  same_server = ap (λ d. server_of d (with_side_at sides k (Some after))) same_drives ∙ ap (server_of drives) same_sides
 
-module _ (others : OthersStay) {drives : MemoryDrives} (drives' : MemoryDrives) {sides : List (Option RealSide)} {next : Next} (h : IsHosting drives sides next) (k : ℕ)
-    (s after : RealSide) (is : side_at sides k ≡ Some s) (trouble : Trouble) (lost : Bool) (back back' : List ℕ) where
+module _ (others : OthersStay) {drives : MemoryDrives} (drives' : MemoryDrives) {sides : List (Option RealServerConnection)} {next : Next} (h : IsHosting drives sides next) (k : ℕ)
+    (s after : RealServerConnection) (is : side_at sides k ≡ Some s) (trouble : Trouble) (lost : Bool) (back back' : List ℕ) where
   pub turned_hosting : (turn : Turn) → TurnsSession trouble lost (session_back s.reader (state drives s.session) back) turn (session_back after.reader (state drives' after.session) back')
       → IsHosting drives' (with_side_at sides k (Some after)) next
   turned_hosting turns.Nothing t = same_hosting drives drives' sides k s after is t.1 t.2 next h
@@ -141,8 +141,8 @@ module _ (others : OthersStay) {drives : MemoryDrives} (drives' : MemoryDrives) 
   turned_hosting (turns.Broken fault) t = same_hosting drives drives' sides k s after is t.1 t.2 next h
 
   turned_from : (turn : Turn) (ready : Bool) → TurnsSession trouble lost (session_back s.reader (state drives s.session) back) turn (session_back after.reader (state drives' after.session) back')
-      → TurnsAt (hosted (hall_of drives sides) ready) trouble lost (with_back (hosted (hall_of drives sides) ready) back) k (Some (seen_side s)) turn (with_back (hosted (hall_of drives' (with_side_at sides k (Some after))) ready) back')
-  turned_from turns.Nothing ready t = (t.0, ap (λ x. hosted x ready) (same_hall drives drives' sides k s after is t.1 t.2), t.3)
+      → TurnsAt (hosted (server_of drives sides) ready) trouble lost (with_back (hosted (server_of drives sides) ready) back) k (Some (seen_side s)) turn (with_back (hosted (server_of drives' (with_side_at sides k (Some after))) ready) back')
+  turned_from turns.Nothing ready t = (t.0, ap (λ x. hosted x ready) (same_server drives drives' sides k s after is t.1 t.2), t.3)
   turned_from (turns.Carried carried) ready t = (
     t.0,
     t.1,
@@ -152,29 +152,29 @@ module _ (others : OthersStay) {drives : MemoryDrives} (drives' : MemoryDrives) 
       session = session_seen after.session.opened;
       holders = drives'.holds.numbers;
       given = t.2;
-      served = subst (λ n. TroubledServe trouble drives.holds.numbers n (scene_seen (state drives s.session)) t.0 t.1 (scene_seen (state drives' after.session)) drives'.holds.numbers)
+      served = subst (λ n. TroubledServe trouble drives.holds.numbers n (session_view_seen (state drives s.session)) t.0 t.1 (session_view_seen (state drives' after.session)) drives'.holds.numbers)
           (h.live k s is).number t.3.served;
-      after = ap (hall (library_of drives'.stacks) drives'.holds.numbers) (map_with seen_side sides k (Some after));
+      after = ap (server (library_of drives'.stacks) drives'.holds.numbers) (map_with seen_side sides k (Some after));
     },
     refl,
     t.4,
     t.5,
   )
-  turned_from (turns.Broken fault) ready t = (t.0, ap (λ x. hosted x ready) (same_hall drives drives' sides k s after is t.1 t.2), t.3)
+  turned_from (turns.Broken fault) ready t = (t.0, ap (λ x. hosted x ready) (same_server drives drives' sides k s after is t.1 t.2), t.3)
 
   -- it is seen as a turn
   pub turned_seen : (turn : Turn) (ready : Bool) (new : Hosted) → TurnsSession trouble lost (session_back s.reader (state drives s.session) back) turn (session_back after.reader (state drives' after.session) back')
-      → new ≡ hosted (hall_of drives' (with_side_at sides k (Some after))) ready
-      → TurnsAt (hosted (hall_of drives sides) ready) trouble lost (with_back (hosted (hall_of drives sides) ready) back) k (side_at (map (option_map seen_side) sides) k) turn (with_back new back')
+      → new ≡ hosted (server_of drives' (with_side_at sides k (Some after))) ready
+      → TurnsAt (hosted (server_of drives sides) ready) trouble lost (with_back (hosted (server_of drives sides) ready) back) k (side_at (map (option_map seen_side) sides) k) turn (with_back new back')
   turned_seen turn ready new t e =
-      let old = hosted (hall_of drives sides) ready in
+      let old = hosted (server_of drives sides) ready in
       subst (λ o. TurnsAt old trouble lost (with_back old back) k o turn (with_back new back')) (sym (side_map seen_side sides k ∙ ap (option_map seen_side) is))
       (subst (λ v. TurnsAt old trouble lost (with_back old back) k (Some (seen_side s)) turn (with_back v back')) (sym e) (turned_from turn ready t))
 
 -- a side that is not live takes no turn
-pub turned_none : (drives : MemoryDrives) (sides : List (Option RealSide)) (ready : Bool) (k : ℕ) (trouble : Trouble) (lost : Bool) (back : List ℕ) (new : Hosted)
-    → side_at sides k ≡ None → new ≡ hosted (hall_of drives sides) ready
-    → TurnsAt (hosted (hall_of drives sides) ready) trouble lost (with_back (hosted (hall_of drives sides) ready) back) k (side_at (map (option_map seen_side) sides) k) turns.Nothing (with_back new back)
+pub turned_none : (drives : MemoryDrives) (sides : List (Option RealServerConnection)) (ready : Bool) (k : ℕ) (trouble : Trouble) (lost : Bool) (back : List ℕ) (new : Hosted)
+    → side_at sides k ≡ None → new ≡ hosted (server_of drives sides) ready
+    → TurnsAt (hosted (server_of drives sides) ready) trouble lost (with_back (hosted (server_of drives sides) ready) back) k (side_at (map (option_map seen_side) sides) k) turns.Nothing (with_back new back)
 turned_none drives sides ready k trouble lost back new is e =
-    let old = hosted (hall_of drives sides) ready in
+    let old = hosted (server_of drives sides) ready in
     subst (λ o. TurnsAt old trouble lost (with_back old back) k o turns.Nothing (with_back new back)) (sym (side_map seen_side sides k ∙ ap (option_map seen_side) is)) (refl, e, refl)

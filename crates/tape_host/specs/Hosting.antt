@@ -11,19 +11,19 @@ use Rattle.drives.specs.declared.view.View.{View}
 use Rattle.drives.specs.Holding.{HoldsJust}
 use Rattle.drives.specs.Local.{Holders, IsHeldBy}
 use Rattle.drives.specs.ListLibrary.{ListLibrary, library_of, IsLibrary, troubled_in}
-use Rattle.rmt_server.specs.declared.session.desk.Opened.{Opened}
-use Rattle.rmt_server.specs.declared.session.desk.Desk.{Desk}
+use Rattle.rmt_server.specs.declared.session.session_state.Opened.{Opened}
+use Rattle.rmt_server.specs.declared.session.session_state.SessionState.{SessionState}
 use Rattle.rmt_server.specs.State.{state, reel_of, IsAt, KeepsDrives}
-use Rattle.rmt_server.specs.Memory.{MemoryState, in_memory, session_seen, scene_seen}
+use Rattle.rmt_server.specs.Memory.{MemoryState, in_memory, session_seen, session_view_seen}
 use Rattle.rmt_server.specs.TroubledServe.{TroubledServe, IsTroubled}
-use Rattle.rmt_server.specs.Hall.{Hall, hall, Side, side}
-use Rattle.tape_host.specs.declared.side.Side.{Side as RealSide}
+use Rattle.rmt_server.specs.ServerState.{ServerState, server, ServerConnection, side}
+use Rattle.tape_host.specs.declared.side.ServerConnection.{ServerConnection as RealServerConnection}
 use Rattle.tape_host.specs.declared.side.Next.{Next}
 use Rattle.tape_host.specs.declared.side.Next.TheVariants.{Nothing, Seat, Whole}
 use Rattle.tape_host.specs.declared.turn.Carried.{Carried}
 use Rattle.tape_host.specs.declared.turn.Turn.{Turn}
 use Rattle.tape_host.specs.declared.turn.Turn.TheVariants as turns
-use Rattle.tape_host.specs.Halls.{side_at}
+use Rattle.tape_host.specs.Servers.{side_at}
 use Rattle.tape_host.specs.Lying.{LieBut, IsOnlineAt}
 use Rattle.tape_host.specs.Turns.{carried_of, sent_back, GivesNothing, GivesFault, GivesRequest}
 
@@ -31,19 +31,19 @@ abbrev pub MemoryDrives : Type 0
 MemoryDrives = DriveTable Holders ListLibrary View TroubledTape
 
 -- a seat and what it has open
-abbrev pub MemoryDesk : Type 0
-MemoryDesk = Desk View TroubledTape
+abbrev pub MemorySessionState : Type 0
+MemorySessionState = SessionState View TroubledTape
 
 -- a seat that has nothing open
-abbrev pub idle_desk : View → MemoryDesk
-idle_desk seat = record { seat = seat; opened = None }
+abbrev pub idle_session_state : View → MemorySessionState
+idle_session_state seat = record { seat = seat; opened = None }
 
 -- what a side is seen as
-abbrev pub seen_side : RealSide → Side
+abbrev pub seen_side : RealServerConnection → ServerConnection
 seen_side s = side s.reader (session_seen s.session.opened)
 
-abbrev pub hall_of : MemoryDrives → List (Option RealSide) → Hall
-hall_of drives sides = hall (library_of drives.stacks) drives.holds.numbers (map (option_map seen_side) sides)
+abbrev pub server_of : MemoryDrives → List (Option RealServerConnection) → ServerState
+server_of drives sides = server (library_of drives.stacks) drives.holds.numbers (map (option_map seen_side) sides)
 
 abbrev pub is_nothing : Next → Bool
 is_nothing Nothing = true
@@ -62,13 +62,13 @@ IsIdle (Seat seat) = HoldsJust seat None
 IsIdle (Whole s) = Unit {0}
 
 -- a side of this seat, which has read nothing and has nothing open
-pub record IsFresh (seat : View) (s : RealSide) : Type 0 where
-  pub session : s.session ≡ idle_desk seat
+pub record IsFresh (seat : View) (s : RealServerConnection) : Type 0 where
+  pub session : s.session ≡ idle_session_state seat
   pub reader : Unread s.reader []
 
 -- a seat became a side, and all else stays
 abbrev pub IsMade : Next → Next → Type 0
-IsMade (Seat seat) next = (next ≡ Seat seat) ⊎ ((s : RealSide) × (next ≡ Whole s) × IsFresh seat s)
+IsMade (Seat seat) next = (next ≡ Seat seat) ⊎ ((s : RealServerConnection) × (next ≡ Whole s) × IsFresh seat s)
 IsMade old next = next ≡ old
 
 -- no trouble is set for the open reel
@@ -76,29 +76,29 @@ abbrev pub IsCalm : Option (Opened TroubledTape) → Type 0
 IsCalm opened = MatchOption (reel_of opened) (Unit {0}) (λ r. r.trouble ≡ NoTrouble)
 
 -- The drives are those of a side, whose seat has its connection's number. For its open reel no trouble is set.
-pub record IsLive (drives : MemoryDrives) (k : ℕ) (s : RealSide) : Type 0 where
+pub record IsLive (drives : MemoryDrives) (k : ℕ) (s : RealServerConnection) : Type 0 where
   pub at : IsAt in_memory (state drives s.session)
   pub number : s.session.seat.number ≡ k
   pub readable : (bytes : List ℕ) × Unread s.reader bytes
   pub calm : IsCalm s.session.opened
 
 -- the drives are those of a seat of this number, which has nothing open
-pub record IsIdleAt (drives : MemoryDrives) (k : ℕ) (desk : MemoryDesk) : Type 0 where
-  pub at : IsAt in_memory (state drives desk)
-  pub number : desk.seat.number ≡ k
-  pub idle : desk.opened ≡ None
+pub record IsIdleAt (drives : MemoryDrives) (k : ℕ) (session_state : MemorySessionState) : Type 0 where
+  pub at : IsAt in_memory (state drives session_state)
+  pub number : session_state.seat.number ≡ k
+  pub idle : session_state.opened ≡ None
 
 -- after n connections there is nothing yet of the next one, or its seat, which has the next number, or all of it
 abbrev pub IsNextWaiting : MemoryDrives → ℕ → Next → Type 0
 IsNextWaiting drives n Nothing = drives.holds.last ≡ n
-IsNextWaiting drives n (Seat seat) = (drives.holds.last ≡ n + 1) × IsIdleAt drives (n + 1) (idle_desk seat)
+IsNextWaiting drives n (Seat seat) = (drives.holds.last ≡ n + 1) × IsIdleAt drives (n + 1) (idle_session_state seat)
 IsNextWaiting drives n (Whole s) = (drives.holds.last ≡ n + 1) × IsIdleAt drives (n + 1) s.session × Unread s.reader []
 
 -- Each drive is held by a live side or by none. No trouble is set, for the stacks or for a reel. Each reel lies there but those
 -- that a live side has open.
-pub record IsHosting (drives : MemoryDrives) (sides : List (Option RealSide)) (next : Next) : Type 0 where
-  pub live : (k : ℕ) (s : RealSide) → side_at sides k ≡ Some s → IsLive drives k s
-  pub held : (d n : ℕ) → IsHeldBy drives.holds d n → 0 < n → (s : RealSide) × (side_at sides n ≡ Some s)
+pub record IsHosting (drives : MemoryDrives) (sides : List (Option RealServerConnection)) (next : Next) : Type 0 where
+  pub live : (k : ℕ) (s : RealServerConnection) → side_at sides k ≡ Some s → IsLive drives k s
+  pub held : (d n : ℕ) → IsHeldBy drives.holds d n → 0 < n → (s : RealServerConnection) × (side_at sides n ≡ Some s)
   pub waiting : IsNextWaiting drives (length sides) next
   pub told : IsLibrary drives.stacks (library_of drives.stacks)
   pub paired : length drives.holds.numbers ≡ length drives.stacks.library.drives
@@ -115,8 +115,8 @@ pub record IsCalmAt (x : MemoryState) : Type 0 where
 -- One request was carried out. It leaves the drives those of other sessions.
 pub record IsCarried (trouble : Trouble) (old : MemoryState) (request : PlainRequest) (reply : PlainReply)
     (new : MemoryState) : Type 0 where
-  pub served : TroubledServe trouble old.drives.holds.numbers old.seat.number (scene_seen old) request reply
-      (scene_seen new) new.drives.holds.numbers
+  pub served : TroubledServe trouble old.drives.holds.numbers old.seat.number (session_view_seen old) request reply
+      (session_view_seen new) new.drives.holds.numbers
   pub calm : IsCalmAt new
   pub kept : KeepsDrives in_memory old new
   pub same_seats : new.drives.holds.last ≡ old.drives.holds.last

@@ -3,8 +3,8 @@ use Rattle.std.specs.Prelude.{◌≡◌, ℕ, drop, List, [], ◌∷◌, Option,
 use Rattle.drives.specs.TapeLibrary.{ReelSlot, Drive, LibraryOf, drive_at, latched_at}
 use Rattle.rmt_server.specs.Session.{PlainSession}
 use Rattle.rmt_server.specs.Session.PlainSession.{Idle, Offline, Online}
-use Rattle.rmt_server.specs.Hall.{Side}
-use Rattle.tape_host.specs.Halls.{side_at}
+use Rattle.rmt_server.specs.ServerState.{ServerConnection}
+use Rattle.tape_host.specs.Servers.{side_at}
 
 -- each of these reels lies there
 abbrev pub Lie : {X : Type 0} → List (ReelSlot X) → Type 0
@@ -25,12 +25,12 @@ online_drive_in Idle = None
 online_drive_in (Offline drive access) = None
 online_drive_in (Online drive access reel) = Some drive
 
-abbrev pub online_by : Option Side → Option ℕ
+abbrev pub online_by : Option ServerConnection → Option ℕ
 online_by None = None
 online_by (Some s) = online_drive_in s.session
 
 -- a live side has that drive open with its reel
-abbrev pub IsOnlineAt : List (Option Side) → ℕ → Type 0
+abbrev pub IsOnlineAt : List (Option ServerConnection) → ℕ → Type 0
 IsOnlineAt sides d = (k : ℕ) × (online_by (side_at sides k) ≡ Some d)
 
 -- All reels lie there, but for the first ones of stacks, which are away only where that is said of the drive.

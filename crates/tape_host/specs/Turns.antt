@@ -12,9 +12,9 @@ use Rattle.tape.specs.declared.trouble.Trouble.{Trouble}
 use Rattle.drives.specs.TapeLibrary.{TapeLibrary}
 use Rattle.rmt_server.specs.declared.access.Access.{Access}
 use Rattle.rmt_server.specs.Access.{access_of, writes}
-use Rattle.rmt_server.specs.Session.{PlainSession, scene}
+use Rattle.rmt_server.specs.Session.{PlainSession, session_view}
 use Rattle.rmt_server.specs.TroubledServe.{TroubledServe}
-use Rattle.rmt_server.specs.Hall.{Hall, hall, Side, side}
+use Rattle.rmt_server.specs.ServerState.{ServerState, server, ServerConnection, side}
 use Rattle.tape_host.specs.declared.turn.RequestKind.{RequestKind}
 use Rattle.tape_host.specs.declared.turn.RequestKind.TheVariants as asked
 use Rattle.tape_host.specs.declared.turn.Answered.{Answered}
@@ -22,7 +22,7 @@ use Rattle.tape_host.specs.declared.turn.Answered.TheVariants as answered
 use Rattle.tape_host.specs.declared.turn.Carried.{Carried}
 use Rattle.tape_host.specs.declared.turn.Turn.{Turn}
 use Rattle.tape_host.specs.declared.turn.Turn.TheVariants as turns
-use Rattle.tape_host.specs.Halls.{Hosted, hosted, side_at, with_side_at, ended}
+use Rattle.tape_host.specs.Servers.{Hosted, hosted, side_at, with_side_at, ended}
 
 -- whether this access, if it is one, lets a client write
 abbrev pub writes_for : Option Access → Bool
@@ -67,15 +67,15 @@ GivesRequest reached request after =
 
 -- The side of connection k carries out this request with this reply. The device call that the request makes fails as the
 -- trouble says.
-pub record Carries (trouble : Trouble) (old : Hall) (k : ℕ) (s : Side) (request : PlainRequest) (reply : PlainReply)
-    (new : Hall) : Type 0 where
+pub record Carries (trouble : Trouble) (old : ServerState) (k : ℕ) (s : ServerConnection) (request : PlainRequest) (reply : PlainReply)
+    (new : ServerState) : Type 0 where
   pub reached : RequestHeld
   pub library : TapeLibrary
   pub session : PlainSession
   pub holders : List ℕ
   pub given : GivesRequest s.reached request reached
-  pub served : TroubledServe trouble old.holders k (scene old.library s.session) request reply (scene library session) holders
-  pub after : new ≡ hall library holders (with_side_at old.sides k (Some (side reached session)))
+  pub served : TroubledServe trouble old.holders k (session_view old.library s.session) request reply (session_view library session) holders
+  pub after : new ≡ server library holders (with_side_at old.sides k (Some (side reached session)))
 
 -- a host, and what is on the way back on one of its connections
 pub record HostBack : Type 0 where
@@ -86,22 +86,22 @@ abbrev pub with_back : Hosted → List ℕ → HostBack
 with_back h back = record { hosted = h; back = back }
 
 -- What came of a turn of the live side of connection k. At a fault this is left.
-abbrev pub TurnsSide : Hosted → Trouble → Bool → HostBack → ℕ → Side → Turn → HostBack → Type 0
+abbrev pub TurnsSide : Hosted → Trouble → Bool → HostBack → ℕ → ServerConnection → Turn → HostBack → Type 0
 TurnsSide left trouble lost old k s turns.Nothing new =
     GivesNothing s.reached × (new.hosted ≡ old.hosted) × (new.back ≡ old.back)
 TurnsSide left trouble lost old k s (turns.Carried carried) new =
     (request : PlainRequest) × (reply : PlainReply)
-    × Carries trouble old.hosted.hall k s request reply new.hosted.hall × (new.hosted.ready ≡ old.hosted.ready)
+    × Carries trouble old.hosted.server k s request reply new.hosted.server × (new.hosted.ready ≡ old.hosted.ready)
     × (carried ≡ carried_of request reply) × (new.back ≡ sent_back lost old.back (reply_text reply))
 TurnsSide left trouble lost old k s (turns.Broken fault) new =
     GivesFault s.reached fault × (new.hosted ≡ left) × (new.back ≡ old.back)
 
 -- the same where the side may not be live
-abbrev pub TurnsAt : Hosted → Trouble → Bool → HostBack → ℕ → Option Side → Turn → HostBack → Type 0
+abbrev pub TurnsAt : Hosted → Trouble → Bool → HostBack → ℕ → Option ServerConnection → Turn → HostBack → Type 0
 TurnsAt left trouble lost old k None turn new = (turn ≡ turns.Nothing) × (new.hosted ≡ old.hosted) × (new.back ≡ old.back)
 TurnsAt left trouble lost old k (Some s) turn new = TurnsSide left trouble lost old k s turn new
 
 -- One turn of connection k, with what is on the way back before and after it: a fault ends its side.
 abbrev pub ServesAt : Trouble → Bool → Hosted → ℕ → List ℕ → Turn → Hosted → List ℕ → Type 0
 ServesAt trouble lost old k back turn new back' =
-    TurnsAt (hosted (ended old.hall k) old.ready) trouble lost (with_back old back) k (side_at old.hall.sides k) turn (with_back new back')
+    TurnsAt (hosted (ended old.server k) old.ready) trouble lost (with_back old back) k (side_at old.server.sides k) turn (with_back new back')

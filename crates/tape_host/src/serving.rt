@@ -14,7 +14,7 @@ ghost use Rattle.tape_host.specs.Hosting.{IsCalmAt, CarriesBack, TurnsSession, s
 
 use crate::turn::{Carried, Turn};
 use drives::{DriveTable, ListStacks, LocalHolds};
-use rmt_server::{Session, one_scene, troubled_serve, troubles_set};
+use rmt_server::{Session, one_session_view, troubled_serve, troubles_set};
 use rmt_wire::mtio::MTOFFL;
 use rmt_wire::{Reply, Request, RequestReader, push_reply};
 use tape::Trouble;
@@ -87,7 +87,7 @@ fn carry(
     ensures { CarriesBack trouble lost (state drives.old session.old) back.old.items (plain_request request.entry) result
         (state drives.new session.new) back.new.items }
 {
-    one_scene();
+    one_session_view();
     troubles_set();
     troubled_serve();
     let (reel, stacks) = place(trouble, &request);

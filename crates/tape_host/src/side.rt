@@ -2,7 +2,7 @@
 ghost use Rattle.std.specs.Prelude.{◌≡◌, ◌≤◌, true, Some, None, MatchResult, length, vec_capacity};
 ghost use Rattle.std.specs.Option.{option_copied};
 ghost use Rattle.drives.specs.Holding.{HoldsJust};
-ghost use Rattle.tape_host.specs.Halls.{side_at, with_side_at};
+ghost use Rattle.tape_host.specs.Servers.{side_at, with_side_at};
 ghost use Rattle.tape_host.specs.Hosting.{is_nothing, is_whole_side, IsIdle, IsFresh, IsMade};
 
 use drives::{ListStacks, LocalHolds, LocalSeat};
@@ -12,7 +12,7 @@ use std::alloc::{AllocError, Global};
 
 /// The server's side of one connection: what it reads, and what it has open.
 #[derive(Drop)]
-pub(crate) struct Side {
+pub(crate) struct ServerConnection {
     pub(crate) reader: RequestReader,
     pub(crate) session: Session<LocalHolds, ListStacks>,
 }
@@ -25,7 +25,7 @@ pub(crate) enum Next {
     /// Its seat.
     Seat(LocalSeat),
     /// All of it.
-    Whole(Side),
+    Whole(ServerConnection),
 }
 
 impl Next {
@@ -48,7 +48,7 @@ impl Next {
     {
         match self {
             Next::Nothing => (Next::Nothing, Err(AllocError)),
-            Next::Seat(seat) => match Side::new(alloc, seat) {
+            Next::Seat(seat) => match ServerConnection::new(alloc, seat) {
                 Ok(side) => (Next::Whole(side), Ok(())),
                 Err((seat, error)) => (Next::Seat(seat), Err(error)),
             },
@@ -67,9 +67,12 @@ impl Next {
     }
 }
 
-impl Side {
+impl ServerConnection {
     /// A side of this seat, which has read nothing and has nothing open. Hands the seat back where memory is refused.
-    pub(crate) fn new(alloc: Global, seat: LocalSeat) -> Result<Side, (LocalSeat, AllocError)>
+    pub(crate) fn new(
+        alloc: Global,
+        seat: LocalSeat,
+    ) -> Result<ServerConnection, (LocalSeat, AllocError)>
         requires { HoldsJust seat None }
         ensures { MatchResult result (λ s. IsFresh seat s) (λ refused. refused.0 ≡ seat) }
     {
@@ -78,14 +81,17 @@ impl Side {
             Err(error) => return Err((seat, error)),
         };
         match Session::new(alloc, seat) {
-            Ok(session) => Ok(Side { reader, session }),
+            Ok(session) => Ok(ServerConnection { reader, session }),
             Err(refused) => Err(refused),
         }
     }
 }
 
 /// The side of a connection, if it is live. Connections are numbered from 1.
-pub(crate) fn find_side(sides: &[Option<Side>], connection: usize) -> Option<&Side>
+pub(crate) fn find_side(
+    sides: &[Option<ServerConnection>],
+    connection: usize,
+) -> Option<&ServerConnection>
     ensures { option_copied result ≡ side_at sides.now connection }
 {
     let place = connection.checked_sub(1)?;
@@ -94,7 +100,10 @@ pub(crate) fn find_side(sides: &[Option<Side>], connection: usize) -> Option<&Si
 }
 
 /// Takes the side of a connection out, if it is live.
-pub(crate) fn take_side(sides: &mut Vec<Option<Side>>, connection: usize) -> Option<Side>
+pub(crate) fn take_side(
+    sides: &mut Vec<Option<ServerConnection>>,
+    connection: usize,
+) -> Option<ServerConnection>
     ensures taken { result ≡ side_at sides.old.items connection }
     ensures left { sides.new.items ≡ with_side_at sides.old.items connection None }
     ensures room { vec_capacity sides.new ≡ vec_capacity sides.old }
@@ -107,7 +116,11 @@ pub(crate) fn take_side(sides: &mut Vec<Option<Side>>, connection: usize) -> Opt
 }
 
 /// Puts the side of a connection in, whose place is there.
-pub(crate) fn put_side(sides: &mut Vec<Option<Side>>, connection: usize, side: Side)
+pub(crate) fn put_side(
+    sides: &mut Vec<Option<ServerConnection>>,
+    connection: usize,
+    side: ServerConnection,
+)
     requires first { 1 ≤ connection }
     requires last { connection ≤ length sides.old.items }
     ensures put { sides.new.items ≡ with_side_at sides.old.items connection (Some side) }

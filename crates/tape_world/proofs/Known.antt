@@ -9,7 +9,7 @@ pub known_same : (names : List (List ℕ)) (s new : TapeLibrary) → new ≡ s �
 known_same names s new is known = subst (λ (v : TapeLibrary). IsLibraryKnown names v) (sym is) known
 
 -- no event brings a reel
-pub known_after : (names : List (List ℕ)) (w u : World) (new : TapeLibrary) → SameNames w.hall.library u.hall.library → new ≡ u.hall.library → IsLibraryKnown names w.hall.library
+pub known_after : (names : List (List ℕ)) (w u : World) (new : TapeLibrary) → SameNames w.server.library u.server.library → new ≡ u.server.library → IsLibraryKnown names w.server.library
     → IsLibraryKnown names new
 known_after names w u new same is known =
-    known_same names u.hall.library new is (λ name has. known name (subst (λ n. 0 < n) (same name) has))
+    known_same names u.server.library new is (λ name has. known name (subst (λ n. 0 < n) (same name) has))

@@ -16,8 +16,8 @@ use Rattle.drives.proofs.Arranging.{names_from}
 use Rattle.drives.proofs.Shops.{bit}
 use Rattle.std.specs.Str.{bytes_eq}
 use Rattle.dumpdates.specs.Entry.{DatesEntry}
-use Rattle.rmt_server.specs.Hall.{hall}
-use Rattle.tape_host.specs.Halls.{Hosted, hosted}
+use Rattle.rmt_server.specs.ServerState.{server}
+use Rattle.tape_host.specs.Servers.{Hosted, hosted}
 use Rattle.tape_host.specs.Lying.{Lie, StacksLie, AllLie}
 use Rattle.tape_events.specs.First.{PlainDriveSpec, blank_drive, first_world}
 use Rattle.tape_world.specs.declared.link.Link.{Link as RealLink}
@@ -121,16 +121,16 @@ pub none_latched : (s : ListLibrary) (drives : List DriveSpec) → s.library ≡
 none_latched s drives is = subst (λ (x : TapeLibrary). AllLie x) (sym (first_library s drives is)) (drives_lie (map plain_drive_spec drives), tt)
 
 -- where nothing has happened yet
-pub first_hall : (host : Hosted) (s : ListLibrary) (drives : List DriveSpec) (n : ℕ) → s.library ≡ laid_library drives
-    → host ≡ hosted (hall (library_of s) (replicate n 0) []) false → n ≡ length drives → host.hall ≡ (first_world (map plain_drive_spec drives)).hall
-first_hall host s drives n laid is count =
-    ap (λ (h : Hosted). h.hall) is ∙ ap (λ x. hall x (replicate n 0) []) (first_library s drives laid)
-    ∙ ap (λ m. hall (library (map blank_drive (map plain_drive_spec drives)) []) (replicate m 0) []) (count ∙ sym (length-map drives plain_drive_spec))
+pub first_server : (host : Hosted) (s : ListLibrary) (drives : List DriveSpec) (n : ℕ) → s.library ≡ laid_library drives
+    → host ≡ hosted (server (library_of s) (replicate n 0) []) false → n ≡ length drives → host.server ≡ (first_world (map plain_drive_spec drives)).server
+first_server host s drives n laid is count =
+    ap (λ (h : Hosted). h.server) is ∙ ap (λ x. server x (replicate n 0) []) (first_library s drives laid)
+    ∙ ap (λ m. server (library (map blank_drive (map plain_drive_spec drives)) []) (replicate m 0) []) (count ∙ sym (length-map drives plain_drive_spec))
 
 pub made_world : (host : Hosted) (drives : List DriveSpec) (links : List RealLink) (begun : List RealBegun) (books : Books) (dates : List DatesEntry)
-    → host.hall ≡ hall (library (map blank_drive (map plain_drive_spec drives)) []) (replicate (length (map plain_drive_spec drives)) 0) [] → links ≡ [] → begun ≡ []
+    → host.server ≡ server (library (map blank_drive (map plain_drive_spec drives)) []) (replicate (length (map plain_drive_spec drives)) 0) [] → links ≡ [] → begun ≡ []
     → books.counts.items ≡ [] → books.opens.items ≡ [] → books.lists.items ≡ [] → books.writings.items ≡ [] → books.entered.items ≡ [] → books.failure ≡ None → dates ≡ []
-    → world_of host.hall links begun None None None books dates ≡ first_world (map plain_drive_spec drives)
+    → world_of host.server links begun None None None books dates ≡ first_world (map plain_drive_spec drives)
 made_world host drives links begun books dates there no_links no_runs no_counts no_opens no_lists no_writings no_entered no_failure no_dates =
     let links_none : map seen_link links ≡ [] = ap (map seen_link) no_links in
     let begun_none : map seen_begun begun ≡ [] = ap (map seen_begun) no_runs in

@@ -8,19 +8,19 @@ use Rattle.tape.specs.Tape.{Tape}
 use Rattle.drives.specs.TapeLibrary.{TapeLibrary}
 use Rattle.rmt_server.specs.Session.{PlainSession}
 use Rattle.rmt_server.specs.TroubledServe.{drive_in}
-use Rattle.rmt_server.specs.Hall.{Hall, Side}
-use Rattle.tape_host.specs.Halls.{side_at}
+use Rattle.rmt_server.specs.ServerState.{ServerState, ServerConnection}
+use Rattle.tape_host.specs.Servers.{side_at}
 use Rattle.tape_events.specs.Changes.{side_of}
 use Rattle.tape_world.specs.Entries.{AreOpenThere, tape_online, first_tape_online}
 use Rattle.tape_world.proofs.Server.{side_found}
 
-there_by : (h : Hall) (k d : ℕ) (o : Option Side) (s : PlainSession) → AreOpenThere h → side_of h k ≡ o → option_map (λ (x : Side). x.session) o ≡ Some s
+there_by : (h : ServerState) (k d : ℕ) (o : Option ServerConnection) (s : PlainSession) → AreOpenThere h → side_of h k ≡ o → option_map (λ (x : ServerConnection). x.session) o ≡ Some s
     → drive_in s ≡ Some d → d < length h.library.drives
 there_by h k d None s there at told is = absurd cc
 there_by h k d (Some x) s there at told is = let same : x.session ≡ s = cc in there k d x at (ap drive_in same ∙ is)
 
 -- the drive of a session that is told of a connection
-pub drive_there : (h : Hall) (k d : ℕ) (s : PlainSession) → AreOpenThere h → option_map (λ (x : Side). x.session) (side_at h.sides k) ≡ Some s
+pub drive_there : (h : ServerState) (k d : ℕ) (s : PlainSession) → AreOpenThere h → option_map (λ (x : ServerConnection). x.session) (side_at h.sides k) ≡ Some s
     → drive_in s ≡ Some d → d < length h.library.drives
 drive_there h k d s there told is = there_by h k d (side_at h.sides k) s there (sym (side_found h k)) told is
 
@@ -29,11 +29,11 @@ or_none None b is = (refl, is)
 or_none (Some x) b is = absurd cc
 
 -- the connection of a place
-pub side_here : (sides : List (Option Side)) (i : ℕ) → side_at sides (i + 1) ≡ slice_index_or sides i None
+pub side_here : (sides : List (Option ServerConnection)) (i : ℕ) → side_at sides (i + 1) ≡ slice_index_or sides i None
 side_here sides i = ap (side_at sides) (add-one i)
 
 -- the first that has one online, after those that have none
-first_here : (name : List ℕ) (s : TapeLibrary) (sides : List (Option Side)) (i : ℕ) (t : Tape) → first_tape_online name s (take i sides) ≡ None
+first_here : (name : List ℕ) (s : TapeLibrary) (sides : List (Option ServerConnection)) (i : ℕ) (t : Tape) → first_tape_online name s (take i sides) ≡ None
     → tape_online name s (slice_index_or sides i None) ≡ Some t → first_tape_online name s sides ≡ Some t
 first_here name s [] i t none some = absurd cc
 first_here name s (x ∷ sides) zero t none some = ap (λ o. option_or o (first_tape_online name s sides)) some
@@ -41,12 +41,12 @@ first_here name s (x ∷ sides) (suc i) t none some =
     let both = or_none (tape_online name s x) (first_tape_online name s (take i sides)) none in
     ap (λ o. option_or o (first_tape_online name s sides)) both.0 ∙ first_here name s sides i t both.1 some
 
-pub first_found : (name : List ℕ) (s : TapeLibrary) (sides : List (Option Side)) (i : ℕ) (t : Tape) (o : Option Tape) → first_tape_online name s (take i sides) ≡ None
+pub first_found : (name : List ℕ) (s : TapeLibrary) (sides : List (Option ServerConnection)) (i : ℕ) (t : Tape) (o : Option Tape) → first_tape_online name s (take i sides) ≡ None
     → o ≡ tape_online name s (side_at sides (i + 1)) → o ≡ Some t → first_tape_online name s sides ≡ Some t
 first_found name s sides i t o none is some =
     first_here name s sides i t none (sym (ap (tape_online name s) (side_here sides i)) ∙ sym is ∙ some)
 
-none_here : (name : List ℕ) (s : TapeLibrary) (sides : List (Option Side)) (i : ℕ) → first_tape_online name s (take i sides) ≡ None
+none_here : (name : List ℕ) (s : TapeLibrary) (sides : List (Option ServerConnection)) (i : ℕ) → first_tape_online name s (take i sides) ≡ None
     → tape_online name s (slice_index_or sides i None) ≡ None → first_tape_online name s (take (suc i) sides) ≡ None
 none_here name s [] i none here = refl
 none_here name s (x ∷ sides) zero none here = ap (λ o. option_or o None) here
@@ -55,12 +55,12 @@ none_here name s (x ∷ sides) (suc i) none here =
     ap (λ o. option_or o (first_tape_online name s (take (suc i) sides))) both.0 ∙ none_here name s sides i both.1 here
 
 -- one connection more that has none
-pub none_more : (name : List ℕ) (s : TapeLibrary) (sides : List (Option Side)) (i : ℕ) (o : Option Tape) → first_tape_online name s (take i sides) ≡ None
+pub none_more : (name : List ℕ) (s : TapeLibrary) (sides : List (Option ServerConnection)) (i : ℕ) (o : Option Tape) → first_tape_online name s (take i sides) ≡ None
     → o ≡ tape_online name s (side_at sides (i + 1)) → o ≡ None → first_tape_online name s (take (i + 1) sides) ≡ None
 none_more name s sides i o none is here =
     ap (λ n. first_tape_online name s (take n sides)) (add-one i)
     ∙ none_here name s sides i none (sym (ap (tape_online name s) (side_here sides i)) ∙ sym is ∙ here)
 
 -- each drive that a live side has open is there, where holders are those that have them open
-pub held_there : (h : Hall) → AreHeld h → AreOpenThere h
+pub held_there : (h : ServerState) → AreHeld h → AreOpenThere h
 held_there h a k d s at is = let few = slice_get_within h.holders d k (a.opened k d s at is) in let places = a.places in omega (arith, few, places)

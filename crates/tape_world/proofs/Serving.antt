@@ -15,11 +15,11 @@ use Rattle.rmt_wire.specs.Reply.{PlainReply, reply_text}
 use Rattle.rmt_wire.specs.Reply.PlainReply.{Done, Data, Error}
 use Rattle.rmt_wire.specs.declared.mtio.TheConstants.{MTWEOF}
 use Rattle.tape.specs.declared.trouble.Trouble.{Trouble}
-use Rattle.rmt_server.specs.Hall.{Side}
+use Rattle.rmt_server.specs.ServerState.{ServerConnection}
 use Rattle.tape_host.specs.declared.turn.RequestKind.TheVariants as asked
 use Rattle.tape_host.specs.declared.turn.Turn.{Turn}
 use Rattle.tape_host.specs.declared.turn.Turn.TheVariants as turns
-use Rattle.tape_host.specs.Halls.{Hosted, hosted, side_at, ended}
+use Rattle.tape_host.specs.Servers.{Hosted, hosted, side_at, ended}
 use Rattle.tape_host.specs.Turns.{sent_back, GivesNothing, carried_of, asked_of, answered_of, TurnsAt, TurnsSide, ServesAt, with_back}
 use Rattle.tape_events.specs.World.{Link, Dumping}
 use Rattle.tape_events.specs.Changes.{changed, sent_on, noted, noted_by, noted_write, noted_marks, answered, over_here, opening}
@@ -36,14 +36,14 @@ behind : (start : ℕ) (lost : Bool) (back text : List ℕ) → start ≤ length
 behind start true back text fits = refl
 behind start false back text fits = drop-append-le start back text fits
 
-turned_side : (left : Hosted) (trouble : Trouble) (lost : Bool) (old : Hosted) (k : ℕ) (s : Side) (back : List ℕ) (turn : Turn) (new : Hosted) (back' : List ℕ) (start : ℕ)
+turned_side : (left : Hosted) (trouble : Trouble) (lost : Bool) (old : Hosted) (k : ℕ) (s : ServerConnection) (back : List ℕ) (turn : Turn) (new : Hosted) (back' : List ℕ) (start : ℕ)
     → start ≤ length back → TurnsSide left trouble lost (with_back old back) k s turn (with_back new back') → TurnsSide left trouble lost (with_back old (drop start back)) k s turn (with_back new (drop start back'))
 turned_side left trouble lost old k s back turns.Nothing new back' start fits (none, same, is) = (none, same, ap (drop start) is)
 turned_side left trouble lost old k s back (turns.Carried c) new back' start fits (request, reply, carries, ready, told, is) =
     (request, reply, carries, ready, told, ap (drop start) is ∙ behind start lost back (reply_text reply) fits)
 turned_side left trouble lost old k s back (turns.Broken fault) new back' start fits (gives, after, is) = (gives, after, ap (drop start) is)
 
-turned_at : (left : Hosted) (trouble : Trouble) (lost : Bool) (old : Hosted) (k : ℕ) (o : Option Side) (back : List ℕ) (turn : Turn) (new : Hosted) (back' : List ℕ) (start : ℕ)
+turned_at : (left : Hosted) (trouble : Trouble) (lost : Bool) (old : Hosted) (k : ℕ) (o : Option ServerConnection) (back : List ℕ) (turn : Turn) (new : Hosted) (back' : List ℕ) (start : ℕ)
     → start ≤ length back → TurnsAt left trouble lost (with_back old back) k o turn (with_back new back') → TurnsAt left trouble lost (with_back old (drop start back)) k o turn (with_back new (drop start back'))
 turned_at left trouble lost old k None back turn new back' start fits (none, same, is) = (none, same, ap (drop start) is)
 turned_at left trouble lost old k (Some s) back turn new back' start fits t = turned_side left trouble lost old k s back turn new back' start fits t
@@ -51,7 +51,7 @@ turned_at left trouble lost old k (Some s) back turn new back' start fits t = tu
 pub serves_behind : (trouble : Trouble) (lost : Bool) (old : Hosted) (k : ℕ) (back : List ℕ) (turn : Turn) (new : Hosted) (back' : List ℕ) (start : ℕ)
     → start ≤ length back → ServesAt trouble lost old k back turn new back' → ServesAt trouble lost old k (drop start back) turn new (drop start back')
 serves_behind trouble lost old k back turn new back' start fits t =
-    turned_at (hosted (ended old.hall k) old.ready) trouble lost old k (side_at old.hall.sides k) back turn new back' start fits t
+    turned_at (hosted (ended old.server k) old.ready) trouble lost old k (side_at old.server.sides k) back turn new back' start fits t
 
 -- ---- what is noted of a request
 
@@ -93,11 +93,11 @@ sent_same false back text = refl
 
 -- ---- the connection after a turn
 
-serves_side : (trouble : Trouble) (old new : Hosted) (k : ℕ) (s : Side) (turn : Turn) (l x : Link) (back : List ℕ) → side_at old.hall.sides k ≡ Some s
-    → TurnsSide (hosted (ended old.hall k) old.ready) trouble l.cut (with_back old l.back) k s turn (with_back new back) → x ≡ noted_turn turn (record l { back = back })
+serves_side : (trouble : Trouble) (old new : Hosted) (k : ℕ) (s : ServerConnection) (turn : Turn) (l x : Link) (back : List ℕ) → side_at old.server.sides k ≡ Some s
+    → TurnsSide (hosted (ended old.server k) old.ready) trouble l.cut (with_back old l.back) k s turn (with_back new back) → x ≡ noted_turn turn (record l { back = back })
     → TurnServes trouble old k turn new (λ f. x ≡ f l)
 serves_side trouble old new k s turns.Nothing l x back live (none, same, is) so =
-    (λ y at. subst (λ (z : Side). GivesNothing z.reached) (same_Some s y (sym live ∙ at)) none, same, so ∙ ap (λ b. record l { back = b }) is)
+    (λ y at. subst (λ (z : ServerConnection). GivesNothing z.reached) (same_Some s y (sym live ∙ at)) none, same, so ∙ ap (λ b. record l { back = b }) is)
 serves_side trouble old new k s (turns.Carried c) l x back live (request, reply, carries, ready, told, is) so = (
   s,
   request,
@@ -112,8 +112,8 @@ serves_side trouble old new k s (turns.Carried c) l x back live (request, reply,
 serves_side trouble old new k s (turns.Broken fault) l x back live (gives, after, is) so =
     (s, live, gives, after, so ∙ ap (λ b. over_here (record l { back = b })) is)
 
-serves_from : (trouble : Trouble) (old new : Hosted) (k : ℕ) (o : Option Side) (turn : Turn) (l x : Link) (back : List ℕ) → side_at old.hall.sides k ≡ o
-    → TurnsAt (hosted (ended old.hall k) old.ready) trouble l.cut (with_back old l.back) k o turn (with_back new back) → x ≡ noted_turn turn (record l { back = back })
+serves_from : (trouble : Trouble) (old new : Hosted) (k : ℕ) (o : Option ServerConnection) (turn : Turn) (l x : Link) (back : List ℕ) → side_at old.server.sides k ≡ o
+    → TurnsAt (hosted (ended old.server k) old.ready) trouble l.cut (with_back old l.back) k o turn (with_back new back) → x ≡ noted_turn turn (record l { back = back })
     → TurnServes trouble old k turn new (λ f. x ≡ f l)
 serves_from trouble old new k None turn l x back over (none, same, is) so =
     subst (λ t. TurnServes trouble old k t new (λ f. x ≡ f l)) (sym none)
@@ -122,7 +122,7 @@ serves_from trouble old new k (Some s) turn l x back live t so = serves_side tro
 
 pub serves_link : (trouble : Trouble) (old new : Hosted) (k : ℕ) (turn : Turn) (l x : Link) (back : List ℕ) → ServesAt trouble l.cut old k l.back turn new back
     → x ≡ noted_turn turn (record l { back = back }) → TurnServes trouble old k turn new (λ f. x ≡ f l)
-serves_link trouble old new k turn l x back t so = serves_from trouble old new k (side_at old.hall.sides k) turn l x back refl t so
+serves_link trouble old new k turn l x back t so = serves_from trouble old new k (side_at old.server.sides k) turn l x back refl t so
 
 -- the same, of all connections
 pub serves_as : (trouble : Trouble) (old new : Hosted) (k : ℕ) (turn : Turn) (p q : (Link → Link) → Type 0) → ((f : Link → Link) → p f → q f)

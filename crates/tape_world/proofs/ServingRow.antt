@@ -15,16 +15,16 @@ use Rattle.rmt_wire.specs.declared.mtio.TheConstants.{MTWEOF}
 use Rattle.drives.specs.TapeLibrary.{TapeLibrary}
 use Rattle.rmt_server.specs.declared.access.Access.{Access}
 use Rattle.rmt_server.specs.Access.{access_of}
-use Rattle.rmt_server.specs.Session.{PlainReel, PlainSession, Scene, scene, closed, session_after}
+use Rattle.rmt_server.specs.Session.{PlainReel, PlainSession, SessionView, session_view, closed, session_after}
 use Rattle.rmt_server.specs.Session.PlainSession.{Idle, Offline, Online}
 use Rattle.rmt_server.specs.TroubledServe.{TroubledServeStep, TroubledOpens, drive_in}
-use Rattle.rmt_server.specs.Hall.{Hall, hall, Side, side}
+use Rattle.rmt_server.specs.ServerState.{ServerState, server, ServerConnection, side}
 use Rattle.tape_host.specs.declared.turn.RequestKind.TheVariants as asked
 use Rattle.tape_host.specs.declared.turn.Carried.{Carried}
 use Rattle.tape_host.specs.declared.turn.Turn.{Turn}
 use Rattle.tape_host.specs.declared.turn.Turn.TheVariants as turns
-use Rattle.tape_host.specs.Halls as host
-use Rattle.tape_host.specs.Halls.{Hosted, side_at, with_side_at}
+use Rattle.tape_host.specs.Servers as host
+use Rattle.tape_host.specs.Servers.{Hosted, side_at, with_side_at}
 use Rattle.tape_host.specs.Turns.{Carries, GivesNothing, GivesFault, asked_of, carried_of, writes_for}
 use Rattle.dumpdates.specs.Entry.{DatesEntry}
 use Rattle.dump_run.specs.declared.count.VolumeCount.{VolumeCount}
@@ -57,7 +57,7 @@ pub nothing_served : (trouble : Trouble) (k : ℕ) (old new : Hosted) (turn : Tu
     → TurnServes trouble old k turn new p → new ≡ old
 nothing_served trouble k old new turn p is t = (subst (λ x. TurnServes trouble old k x new p) is t).1
 
-pub nothing_there : (trouble : Trouble) (k : ℕ) (w : World) (h : Hall) → w.hall ≡ h → ((s : Side) → side_at h.sides k ≡ Some s → GivesNothing s.reached)
+pub nothing_there : (trouble : Trouble) (k : ℕ) (w : World) (h : ServerState) → w.server ≡ h → ((s : ServerConnection) → side_at h.sides k ≡ Some s → GivesNothing s.reached)
     → Possible w (Serve k trouble) → ⊥
 nothing_there trouble k w h was none (s, found, live, (bytes, rest, unread, gives, some)) =
     some (none s (side_found h k ∙ ap (λ h. side_of h k) (sym was) ∙ live) bytes rest found unread gives)
@@ -78,12 +78,12 @@ same_links xs k = same_from xs k (numbered xs k) refl
 -- ---- the reel that was opened
 
 -- the side of a live connection, once another was put there
-side_set : (xs : List (Option Side)) (m : ℕ) (s : Side) (x : Option Side) → slice_index_or xs m None ≡ Some s → slice_index_or (slice_set xs m x) m None ≡ x
+side_set : (xs : List (Option ServerConnection)) (m : ℕ) (s : ServerConnection) (x : Option ServerConnection) → slice_index_or xs m None ≡ Some s → slice_index_or (slice_set xs m x) m None ≡ x
 side_set [] m s x at = absurd cc
 side_set (y ∷ xs) zero s x at = refl
 side_set (y ∷ xs) (suc m) s x at = side_set xs m s x at
 
-side_put : (xs : List (Option Side)) (k : ℕ) (s : Side) (x : Option Side) → side_at xs k ≡ Some s → side_at (with_side_at xs k x) k ≡ x
+side_put : (xs : List (Option ServerConnection)) (k : ℕ) (s : ServerConnection) (x : Option ServerConnection) → side_at xs k ≡ Some s → side_at (with_side_at xs k x) k ≡ x
 side_put xs zero s x at = absurd cc
 side_put xs (suc m) s x at = side_set xs m s x at
 
@@ -97,9 +97,9 @@ opened_session : (access : Access) (r : Result (ℕ × PlainReel) DriveFault) �
 opened_session access (Ok opened) = refl
 opened_session access (Err why) = tt
 
-left_open : (trouble : Trouble) (holders : List ℕ) (before : Scene) (device : List ℕ) (access : Option Access) (reply : PlainReply) (after : Scene)
+left_open : (trouble : Trouble) (holders : List ℕ) (before : SessionView) (device : List ℕ) (access : Option Access) (reply : PlainReply) (after : SessionView)
     → TroubledOpens trouble holders (closed before) device access reply after → IsLeftOpen access after.session
-left_open trouble holders before device None reply after (refuses, is) = subst (λ (x : Scene). IsLeftOpen None x.session) (sym is) tt
+left_open trouble holders before device None reply after (refuses, is) = subst (λ (x : SessionView). IsLeftOpen None x.session) (sym is) tt
 left_open trouble holders before device (Some access) reply after (result, o, step, cause, answer, session) =
     subst (IsLeftOpen (Some access)) (sym session) (opened_session access result)
 
@@ -118,16 +118,16 @@ by_access access s (Offline d other) left = absurd left
 by_access access s (Online d other reel) left =
     ap (λ a. if writes_for a then name_online s (Online d other reel) else None) left
 
-opened_when : (b : Bool) (h : Hall) (k : ℕ) (s : Side) → side_at h.sides k ≡ Some s
+opened_when : (b : Bool) (h : ServerState) (k : ℕ) (s : ServerConnection) → side_at h.sides k ≡ Some s
     → name_opened_by (asked.Open b) h k ≡ (if b then name_online h.library s.session else None)
 opened_when true h k s live = ap (name_online_at h.library) live
 opened_when false h k s live = refl
 
-op_opens : (b : Bool) (h : Hall) (k : ℕ) → name_opened_by (if b then asked.Marks else asked.Other) h k ≡ None
+op_opens : (b : Bool) (h : ServerState) (k : ℕ) → name_opened_by (if b then asked.Marks else asked.Other) h k ≡ None
 op_opens true h k = refl
 op_opens false h k = refl
 
-opened_is : (trouble : Trouble) (holders : List ℕ) (before : Scene) (request : PlainRequest) (reply : PlainReply) (after : Scene) (h : Hall) (k : ℕ) (s : Side)
+opened_is : (trouble : Trouble) (holders : List ℕ) (before : SessionView) (request : PlainRequest) (reply : PlainReply) (after : SessionView) (h : ServerState) (k : ℕ) (s : ServerConnection)
     → TroubledServeStep trouble holders before request reply after → h.library ≡ after.library → s.session ≡ after.session → side_at h.sides k ≡ Some s
     → name_opened_by (asked_of request) h k ≡ opened_reel request after.library after.session
 opened_is trouble holders before (Open device mode) reply after h k s step library session live =
@@ -142,10 +142,10 @@ opened_is trouble holders before (Read count) reply after h k s step library ses
 opened_is trouble holders before (Op op count) reply after h k s step library session live = op_opens (op == MTWEOF) h k
 
 -- the side that carried a request out
-after_side : (trouble : Trouble) (h : Hall) (k : ℕ) (s : Side) (request : PlainRequest) (reply : PlainReply) (new : Hall) (c : Carries trouble h k s request reply new)
+after_side : (trouble : Trouble) (h : ServerState) (k : ℕ) (s : ServerConnection) (request : PlainRequest) (reply : PlainReply) (new : ServerState) (c : Carries trouble h k s request reply new)
     → side_at h.sides k ≡ Some s → side_at new.sides k ≡ Some (side c.reached c.session)
 after_side trouble h k s request reply new c live =
-    ap (λ (x : Hall). side_at x.sides k) c.after ∙ side_put h.sides k s (Some (side c.reached c.session)) live
+    ap (λ (x : ServerState). side_at x.sides k) c.after ∙ side_put h.sides k s (Some (side c.reached c.session)) live
 
 -- ---- the row
 
@@ -159,36 +159,36 @@ front_has xs n i y at =
     numbered_in xs (suc i) y at = subst (Contains xs) (get_or_from_slice_get xs i y y at) (Contains-get_or xs i y (slice_get_within xs i y at))
 
 -- the world with this hall, and these connections, openings with their lists, and writings
-abbrev pub left_with : World → Hall → List Link → List Opening → List (List VolumeCount) → List Writing → World
-left_with w h links opens lists writings = record (calm w) { hall = h; links = links; opens = opens; lists = lists; writings = writings }
+abbrev pub left_with : World → ServerState → List Link → List Opening → List (List VolumeCount) → List Writing → World
+left_with w h links opens lists writings = record (calm w) { server = h; links = links; opens = opens; lists = lists; writings = writings }
 
 -- what a turn may have noted
-abbrev pub more_opens : World → ℕ → Hall → Turn → List Opening
+abbrev pub more_opens : World → ℕ → ServerState → Turn → List Opening
 more_opens w k h turn = w.opens ++ option_to_list (option_map (opening k) (opened_in h k turn))
 
-abbrev pub more_lists : World → ℕ → Hall → Turn → List (List VolumeCount)
+abbrev pub more_lists : World → ℕ → ServerState → Turn → List (List VolumeCount)
 more_lists w k h turn = w.lists ++ option_to_list (option_map (λ reel. list_in w.caller) (opened_in h k turn))
 
-abbrev pub more_writings : World → ℕ → Hall → Turn → List Writing
+abbrev pub more_writings : World → ℕ → ServerState → Turn → List Writing
 more_writings w k h turn = w.writings ++ option_to_list (option_map (writing k (length w.opens)) (written_in h k turn))
 
 -- the world after a turn, with what is to be noted
-abbrev pub turned : World → ℕ → Hall → Turn → List Link → World
+abbrev pub turned : World → ℕ → ServerState → Turn → List Link → World
 turned w k h turn links = left_with w h links (more_opens w k h turn) (more_lists w k h turn) (more_writings w k h turn)
 
-carried_happens : (trouble : Trouble) (k : ℕ) (w : World) (s : Side) (request : PlainRequest) (reply : PlainReply) (new : Hall) (links : List Link)
-    → side_at w.hall.sides k ≡ Some s → Carries trouble w.hall k s request reply new → links ≡ changed (answered request reply) w.links k
+carried_happens : (trouble : Trouble) (k : ℕ) (w : World) (s : ServerConnection) (request : PlainRequest) (reply : PlainReply) (new : ServerState) (links : List Link)
+    → side_at w.server.sides k ≡ Some s → Carries trouble w.server k s request reply new → links ≡ changed (answered request reply) w.links k
     → Happens w (Serve k trouble) (turned w k new (turns.Carried (carried_of request reply)) links)
 carried_happens trouble k w s request reply new links live c is =
     let turn = turns.Carried (carried_of request reply) in
-    let here = sym (side_found w.hall k) ∙ live in
-    let h = hall c.library c.holders (with_numbered w.hall.sides k (Some (side c.reached c.session))) in
-    let hallis : new ≡ h = c.after ∙ ap (hall c.library c.holders) (put_side w.hall.sides k (Some (side c.reached c.session))) in
-    let next = after_side trouble w.hall k s request reply new c live in
+    let here = sym (side_found w.server k) ∙ live in
+    let h = server c.library c.holders (with_numbered w.server.sides k (Some (side c.reached c.session))) in
+    let hallis : new ≡ h = c.after ∙ ap (server c.library c.holders) (put_side w.server.sides k (Some (side c.reached c.session))) in
+    let next = after_side trouble w.server k s request reply new c live in
     let library : new.library ≡ c.library = ap (λ x. x.library) c.after in
-    let opened = opened_is trouble w.hall.holders (scene w.hall.library s.session) request reply (scene c.library c.session) new k
+    let opened = opened_is trouble w.server.holders (session_view w.server.library s.session) request reply (session_view c.library c.session) new k
     (side c.reached c.session) c.served.step library refl next in
-    let wrote = written_is trouble w.hall.holders (scene w.hall.library s.session) request reply (scene c.library c.session) new k
+    let wrote = written_is trouble w.server.holders (session_view w.server.library s.session) request reply (session_view c.library c.session) new k
     (side c.reached c.session) c.served.step library refl next in (
       (s, Ok (Some request), here, (c.given.0, c.given.1, c.given.2, c.given.3, λ is. cc)),
       (
@@ -221,11 +221,11 @@ carried_happens trouble k w s request reply new links live c is =
       ),
     )
 
-broken_happens : (trouble : Trouble) (k : ℕ) (w : World) (s : Side) (fault : WireFault) (new : Hall) (links : List Link)
-    → side_at w.hall.sides k ≡ Some s → GivesFault s.reached fault → new ≡ host.ended w.hall k → links ≡ changed over_here w.links k
+broken_happens : (trouble : Trouble) (k : ℕ) (w : World) (s : ServerConnection) (fault : WireFault) (new : ServerState) (links : List Link)
+    → side_at w.server.sides k ≡ Some s → GivesFault s.reached fault → new ≡ host.ended w.server k → links ≡ changed over_here w.links k
     → Happens w (Serve k trouble) (left_with w new links (w.opens ++ []) (w.lists ++ []) (w.writings ++ []))
 broken_happens trouble k w s fault new links live (bytes, rest, unread, gives) after is =
-    let here = sym (side_found w.hall k) ∙ live in (
+    let here = sym (side_found w.server k) ∙ live in (
       (s, Err fault, here, (bytes, rest, unread, gives, λ is. cc)),
       (
         s,
@@ -235,35 +235,35 @@ broken_happens trouble k w s fault new links live (bytes, rest, unread, gives) a
         here,
         unread,
         gives,
-        ap (λ h. left_with w h links (w.opens ++ []) (w.lists ++ []) (w.writings ++ [])) (after ∙ ended_is w.hall k)
-            ∙ ap (λ l. left_with w (ended w.hall k) l (w.opens ++ []) (w.lists ++ []) (w.writings ++ [])) is
-            ∙ ap (λ o. left_with w (ended w.hall k) (changed over_here w.links k) o (w.lists ++ []) (w.writings ++ [])) (append-nil w.opens)
-            ∙ ap (λ o. left_with w (ended w.hall k) (changed over_here w.links k) w.opens o (w.writings ++ [])) (append-nil w.lists)
-            ∙ ap (λ x. left_with w (ended w.hall k) (changed over_here w.links k) w.opens w.lists x) (append-nil w.writings),
+        ap (λ h. left_with w h links (w.opens ++ []) (w.lists ++ []) (w.writings ++ [])) (after ∙ ended_is w.server k)
+            ∙ ap (λ l. left_with w (ended w.server k) l (w.opens ++ []) (w.lists ++ []) (w.writings ++ [])) is
+            ∙ ap (λ o. left_with w (ended w.server k) (changed over_here w.links k) o (w.lists ++ []) (w.writings ++ [])) (append-nil w.opens)
+            ∙ ap (λ o. left_with w (ended w.server k) (changed over_here w.links k) w.opens o (w.writings ++ [])) (append-nil w.lists)
+            ∙ ap (λ x. left_with w (ended w.server k) (changed over_here w.links k) w.opens w.lists x) (append-nil w.writings),
       ),
     )
 
-pub serves_happens : (trouble : Trouble) (k : ℕ) (w : World) (old new : Hosted) (turn : Turn) (links : List Link) → w.hall ≡ old.hall
+pub serves_happens : (trouble : Trouble) (k : ℕ) (w : World) (old new : Hosted) (turn : Turn) (links : List Link) → w.server ≡ old.server
     → TurnServes trouble old k turn new (λ f. links ≡ changed f w.links k) → turn ≢ turns.Nothing
-    → Happens w (Serve k trouble) (turned w k new.hall turn links)
+    → Happens w (Serve k trouble) (turned w k new.server turn links)
 serves_happens trouble k w old new turns.Nothing links was t some = absurd (some refl)
 serves_happens trouble k w old new (turns.Carried c) links was (s, request, reply, live, carries, told, is) some =
-    subst (λ (x : Carried). Happens w (Serve k trouble) (turned w k new.hall (turns.Carried x) links)) (sym told)
-    (carried_happens trouble k w s request reply new.hall links (ap (λ (h : Hall). side_at h.sides k) was ∙ live)
-    (subst (λ h. Carries trouble h k s request reply new.hall) (sym was) carries) is)
+    subst (λ (x : Carried). Happens w (Serve k trouble) (turned w k new.server (turns.Carried x) links)) (sym told)
+    (carried_happens trouble k w s request reply new.server links (ap (λ (h : ServerState). side_at h.sides k) was ∙ live)
+    (subst (λ h. Carries trouble h k s request reply new.server) (sym was) carries) is)
 serves_happens trouble k w old new (turns.Broken fault) links was (s, live, gives, after, is) some =
-    broken_happens trouble k w s fault new.hall links (ap (λ (h : Hall). side_at h.sides k) was ∙ live) gives
-    (ap (λ (h : Hosted). h.hall) after ∙ ap (λ h. host.ended h k) (sym was)) is
+    broken_happens trouble k w s fault new.server links (ap (λ (h : ServerState). side_at h.sides k) was ∙ live) gives
+    (ap (λ (h : Hosted). h.server) after ∙ ap (λ h. host.ended h k) (sym was)) is
 
 -- the reel that was opened is there, so its name is known
-pub opened_known : (names : List (List ℕ)) (w : World) (k : ℕ) (h : Hall) (turn : Turn) (links : List Link) (name : List ℕ) → IsWorldKept (turned w k h turn links)
+pub opened_known : (names : List (List ℕ)) (w : World) (k : ℕ) (h : ServerState) (turn : Turn) (links : List Link) (name : List ℕ) → IsWorldKept (turned w k h turn links)
     → IsLibraryKnown names h.library → opened_in h k turn ≡ Some name → Contains names name
 opened_known names w k h turn links name kept known is =
     known name (kept.once.opened (opening k name)
     (subst (λ o. Contains (w.opens ++ option_to_list (option_map (opening k) o)) (opening k name)) (sym is) (Contains-push w.opens (opening k name))))
 
 -- so is one that was written on, which was opened before
-pub written_known : (names : List (List ℕ)) (w : World) (k : ℕ) (h : Hall) (turn : Turn) (links : List Link) (name : List ℕ) → IsWorldKept (turned w k h turn links)
+pub written_known : (names : List (List ℕ)) (w : World) (k : ℕ) (h : ServerState) (turn : Turn) (links : List Link) (name : List ℕ) → IsWorldKept (turned w k h turn links)
     → IsLibraryKnown names h.library → written_in h k turn ≡ Some name → Contains names name
 written_known names w k h turn links name kept known is =
     let x = writing k (length w.opens) name in
@@ -271,7 +271,7 @@ written_known names w k h turn links name kept known is =
     (subst (λ o. Contains (w.writings ++ option_to_list (option_map (writing k (length w.opens)) o)) x) (sym is) (Contains-push w.writings x)) in
     known name (kept.once.opened (opening k name) (front_has (more_opens w k h turn) (length w.opens) its.1.0 (opening k name) its.1.1))
 
-pub online_in : (h : Hall) (k : ℕ) → AreHeld h → IsOnlineIn h k
+pub online_in : (h : ServerState) (k : ℕ) → AreHeld h → IsOnlineIn h k
 online_in h k held s drive access reel at online = held_there h held k drive s (sym (side_found h k) ∙ at) (ap drive_in online)
 
 -- ---- of the vectors in memory
@@ -292,7 +292,7 @@ pub name_known : (old new : Books) (name : List ℕ) → new.names ≡ old.names
 name_known old new name is known = subst (λ names. Contains names name) (sym (same_names old new is)) known
 
 -- books that hold the same
-pub same_books : (h : Hall) (links : List RealLink) (begun : List RealBegun) (caller : Option RealCaller) (own : Option ℕ) (kept : Option KeptRun) (dates : List DatesEntry)
+pub same_books : (h : ServerState) (links : List RealLink) (begun : List RealBegun) (caller : Option RealCaller) (own : Option ℕ) (kept : Option KeptRun) (dates : List DatesEntry)
     (old new : Books) → IsSameBooks old new → world_of h links begun caller own kept new dates ≡ world_of h links begun caller own kept old dates
 same_books h links begun caller own kept dates old new s =
     let names = same_names old new s.names in
@@ -307,8 +307,8 @@ same_books h links begun caller own kept dates old new s =
     let failure = s.failure in cc
 
 -- books in which a turn is noted
-pub noted_books : (h : Hall) (links : List RealLink) (begun : List RealBegun) (caller : Option RealCaller) (own : Option ℕ) (kept : Option KeptRun) (dates : List DatesEntry)
-    (old new : Books) (list : List VolumeCount) (after : Hall) (now : List RealLink) (k : ℕ) (turn : Turn) → list ≡ list_in (option_map seen_caller caller)
+pub noted_books : (h : ServerState) (links : List RealLink) (begun : List RealBegun) (caller : Option RealCaller) (own : Option ℕ) (kept : Option KeptRun) (dates : List DatesEntry)
+    (old new : Books) (list : List VolumeCount) (after : ServerState) (now : List RealLink) (k : ℕ) (turn : Turn) → list ≡ list_in (option_map seen_caller caller)
     → IsNoted old list after k turn new
     → world_of after now begun caller own kept (record new { failure = None }) dates
     ≡ turned (world_of h links begun caller own kept old dates) k after turn (map seen_link now)

@@ -5,8 +5,8 @@ use Rattle.std.specs.Option.{unwrap_or}
 use Rattle.std.proofs.lemmas.Option.{same_Some, slice_get-map}
 use Rattle.rmt_wire.specs.RequestReader.{Unread, taken_of}
 use Rattle.rmt_wire.specs.declared.limits.TheConstants.{READER_LIMIT}
-use Rattle.rmt_server.specs.Hall.{Side}
-use Rattle.tape_host.specs.Halls.{HasRoom}
+use Rattle.rmt_server.specs.ServerState.{ServerConnection}
+use Rattle.tape_host.specs.Servers.{HasRoom}
 use Rattle.tape_events.specs.World.{World, Link, Begun, numbered}
 use Rattle.tape_events.specs.Events.PlainEvent.{ToServer, ToClient}
 use Rattle.tape_events.specs.Changes.{side_of, link_of}
@@ -20,15 +20,15 @@ use Rattle.tape_world.specs.Telling.{IsGreatest, TellsPayload}
 use Rattle.tape_world.proofs.Linked.{same_link}
 
 -- so many bytes fit into the room of a live side
-within : (o : Option Side) (r : Option ℕ) (s : Side) (n : ℕ) → o ≡ Some s → HasRoom o r → (bytes : List ℕ) → Unread s.reached bytes → HasRoomFor s.reached n → n ≤ unwrap_or r 0
+within : (o : Option ServerConnection) (r : Option ℕ) (s : ServerConnection) (n : ℕ) → o ≡ Some s → HasRoom o r → (bytes : List ℕ) → Unread s.reached bytes → HasRoomFor s.reached n → n ≤ unwrap_or r 0
 within None r s n at has bytes unread fits = absurd cc
 within (Some x) r s n at has bytes unread fits =
     let same : x ≡ s = same_Some x s at in
-    let left : has.0 + taken_of bytes ≡ READER_LIMIT = has.2 bytes (subst (λ (y : Side). Unread y.reached bytes) (sym same) unread) in
+    let left : has.0 + taken_of bytes ≡ READER_LIMIT = has.2 bytes (subst (λ (y : ServerConnection). Unread y.reached bytes) (sym same) unread) in
     let told : unwrap_or r 0 ≡ has.0 = ap (λ q. unwrap_or q 0) has.1 in
     omega (arith, left, told, fits bytes unread)
 
-fitting : (o : Option Side) (r : Option ℕ) (n : ℕ) → HasRoom o r → 1 ≤ n → n ≤ unwrap_or r 0 → (s : Side) × (o ≡ Some s) × HasRoomFor s.reached n
+fitting : (o : Option ServerConnection) (r : Option ℕ) (n : ℕ) → HasRoom o r → 1 ≤ n → n ≤ unwrap_or r 0 → (s : ServerConnection) × (o ≡ Some s) × HasRoomFor s.reached n
 fitting None r n has some most =
     let none : unwrap_or r 0 ≡ 0 = ap (λ q. unwrap_or q 0) has in
     absurd (omega (arith, none, some, most))
@@ -37,16 +37,16 @@ fitting (Some s) r n has some most =
     (s, refl, λ bytes unread. (let left : has.0 + taken_of bytes ≡ READER_LIMIT = has.2 bytes unread in omega (arith, left, told, most)))
 
 -- how many bytes can reach the server
-pub can_arrive : (w : World) (k : ℕ) (l : Link) (r : Option ℕ) (room most : ℕ) (way : List ℕ) → IsReadable w → link_of w k ≡ Some l → HasRoom (side_of w.hall k) r
+pub can_arrive : (w : World) (k : ℕ) (l : Link) (r : Option ℕ) (room most : ℕ) (way : List ℕ) → IsReadable w → link_of w k ≡ Some l → HasRoom (side_of w.server k) r
     → room ≡ unwrap_or r 0 → way ≡ l.toward → most ≡ min (length way) room → IsGreatest (λ n. Possible w (ToServer k n)) most
 can_arrive w k l r room most way readable at has roomy same is = λ n. (
   (λ (s, m, live, there, part, fits). (
       let unread = readable k s live in
-      let inside : n ≤ unwrap_or r 0 = within (side_of w.hall k) r s n live has unread.0 unread.1 fits in
+      let inside : n ≤ unwrap_or r 0 = within (side_of w.server k) r s n live has unread.0 unread.1 fits in
       let long : length m.toward ≡ length way = ap (λ (x : Link). length x.toward) (same_link w k m l there at) ∙ ap length (sym same) in
       (part.0, omega (arith, roomy, is, part.1, long, inside)))),
   (λ h. (
-      let live = fitting (side_of w.hall k) r n has h.0 (omega (arith, roomy, is, h.1)) in
+      let live = fitting (side_of w.server k) r n has h.0 (omega (arith, roomy, is, h.1)) in
       let long : length way ≡ length l.toward = ap length same in
       (live.0, l, live.1, at, (h.0, omega (arith, is, h.1, long)), live.2))),
 )

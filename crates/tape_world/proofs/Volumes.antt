@@ -11,7 +11,7 @@ use Rattle.tape.specs.Tape.{PlainEntry, Tape, entries_of}
 use Rattle.drives.specs.TapeLibrary.{KeptReel, ReelSlot, Drive, drive_with, TapeLibrary, drive_at, slots_in, EachReelOnce}
 use Rattle.drives.specs.Arranging.{reel_named}
 use Rattle.drives.proofs.Shops.{bit, named, times_named}
-use Rattle.rmt_server.specs.Hall.{Hall, Side}
+use Rattle.rmt_server.specs.ServerState.{ServerState, ServerConnection}
 use Rattle.rmt_server.specs.Session.{PlainSession}
 use Rattle.rmt_server.specs.Session.PlainSession.{Idle, Offline, Online}
 use Rattle.tape_events.specs.World.{World, Begun}
@@ -98,18 +98,18 @@ away_has [] name away is = absurd away
 away_has (x ∷ xs) name away is = inl (is, away.0)
 
 -- the side of a place
-place_side : (xs : List (Option Side)) (i : ℕ) (s : Side) → slice_index_or xs i None ≡ Some s → slice_get xs i ≡ Some (Some s)
+place_side : (xs : List (Option ServerConnection)) (i : ℕ) (s : ServerConnection) → slice_index_or xs i None ≡ Some s → slice_get xs i ≡ Some (Some s)
 place_side [] i s is = absurd cc
 place_side (x ∷ xs) zero s is = ap Some is
 place_side (x ∷ xs) (suc i) s is = place_side xs i s is
 
-side_place : (xs : List (Option Side)) (i : ℕ) (s : Side) → slice_get xs i ≡ Some (Some s) → slice_index_or xs i None ≡ Some s
+side_place : (xs : List (Option ServerConnection)) (i : ℕ) (s : ServerConnection) → slice_get xs i ≡ Some (Some s) → slice_index_or xs i None ≡ Some s
 side_place [] i s is = absurd cc
 side_place (x ∷ xs) zero s is = same_Some x (Some s) is
 side_place (x ∷ xs) (suc i) s is = side_place xs i s is
 
 -- where all tapes of that name have these entries
-first_told : (name : List ℕ) (s : TapeLibrary) (sides : List (Option Side)) (x : Option Side) (o : Option Tape) (e : List PlainEntry) (j : ℕ) (t : Tape) → tape_online name s x ≡ o
+first_told : (name : List ℕ) (s : TapeLibrary) (sides : List (Option ServerConnection)) (x : Option ServerConnection) (o : Option Tape) (e : List PlainEntry) (j : ℕ) (t : Tape) → tape_online name s x ≡ o
     → ((i : ℕ) (r : Tape) → tape_online name s (slice_index_or (x ∷ sides) i None) ≡ Some r → entries_of r ≡ e)
     → ((i : ℕ) → tape_online name s (slice_index_or sides i None) ≡ Some t → option_map entries_of (first_tape_online name s sides) ≡ Some e)
     → tape_online name s (slice_index_or (x ∷ sides) j None) ≡ Some t → option_map entries_of (option_or o (first_tape_online name s sides)) ≡ Some e
@@ -117,7 +117,7 @@ first_told name s sides x (Some r) e j t is all rest has = ap Some (all 0 r is)
 first_told name s sides x None e zero t is all rest has = let clash = sym is ∙ has in absurd cc
 first_told name s sides x None e (suc j) t is all rest has = rest j has
 
-told_online : (name : List ℕ) (s : TapeLibrary) (sides : List (Option Side)) (e : List PlainEntry) (j : ℕ) (t : Tape)
+told_online : (name : List ℕ) (s : TapeLibrary) (sides : List (Option ServerConnection)) (e : List PlainEntry) (j : ℕ) (t : Tape)
     → ((i : ℕ) (r : Tape) → tape_online name s (slice_index_or sides i None) ≡ Some r → entries_of r ≡ e) → tape_online name s (slice_index_or sides j None) ≡ Some t
     → option_map entries_of (first_tape_online name s sides) ≡ Some e
 told_online name s [] e j t all has = absurd cc
@@ -136,7 +136,7 @@ in_drive name s (Online drive access reel) t is =
     let its = named_in (bytes_eq name (first_name (drive_at s drive).stack)) reel.tape t is in
     (drive, access, reel, refl, sym ((bytes_eq-Decides name (first_name (drive_at s drive).stack)).0 its.0), ap entries_of its.1)
 
-online_stands : (h : Hall) (name : List ℕ) (i : ℕ) (t : Tape) (o : Option Side) → slice_index_or h.sides i None ≡ o → tape_online name h.library o ≡ Some t
+online_stands : (h : ServerState) (name : List ℕ) (i : ℕ) (t : Tape) (o : Option ServerConnection) → slice_index_or h.sides i None ≡ o → tape_online name h.library o ≡ Some t
     → StandsOn h name (entries_of t)
 online_stands h name i t None at is = absurd cc
 online_stands h name i t (Some s) at is =
@@ -149,7 +149,7 @@ has_tape name s session entries (drive, access, reel, online, named, holds) = (
       ∙ ap (λ b. if b then Some reel.tape else None) ((bytes_eq-Decides name (first_name (drive_at s drive).stack)).1 (sym named)),
 )
 
-online_told : (h : Hall) (k : ℕ) (s : Side) (name : List ℕ) (entries : List PlainEntry) → AreHeld h → AreLaid h → EachReelOnce h.library → side_of h k ≡ Some s
+online_told : (h : ServerState) (k : ℕ) (s : ServerConnection) (name : List ℕ) (entries : List PlainEntry) → AreHeld h → AreLaid h → EachReelOnce h.library → side_of h k ≡ Some s
     → HasInDrive h.library s.session name entries → option_map entries_of (first_tape_online name h.library h.sides) ≡ Some entries
 online_told h zero s name entries a l once live has = let at = side_there h zero s live in absurd cc
 online_told h (suc j) s name entries a l once live has =
@@ -161,7 +161,7 @@ online_told h (suc j) s name entries a l once live has =
     (ap (tape_online name h.library) there ∙ t.1)
 
 -- what stands on a reel is told
-pub stands_told : (h : Hall) (name : List ℕ) (entries : List PlainEntry) → AreHeld h → AreLaid h → EachReelOnce h.library → StandsOn h name entries → entries_on h name ≡ Some entries
+pub stands_told : (h : ServerState) (name : List ℕ) (entries : List PlainEntry) → AreHeld h → AreLaid h → EachReelOnce h.library → StandsOn h name entries → entries_on h name ≡ Some entries
 stands_told h name entries a l once (inl lies) =
     let on = on_has h.library name entries lies in
     ap (λ o. option_or (option_map (λ (r : KeptReel). r.entries) o) (option_map entries_of (first_tape_online name h.library h.sides))) (library_named h.library name (Some on.0) once on.1)
@@ -176,5 +176,5 @@ pub volumes_told : (w : World) → IsWorldKept w → CountedReels w → TellsVol
 volumes_told w kept counted x b among begun last =
     let on = counted x among in
     let same : on.begun ≡ b = same_Some on.begun b (sym on.begun_as ∙ begun) in
-    stands_told w.hall x.reel (whole_volume b.run b.payload x.volume x.first x.count) kept.held kept.laid kept.once.once
-    (subst (λ (c : Begun). StandsOn w.hall x.reel (whole_volume c.run c.payload x.volume x.first x.count)) same (on.whole last).0)
+    stands_told w.server x.reel (whole_volume b.run b.payload x.volume x.first x.count) kept.held kept.laid kept.once.once
+    (subst (λ (c : Begun). StandsOn w.server x.reel (whole_volume c.run c.payload x.volume x.first x.count)) same (on.whole last).0)

@@ -20,13 +20,13 @@ use Rattle.rmt_server.specs.declared.access.Access.{Access}
 use Rattle.rmt_server.specs.declared.access.Access.TheVariants.{Read as ReadOnly, Write as WriteOnly, Both}
 use Rattle.rmt_server.specs.Access.{writes}
 use Rattle.rmt_server.specs.Refusals.{refused, tape_refusal}
-use Rattle.rmt_server.specs.Session.{PlainReel, PlainSession, Scene, status_of, refusal, done_reply, fault_reply, reel_reply}
+use Rattle.rmt_server.specs.Session.{PlainReel, PlainSession, SessionView, status_of, refusal, done_reply, fault_reply, reel_reply}
 use Rattle.rmt_server.specs.Session.Status.{Ready}
 use Rattle.rmt_server.specs.Session.PlainSession.{Idle, Offline, Online}
 use Rattle.rmt_server.specs.TroubledServe.{TroubledReelStep, TroubledServeStep}
-use Rattle.rmt_server.specs.Hall.{Hall, Side}
+use Rattle.rmt_server.specs.ServerState.{ServerState, ServerConnection}
 use Rattle.tape_host.specs.declared.turn.RequestKind.TheVariants as asked
-use Rattle.tape_host.specs.Halls.{side_at}
+use Rattle.tape_host.specs.Servers.{side_at}
 use Rattle.tape_host.specs.Turns.{carried_of, asked_of, answered_of}
 use Rattle.tape_events.specs.Changes.{first_name, written_reel, reel_written, writing}
 use Rattle.tape_world.specs.declared.books.Writing.{Writing as RealWriting}
@@ -130,24 +130,24 @@ reel_free request (Gave given) = refl
 reel_free request (Fault why) = fault_free request why
 
 -- a request that is refused, or done by the reel
-online_told : {R : Type 0} (say : R → PlainReply) (trouble : Trouble) (before : Scene) (request : PlainRequest) (reply : PlainReply) (after : Scene) (o : Option R)
+online_told : {R : Type 0} (say : R → PlainReply) (trouble : Trouble) (before : SessionView) (request : PlainRequest) (reply : PlainReply) (after : SessionView) (o : Option R)
     (drive : ℕ) (access : Access) (reel : PlainReel) → before.session ≡ Online drive access reel → IsCheck say (writes access) o
     → MatchOption o (TroubledReelStep trouble before request reply after) (λ r. (reply ≡ say r) × (after ≡ before)) → IsTold after.session reply
 online_told say trouble before request reply after None drive access reel online check (d, a, x, answer, t, was, device, replies, is) =
     let same : Online drive access reel ≡ Online d a x = sym online ∙ was in
     let accesses : access ≡ a = cc in
-    subst (λ s. IsTold s reply) (sym (ap (λ (v : Scene). v.session) is)) (ap is_free replies ∙ reel_free request answer ∙ check ∙ ap writes accesses)
+    subst (λ s. IsTold s reply) (sym (ap (λ (v : SessionView). v.session) is)) (ap is_free replies ∙ reel_free request answer ∙ check ∙ ap writes accesses)
 online_told say trouble before request reply after (Some r) drive access reel online check (replies, is) =
-    subst (λ s. IsTold s reply) (sym (ap (λ (v : Scene). v.session) is ∙ online)) (ap is_free replies ∙ check)
+    subst (λ s. IsTold s reply) (sym (ap (λ (v : SessionView). v.session) is ∙ online)) (ap is_free replies ∙ check)
 
 -- where nothing is online nothing is done
-away_told : {R : Type 0} (say : R → PlainReply) (trouble : Trouble) (before : Scene) (request : PlainRequest) (reply : PlainReply) (after : Scene) (o : Option R)
+away_told : {R : Type 0} (say : R → PlainReply) (trouble : Trouble) (before : SessionView) (request : PlainRequest) (reply : PlainReply) (after : SessionView) (o : Option R)
     → IsTold before.session reply → ((drive : ℕ) (access : Access) (reel : PlainReel) → before.session ≢ Online drive access reel)
     → MatchOption o (TroubledReelStep trouble before request reply after) (λ r. (reply ≡ say r) × (after ≡ before)) → IsTold after.session reply
 away_told say trouble before request reply after None told away (d, a, x, answer, t, was, device, replies, is) = absurd (away d a x was)
-away_told say trouble before request reply after (Some r) told away (replies, is) = subst (λ s. IsTold s reply) (sym (ap (λ (v : Scene). v.session) is)) told
+away_told say trouble before request reply after (Some r) told away (replies, is) = subst (λ s. IsTold s reply) (sym (ap (λ (v : SessionView). v.session) is)) told
 
-step_told : (trouble : Trouble) (before : Scene) (session : PlainSession) (request : PlainRequest) (reply : PlainReply) (after : Scene) → before.session ≡ session
+step_told : (trouble : Trouble) (before : SessionView) (session : PlainSession) (request : PlainRequest) (reply : PlainReply) (after : SessionView) → before.session ≡ session
     → IsChecked session request → MatchOption (refusal (status_of session) request) (TroubledReelStep trouble before request reply after)
     (λ r. (reply ≡ refused r) × (after ≡ before)) → IsTold after.session reply
 step_told trouble before Idle request reply after is check step =
@@ -160,20 +160,20 @@ step_told trouble before (Online drive access reel) request reply after is check
     online_told refused trouble before request reply after (refusal (Ready access) request) drive access reel is check step
 
 -- the reel of a side that is there
-told_at : (h : Hall) (k : ℕ) (s : Side) (after : Scene) (reply : PlainReply) → h.library ≡ after.library → s.session ≡ after.session → side_at h.sides k ≡ Some s
+told_at : (h : ServerState) (k : ℕ) (s : ServerConnection) (after : SessionView) (reply : PlainReply) → h.library ≡ after.library → s.session ≡ after.session → side_at h.sides k ≡ Some s
     → IsTold after.session reply → (if is_free reply then name_online_at h.library (side_at h.sides k) else None) ≡ written_reel after.library after.session
 told_at h k s after reply library session live told =
     ap (λ o. if is_free reply then name_online_at h.library o else None) live ∙ ap (λ x. if is_free reply then name_online x s.session else None) library
     ∙ ap (λ x. if is_free reply then name_online after.library x else None) session ∙ told_name after.library after.session reply told
 
 -- an operation that writes no marks
-other_written : (op count : ℕ) (reply : PlainReply) (h : Hall) (k : ℕ) (s : TapeLibrary) (session : PlainSession) → (op == MTWEOF) ≡ false
+other_written : (op count : ℕ) (reply : PlainReply) (h : ServerState) (k : ℕ) (s : TapeLibrary) (session : PlainSession) → (op == MTWEOF) ≡ false
     → name_written_by (carried_of (Op op count) reply) h k ≡ reel_written (Op op count) s session
 other_written op count reply h k s session other =
     let kind : asked_of (Op op count) ≡ asked.Other = ap (λ b. if b then asked.Marks else asked.Other) other in
     ap (λ x. name_written_by (record { asked = x; answered = answered_of reply }) h k) kind ∙ sym (ap (λ b. if b then written_reel s session else None) other)
 
-marks_written : (trouble : Trouble) (holders : List ℕ) (before : Scene) (op count : ℕ) (reply : PlainReply) (after : Scene) (h : Hall) (k : ℕ) (s : Side)
+marks_written : (trouble : Trouble) (holders : List ℕ) (before : SessionView) (op count : ℕ) (reply : PlainReply) (after : SessionView) (h : ServerState) (k : ℕ) (s : ServerConnection)
     → TroubledServeStep trouble holders before (Op op count) reply after → h.library ≡ after.library → s.session ≡ after.session → side_at h.sides k ≡ Some s
     → op ≡ MTWEOF → name_written_by (carried_of (Op op count) reply) h k ≡ reel_written (Op op count) after.library after.session
 marks_written trouble holders before op count reply after h k s step library session live is =
@@ -183,8 +183,8 @@ marks_written trouble holders before op count reply after h k s step library ses
     (subst (λ n. TroubledServeStep trouble holders before (Op n count) reply after) is step)))
 
 -- the reel on which a request that was carried out wrote
-pub written_is : (trouble : Trouble) (holders : List ℕ) (before : Scene) (request : PlainRequest) (reply : PlainReply) (after : Scene) (h : Hall) (k : ℕ)
-    (s : Side) → TroubledServeStep trouble holders before request reply after → h.library ≡ after.library → s.session ≡ after.session
+pub written_is : (trouble : Trouble) (holders : List ℕ) (before : SessionView) (request : PlainRequest) (reply : PlainReply) (after : SessionView) (h : ServerState) (k : ℕ)
+    (s : ServerConnection) → TroubledServeStep trouble holders before request reply after → h.library ≡ after.library → s.session ≡ after.session
     → side_at h.sides k ≡ Some s → name_written_by (carried_of request reply) h k ≡ reel_written request after.library after.session
 written_is trouble holders before (Open device mode) reply after h k s step library session live = refl
 written_is trouble holders before Close reply after h k s step library session live = refl

@@ -8,13 +8,13 @@ use Rattle.drives.specs.Arranging.{reel_named}
 use Rattle.rmt_server.specs.Session.{PlainSession}
 use Rattle.rmt_server.specs.Session.PlainSession.{Online}
 use Rattle.rmt_server.specs.TroubledServe.{drive_in}
-use Rattle.rmt_server.specs.Hall.{Hall, Side}
+use Rattle.rmt_server.specs.ServerState.{ServerState, ServerConnection}
 use Rattle.tape_events.specs.World.{World}
 use Rattle.tape_events.specs.Changes.{side_of, first_name}
 
 -- each drive that a live side has open is there
-abbrev pub AreOpenThere : Hall → Type 0
-AreOpenThere h = (k d : ℕ) (s : Side) → side_of h k ≡ Some s → drive_in s.session ≡ Some d → d < length h.library.drives
+abbrev pub AreOpenThere : ServerState → Type 0
+AreOpenThere h = (k d : ℕ) (s : ServerConnection) → side_of h k ≡ Some s → drive_in s.session ≡ Some d → d < length h.library.drives
 
 -- the tape that a session has online, if that is of the reel of this name: the first of the drive's stack
 abbrev pub named_tape_in : List ℕ → TapeLibrary → PlainSession → Option Tape
@@ -22,21 +22,21 @@ named_tape_in name s (Online drive access reel) =
     if bytes_eq name (first_name (drive_at s drive).stack) then Some reel.tape else None
 named_tape_in name s session = None
 
-abbrev pub tape_online : List ℕ → TapeLibrary → Option Side → Option Tape
+abbrev pub tape_online : List ℕ → TapeLibrary → Option ServerConnection → Option Tape
 tape_online name s None = None
 tape_online name s (Some x) = named_tape_in name s x.session
 
 -- the tape that a live side has online under this name: the first of them
-abbrev pub first_tape_online : List ℕ → TapeLibrary → List (Option Side) → Option Tape
+abbrev pub first_tape_online : List ℕ → TapeLibrary → List (Option ServerConnection) → Option Tape
 first_tape_online name s [] = None
 first_tape_online name s (side ∷ sides) = option_or (tape_online name s side) (first_tape_online name s sides)
 
 -- what stands on the reel of this name, which lies on a stack or in the bin, or is online
-abbrev pub entries_on : Hall → List ℕ → Option (List PlainEntry)
+abbrev pub entries_on : ServerState → List ℕ → Option (List PlainEntry)
 entries_on h name =
     option_or (option_map (λ r. r.entries) (reel_named name (slots_in h.library)))
     (option_map entries_of (first_tape_online name h.library h.sides))
 
 -- one entry of it
 abbrev pub entry_on : World → List ℕ → ℕ → Option PlainEntry
-entry_on w name i = option_and_then (λ entries. slice_get entries i) (entries_on w.hall name)
+entry_on w name i = option_and_then (λ entries. slice_get entries i) (entries_on w.server name)

@@ -2,7 +2,7 @@
 use Rattle.std.specs.Prelude.{ℕ, List, [], map, get_or, option_map, Option, Vec}
 use Rattle.std.specs.Global.{Global}
 use Rattle.dumpdates.specs.Entry.{DatesEntry}
-use Rattle.rmt_server.specs.Hall.{Hall}
+use Rattle.rmt_server.specs.ServerState.{ServerState}
 use Rattle.dump_run.specs.declared.count.VolumeCount.{VolumeCount}
 use Rattle.tape_events.specs.World.{Link, Begun, Caller, Count, Opening, Writing, Entered, Kept, World}
 use Rattle.tape_world.specs.declared.link.Link.{Link as RealLink}
@@ -59,9 +59,9 @@ seen_kept k = record { run = k.run; listed = k.counts.items }
 abbrev pub book_names : Books → List (List ℕ)
 book_names b = map (λ name. name.items) b.names.items
 
-abbrev pub world_of : Hall → List RealLink → List RealBegun → Option RealCaller → Option ℕ → Option KeptRun → Books → List DatesEntry → World
+abbrev pub world_of : ServerState → List RealLink → List RealBegun → Option RealCaller → Option ℕ → Option KeptRun → Books → List DatesEntry → World
 world_of h links begun caller own kept books dates = record {
-  hall = h;
+  server = h;
   links = map seen_link links;
   begun = map seen_begun begun;
   caller = option_map seen_caller caller;

@@ -10,7 +10,7 @@ use Rattle.drives.specs.TapeLibrary.{TapeLibrary, drive_at}
 use Rattle.rmt_server.specs.Session.{PlainReel, PlainSession}
 use Rattle.rmt_server.specs.Session.PlainSession.{Online}
 use Rattle.rmt_server.specs.declared.access.Access.{Access}
-use Rattle.rmt_server.specs.Hall.{Hall, Side}
+use Rattle.rmt_server.specs.ServerState.{ServerState, ServerConnection}
 use Rattle.dump_run.specs.declared.count.VolumeCount.{VolumeCount}
 use Rattle.tape_host.specs.declared.turn.RequestKind.{RequestKind}
 use Rattle.tape_host.specs.declared.turn.RequestKind.TheVariants as asked
@@ -19,7 +19,7 @@ use Rattle.tape_host.specs.declared.turn.Answered.TheVariants as said
 use Rattle.tape_host.specs.declared.turn.Carried.{Carried}
 use Rattle.tape_host.specs.declared.turn.Turn.{Turn}
 use Rattle.tape_host.specs.declared.turn.Turn.TheVariants as turns
-use Rattle.tape_host.specs.Halls.{Hosted, hosted, side_at, ended}
+use Rattle.tape_host.specs.Servers.{Hosted, hosted, side_at, ended}
 use Rattle.tape_host.specs.Turns.{carried_of, Carries, GivesNothing, GivesFault}
 use Rattle.tape_events.specs.World.{Link, Dumping}
 use Rattle.tape_events.specs.Standing.{HasReel}
@@ -60,35 +60,35 @@ noted_turn (turns.Broken fault) l = over_here l
 -- What a turn of connection k makes of the hall, and of the connection.
 abbrev pub TurnServes : Trouble → Hosted → ℕ → Turn → Hosted → ((Link → Link) → Type 0) → Type 0
 TurnServes trouble old k turns.Nothing new becomes =
-    ((s : Side) → side_at old.hall.sides k ≡ Some s → GivesNothing s.reached) × (new ≡ old) × becomes (λ l. l)
+    ((s : ServerConnection) → side_at old.server.sides k ≡ Some s → GivesNothing s.reached) × (new ≡ old) × becomes (λ l. l)
 TurnServes trouble old k (turns.Carried carried) new becomes =
-    (s : Side) × (request : PlainRequest) × (reply : PlainReply) × (side_at old.hall.sides k ≡ Some s)
-    × Carries trouble old.hall k s request reply new.hall × (carried ≡ carried_of request reply) × becomes (answered request reply)
+    (s : ServerConnection) × (request : PlainRequest) × (reply : PlainReply) × (side_at old.server.sides k ≡ Some s)
+    × Carries trouble old.server k s request reply new.server × (carried ≡ carried_of request reply) × becomes (answered request reply)
 TurnServes trouble old k (turns.Broken fault) new becomes =
-    (s : Side) × (side_at old.hall.sides k ≡ Some s) × GivesFault s.reached fault
-    × (new ≡ hosted (ended old.hall k) old.ready) × becomes over_here
+    (s : ServerConnection) × (side_at old.server.sides k ≡ Some s) × GivesFault s.reached fault
+    × (new ≡ hosted (ended old.server k) old.ready) × becomes over_here
 
 -- the name of the reel that is online
 abbrev pub name_online : TapeLibrary → PlainSession → Option (List ℕ)
 name_online s (Online drive access reel) = Some (first_name (drive_at s drive).stack)
 name_online s session = None
 
-abbrev pub name_online_at : TapeLibrary → Option Side → Option (List ℕ)
+abbrev pub name_online_at : TapeLibrary → Option ServerConnection → Option (List ℕ)
 name_online_at s None = None
 name_online_at s (Some x) = name_online s x.session
 
 -- the drive that a connection has online is there
-abbrev pub IsOnlineIn : Hall → ℕ → Type 0
+abbrev pub IsOnlineIn : ServerState → ℕ → Type 0
 IsOnlineIn h k =
-    (s : Side) (drive : ℕ) (access : Access) (reel : PlainReel) → side_at h.sides k ≡ Some s → s.session ≡ Online drive access reel
+    (s : ServerConnection) (drive : ℕ) (access : Access) (reel : PlainReel) → side_at h.sides k ≡ Some s → s.session ≡ Online drive access reel
     → drive < length h.library.drives
 
-abbrev pub name_opened_by : RequestKind → Hall → ℕ → Option (List ℕ)
+abbrev pub name_opened_by : RequestKind → ServerState → ℕ → Option (List ℕ)
 name_opened_by (asked.Open true) h k = name_online_at h.library (side_at h.sides k)
 name_opened_by _ h k = None
 
 -- the name of the reel that a turn opened for writing, if it did
-abbrev pub opened_in : Hall → ℕ → Turn → Option (List ℕ)
+abbrev pub opened_in : ServerState → ℕ → Turn → Option (List ℕ)
 opened_in h k (turns.Carried c) = name_opened_by c.asked h k
 opened_in h k turn = None
 
@@ -108,11 +108,11 @@ is_barred answer = false
 abbrev pub is_write : Carried → Bool
 is_write c = if is_to_write c.asked then not (is_barred c.answered) else false
 
-abbrev pub name_written_by : Carried → Hall → ℕ → Option (List ℕ)
+abbrev pub name_written_by : Carried → ServerState → ℕ → Option (List ℕ)
 name_written_by c h k = if is_write c then name_online_at h.library (side_at h.sides k) else None
 
 -- the name of the reel that a turn wrote on, if it did
-abbrev pub written_in : Hall → ℕ → Turn → Option (List ℕ)
+abbrev pub written_in : ServerState → ℕ → Turn → Option (List ℕ)
 written_in h k (turns.Carried c) = name_written_by c h k
 written_in h k turn = None
 
@@ -137,7 +137,7 @@ pub record IsSameBooks (old new : Books) : Type 0 where
   pub failure : new.failure ≡ old.failure
 
 -- A turn of connection k is noted, where the client has this list: what it opened for writing, with the list, and what it wrote on.
-pub record IsNoted (old : Books) (list : List VolumeCount) (h : Hall) (k : ℕ) (turn : Turn) (new : Books) : Type 0 where
+pub record IsNoted (old : Books) (list : List VolumeCount) (h : ServerState) (k : ℕ) (turn : Turn) (new : Books) : Type 0 where
   pub names : new.names ≡ old.names
   pub counts : new.counts ≡ old.counts
   pub opens : seen_openings old.names.items new.opens.items

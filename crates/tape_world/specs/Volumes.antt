@@ -10,4 +10,4 @@ use Rattle.tape_world.specs.Entries.{entries_on}
 abbrev pub TellsVolumes : World → Type 0
 TellsVolumes w =
     (x : Count) (b : Begun) → Contains w.counts x → numbered w.begun x.run ≡ Some b → IsSpared w x
-    → entries_on w.hall x.reel ≡ Some (whole_volume b.run b.payload x.volume x.first x.count)
+    → entries_on w.server x.reel ≡ Some (whole_volume b.run b.payload x.volume x.first x.count)

@@ -42,7 +42,7 @@ impl Model for Ends {
 
     ghost Value = { World };
 
-    ghost view = { λ w. world_of w.host.hall w.links.items w.begun.items w.caller w.own w.kept w.books w.dates };
+    ghost view = { λ w. world_of w.host.server w.links.items w.begun.items w.caller w.own w.kept w.books w.dates };
 
-    ghost invariant = { λ w. (IsSourced w.begun.items w.caller × IsBacked w.begun.items w.kept) × IsLibraryKnown (book_names w.books) w.host.hall.library };
+    ghost invariant = { λ w. (IsSourced w.begun.items w.caller × IsBacked w.begun.items w.kept) × IsLibraryKnown (book_names w.books) w.host.server.library };
 }

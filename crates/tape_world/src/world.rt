@@ -77,7 +77,7 @@ impl World {
         ensures headline { Headline self.now }
         ensures reached { IsReached self.now }
         ensures kept { IsWorldKept self.now }
-        ensures holders { AreHeld self.now.hall }
+        ensures holders { AreHeld self.now.server }
         ensures no_two_holders { NoTwoHolders self.now }
         ensures counted_reels { CountedReels self.now }
         ensures volumes_told { TellsVolumes self.now }

@@ -9,7 +9,7 @@ ghost use Rattle.rmt_server.specs.Replies.{number_reply, data_reply, outcome_rep
 ghost use Rattle.rmt_server.specs.Carrying.{Operates, CarriesOut};
 
 use crate::refusal::Refusal;
-use crate::session::{Desk, moving, opening, serving};
+use crate::session::{SessionState, moving, opening, serving};
 use drives::{DriveTable, Holds, Stacks};
 use rmt_wire::Request;
 use rmt_wire::mtio::MTOFFL;
@@ -26,43 +26,48 @@ pub(crate) enum Given {
 /// Does an operation of mtio. It answers the count.
 fn operate<H: Holds, S: Stacks>(
     drives: &mut DriveTable<H, S>,
-    desk: &mut Desk<H::Seat, S::Reel>,
+    session_state: &mut SessionState<H::Seat, S::Reel>,
     op: u32,
     count: u32,
 ) -> Result<u32, Refusal>
-    requires { IsAt (kinds H.Holds S.Stacks S.Reel.Reel) (state drives.old desk.old) }
-    ensures operates { Operates (kinds H.Holds S.Stacks S.Reel.Reel) (is_offline op) (state drives.old desk.old) op count
-        (number_reply result) (state drives.new desk.new) }
+    requires { IsAt (kinds H.Holds S.Stacks S.Reel.Reel) (state drives.old session_state.old) }
+    ensures operates { Operates (kinds H.Holds S.Stacks S.Reel.Reel) (is_offline op) (state drives.old session_state.old) op count
+        (number_reply result) (state drives.new session_state.new) }
     ensures number { IfOk result (λ n. n ≡ count) }
 {
     if op == MTOFFL {
-        moving::take_offline(drives, &mut desk.opened, count)
+        moving::take_offline(drives, &mut session_state.opened, count)
     } else {
-        serving::operate(&mut desk.opened, op, count)
+        serving::operate(&mut session_state.opened, op, count)
     }
 }
 
 /// Carries out a request. What a read gives lies in the buffer.
 pub(crate) fn dispatch<H: Holds, S: Stacks>(
     drives: &mut DriveTable<H, S>,
-    desk: &mut Desk<H::Seat, S::Reel>,
+    session_state: &mut SessionState<H::Seat, S::Reel>,
     buffer: &mut [u8],
     request: Request<'_>,
 ) -> Result<Given, Refusal>
-    requires at { IsAt (kinds H.Holds S.Stacks S.Reel.Reel) (state drives.old desk.old) }
+    requires at { IsAt (kinds H.Holds S.Stacks S.Reel.Reel) (state drives.old session_state.old) }
     requires room { length buffer.old ≡ RECORD_LIMIT }
-    ensures carried { CarriesOut (kinds H.Holds S.Stacks S.Reel.Reel) (state drives.old desk.old) (plain_request request.entry)
-        (outcome_reply result buffer.new) (state drives.new desk.new) }
+    ensures carried { CarriesOut (kinds H.Holds S.Stacks S.Reel.Reel) (state drives.old session_state.old) (plain_request request.entry)
+        (outcome_reply result buffer.new) (state drives.new session_state.new) }
     ensures small { IsSayable (plain_request request.entry) → IsOutcomeSayable result }
     ensures within { IsWithinBuffer result buffer.new }
 {
     match request {
-        Request::Open { device, mode } => numbered(opening::open(drives, desk, device, mode)),
-        Request::Close => numbered(opening::close_opened(drives, desk)),
-        Request::Write { bytes } => numbered(serving::write(&mut desk.opened, bytes)),
-        Request::WriteDropped { .. } => Err(serving::refuse_dropped(&desk.opened)),
-        Request::Read { count } => filled(serving::read(&mut desk.opened, buffer, count)),
-        Request::Op { op, count } => numbered(operate(drives, desk, op, count)),
+        Request::Open { device, mode } => numbered(opening::open(
+            drives,
+            session_state,
+            device,
+            mode,
+        )),
+        Request::Close => numbered(opening::close_opened(drives, session_state)),
+        Request::Write { bytes } => numbered(serving::write(&mut session_state.opened, bytes)),
+        Request::WriteDropped { .. } => Err(serving::refuse_dropped(&session_state.opened)),
+        Request::Read { count } => filled(serving::read(&mut session_state.opened, buffer, count)),
+        Request::Op { op, count } => numbered(operate(drives, session_state, op, count)),
     }
 }
 

@@ -10,7 +10,7 @@ ghost use Rattle.rmt_server.specs.Opening.{LaysBack, IsClosed, Closes, OpensFor,
 
 use crate::access::Access;
 use crate::refusal::Refusal;
-use crate::session::{Desk, Opened};
+use crate::session::{Opened, SessionState};
 use drives::{DriveTable, Holds, Stacks};
 use tape::Reel;
 
@@ -29,55 +29,55 @@ fn put_back<S: Stacks>(stacks: &mut S, drive: usize, reel: Option<S::Reel>)
 /// Closes what is open, if anything: its reel lies on the stack again, and the drive is given back.
 pub(crate) fn close<H: Holds, S: Stacks>(
     drives: &mut DriveTable<H, S>,
-    desk: &mut Desk<H::Seat, S::Reel>,
+    session_state: &mut SessionState<H::Seat, S::Reel>,
 )
-    requires { IsAt (kinds H.Holds S.Stacks S.Reel.Reel) (state drives.old desk.old) }
-    ensures { IsClosed (kinds H.Holds S.Stacks S.Reel.Reel) (state drives.old desk.old) (state drives.new desk.new) }
+    requires { IsAt (kinds H.Holds S.Stacks S.Reel.Reel) (state drives.old session_state.old) }
+    ensures { IsClosed (kinds H.Holds S.Stacks S.Reel.Reel) (state drives.old session_state.old) (state drives.new session_state.new) }
 {
-    let Some(device) = desk.opened.take() else {
+    let Some(device) = session_state.opened.take() else {
         return;
     };
     let Opened { drive, reel, .. } = device;
     put_back(&mut drives.stacks, drive, reel);
-    drives.holds.give(&mut desk.seat, drive);
+    drives.holds.give(&mut session_state.seat, drive);
 }
 
 /// Closes what is open. It answers 0.
 pub(crate) fn close_opened<H: Holds, S: Stacks>(
     drives: &mut DriveTable<H, S>,
-    desk: &mut Desk<H::Seat, S::Reel>,
+    session_state: &mut SessionState<H::Seat, S::Reel>,
 ) -> Result<u32, Refusal>
-    requires { IsAt (kinds H.Holds S.Stacks S.Reel.Reel) (state drives.old desk.old) }
-    ensures closes { Closes (kinds H.Holds S.Stacks S.Reel.Reel) (state drives.old desk.old) (number_reply result)
-        (state drives.new desk.new) }
+    requires { IsAt (kinds H.Holds S.Stacks S.Reel.Reel) (state drives.old session_state.old) }
+    ensures closes { Closes (kinds H.Holds S.Stacks S.Reel.Reel) (state drives.old session_state.old) (number_reply result)
+        (state drives.new session_state.new) }
     ensures number { IfOk result (λ n. n ≡ 0) }
 {
-    if desk.opened.is_none() {
+    if session_state.opened.is_none() {
         return Err(Refusal::BadDescriptor);
     }
-    close(drives, desk);
+    close(drives, session_state);
     Ok(0)
 }
 
 /// Takes the drive of that name and latches its first reel, while nothing is open. It answers 0.
 fn open_named<H: Holds, S: Stacks>(
     drives: &mut DriveTable<H, S>,
-    desk: &mut Desk<H::Seat, S::Reel>,
+    session_state: &mut SessionState<H::Seat, S::Reel>,
     device: &[u8],
     mode: u32,
 ) -> Result<u32, Refusal>
-    requires at { IsAt (kinds H.Holds S.Stacks S.Reel.Reel) (state drives.old desk.old) }
-    requires nothing { desk.old.opened ≡ None }
-    ensures opens { OpensFor (kinds H.Holds S.Stacks S.Reel.Reel) (state drives.old desk.old) device.now (access_of mode)
-        (number_reply result) (state drives.new desk.new) }
+    requires at { IsAt (kinds H.Holds S.Stacks S.Reel.Reel) (state drives.old session_state.old) }
+    requires nothing { session_state.old.opened ≡ None }
+    ensures opens { OpensFor (kinds H.Holds S.Stacks S.Reel.Reel) (state drives.old session_state.old) device.now (access_of mode)
+        (number_reply result) (state drives.new session_state.new) }
     ensures number { IfOk result (λ n. n ≡ 0) }
 {
     let Some(access) = Access::of(mode) else {
         return Err(Refusal::Invalid);
     };
-    match drives.open(&mut desk.seat, device) {
+    match drives.open(&mut session_state.seat, device) {
         Ok((drive, reel)) => {
-            desk.opened = Some(Opened {
+            session_state.opened = Some(Opened {
                 drive,
                 access,
                 reel: Some(reel),
@@ -91,15 +91,15 @@ fn open_named<H: Holds, S: Stacks>(
 /// Closes what is open, then takes the drive of that name and latches its first reel. It answers 0.
 pub(crate) fn open<H: Holds, S: Stacks>(
     drives: &mut DriveTable<H, S>,
-    desk: &mut Desk<H::Seat, S::Reel>,
+    session_state: &mut SessionState<H::Seat, S::Reel>,
     device: &[u8],
     mode: u32,
 ) -> Result<u32, Refusal>
-    requires { IsAt (kinds H.Holds S.Stacks S.Reel.Reel) (state drives.old desk.old) }
-    ensures opens { OpensAnew (kinds H.Holds S.Stacks S.Reel.Reel) (state drives.old desk.old) device.now mode (number_reply result)
-        (state drives.new desk.new) }
+    requires { IsAt (kinds H.Holds S.Stacks S.Reel.Reel) (state drives.old session_state.old) }
+    ensures opens { OpensAnew (kinds H.Holds S.Stacks S.Reel.Reel) (state drives.old session_state.old) device.now mode (number_reply result)
+        (state drives.new session_state.new) }
     ensures number { IfOk result (λ n. n ≡ 0) }
 {
-    close(drives, desk);
-    open_named(drives, desk, device, mode)
+    close(drives, session_state);
+    open_named(drives, session_state, device, mode)
 }

@@ -33,7 +33,7 @@ impl<H: Holds> Session<H, ListStacks> {
             IsAt (kinds H.Holds of_stacks of_reel) (state drives self.new) }
         ensures set { self.new.opened ≡ with_trouble trouble self.old.opened }
     {
-        if let Some(device) = &mut self.desk.opened {
+        if let Some(device) = &mut self.session_state.opened {
             set_in(&mut device.reel, trouble);
         }
     }

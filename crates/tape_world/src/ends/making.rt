@@ -128,7 +128,7 @@ impl Ends {
 
     /// The same, over a host that stands.
     fn with_host(alloc: Global, drives: &[DriveSpec<'_>], host: Host) -> Result<Ends, AllocError>
-        requires { host.hall ≡ (first_world (map plain_drive_spec drives.now)).hall }
+        requires { host.server ≡ (first_world (map plain_drive_spec drives.now)).server }
         ensures { IfOk result (λ w. w ≡ first_world (map plain_drive_spec drives.now)) }
     {
         let books = books_of(alloc, drives)?;

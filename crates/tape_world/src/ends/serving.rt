@@ -4,7 +4,7 @@ ghost use Rattle.std.specs.List.{position_or_len};
 ghost use Rattle.std.specs.Option.{option_copied, option_to_list};
 ghost use Rattle.std.specs.Str.{bytes_eq};
 ghost use Rattle.drives.specs.ListLibrary.{rest_slot};
-ghost use Rattle.tape_host.specs.Halls.{side_at};
+ghost use Rattle.tape_host.specs.Servers.{side_at};
 ghost use Rattle.tape_events.specs.Changes.{changed, first_name, list_in, opening, writing};
 ghost use Rattle.tape_events.specs.Events.PlainEvent.{Serve};
 ghost use Rattle.tape_events.specs.Kept.{IsWorldKept};
@@ -74,8 +74,8 @@ fn name_of_first(stack: &[ListedReel]) -> &[u8]
 
 /// The name of the reel that a connection has online, if it has one.
 fn name_online(host: &Host, connection: usize) -> Option<&[u8]>
-    requires { IsOnlineIn host.now.hall connection }
-    ensures { option_copied result ≡ name_online_at host.now.hall.library (side_at host.now.hall.sides connection) }
+    requires { IsOnlineIn host.now.server connection }
+    ensures { option_copied result ≡ name_online_at host.now.server.library (side_at host.now.server.sides connection) }
 {
     let session = host.session(connection)?;
     let (drive, _) = session.reel()?;
@@ -84,8 +84,8 @@ fn name_online(host: &Host, connection: usize) -> Option<&[u8]>
 
 /// The name of the reel that a turn of a connection opened for writing, if it did.
 fn name_opened(host: &Host, connection: usize, turn: Turn) -> Option<&[u8]>
-    requires { IsOnlineIn host.now.hall connection }
-    ensures { option_copied result ≡ opened_in host.now.hall connection turn }
+    requires { IsOnlineIn host.now.server connection }
+    ensures { option_copied result ≡ opened_in host.now.server connection turn }
 {
     let Turn::Carried(carried) = turn else {
         return None;
@@ -111,8 +111,8 @@ fn is_write(carried: Carried) -> bool
 
 /// The name of the reel that a turn of a connection wrote on, if it did.
 fn name_written(host: &Host, connection: usize, turn: Turn) -> Option<&[u8]>
-    requires { IsOnlineIn host.now.hall connection }
-    ensures { option_copied result ≡ written_in host.now.hall connection turn }
+    requires { IsOnlineIn host.now.server connection }
+    ensures { option_copied result ≡ written_in host.now.server connection turn }
 {
     let Turn::Carried(carried) = turn else {
         return None;
@@ -144,11 +144,11 @@ fn note_opening(
     turn: Turn,
 )
     requires room { vec_len opens.old < vec_capacity opens.old }
-    requires there { IsOnlineIn host.now.hall connection }
-    requires known { (name : List ℕ) → opened_in host.now.hall connection turn ≡ Some name
+    requires there { IsOnlineIn host.now.server connection }
+    requires known { (name : List ℕ) → opened_in host.now.server connection turn ≡ Some name
         → Contains (map (λ n. n.items) names.now) name }
     ensures { seen_openings names.now opens.new.items ≡ seen_openings names.now opens.old.items
-        ++ option_to_list (option_map (opening connection) (opened_in host.now.hall connection turn)) }
+        ++ option_to_list (option_map (opening connection) (opened_in host.now.server connection turn)) }
 {
     let Some(name) = name_opened(host, connection, turn) else {
         return;
@@ -168,11 +168,11 @@ fn note_writing(
     turn: Turn,
 )
     requires room { vec_len writings.old < vec_capacity writings.old }
-    requires there { IsOnlineIn host.now.hall connection }
-    requires known { (name : List ℕ) → written_in host.now.hall connection turn ≡ Some name
+    requires there { IsOnlineIn host.now.server connection }
+    requires known { (name : List ℕ) → written_in host.now.server connection turn ≡ Some name
         → Contains (map (λ n. n.items) names.now) name }
     ensures { seen_writings names.now writings.new.items ≡ seen_writings names.now writings.old.items
-        ++ option_to_list (option_map (writing connection after) (written_in host.now.hall connection turn)) }
+        ++ option_to_list (option_map (writing connection after) (written_in host.now.server connection turn)) }
 {
     let Some(name) = name_written(host, connection, turn) else {
         return;
@@ -196,9 +196,9 @@ fn note_list(
     turn: Turn,
 )
     requires room { vec_len lists.old < vec_capacity lists.old }
-    requires there { IsOnlineIn host.now.hall connection }
+    requires there { IsOnlineIn host.now.server connection }
     ensures { seen_lists lists.new.items ≡ seen_lists lists.old.items
-        ++ option_to_list (option_map (λ reel. list.items) (opened_in host.now.hall connection turn)) }
+        ++ option_to_list (option_map (λ reel. list.items) (opened_in host.now.server connection turn)) }
 {
     if name_opened(host, connection, turn).is_some() {
         lists.push_reserved(list);
@@ -234,10 +234,10 @@ impl Books {
     /// it wrote on is noted.
     fn note_turn(&mut self, list: Vec<VolumeCount>, host: &Host, connection: usize, turn: Turn)
         requires room { HasRoom self.old }
-        requires there { IsOnlineIn host.now.hall connection }
-        requires opened { (name : List ℕ) → opened_in host.now.hall connection turn ≡ Some name → Contains (book_names self.old) name }
-        requires written { (name : List ℕ) → written_in host.now.hall connection turn ≡ Some name → Contains (book_names self.old) name }
-        ensures { IsNoted self.old list.items host.now.hall connection turn self.new }
+        requires there { IsOnlineIn host.now.server connection }
+        requires opened { (name : List ℕ) → opened_in host.now.server connection turn ≡ Some name → Contains (book_names self.old) name }
+        requires written { (name : List ℕ) → written_in host.now.server connection turn ≡ Some name → Contains (book_names self.old) name }
+        ensures { IsNoted self.old list.items host.now.server connection turn self.new }
     {
         let after = self.opens.len();
         note_writing(

@@ -4,7 +4,7 @@ ghost use Rattle.std.specs.Option.{option_copied, option_map};
 ghost use Rattle.std.specs.Str.{bytes_eq};
 ghost use Rattle.tape.specs.List.{told_length, told_bytes, with_front};
 ghost use Rattle.drives.specs.ListLibrary.{rest_slot};
-ghost use Rattle.tape_host.specs.Halls.{side_at};
+ghost use Rattle.tape_host.specs.Servers.{side_at};
 ghost use Rattle.tape_events.specs.Changes.{first_name};
 ghost use Rattle.tape_world.specs.Entries.{AreOpenThere, entry_on, tape_online, first_tape_online};
 
@@ -26,9 +26,9 @@ fn is_first(stack: &[ListedReel], name: &[u8]) -> bool
 
 /// The reel that a connection has online, if it is of that name.
 fn find_online_at<'a>(host: &'a Host, connection: usize, name: &[u8]) -> Option<&'a TroubledReel>
-    requires { AreOpenThere host.now.hall }
+    requires { AreOpenThere host.now.server }
     ensures { option_map (λ r. r.tape) (option_copied result)
-        ≡ tape_online name.now host.now.hall.library (side_at host.now.hall.sides connection) }
+        ≡ tape_online name.now host.now.server.library (side_at host.now.server.sides connection) }
 {
     let session = host.session(connection)?;
     let (drive, reel) = session.reel()?;
@@ -40,10 +40,10 @@ fn find_online_at<'a>(host: &'a Host, connection: usize, name: &[u8]) -> Option<
 
 /// The reel of that name that one of `count` connections has online: the first of them.
 fn find_online<'a>(host: &'a Host, count: usize, name: &[u8]) -> Option<&'a TroubledReel>
-    requires there { AreOpenThere host.now.hall }
-    requires all { length host.now.hall.sides ≡ count }
+    requires there { AreOpenThere host.now.server }
+    requires all { length host.now.server.sides ≡ count }
     ensures { option_map (λ r. r.tape) (option_copied result)
-        ≡ first_tape_online name.now host.now.hall.library host.now.hall.sides }
+        ≡ first_tape_online name.now host.now.server.library host.now.server.sides }
 {
     for place in 0..count {
         if let Some(reel) = find_online_at(host, place + 1, name) {

@@ -59,7 +59,7 @@ impl World {
     /// The session of a connection, while the server's side is live.
     pub fn session(&self, connection: usize) -> Option<&Session<LocalHolds, ListStacks>>
         ensures seen { option_map (λ s. session_seen s.opened) (option_copied result)
-            ≡ option_map (λ s. s.session) (side_of self.now.hall connection) }
+            ≡ option_map (λ s. s.session) (side_of self.now.server connection) }
         ensures number { IfSome (option_copied result) (λ s. s.seat.number ≡ connection) }
     {
         self.ends.host.session(connection)
@@ -83,7 +83,7 @@ impl World {
     /// The reels of the first drive of that name, in their order on its stack: the first is latched, or would be next. None
     /// where there is no such drive.
     pub fn stack(&self, drive: &[u8]) -> Option<&[ListedReel]>
-        ensures { TellsStack drive.now self.now.hall.library (option_map (map rest_slot) (option_copied result)) }
+        ensures { TellsStack drive.now self.now.server.library (option_map (map rest_slot) (option_copied result)) }
     {
         let drive = self.ends.host.drive(drive)?;
         Some(self.ends.host.stack(drive))
@@ -91,7 +91,7 @@ impl World {
 
     /// The reels of the bin, in the order in which they were moved there.
     pub fn bin(&self) -> &[ListedReel]
-        ensures { map rest_slot result.now ≡ self.now.hall.library.bin }
+        ensures { map rest_slot result.now ≡ self.now.server.library.bin }
     {
         self.ends.host.bin()
     }

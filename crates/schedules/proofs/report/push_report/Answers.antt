@@ -7,7 +7,7 @@ use Rattle.schedules.proofs.report.push_report.Goals as goal
 pub returns : goal.returns
 returns c =
     let names = sym (names_at_rest c.bin.result.now) ∙ ap (λ l. names_of l) c.bin.ensures in
-    joined _ _ (codes "bin") (names_text (names_of c.args.world.now.hall.library.bin)) (codes "\n") _ (codes "dumpdates\n") _
+    joined _ _ (codes "bin") (names_text (names_of c.args.world.now.server.library.bin)) (codes "\n") _ (codes "dumpdates\n") _
     c.args.text.now.items c.push_all_reels.new.text.items c.push_stacks.new.text.items c.push_names.new.text.items
     c.push_counts.new.text.items c.push_dates.new.text.items
     c.requires c.in_ok-push_all_reels.ensures c.in_ok-push_stacks.ensures

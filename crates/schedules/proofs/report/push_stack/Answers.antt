@@ -6,7 +6,7 @@ use Rattle.schedules.proofs.report.push_stack.Goals as goal
 
 pub returns-in-Some : goal.returns-in-Some
 returns-in-Some c =
-    let same = told_names c.args.device.now c.args.world.now.hall.library (Some (map rest_slot c.in-Some.reels.now)) c.in-Some.reels.now c.in-Some.ensures refl in
+    let same = told_names c.args.device.now c.args.world.now.server.library (Some (map rest_slot c.in-Some.reels.now)) c.in-Some.reels.now c.in-Some.ensures refl in
     subst (λ z. OnOk c.push_names.result (c.push_names.new.text.items ≡ z))
     (stack_said (codes "stack ") (codes "\n") c.args.text.now.items c.push_text.new.text.items c.extend_from_slice.new.self.items c.args.device.now _ _
     c.in_ok-push_text.ensures c.in_ok-extend_from_slice.ensures.items (ap (λ l. names_text l) same))
@@ -14,7 +14,7 @@ returns-in-Some c =
 
 pub returns-in-None : goal.returns-in-None
 returns-in-None c =
-    let same = told_names c.args.device.now c.args.world.now.hall.library None [] c.in-None.ensures refl in
+    let same = told_names c.args.device.now c.args.world.now.server.library None [] c.in-None.ensures refl in
     subst (λ z. OnOk c.push_names-in-None.result (c.push_names-in-None.new.text.items ≡ z))
     (stack_said (codes "stack ") (codes "\n") c.args.text.now.items c.push_text.new.text.items c.extend_from_slice.new.self.items c.args.device.now _ _
     c.in_ok-push_text.ensures c.in_ok-extend_from_slice.ensures.items (ap (λ l. names_text l) same))

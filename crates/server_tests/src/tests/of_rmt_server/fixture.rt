@@ -5,7 +5,7 @@ ghost use Rattle.drives.specs.declared.view.View.{View};
 ghost use Rattle.drives.specs.Local.{IsSeatOf};
 ghost use Rattle.drives.specs.Opening.{kinds};
 ghost use Rattle.rmt_wire.specs.RequestReader.{Unread};
-ghost use Rattle.rmt_server.specs.declared.session.desk.Desk.{Desk};
+ghost use Rattle.rmt_server.specs.declared.session.session_state.SessionState.{SessionState};
 ghost use Rattle.rmt_server.specs.State.{state, IsAt};
 ghost use Rattle.drives.specs.contracts.local.LocalHoldsHolds.TheImpl.{ghosts as of_holds};
 
@@ -94,8 +94,8 @@ pub(crate) fn new_session<S: Stacks>(
     ensures next { IfSome result (λ _. drives.new.holds.last ≡ drives.old.holds.last + 1) }
     ensures numbers { drives.new.holds.numbers ≡ drives.old.holds.numbers }
     ensures stacks { drives.new.stacks ≡ drives.old.stacks }
-    ensures others { (desk : Desk View S.Reel) → IsAt (kinds of_holds S.Stacks S.Reel.Reel) (state drives.old desk) →
-        IsAt (kinds of_holds S.Stacks S.Reel.Reel) (state drives.new desk) }
+    ensures others { (session_state : SessionState View S.Reel) → IsAt (kinds of_holds S.Stacks S.Reel.Reel) (state drives.old session_state) →
+        IsAt (kinds of_holds S.Stacks S.Reel.Reel) (state drives.new session_state) }
 {
     more_seats::<S>();
     let seat = drives.holds.seat()?;

@@ -2,8 +2,8 @@
 
 use drives::{ListStacks, LocalHolds};
 use rmt_server::{
-    more_seats, one_holder, one_scene, open_is_held, stacks_trouble, still_at, troubled_is_served,
-    troubled_serve, troubles_set, untroubled_end,
+    more_seats, one_holder, one_session_view, open_is_held, stacks_trouble, still_at,
+    troubled_is_served, troubled_serve, troubles_set, untroubled_end,
 };
 
 #[test]
@@ -13,7 +13,7 @@ fn a_law_does_nothing(_rt: HostRuntime) {
     still_at::<LocalHolds, ListStacks>();
     more_seats::<ListStacks>();
     stacks_trouble::<LocalHolds>();
-    one_scene();
+    one_session_view();
     troubled_serve();
     troubled_is_served();
     troubles_set();

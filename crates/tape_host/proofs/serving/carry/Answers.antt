@@ -18,8 +18,8 @@ returns c =
       told = c.troubles_set.ensures.told;
       set = c.troubles_set.ensures.set;
       request = c.troubles_set.ensures.request;
-      scene = c.one_scene.ensures.told;
-      one = c.one_scene.ensures.one;
+      session_view = c.one_session_view.ensures.told;
+      one = c.one_session_view.ensures.one;
       serves = c.troubled_serve.ensures;
     } in
     let carried = subst (λ x. IsCarriedOut in_memory x request reply middle) c.set_troubles.ensures c.carry_out.follows.holds-at-none in (

@@ -16,7 +16,7 @@ pub returns-in-Ok-Bytes : goal.returns-in-Ok-Bytes
 returns-in-Ok-Bytes g c =
     let k = kinds g.H.Holds g.S.Stacks g.S.Reel.Reel in
     let old = state c.args.drives.now c.args.self.now in
-    let new = state c.dispatch-outcome.new.drives c.dispatch-outcome.new.desk in
+    let new = state c.dispatch-outcome.new.drives c.dispatch-outcome.new.session_state in
     let same : c.as_slice.result.now ≡ c.dispatch-outcome.new.buffer = grind (arith, common_steps) in
     let effect : CarriesOut k old (plain_request c.args.request) (Data (take c.in-Ok-Bytes.count c.dispatch-outcome.new.buffer)) new = search rules in
     let full : length c.dispatch-outcome.new.buffer ≡ RECORD_LIMIT = omega (arith, c.dispatch-outcome.auto.buffer, c.as_mut_slice.ensures.len, c.self.invariant) in
@@ -39,7 +39,7 @@ pub returns-in-Ok-Number : goal.returns-in-Ok-Number
 returns-in-Ok-Number g c =
     let k = kinds g.H.Holds g.S.Stacks g.S.Reel.Reel in
     let old = state c.args.drives.now c.args.self.now in
-    let new = state c.dispatch-outcome.new.drives c.dispatch-outcome.new.desk in (
+    let new = state c.dispatch-outcome.new.drives c.dispatch-outcome.new.session_state in (
       (refl, λ x. tt, carried k old (plain_request c.args.request) _ new c.requires (search rules)),
       record { rests = tt; spelling = search rules; short = λ s. number_short _ (search rules) },
     )
@@ -48,7 +48,7 @@ pub returns-in-Err : goal.returns-in-Err
 returns-in-Err g c =
     let k = kinds g.H.Holds g.S.Stacks g.S.Reel.Reel in
     let old = state c.args.drives.now c.args.self.now in
-    let new = state c.dispatch-outcome.new.drives c.dispatch-outcome.new.desk in
+    let new = state c.dispatch-outcome.new.drives c.dispatch-outcome.new.session_state in
     let buffer = c.dispatch-outcome.new.buffer in
     let effect : CarriesOut k old (plain_request c.args.request) (refused c.in-Err.refusal) new = search rules in
     let full : length buffer ≡ RECORD_LIMIT = omega (arith, c.dispatch-outcome.auto.buffer, c.as_mut_slice.ensures.len, c.self.invariant) in

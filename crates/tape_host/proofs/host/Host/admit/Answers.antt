@@ -1,8 +1,8 @@
 use Rattle.std.proofs.Common.{false, [], ◌∷◌, ◌++◌, Some, sym, ap, subst, ◌∙◌}
 use Rattle.tape_host.specs.declared.side.Next.TheVariants.{Nothing}
-use Rattle.tape_host.specs.Halls.{Hosted, hosted, joined}
-use Rattle.tape_host.specs.Hosting.{hall_of, is_whole_side, IsHosting}
-use Rattle.tape_host.proofs.Hosted.{joined_hosting, joined_hall}
+use Rattle.tape_host.specs.Servers.{Hosted, hosted, joined}
+use Rattle.tape_host.specs.Hosting.{server_of, is_whole_side, IsHosting}
+use Rattle.tape_host.proofs.Hosted.{joined_hosting, joined_server}
 use Rattle.tape_host.proofs.host.Host.admit.Goals as goal
 
 pub invariant_of-self : goal.invariant_of-self
@@ -18,6 +18,6 @@ returns-in-Whole c =
     let drives = c.self.inside.drives in
     let sides = c.self.inside.sides.items in
     let before = subst (IsHosting drives sides) (sym c.replace.ensures.value ∙ c.in-Whole.is) c.self.invariant.0 in
-    ap (λ xs. hosted (hall_of drives xs) (is_whole_side c.replace.new.dest)) c.push_reserved.ensures.items
-    ∙ ap (λ n. hosted (hall_of drives (sides ++ Some c.in-Whole.side ∷ [])) (is_whole_side n)) c.replace.ensures.after
-    ∙ ap (λ x. hosted x false) (joined_hall drives sides c.in-Whole.side before ∙ ap (λ (v : Hosted). joined v.hall) c.self.view_is)
+    ap (λ xs. hosted (server_of drives xs) (is_whole_side c.replace.new.dest)) c.push_reserved.ensures.items
+    ∙ ap (λ n. hosted (server_of drives (sides ++ Some c.in-Whole.side ∷ [])) (is_whole_side n)) c.replace.ensures.after
+    ∙ ap (λ x. hosted x false) (joined_server drives sides c.in-Whole.side before ∙ ap (λ (v : Hosted). joined v.server) c.self.view_is)

@@ -1,7 +1,7 @@
 use Rattle.std.proofs.Common.{◌≡◌, map, IsTrue, MatchResult, sym, subst}
 use Rattle.drives.specs.Arranging.{may_arrange}
-use Rattle.tape_host.specs.Halls.{Hosted, hosted, restacked, IsHolder}
-use Rattle.tape_host.specs.Hosting.{hall_of, is_whole_side}
+use Rattle.tape_host.specs.Servers.{Hosted, hosted, restacked, IsHolder}
+use Rattle.tape_host.specs.Hosting.{server_of, is_whole_side}
 use Rattle.tape_host.proofs.Restacked.{restacked_hosting, restacked_seen}
 use Rattle.tape_host.proofs.host.Host.arrange.Goals as goal
 
@@ -9,12 +9,12 @@ pub arrange-requires-clause-may : goal.arrange-requires-clause-may
 arrange-requires-clause-may c =
     let names = map (λ n. n.now) c.args.names.now in
     subst IsTrue (sym (c.told_orders.ensures c.self.inside.drives.stacks c.args.drive names))
-    (subst (λ (v : Hosted). IsTrue (may_arrange v.hall.library c.args.drive names)) (sym c.self.view_is) c.requires.may)
+    (subst (λ (v : Hosted). IsTrue (may_arrange v.server.library c.args.drive names)) (sym c.self.view_is) c.requires.may)
 
 pub invariant_of-self : goal.invariant_of-self
 invariant_of-self c = (
   restacked_hosting c.open_is_held.ensures.free c.still_at.ensures.elsewhere c.self.invariant.0 c.args.drive
-      (subst (λ (v : Hosted). IsHolder v.hall c.args.drive 0) (sym c.self.view_is) c.requires.free) c.arrange.new.self
+      (subst (λ (v : Hosted). IsHolder v.server c.args.drive 0) (sym c.self.view_is) c.requires.free) c.arrange.new.self
       c.arrange.ensures.same_drives c.arrange.ensures.elsewhere (map (λ n. n.now) c.args.names.now) c.arrange.result c.arrange.ensures.told_order
       c.arrange.ensures.told c.arrange.ensures.quiet,
   c.self.invariant.1,
@@ -25,6 +25,6 @@ returns-clause-arranged c =
     let drives = c.self.inside.drives in
     let names = map (λ n. n.now) c.args.names.now in
     let ready = is_whole_side c.self.inside.next in
-    let new = hosted (hall_of (record { holds = drives.holds; stacks = c.arrange.new.self }) c.self.inside.sides.items) ready in
-    subst (λ (v : Hosted). MatchResult c.arrange.result (λ _. new ≡ hosted (restacked v.hall c.args.drive names) v.ready) (λ _. new ≡ v)) c.self.view_is
+    let new = hosted (server_of (record { holds = drives.holds; stacks = c.arrange.new.self }) c.self.inside.sides.items) ready in
+    subst (λ (v : Hosted). MatchResult c.arrange.result (λ _. new ≡ hosted (restacked v.server c.args.drive names) v.ready) (λ _. new ≡ v)) c.self.view_is
     (restacked_seen drives c.arrange.new.self c.self.inside.sides.items ready c.args.drive names c.arrange.result c.arrange.ensures.told_order)

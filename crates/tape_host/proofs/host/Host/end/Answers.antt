@@ -1,14 +1,14 @@
 use Rattle.std.proofs.Common.{None, length, sym, ap, subst, ◌∙◌, arith}
-use Rattle.tape_host.specs.Halls.{Hosted, hosted, ended}
-use Rattle.tape_host.specs.Hosting.{hall_of, is_whole_side, IsHosting}
+use Rattle.tape_host.specs.Servers.{Hosted, hosted, ended}
+use Rattle.tape_host.specs.Hosting.{server_of, is_whole_side, IsHosting}
 use Rattle.tape_host.proofs.Sides.{length_with, with_none}
-use Rattle.tape_host.proofs.Ended.{ended_none, ended_hosting, ended_hall}
+use Rattle.tape_host.proofs.Ended.{ended_none, ended_hosting, ended_server}
 use Rattle.tape_host.proofs.host.Host.end.Goals as goal
 
 pub invariant_of-self : goal.invariant_of-self
 invariant_of-self c = (
   subst (λ xs. IsHosting c.end.new.drives xs c.self.inside.next) (sym c.take_side.ensures.left)
-      (ended_hosting c.one_holder.ensures.others c.one_scene.ensures.told c.untroubled_end.ensures c.self.invariant.0 c.args.connection c.in-Some.side
+      (ended_hosting c.one_holder.ensures.others c.one_session_view.ensures.told c.untroubled_end.ensures c.self.invariant.0 c.args.connection c.in-Some.side
       (sym c.take_side.ensures.taken ∙ c.in-Some.is) c.end.new.drives c.end.new.self c.end.ensures),
   λ whole. omega (
     arith,
@@ -38,15 +38,15 @@ invariant_of-self-in_default c = (
 
 pub returns-in-Some : goal.returns-in-Some
 returns-in-Some c =
-    ap (λ xs. hosted (hall_of c.end.new.drives xs) (is_whole_side c.self.inside.next)) c.take_side.ensures.left
+    ap (λ xs. hosted (server_of c.end.new.drives xs) (is_whole_side c.self.inside.next)) c.take_side.ensures.left
     ∙ ap (λ x. hosted x (is_whole_side c.self.inside.next))
-    (ended_hall c.one_holder.ensures.others c.one_scene.ensures.told c.untroubled_end.ensures c.self.invariant.0 c.args.connection c.in-Some.side
+    (ended_server c.one_holder.ensures.others c.one_session_view.ensures.told c.untroubled_end.ensures c.self.invariant.0 c.args.connection c.in-Some.side
     (sym c.take_side.ensures.taken ∙ c.in-Some.is) c.end.new.drives c.end.new.self c.end.ensures)
-    ∙ ap (λ (v : Hosted). hosted (ended v.hall c.args.connection) v.ready) c.self.view_is
+    ∙ ap (λ (v : Hosted). hosted (ended v.server c.args.connection) v.ready) c.self.view_is
 
 pub returns-in_default : goal.returns-in_default
 returns-in_default c =
     let none = sym c.take_side.ensures.taken ∙ c.in_default.is in
-    ap (λ xs. hosted (hall_of c.self.inside.drives xs) (is_whole_side c.self.inside.next)) (c.take_side.ensures.left ∙ with_none c.self.inside.sides.items c.args.connection none)
+    ap (λ xs. hosted (server_of c.self.inside.drives xs) (is_whole_side c.self.inside.next)) (c.take_side.ensures.left ∙ with_none c.self.inside.sides.items c.args.connection none)
     ∙ ap (λ x. hosted x (is_whole_side c.self.inside.next)) (ended_none c.self.inside.drives c.self.inside.sides.items c.args.connection none)
-    ∙ ap (λ (v : Hosted). hosted (ended v.hall c.args.connection) v.ready) c.self.view_is
+    ∙ ap (λ (v : Hosted). hosted (ended v.server c.args.connection) v.ready) c.self.view_is

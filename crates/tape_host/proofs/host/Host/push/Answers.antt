@@ -1,6 +1,6 @@
 use Rattle.std.proofs.Common.{Some, None, ◌++◌, take, length, sym, ap, subst, ◌∙◌, arith}
-use Rattle.tape_host.specs.Halls.{Hosted, hosted, side_at, with_side_at, IsPiecePushed}
-use Rattle.tape_host.specs.Hosting.{hall_of, is_whole_side, IsHosting}
+use Rattle.tape_host.specs.Servers.{Hosted, hosted, side_at, with_side_at, IsPiecePushed}
+use Rattle.tape_host.specs.Hosting.{server_of, is_whole_side, IsHosting}
 use Rattle.tape_host.proofs.Sides.{length_with}
 use Rattle.tape_host.proofs.Pushed.{with_reader, put_back, pushed_hosting, pushed_seen}
 use Rattle.tape_host.proofs.host.Host.push.Goals as goal
@@ -37,8 +37,8 @@ returns c =
     let ready = is_whole_side c.self.inside.next in
     let k = c.args.connection in
     let read = with_reader c.in-Some.side c.push-count.new.self in
-    subst (λ (v : Hosted). IsPiecePushed v k c.args.bytes.now (side_at v.hall.sides k) c.push-count.result (hosted (hall_of drives c.put_side.new.sides.items) ready)) c.self.view_is
+    subst (λ (v : Hosted). IsPiecePushed v k c.args.bytes.now (side_at v.server.sides k) c.push-count.result (hosted (server_of drives c.put_side.new.sides.items) ready)) c.self.view_is
     (pushed_seen drives sides ready k c.in-Some.side c.args.bytes.now c.push-count.result c.push-count.new.self _
     (sym c.take_side.ensures.taken ∙ c.in-Some.is) (λ unread u. (c.push-count.ensures.count unread u, c.push-count.ensures.unread unread u))
-    (ap (λ xs. hosted (hall_of drives xs) ready)
+    (ap (λ xs. hosted (server_of drives xs) ready)
     (c.put_side.ensures.put ∙ ap (λ xs. with_side_at xs k (Some read)) c.take_side.ensures.left ∙ put_back sides k None (Some read))))

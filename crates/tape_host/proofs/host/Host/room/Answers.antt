@@ -1,5 +1,5 @@
 use Rattle.std.proofs.Common.{option_map, Some, refl, sym, ap, subst, ◌∙◌}
-use Rattle.tape_host.specs.Halls.{Hosted, side_at, HasRoom}
+use Rattle.tape_host.specs.Servers.{Hosted, side_at, HasRoom}
 use Rattle.tape_host.specs.Hosting.{seen_side}
 use Rattle.tape_host.proofs.Sides.{side_map}
 use Rattle.tape_host.proofs.host.Host.room.Goals as goal
@@ -9,5 +9,5 @@ returns c =
     let sides = c.self.inside.sides.items in
     let k = c.args.connection in
     let is = ap (λ xs. side_at xs k) (sym c.deref.ensures.value) ∙ sym c.in_ok-side.ensures in
-    let seen = sym (ap (λ (v : Hosted). side_at v.hall.sides k) c.self.view_is) ∙ side_map seen_side sides k ∙ ap (option_map seen_side) is in
+    let seen = sym (ap (λ (v : Hosted). side_at v.server.sides k) c.self.view_is) ∙ side_map seen_side sides k ∙ ap (option_map seen_side) is in
     subst (λ o. HasRoom o (Some c.room.result)) (sym seen) (c.room.result, refl, c.room.ensures)

@@ -1,6 +1,6 @@
 use Rattle.std.proofs.Common.{option_map, sym, ap, ◌∙◌}
-use Rattle.rmt_server.specs.Hall.{Side}
-use Rattle.tape_host.specs.Halls.{Hosted, side_at}
+use Rattle.rmt_server.specs.ServerState.{ServerConnection}
+use Rattle.tape_host.specs.Servers.{Hosted, side_at}
 use Rattle.tape_host.specs.Hosting.{seen_side}
 use Rattle.tape_host.proofs.Sides.{side_map}
 use Rattle.tape_host.proofs.host.Host.session.Goals as goal
@@ -10,8 +10,8 @@ returns-clause-seen c =
     let sides = c.self.inside.sides.items in
     let k = c.args.connection in
     let is = ap (λ xs. side_at xs k) (sym c.deref.ensures.value) ∙ sym c.in_ok-live.ensures in
-    ap (option_map (λ (s : Side). s.session)) (sym (side_map seen_side sides k ∙ ap (option_map seen_side) is))
-    ∙ ap (λ (v : Hosted). option_map (λ (s : Side). s.session) (side_at v.hall.sides k)) c.self.view_is
+    ap (option_map (λ (s : ServerConnection). s.session)) (sym (side_map seen_side sides k ∙ ap (option_map seen_side) is))
+    ∙ ap (λ (v : Hosted). option_map (λ (s : ServerConnection). s.session) (side_at v.server.sides k)) c.self.view_is
 
 pub returns-clause-number : goal.returns-clause-number
 returns-clause-number c =

@@ -1,8 +1,8 @@
 use Rattle.std.proofs.Common.{Some, None, length, sym, ap, subst, ◌∙◌, arith}
-use Rattle.tape_host.specs.declared.side.Side.{Side as RealSide}
-use Rattle.tape_host.specs.Halls.{Hosted, hosted, side_at, with_side_at}
+use Rattle.tape_host.specs.declared.side.ServerConnection.{ServerConnection as RealServerConnection}
+use Rattle.tape_host.specs.Servers.{Hosted, hosted, side_at, with_side_at}
 use Rattle.tape_host.specs.Turns.{TurnsAt, with_back}
-use Rattle.tape_host.specs.Hosting.{hall_of, is_whole_side, IsHosting}
+use Rattle.tape_host.specs.Hosting.{server_of, is_whole_side, IsHosting}
 use Rattle.tape_host.proofs.Sides.{length_with}
 use Rattle.tape_host.proofs.Pushed.{put_back}
 use Rattle.tape_host.proofs.Turned.{turned_hosting, turned_seen}
@@ -13,7 +13,7 @@ invariant_of-self-2 c =
     let sides = c.self.inside.sides.items in
     let k = c.args.connection in
     let is = sym c.take_side.ensures.taken ∙ c.in-Some.is in
-    let after : RealSide = record { reader = c.take_turn-turn.new.reader; session = c.take_turn-turn.new.session } in (
+    let after : RealServerConnection = record { reader = c.take_turn-turn.new.reader; session = c.take_turn-turn.new.session } in (
       subst (λ xs. IsHosting c.take_turn-turn.new.drives xs c.self.inside.next)
           (sym (c.put_side.ensures.put ∙ ap (λ xs. with_side_at xs k (Some after)) c.take_side.ensures.left ∙ put_back sides k None (Some after)))
           (turned_hosting c.one_holder.ensures.others c.take_turn-turn.new.drives c.self.invariant.0 k c.in-Some.side after is c.args.trouble c.args.lost
@@ -40,10 +40,10 @@ returns c =
     let k = c.args.connection in
     let back = c.args.back.now.items in
     let is = sym c.take_side.ensures.taken ∙ c.in-Some.is in
-    let after : RealSide = record { reader = c.take_turn-turn.new.reader; session = c.take_turn-turn.new.session } in
-    let new = hosted (hall_of c.take_turn-turn.new.drives c.put_side.new.sides.items) ready in
-    subst (λ (v : Hosted). TurnsAt v c.args.trouble c.args.lost (with_back v back) k (side_at v.hall.sides k) c.take_turn-turn.result (with_back new c.take_turn-turn.new.back.items)) c.self.view_is
+    let after : RealServerConnection = record { reader = c.take_turn-turn.new.reader; session = c.take_turn-turn.new.session } in
+    let new = hosted (server_of c.take_turn-turn.new.drives c.put_side.new.sides.items) ready in
+    subst (λ (v : Hosted). TurnsAt v c.args.trouble c.args.lost (with_back v back) k (side_at v.server.sides k) c.take_turn-turn.result (with_back new c.take_turn-turn.new.back.items)) c.self.view_is
     (turned_seen c.one_holder.ensures.others c.take_turn-turn.new.drives c.self.invariant.0 k c.in-Some.side after is c.args.trouble c.args.lost
     back c.take_turn-turn.new.back.items c.take_turn-turn.result ready new c.take_turn-turn.ensures
-    (ap (λ xs. hosted (hall_of c.take_turn-turn.new.drives xs) ready)
+    (ap (λ xs. hosted (server_of c.take_turn-turn.new.drives xs) ready)
     (c.put_side.ensures.put ∙ ap (λ xs. with_side_at xs k (Some after)) c.take_side.ensures.left ∙ put_back sides k None (Some after))))

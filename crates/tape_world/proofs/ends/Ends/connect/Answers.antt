@@ -6,7 +6,7 @@ use Rattle.rmt_wire.specs.ReplyReader.{reply_held}
 use Rattle.dump_client.specs.Standing.{standing, state_of}
 use Rattle.dump_client.specs.declared.step.Step.TheVariants.{Open}
 use Rattle.dump_client.specs.declared.stage.Stage.TheVariants.{ToSend}
-use Rattle.tape_host.specs.Halls.{joined}
+use Rattle.tape_host.specs.Servers.{joined}
 use Rattle.tape_events.specs.World.{World, Caller}
 use Rattle.tape_events.specs.Changes.{calm, new_link}
 use Rattle.tape_events.specs.Events.PlainEvent.{Connect}
@@ -23,8 +23,8 @@ pub invariant_of-self-2 : goal.invariant_of-self-2
 invariant_of-self-2 c =
     let i = started c.self.inside.caller c.start_attempt.new.caller c.in_ok-dumping.dumping c.in_ok-dumping.ensures in (
       (sourced_same c.self.inside.begun.items c.self.inside.caller c.start_attempt.new.caller i.before i.after i.was i.is i.same c.self.invariant.0.0, c.self.invariant.0.1),
-      known_same _ c.self.inside.host.hall.library c.admit.new.self.hall.library
-          (ap (λ h. h.hall.library) c.admit.ensures ∙ ap (λ h. h.hall.library) c.in_ok-prepare.ensures) c.self.invariant.1,
+      known_same _ c.self.inside.host.server.library c.admit.new.self.server.library
+          (ap (λ h. h.server.library) c.admit.ensures ∙ ap (λ h. h.server.library) c.in_ok-prepare.ensures) c.self.invariant.1,
     )
 
 pub returns : goal.returns
@@ -43,15 +43,15 @@ returns c =
         seen_caller i.before,
         at,
         stage,
-        ap (λ h. record (calm V) { hall = h; links = map seen_link c.push_reserved.new.self.items; caller = option_map seen_caller c.start_attempt.new.caller; own = Some c.len.result })
-            (ap (λ h. h.hall) c.admit.ensures ∙ ap (λ h. joined h.hall) c.in_ok-prepare.ensures)
-            ∙ ap (λ ls. record (calm V) { hall = joined V.hall; links = ls; caller = option_map seen_caller c.start_attempt.new.caller; own = Some c.len.result })
+        ap (λ h. record (calm V) { server = h; links = map seen_link c.push_reserved.new.self.items; caller = option_map seen_caller c.start_attempt.new.caller; own = Some c.len.result })
+            (ap (λ h. h.server) c.admit.ensures ∙ ap (λ h. joined h.server) c.in_ok-prepare.ensures)
+            ∙ ap (λ ls. record (calm V) { server = joined V.server; links = ls; caller = option_map seen_caller c.start_attempt.new.caller; own = Some c.len.result })
             (ap (map seen_link) (c.push_reserved.ensures.items ∙ ap (λ l. l ++ c.new.result ∷ []) c.in_ok-reserve.ensures.items)
             ∙ map-append seen_link c.self.inside.links.items (c.new.result ∷ [])
             ∙ ap (λ l. before ++ l ∷ []) (c.new.ensures ∙ ap (λ d. new_link (Some d)) i.fresh))
-            ∙ ap (λ y. record (calm V) { hall = joined V.hall; links = before ++ new_link (Some (fresh (seen_caller i.before))) ∷ []; caller = y; own = Some c.len.result })
+            ∙ ap (λ y. record (calm V) { server = joined V.server; links = before ++ new_link (Some (fresh (seen_caller i.before))) ∷ []; caller = y; own = Some c.len.result })
             (started_caller c.self.inside.caller c.start_attempt.new.caller c.in_ok-dumping.dumping i)
-            ∙ ap (λ n. record (calm V) { hall = joined V.hall; links = before ++ new_link (Some (fresh (seen_caller i.before))) ∷ []; caller = Some x; own = Some n })
+            ∙ ap (λ n. record (calm V) { server = joined V.server; links = before ++ new_link (Some (fresh (seen_caller i.before))) ∷ []; caller = Some x; own = Some n })
             (number ∙ ap (λ n. n + 1) (sym (length-map c.self.inside.links.items seen_link)))
             ∙ ap (λ (w : World). client_connected w (seen_caller i.before)) c.self.view_is,
       ),
@@ -60,17 +60,17 @@ returns c =
 pub invariant_of-self-in_err-prepare : goal.invariant_of-self-in_err-prepare
 invariant_of-self-in_err-prepare c = (
   c.self.invariant.0,
-  known_same _ c.self.inside.host.hall.library c.prepare.new.self.hall.library (ap (λ h. h.hall.library) c.in_err-prepare.ensures) c.self.invariant.1,
+  known_same _ c.self.inside.host.server.library c.prepare.new.self.server.library (ap (λ h. h.server.library) c.in_err-prepare.ensures) c.self.invariant.1,
 )
 
 -- where the client could start no attempt, the world is seen as before
-unstarted : (c : goal.After-from_residual-in_err-dumping) → world_of c.prepare.new.self.hall c.reserve.new.self.items c.self.inside.begun.items
+unstarted : (c : goal.After-from_residual-in_err-dumping) → world_of c.prepare.new.self.server c.reserve.new.self.items c.self.inside.begun.items
     c.start_attempt.new.caller c.self.inside.own c.self.inside.kept c.self.inside.books c.self.inside.dates ≡ the_view c.self.inside
 unstarted c =
     let V = the_view c.self.inside in
     let client = option_map seen_caller c.start_attempt.new.caller in
-    ap (λ items. record V { hall = c.prepare.new.self.hall; links = map seen_link items; caller = client }) c.in_ok-reserve.ensures.items
-    ∙ ap (λ h. record V { hall = h.hall; caller = client }) c.in_ok-prepare.ensures
+    ap (λ items. record V { server = c.prepare.new.self.server; links = map seen_link items; caller = client }) c.in_ok-reserve.ensures.items
+    ∙ ap (λ h. record V { server = h.server; caller = client }) c.in_ok-prepare.ensures
     ∙ ap (λ x. record V { caller = x }) (unstarted_seen c.self.inside.caller c.start_attempt.new.caller c.in_err-dumping.field-0.0 c.in_err-dumping.ensures)
 
 pub invariant_of-self-in_err-dumping : goal.invariant_of-self-in_err-dumping
@@ -80,7 +80,7 @@ invariant_of-self-in_err-dumping c = (
         c.self.invariant.0.0,
     c.self.invariant.0.1,
   ),
-  known_same _ c.self.inside.host.hall.library c.prepare.new.self.hall.library (ap (λ h. h.hall.library) c.in_ok-prepare.ensures) c.self.invariant.1,
+  known_same _ c.self.inside.host.server.library c.prepare.new.self.server.library (ap (λ h. h.server.library) c.in_ok-prepare.ensures) c.self.invariant.1,
 )
 
 pub returns-then-not-stands_in : goal.returns-then-not-stands_in
@@ -97,8 +97,8 @@ returns-in_err-reserve c =
 pub returns-in_err-prepare : goal.returns-in_err-prepare
 returns-in_err-prepare c =
     refused_event c.args.self.now _ Connect c.from_residual-in_err-prepare.result c.from_residual-in_err-prepare.ensures.1
-    (ap (λ items. record (the_view c.self.inside) { hall = c.prepare.new.self.hall; links = map seen_link items }) c.in_ok-reserve.ensures.items
-    ∙ ap (λ h. record (the_view c.self.inside) { hall = h.hall }) c.in_err-prepare.ensures ∙ c.self.view_is)
+    (ap (λ items. record (the_view c.self.inside) { server = c.prepare.new.self.server; links = map seen_link items }) c.in_ok-reserve.ensures.items
+    ∙ ap (λ h. record (the_view c.self.inside) { server = h.server }) c.in_err-prepare.ensures ∙ c.self.view_is)
 
 pub returns-in_err-dumping : goal.returns-in_err-dumping
 returns-in_err-dumping c =

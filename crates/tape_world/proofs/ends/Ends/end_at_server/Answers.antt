@@ -23,7 +23,7 @@ possible c =
     let live = room_live _ c.room.result c.room.ensures c.if-is_none.ensures in (
       live.0,
       seen_link c.in-Some.link.now,
-      sym (side_found w.hall c.args.connection) ∙ live.1,
+      sym (side_found w.server c.args.connection) ∙ live.1,
       link_is w c.self.inside.links.items c.deref.result.now c.args.connection (option_copied c.find.result) c.in-Some.link.now refl c.deref.ensures.value
           c.find.ensures (ap option_copied c.in-Some.is),
       c.if-not-link.false,
@@ -36,7 +36,7 @@ invariant_of-self c =
     let same = c.kept.ensures.names w u (EndAtServer c.args.connection) (subst IsWorldKept (sym c.self.view_is) c.requires)
     (possible (goal.at.invariant_of-self c).After-end, refl) in (
       c.self.invariant.0,
-      known_after _ w u c.end.new.self.hall.library same (ap (λ h. h.hall.library) c.end.ensures ∙ ap (λ h. h.library) (ended_is w.hall c.args.connection))
+      known_after _ w u c.end.new.self.server.library same (ap (λ h. h.server.library) c.end.ensures ∙ ap (λ h. h.library) (ended_is w.server c.args.connection))
           c.self.invariant.1,
     )
 
@@ -46,10 +46,10 @@ returns c =
     let links
     = links_after over_here c.self.inside.links.len c.self.inside.links.items c.deref_mut.result.now c.end_here.new.links c.args.connection c.self.inside.links.ok.0
     c.deref_mut.ensures.value c.end_here.ensures in
-    let halls = ap (λ h. h.hall) c.end.ensures ∙ ended_is w.hall c.args.connection in (
+    let servers = ap (λ h. h.server) c.end.ensures ∙ ended_is w.server c.args.connection in (
       subst (λ (v : World). Possible v (EndAtServer c.args.connection)) c.self.view_is (possible (goal.at.returns c).After-end),
-      ap (λ ls. record (calm w) { hall = c.end.new.self.hall; links = ls }) links
-          ∙ ap (λ h. record (calm w) { hall = h; links = changed over_here w.links c.args.connection }) halls ∙ ap (λ (v : World). ended_at (calm v) c.args.connection) c.self.view_is,
+      ap (λ ls. record (calm w) { server = c.end.new.self.server; links = ls }) links
+          ∙ ap (λ h. record (calm w) { server = h; links = changed over_here w.links c.args.connection }) servers ∙ ap (λ (v : World). ended_at (calm v) c.args.connection) c.self.view_is,
     )
 
 pub returns-then-not-link : goal.returns-then-not-link

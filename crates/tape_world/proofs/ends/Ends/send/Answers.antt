@@ -54,7 +54,7 @@ invariant_of-self-2 c =
         talked_sourced c.self.inside.begun.items c.self.inside.caller c.send_own.new.caller c.args.fails text c.in_ok-failure.failure asks c.self.invariant.0.0,
         c.self.invariant.0.1,
       ),
-      subst (λ v. IsLibraryKnown (book_names v.books) v.host.hall.library) (sym now) c.self.invariant.1,
+      subst (λ v. IsLibraryKnown (book_names v.books) v.host.server.library) (sym now) c.self.invariant.1,
     )
 
 pub returns : goal.returns
@@ -65,7 +65,7 @@ returns c =
     let caller = option_map seen_caller c.send_own.new.caller in
     talked_event c.args.self.now _ c.in-Some.own c.self.inside.begun.items c.self.inside.caller c.send_own.new.caller c.args.fails text failure
     (ap (λ w. w.own) was ∙ c.in-Some.is) (ap (λ w. w.begun) was) (ap (λ w. w.caller) was) c.self.invariant.0.0 asks
-    (ap (λ v. world_of v.host.hall v.links.items v.begun.items v.caller v.own v.kept (record v.books { failure = failure }) v.dates) (now_is c)
+    (ap (λ v. world_of v.host.server v.links.items v.begun.items v.caller v.own v.kept (record v.books { failure = failure }) v.dates) (now_is c)
     ∙ ap (λ ls. record (the_view c.self.inside) { links = ls; caller = caller; own = own_after failure c.self.inside.own; failure = failure })
     (links_after (talked text failure) c.self.inside.links.len c.self.inside.links.items c.deref_mut.result.now c.send_own.new.links c.in-Some.own
     c.self.inside.links.ok.0 c.deref_mut.ensures.value is)

@@ -23,7 +23,7 @@ links_then c = map seen_link (take c.self.inside.links.len (c.take_turn_at.new.l
 
 -- a request or a fault was served: the opening or the writing is to be noted
 happens : (c : In_ok-turn) → c.in_ok-turn.turn ≢ turns.Nothing → Happens (the_view c.self.inside) (Serve c.args.connection c.args.trouble)
-    (turned (the_view c.self.inside) c.args.connection c.take_turn_at.new.host.hall c.in_ok-turn.turn (links_then c))
+    (turned (the_view c.self.inside) c.args.connection c.take_turn_at.new.host.server c.in_ok-turn.turn (links_then c))
 happens c some =
     serves_happens c.args.trouble c.args.connection (the_view c.self.inside) c.self.inside.host c.take_turn_at.new.host c.in_ok-turn.turn (links_then c) refl
     (serves_world c.args.trouble c.args.connection c.self.inside.host c.take_turn_at.new.host c.in_ok-turn.turn c.self.inside.links.len c.self.inside.links.items
@@ -31,25 +31,25 @@ happens c some =
     some
 
 -- so no reel came or went
-known : (c : In_ok-turn) → c.in_ok-turn.turn ≢ turns.Nothing → IsLibraryKnown (book_names c.self.inside.books) c.take_turn_at.new.host.hall.library
+known : (c : In_ok-turn) → c.in_ok-turn.turn ≢ turns.Nothing → IsLibraryKnown (book_names c.self.inside.books) c.take_turn_at.new.host.server.library
 known c some =
     let w = the_view c.self.inside in
-    let u = turned w c.args.connection c.take_turn_at.new.host.hall c.in_ok-turn.turn (links_then c) in
-    known_after (book_names c.self.inside.books) w u c.take_turn_at.new.host.hall.library
+    let u = turned w c.args.connection c.take_turn_at.new.host.server c.in_ok-turn.turn (links_then c) in
+    known_after (book_names c.self.inside.books) w u c.take_turn_at.new.host.server.library
     (c.kept.ensures.names w u (Serve c.args.connection c.args.trouble) (subst IsWorldKept (sym c.self.view_is) c.requires) (happens c some)) refl c.self.invariant.1
 
 -- and all stays so
 kept : (c : In_ok-turn) → c.in_ok-turn.turn ≢ turns.Nothing
-    → IsWorldKept (turned (the_view c.self.inside) c.args.connection c.take_turn_at.new.host.hall c.in_ok-turn.turn (links_then c))
+    → IsWorldKept (turned (the_view c.self.inside) c.args.connection c.take_turn_at.new.host.server c.in_ok-turn.turn (links_then c))
 kept c some =
     c.kept.ensures.after (the_view c.self.inside)
-    (turned (the_view c.self.inside) c.args.connection c.take_turn_at.new.host.hall c.in_ok-turn.turn (links_then c))
+    (turned (the_view c.self.inside) c.args.connection c.take_turn_at.new.host.server c.in_ok-turn.turn (links_then c))
     (Serve c.args.connection c.args.trouble) (subst IsWorldKept (sym c.self.view_is) c.requires) (happens c some)
 
 pub invariant_of-self : goal.invariant_of-self
 invariant_of-self c = (
   c.self.invariant.0,
-  still_known c.self.inside.books c.reserve_notes.new.self c.self.inside.host.hall.library c.in_err-reserve_notes.ensures.same.names c.self.invariant.1,
+  still_known c.self.inside.books c.reserve_notes.new.self c.self.inside.host.server.library c.in_err-reserve_notes.ensures.same.names c.self.invariant.1,
 )
 
 pub take_turn_at-requires-clause-last : goal.take_turn_at-requires-clause-last
@@ -61,16 +61,16 @@ take_turn_at-requires-clause-last c =
 pub invariant_of-self-in_err-turn : goal.invariant_of-self-in_err-turn
 invariant_of-self-in_err-turn c = (
   c.self.invariant.0,
-  still_known c.self.inside.books c.reserve_notes.new.self c.take_turn_at.new.host.hall.library c.in_ok-reserve_notes.ensures.same.names
-      (known_same _ c.self.inside.host.hall.library c.take_turn_at.new.host.hall.library (ap (λ h. h.hall.library) c.in_err-turn.ensures.refused.1) c.self.invariant.1),
+  still_known c.self.inside.books c.reserve_notes.new.self c.take_turn_at.new.host.server.library c.in_ok-reserve_notes.ensures.same.names
+      (known_same _ c.self.inside.host.server.library c.take_turn_at.new.host.server.library (ap (λ h. h.server.library) c.in_err-turn.ensures.refused.1) c.self.invariant.1),
 )
 
 pub invariant_of-self-in-Nothing : goal.invariant_of-self-in-Nothing
 invariant_of-self-in-Nothing c = (
   c.self.invariant.0,
-  still_known c.self.inside.books c.reserve_notes.new.self c.take_turn_at.new.host.hall.library c.in_ok-reserve_notes.ensures.same.names
-      (known_same _ c.self.inside.host.hall.library c.take_turn_at.new.host.hall.library
-      (ap (λ h. h.hall.library) (nothing_served c.args.trouble c.args.connection c.self.inside.host c.take_turn_at.new.host c.in_ok-turn.turn _ c.in-Nothing.is
+  still_known c.self.inside.books c.reserve_notes.new.self c.take_turn_at.new.host.server.library c.in_ok-reserve_notes.ensures.same.names
+      (known_same _ c.self.inside.host.server.library c.take_turn_at.new.host.server.library
+      (ap (λ h. h.server.library) (nothing_served c.args.trouble c.args.connection c.self.inside.host c.take_turn_at.new.host c.in_ok-turn.turn _ c.in-Nothing.is
       c.in_ok-turn.ensures.taken))
       c.self.invariant.1),
 )
@@ -83,12 +83,12 @@ returns-in-Nothing c =
     (λ f. map seen_link after ≡ changed f w.links c.args.connection)) c.in-Nothing.is
     (serves_world c.args.trouble c.args.connection c.self.inside.host c.take_turn_at.new.host c.in_ok-turn.turn c.self.inside.links.len c.self.inside.links.items
     c.deref_mut.result.now c.take_turn_at.new.links c.self.inside.links.ok.0 c.deref_mut.ensures.value c.in_ok-turn.ensures.taken) in (
-      same_books c.take_turn_at.new.host.hall after c.self.inside.begun.items c.self.inside.caller c.self.inside.own c.self.inside.kept c.self.inside.dates
+      same_books c.take_turn_at.new.host.server after c.self.inside.begun.items c.self.inside.caller c.self.inside.own c.self.inside.kept c.self.inside.dates
           c.self.inside.books c.reserve_notes.new.self c.in_ok-reserve_notes.ensures.same
-          ∙ ap (λ ls. record w { hall = c.take_turn_at.new.host.hall; links = ls }) (t.2 ∙ same_links w.links c.args.connection)
-          ∙ ap (λ h. record w { hall = h.hall }) t.1
+          ∙ ap (λ ls. record w { server = c.take_turn_at.new.host.server; links = ls }) (t.2 ∙ same_links w.links c.args.connection)
+          ∙ ap (λ h. record w { server = h.server }) t.1
           ∙ c.self.view_is,
-      nothing_there c.args.trouble c.args.connection c.args.self.now c.self.inside.host.hall (ap (λ v. v.hall) (sym c.self.view_is)) t.0,
+      nothing_there c.args.trouble c.args.connection c.args.self.now c.self.inside.host.server (ap (λ v. v.server) (sym c.self.view_is)) t.0,
     )
 
 pub note_turn-requires : goal.note_turn-requires
@@ -99,34 +99,34 @@ note_turn-requires c =
     let same = c.in_ok-reserve_notes.ensures.same.names in
     record {
       room = c.in_ok-reserve_notes.ensures.room;
-      there = online_in c.take_turn_at.new.host.hall c.args.connection after.held;
+      there = online_in c.take_turn_at.new.host.server c.args.connection after.held;
       opened = λ name is. name_known c.self.inside.books c.reserve_notes.new.self name same
-          (opened_known (book_names c.self.inside.books) (the_view c.self.inside) c.args.connection c.take_turn_at.new.host.hall c.in_ok-turn.turn
+          (opened_known (book_names c.self.inside.books) (the_view c.self.inside) c.args.connection c.take_turn_at.new.host.server c.in_ok-turn.turn
           (links_then at) name after (known at some) is);
       written = λ name is. name_known c.self.inside.books c.reserve_notes.new.self name same
-          (written_known (book_names c.self.inside.books) (the_view c.self.inside) c.args.connection c.take_turn_at.new.host.hall c.in_ok-turn.turn
+          (written_known (book_names c.self.inside.books) (the_view c.self.inside) c.args.connection c.take_turn_at.new.host.server c.in_ok-turn.turn
           (links_then at) name after (known at some) is);
     }
 
 pub invariant_of-self-2 : goal.invariant_of-self-2
 invariant_of-self-2 c = (
   c.self.invariant.0,
-  still_known c.self.inside.books c.note_turn.new.self c.take_turn_at.new.host.hall.library (c.note_turn.ensures.names ∙ c.in_ok-reserve_notes.ensures.same.names)
+  still_known c.self.inside.books c.note_turn.new.self c.take_turn_at.new.host.server.library (c.note_turn.ensures.names ∙ c.in_ok-reserve_notes.ensures.same.names)
       (known (goal.at.invariant_of-self-2 c).In_ok-turn c.in_default.not-Nothing),
 )
 
 pub returns : goal.returns
 returns c =
     let w = the_view c.self.inside in
-    let hall = c.take_turn_at.new.host.hall in
+    let server = c.take_turn_at.new.host.server in
     let after = take c.self.inside.links.len (c.take_turn_at.new.links ++ drop (length c.take_turn_at.new.links) c.self.inside.links.items) in
-    let noted = noted_books c.self.inside.host.hall c.self.inside.links.items c.self.inside.begun.items c.self.inside.caller c.self.inside.own
-    c.self.inside.kept c.self.inside.dates c.reserve_notes.new.self c.note_turn.new.self c.in_ok-list.list.items hall after c.args.connection
+    let noted = noted_books c.self.inside.host.server c.self.inside.links.items c.self.inside.begun.items c.self.inside.caller c.self.inside.own
+    c.self.inside.kept c.self.inside.dates c.reserve_notes.new.self c.note_turn.new.self c.in_ok-list.list.items server after c.args.connection
     c.in_ok-turn.turn c.in_ok-list.ensures c.note_turn.ensures in
-    let same = same_books c.self.inside.host.hall c.self.inside.links.items c.self.inside.begun.items c.self.inside.caller c.self.inside.own
+    let same = same_books c.self.inside.host.server c.self.inside.links.items c.self.inside.begun.items c.self.inside.caller c.self.inside.own
     c.self.inside.kept c.self.inside.dates c.self.inside.books c.reserve_notes.new.self c.in_ok-reserve_notes.ensures.same in
-    let now = noted ∙ ap (λ x. turned x c.args.connection hall c.in_ok-turn.turn (map seen_link after)) same in
-    subst (λ (v : World). Happens v (Serve c.args.connection c.args.trouble) (world_of hall after c.self.inside.begun.items c.self.inside.caller
+    let now = noted ∙ ap (λ x. turned x c.args.connection server c.in_ok-turn.turn (map seen_link after)) same in
+    subst (λ (v : World). Happens v (Serve c.args.connection c.args.trouble) (world_of server after c.self.inside.begun.items c.self.inside.caller
     c.self.inside.own c.self.inside.kept (record c.note_turn.new.self { failure = None }) c.self.inside.dates)) c.self.view_is
     (subst (Happens w (Serve c.args.connection c.args.trouble)) (sym now)
     (happens (goal.at.returns c).In_ok-turn c.in_default.not-Nothing))

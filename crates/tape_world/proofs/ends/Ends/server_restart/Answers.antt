@@ -15,8 +15,8 @@ invariant_of-self c =
     let w = the_view c.self.inside in
     let same = c.kept.ensures.names w (restarted (calm w)) ServerRestart (subst IsWorldKept (sym c.self.view_is) c.requires) (tt, refl) in (
       c.self.invariant.0,
-      known_after _ w (restarted (calm w)) c.restart.new.self.hall.library same
-          (ap (λ h. h.hall.library) c.restart.ensures ∙ ap (λ h. h.library) (all_ended_is w.hall (length w.hall.sides))) c.self.invariant.1,
+      known_after _ w (restarted (calm w)) c.restart.new.self.server.library same
+          (ap (λ h. h.server.library) c.restart.ensures ∙ ap (λ h. h.library) (all_ended_is w.server (length w.server.sides))) c.self.invariant.1,
     )
 
 pub returns : goal.returns
@@ -25,8 +25,8 @@ returns c =
     let links
     = links_over c.self.inside.links.len c.self.inside.links.items c.deref_mut.result.now c.end_all_here.new.links c.self.inside.links.ok.0 c.deref_mut.ensures.value
     c.end_all_here.ensures in
-    let halls = ap (λ h. h.hall) c.restart.ensures ∙ all_ended_is w.hall (length w.hall.sides) in (
+    let servers = ap (λ h. h.server) c.restart.ensures ∙ all_ended_is w.server (length w.server.sides) in (
       tt,
-      ap (λ ls. record (calm w) { hall = c.restart.new.self.hall; links = ls }) links ∙ ap (λ h. record (calm w) { hall = h; links = map over_here w.links }) halls
+      ap (λ ls. record (calm w) { server = c.restart.new.self.server; links = ls }) links ∙ ap (λ h. record (calm w) { server = h; links = map over_here w.links }) servers
           ∙ ap (λ (v : World). restarted (calm v)) c.self.view_is,
     )

@@ -23,7 +23,7 @@ invariant_of-self c =
     let push = reaches c.self.inside.host c.args.connection c.args.count c.bytes-way.result.now c.in-Some.room c.push.result c.room.result c.push.new.self c.room.ensures c.in-Some.is
     c.if-way-count.false c.if-room-count.false c.push.ensures in (
       c.self.invariant.0,
-      known_same _ c.self.inside.host.hall.library c.push.new.self.hall.library (ap (λ h. h.library) push.hall_is) c.self.invariant.1,
+      known_same _ c.self.inside.host.server.library c.push.new.self.server.library (ap (λ h. h.library) push.server_is) c.self.invariant.1,
     )
 
 pub returns : goal.returns
@@ -40,7 +40,7 @@ returns c =
     let l = seen_link c.in-Some-find.link.now in
     let u
     = record (calm w) {
-      hall = c.push.new.self.hall;
+      server = c.push.new.self.server;
       links = map seen_link (take c.self.inside.links.len (c.arrive.new.links ++ drop (length c.arrive.new.links) c.self.inside.links.items));
     } in
     subst (λ (v : World). Happens v (ToServer c.args.connection c.args.count) u) c.self.view_is (
@@ -52,8 +52,8 @@ returns c =
         push.live,
         there,
         ((subst IsReadable (sym c.self.view_is) c.requires.readable) c.args.connection push.side_is push.live, λ bytes unread. subst (λ b. Unread push.reached (bytes ++ take c.args.count b)) c.bytes-way.ensures (push.unread bytes unread)),
-        ap (λ ls. record (calm w) { hall = c.push.new.self.hall; links = ls }) links
-            ∙ ap (λ h. record (calm w) { hall = h; links = changed (arrived c.args.count) w.links c.args.connection }) push.hall_is,
+        ap (λ ls. record (calm w) { server = c.push.new.self.server; links = ls }) links
+            ∙ ap (λ h. record (calm w) { server = h; links = changed (arrived c.args.count) w.links c.args.connection }) push.server_is,
       ),
     )
 

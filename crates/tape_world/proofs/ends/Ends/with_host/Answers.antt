@@ -12,5 +12,5 @@ returns c =
 pub invariant_of-result : goal.invariant_of-result
 invariant_of-result c = (
   search rules,
-  known_new (book_names c.in_ok-books.books) c.args.host.hall.library c.args.drives.now c.in_ok-books.ensures.names (ap (λ h. h.library) c.requires),
+  known_new (book_names c.in_ok-books.books) c.args.host.server.library c.args.drives.now c.in_ok-books.ensures.names (ap (λ h. h.library) c.requires),
 )

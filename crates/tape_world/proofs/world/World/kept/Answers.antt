@@ -13,7 +13,7 @@ pub returns-clause-headline : goal.returns-clause-headline
 returns-clause-headline c = subst Headline c.self.view_is (c.kept.ensures.headline c.self.inside.ends (c.kept.ensures.reached c.self.inside.ends c.self.invariant))
 
 pub returns-clause-holders : goal.returns-clause-holders
-returns-clause-holders c = subst (λ (w : World). AreHeld w.hall) c.self.view_is (c.kept.ensures.holders c.self.inside.ends (c.kept.ensures.reached c.self.inside.ends c.self.invariant))
+returns-clause-holders c = subst (λ (w : World). AreHeld w.server) c.self.view_is (c.kept.ensures.holders c.self.inside.ends (c.kept.ensures.reached c.self.inside.ends c.self.invariant))
 
 pub returns-clause-no_two_holders : goal.returns-clause-no_two_holders
 returns-clause-no_two_holders c = subst NoTwoHolders c.self.view_is (c.kept.ensures.no_two_holders c.self.inside.ends (c.kept.ensures.reached c.self.inside.ends c.self.invariant))

@@ -1,7 +1,7 @@
 use Rattle.std.proofs.Common.{rules, ◌≡◌, Option, Some, length, refl, sym, subst, ap, ◌∙◌}
 use Rattle.std.specs.Option.{option_copied}
-use Rattle.tape_host.specs.Halls.{HasRoom}
-use Rattle.rmt_server.specs.Hall.{Side}
+use Rattle.tape_host.specs.Servers.{HasRoom}
+use Rattle.rmt_server.specs.ServerState.{ServerConnection}
 use Rattle.tape_events.specs.World.{World}
 use Rattle.tape_events.specs.First.{IsReadable}
 use Rattle.tape_world.specs.Seen.{seen_link}
@@ -18,7 +18,7 @@ returns-then-not-link c =
     let l = seen_link c.in_ok-link.link.now in
     let is : option_copied c.find.result ≡ Some c.in_ok-link.link.now = search rules in
     let at = link_is w c.self-inside.inside.0.0.links.items c.deref.result.now c.args.connection (option_copied c.find.result) c.in_ok-link.link.now refl c.deref.ensures.value c.find.ensures is in
-    let room = subst (λ (o : Option Side). HasRoom o c.room.result) (side_found w.hall c.args.connection) c.room.ensures in
+    let room = subst (λ (o : Option ServerConnection). HasRoom o c.room.result) (side_found w.server c.args.connection) c.room.ensures in
     subst (λ (v : World). TellsWay v c.args.connection (Some (c.min-toward.result, 0))) (ap (λ i. i.ends) c.self-inside.view_is ∙ c.self.view_is) (
       l,
       at,
@@ -33,7 +33,7 @@ returns c =
     let l = seen_link c.in_ok-link.link.now in
     let is : option_copied c.find.result ≡ Some c.in_ok-link.link.now = search rules in
     let at = link_is w c.self-inside.inside.0.0.links.items c.deref.result.now c.args.connection (option_copied c.find.result) c.in_ok-link.link.now refl c.deref.ensures.value c.find.ensures is in
-    let room = subst (λ (o : Option Side). HasRoom o c.room.result) (side_found w.hall c.args.connection) c.room.ensures in
+    let room = subst (λ (o : Option ServerConnection). HasRoom o c.room.result) (side_found w.server c.args.connection) c.room.ensures in
     subst (λ (v : World). TellsWay v c.args.connection (Some (c.min-toward.result, length c.bytes-2.result.now))) (ap (λ i. i.ends) c.self-inside.view_is ∙ c.self.view_is) (
       l,
       at,

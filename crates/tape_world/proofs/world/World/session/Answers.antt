@@ -1,5 +1,5 @@
 use Rattle.std.proofs.Common.{option_map, ap, ◌∙◌}
-use Rattle.rmt_server.specs.Hall.{Side}
+use Rattle.rmt_server.specs.ServerState.{ServerConnection}
 use Rattle.tape_events.specs.World.{World}
 use Rattle.tape_events.specs.Changes.{side_of}
 use Rattle.tape_world.proofs.Server.{side_found}
@@ -7,5 +7,5 @@ use Rattle.tape_world.proofs.world.World.session.Goals as goal
 
 pub returns-clause-seen : goal.returns-clause-seen
 returns-clause-seen c =
-    c.session.ensures.seen ∙ ap (option_map (λ (s : Side). s.session)) (side_found c.self-inside.inside.0.0.host.hall c.args.connection)
-    ∙ ap (λ (w : World). option_map (λ (s : Side). s.session) (side_of w.hall c.args.connection)) (ap (λ i. i.ends) c.self-inside.view_is ∙ c.self.view_is)
+    c.session.ensures.seen ∙ ap (option_map (λ (s : ServerConnection). s.session)) (side_found c.self-inside.inside.0.0.host.server c.args.connection)
+    ∙ ap (λ (w : World). option_map (λ (s : ServerConnection). s.session) (side_of w.server c.args.connection)) (ap (λ i. i.ends) c.self-inside.view_is ∙ c.self.view_is)

@@ -4,9 +4,9 @@ use Rattle.tape_world.proofs.world.reels.find_online.Goals as goal
 
 pub returns-in-Some : goal.returns-in-Some
 returns-in-Some c =
-    sym (first_found c.args.name.now c.args.host.now.hall.library c.args.host.now.hall.sides c.loop-place.place c.in-Some.reel.now.tape _ c.loop-place.invariant
+    sym (first_found c.args.name.now c.args.host.now.server.library c.args.host.now.server.sides c.loop-place.place c.in-Some.reel.now.tape _ c.loop-place.invariant
     c.in-Some.ensures refl)
 
 pub loop-place-preserved : goal.loop-place-preserved
 loop-place-preserved c =
-    none_more c.args.name.now c.args.host.now.hall.library c.args.host.now.hall.sides c.loop-place.place None c.loop-place.invariant c.in_default.ensures refl
+    none_more c.args.name.now c.args.host.now.server.library c.args.host.now.server.sides c.loop-place.place None c.loop-place.invariant c.in_default.ensures refl

@@ -3,4 +3,4 @@ use Rattle.tape_world.specs.Entries.{first_tape_online}
 use Rattle.tape_world.proofs.world.reels.find_online.Given as goal
 
 abbrev pub invariant-loop-place : goal.invariant-loop-place
-invariant-loop-place l = first_tape_online l.name l.host.hall.library (take l.place l.host.hall.sides) ≡ None
+invariant-loop-place l = first_tape_online l.name l.host.server.library (take l.place l.host.server.sides) ≡ None

@@ -12,7 +12,7 @@ pub(crate) struct Opened<R> {
 
 /// A seat and what it has open.
 #[derive(Drop)]
-pub(crate) struct Desk<Seat, R> {
+pub(crate) struct SessionState<Seat, R> {
     pub(crate) seat: Seat,
     pub(crate) opened: Option<Opened<R>>,
 }

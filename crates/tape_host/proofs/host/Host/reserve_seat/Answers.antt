@@ -1,7 +1,7 @@
 use Rattle.std.proofs.Common.{sym, subst, ◌∙◌}
 use Rattle.tape_host.specs.Hosting.{IsHosting}
 use Rattle.tape_host.proofs.Hosted.{nothing_is, seated_hosting}
-use Rattle.tape_host.proofs.host.Host.sit.Goals as goal
+use Rattle.tape_host.proofs.host.Host.reserve_seat.Goals as goal
 
 pub invariant_of-self-in-Some-2 : goal.invariant_of-self-in-Some-2
 invariant_of-self-in-Some-2 c =

@@ -6,15 +6,15 @@ use Rattle.drives.specs.Arranging.{arranged}
 use Rattle.rmt_server.specs.Session.{closed_library}
 use Rattle.rmt_server.specs.Session.PlainSession.{Idle}
 use Rattle.rmt_server.specs.TroubledServe.{drive_in, with_holder}
-use Rattle.rmt_server.specs.Hall.{Hall, hall, Side, side}
+use Rattle.rmt_server.specs.ServerState.{ServerState, server, ServerConnection, side}
 
 -- a host's hall, and whether the side of the next connection is made
 pub record Hosted : Type 0 where
-  pub hall : Hall
+  pub server : ServerState
   pub ready : Bool
 
-abbrev pub hosted : Hall → Bool → Hosted
-hosted h ready = record { hall = h; ready = ready }
+abbrev pub hosted : ServerState → Bool → Hosted
+hosted h ready = record { server = h; ready = ready }
 
 -- the server's side of connection k, while it is live: connections are numbered from 1
 abbrev pub side_at : {S : Type 0} → List (Option S) → ℕ → Option S
@@ -27,32 +27,32 @@ with_side_at sides zero s = sides
 with_side_at sides (suc i) s = slice_set sides i s
 
 -- the drive that a live side has open
-abbrev pub drive_open_by : Option Side → Option ℕ
+abbrev pub drive_open_by : Option ServerConnection → Option ℕ
 drive_open_by None = None
 drive_open_by (Some s) = drive_in s.session
 
 -- the drive that connection k has open, while its side is live
-abbrev pub drive_open : Hall → ℕ → Option ℕ
+abbrev pub drive_open : ServerState → ℕ → Option ℕ
 drive_open h k = drive_open_by (side_at h.sides k)
 
 -- the holder of drive d is k
-abbrev pub IsHolder : Hall → ℕ → ℕ → Type 0
+abbrev pub IsHolder : ServerState → ℕ → ℕ → Type 0
 IsHolder h d k = (d < length h.holders) × (slice_index h.holders d ≡ k)
 
 -- One holder: a drive's holder is k exactly if the side of connection k is live and has that drive open.
-abbrev pub IsHeldOnce : Hall → Type 0
+abbrev pub IsHeldOnce : ServerState → Type 0
 IsHeldOnce h = (d k : ℕ) → 0 < k → IsHolder h d k ↔ (drive_open h k ≡ Some d)
 
 -- one connection more: its side has read nothing and has nothing open
-abbrev pub joined : Hall → Hall
-joined h = hall h.library h.holders (h.sides ++ Some (side (held [] 0) Idle) ∷ [])
+abbrev pub joined : ServerState → ServerState
+joined h = server h.library h.holders (h.sides ++ Some (side (held [] 0) Idle) ∷ [])
 
 -- a side has reached this
-abbrev pub with_reached : Hall → ℕ → Side → RequestHeld → Hall
-with_reached h k s reached = hall h.library h.holders (with_side_at h.sides k (Some (side reached s.session)))
+abbrev pub with_reached : ServerState → ℕ → ServerConnection → RequestHeld → ServerState
+with_reached h k s reached = server h.library h.holders (with_side_at h.sides k (Some (side reached s.session)))
 
 -- there is room for so many bytes, where the side is live
-abbrev pub HasRoom : Option Side → Option ℕ → Type 0
+abbrev pub HasRoom : Option ServerConnection → Option ℕ → Type 0
 HasRoom None room = room ≡ None
 HasRoom (Some s) room = (n : ℕ) × (room ≡ Some n) × ((unread : List ℕ) → Unread s.reached unread → n + taken_of unread ≡ READER_LIMIT)
 
@@ -63,25 +63,25 @@ TakesIn before piece count after =
     → (count ≡ min (length piece) (READER_LIMIT - taken_of unread)) × Unread after (unread ++ take count piece)
 
 -- A piece reached the side of connection k. Where that is not live nothing was taken.
-abbrev pub IsPiecePushed : Hosted → ℕ → List ℕ → Option Side → ℕ → Hosted → Type 0
+abbrev pub IsPiecePushed : Hosted → ℕ → List ℕ → Option ServerConnection → ℕ → Hosted → Type 0
 IsPiecePushed old k piece None count new = (count ≡ 0) × (new ≡ old)
 IsPiecePushed old k piece (Some s) count new =
-    (reached : RequestHeld) × TakesIn s.reached piece count reached × (new ≡ hosted (with_reached old.hall k s reached) old.ready)
+    (reached : RequestHeld) × TakesIn s.reached piece count reached × (new ≡ hosted (with_reached old.server k s reached) old.ready)
 
 -- the side is over: what was open is closed, and its drive has no holder
-abbrev pub ended_from : Hall → ℕ → Option Side → Hall
+abbrev pub ended_from : ServerState → ℕ → Option ServerConnection → ServerState
 ended_from h k None = h
 ended_from h k (Some s) =
-    hall (closed_library h.library s.session) (with_holder (drive_in s.session) 0 h.holders) (with_side_at h.sides k None)
+    server (closed_library h.library s.session) (with_holder (drive_in s.session) 0 h.holders) (with_side_at h.sides k None)
 
-abbrev pub ended : Hall → ℕ → Hall
+abbrev pub ended : ServerState → ℕ → ServerState
 ended h k = ended_from h k (side_at h.sides k)
 
 -- the sides of the first so many connections are over
-abbrev pub all_ended : Hall → ℕ → Hall
+abbrev pub all_ended : ServerState → ℕ → ServerState
 all_ended h zero = h
 all_ended h (suc k) = ended (all_ended h k) (suc k)
 
 -- the stack of drive d is the reels of these names
-abbrev pub restacked : Hall → ℕ → List (List ℕ) → Hall
-restacked h d names = hall (arranged h.library d names) h.holders h.sides
+abbrev pub restacked : ServerState → ℕ → List (List ℕ) → ServerState
+restacked h d names = server (arranged h.library d names) h.holders h.sides
