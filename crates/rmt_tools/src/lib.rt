@@ -25,7 +25,7 @@ pub use reel_check::{
 };
 pub use reel_files::{FileMedium, FolderDrive, FolderFault, FolderStacks};
 pub use rmtd_serve::{
-    Begun, Connections, Incoming, MemoryServer, Site, TapeServer, begin, exit_status,
+    Begun, Connections, Incoming, ListenerSetup, MemoryServer, TapeServer, begin, exit_status,
     folder_stacks, run_stdio, seat_stacks, serve_at, serve_connections, serve_many, start,
 };
 pub use rmtd_words::{DriveWord, LineFault, ServerLine, server_line, server_words};

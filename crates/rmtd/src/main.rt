@@ -2,7 +2,7 @@
 #![tactic(auto)]
 
 use rmt_wire::Counted;
-use rmtd_serve::{Begun, Connections, ErrorLog, Site, close_table, serve_many, start};
+use rmtd_serve::{Begun, Connections, ErrorLog, ListenerSetup, close_table, serve_many, start};
 use std::io;
 use std::process::ExitCode;
 
@@ -13,17 +13,17 @@ use std::process::ExitCode;
 fn main(rt: HostRuntime) -> io::Result<ExitCode> {
     let mut input = Counted::new(rt.stdin());
     let mut output = Counted::new(rt.stdout());
-    let (listener, site) = match start(&rt, &mut input, &mut output)? {
+    let (listener, listener_setup) = match start(&rt, &mut input, &mut output)? {
         Begun::End(status) => return Ok(ExitCode::from(status)),
-        Begun::Serve(listener, site) => (listener, site),
+        Begun::Serve(listener, listener_setup) => (listener, listener_setup),
     };
-    let Site {
+    let ListenerSetup {
         left,
         table,
         seats,
         stacks,
         start,
-    } = site;
+    } = listener_setup;
     let log = ErrorLog {
         rt: &rt,
         seat: None,

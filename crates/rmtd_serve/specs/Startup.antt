@@ -34,7 +34,7 @@ pub data EndsLine {In Out : Type 0} (kind : StreamsKind In Out) (line : ServerLi
   failed : AreUntouched old new → status ≡ 1 → EndsLine kind line old new status
 
 -- At once so many connections are served with these drives, of which each seat of the table has stacks: those of the line.
-pub record IsSiteOf (line : ServerLine) (left drives : ℕ) (stacks : List FolderLibrary) : Type 0 where
+pub record IsListenerSetupOf (line : ServerLine) (left drives : ℕ) (stacks : List FolderLibrary) : Type 0 where
   pub some : 0 < length line.drives.items
   pub bin : List ℕ
   pub same_bin : option_map (λ s. s.now) line.bin ≡ Some bin
@@ -46,14 +46,14 @@ pub record IsSiteOf (line : ServerLine) (left drives : ℕ) (stacks : List Folde
 abbrev pub ListensOrEnds : {R Dir : Type 0} {reads : ReadPromise Dir} {clones : ClonePromise R} → ServerLine → Begun R Dir reads clones
     → Type 0
 ListensOrEnds line (End status) = status ≡ 1
-ListensOrEnds line (Serve listener site) = IsSiteOf line site.left site.table.words site.stacks.items
+ListensOrEnds line (Serve listener listener_setup) = IsListenerSetupOf line listener_setup.left listener_setup.table.words listener_setup.stacks.items
 
 -- what was done of a line, and what is left
 abbrev pub IsDone : {In Out R Dir : Type 0} {reads : ReadPromise Dir} {clones : ClonePromise R} → StreamsKind In Out
     → ServerLine → Streams In Out → Streams In Out → Begun R Dir reads clones → Type 0
 IsDone kind line old new (End status) = EndsLine kind line old new status
-IsDone kind line old new (Serve listener site) =
-    AreUntouched old new × IsSome line.listen × IsSiteOf line site.left site.table.words site.stacks.items
+IsDone kind line old new (Serve listener listener_setup) =
+    AreUntouched old new × IsSome line.listen × IsListenerSetupOf line listener_setup.left listener_setup.table.words listener_setup.stacks.items
 
 -- What was done of words, and what is left: what their line asks; or clap's help or version was told, and the status is 0; or
 -- the words are wrong, or memory was refused, and it is 1.

@@ -5,7 +5,7 @@ ghost use Rattle.drives.specs.Holding.{HoldsJust};
 ghost use Rattle.hold_table.specs.Seats.{IsSeatAt};
 
 use crate::at_table::AtTable;
-use crate::bench::Bench;
+use crate::worker::Worker;
 use drives::Stacks;
 use hold_table::{HoldSeat, HoldTable};
 use std::marker::PhantomData;
@@ -51,9 +51,9 @@ impl<'t, S: Stacks + Drop, B: AtTable> Fresh<'t, S, B> {
     }
 
     /// The next seat with its stacks.
-    pub(crate) fn take(&mut self) -> Option<Bench<'t, S, B>> {
+    pub(crate) fn take(&mut self) -> Option<Worker<'t, S, B>> {
         let seat = self.seats.pop()?;
         let stacks = self.stacks.pop()?;
-        Some(Bench::new(self.table, seat, stacks))
+        Some(Worker::new(self.table, seat, stacks))
     }
 }

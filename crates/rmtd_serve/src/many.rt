@@ -6,8 +6,8 @@ ghost use Rattle.hold_table.specs.Seats.{IsSeatAt};
 
 use crate::at_table::AtTable;
 use crate::fresh::Fresh;
+use crate::idle_workers::IdleWorkers;
 use crate::incoming::Incoming;
-use crate::pool::Pool;
 use drives::Stacks;
 use hold_table::{HoldSeat, HoldTable, SEAT_LIMIT};
 use std::alloc::Global;
@@ -20,16 +20,16 @@ use std::thread::{self, Threads};
 fn work<W: Wait, I: Read + Drop, O: Write + Drop, S: Stacks + Drop, B: AtTable>(
     rt: &W,
     alloc: Global,
-    pool: &Mutex<Pool<'_, S, B>>,
+    idle_workers: &Mutex<IdleWorkers<'_, S, B>>,
     number: u64,
     input: I,
     output: O,
 ) {
-    let Some(bench) = pool.lock(rt).take() else {
+    let Some(worker) = idle_workers.lock(rt).take() else {
         return;
     };
-    let bench = bench.serve(alloc, number, input, output);
-    pool.lock(rt).put(bench);
+    let worker = worker.serve(alloc, number, input, output);
+    idle_workers.lock(rt).put(worker);
 }
 
 /// Why a pair is let go: each seat has one, or there was no memory for its seat to come back.
@@ -44,7 +44,7 @@ fn serve_all<
     I: Incoming + Drop,
     S: Stacks + Drop + Send,
     B: AtTable + Send,
->(rt: &R, alloc: Global, incoming: I, pool: &Mutex<Pool<'_, S, B>>) -> I
+>(rt: &R, alloc: Global, incoming: I, idle_workers: &Mutex<IdleWorkers<'_, S, B>>) -> I
 where
     S::Reel: Send,
     ensures { I.is_over result }
@@ -62,14 +62,21 @@ where
                     return incoming;
                 };
                 let number = incoming.number();
-                let is_promised = pool.lock(rt).reserve();
+                let is_promised = idle_workers.lock(rt).reserve();
                 if !is_promised {
                     incoming.let_go(NO_SEAT);
                     continue;
                 }
-                let started = scope.spawn(move || work(rt, alloc, pool, number, input, output));
+                let started = scope.spawn(move || work(
+                    rt,
+                    alloc,
+                    idle_workers,
+                    number,
+                    input,
+                    output,
+                ));
                 if started.is_err() {
-                    pool.lock(rt).release();
+                    idle_workers.lock(rt).release();
                     incoming.let_go(NO_THREAD);
                 }
             }
@@ -101,9 +108,9 @@ where
     ensures seats { All (λ s. IsSeatAt B.table s × HoldsJust s.view None) result.1.items }
 {
     let fresh = Fresh::<S, B>::new(table, seats, stacks);
-    let pool = Mutex::new(Pool::new(alloc, fresh));
-    let incoming = serve_all(rt, alloc, incoming, &pool);
-    (incoming, pool.into_inner().into_seats())
+    let idle_workers = Mutex::new(IdleWorkers::new(alloc, fresh));
+    let incoming = serve_all(rt, alloc, incoming, &idle_workers);
+    (incoming, idle_workers.into_inner().into_seats())
 }
 
 /// Serves each pair of streams by a session in a thread of its own, at most `SEAT_LIMIT` at once. It returns once the last pair was given

@@ -12,8 +12,8 @@ use crate::error_log::ErrorLog;
 use crate::file_limit::tell_limit;
 use crate::folders::logged_stacks;
 use crate::line_start::LineStart;
-use crate::ready::site_of;
-use crate::site::Site;
+use crate::listener_setup::ListenerSetup;
+use crate::ready::listener_setup_of;
 use crate::warnings::Warnings;
 use crate::{MemoryServer, TapeServer, exit_status, run_stdio, serve_connections};
 use clap::Error;
@@ -54,7 +54,7 @@ pub enum Begun<R: FolderSystem + Eprint> {
     /// To end with this status.
     End(u8),
     /// To serve the connections of this listener at once.
-    Serve(TcpListener, Site<R>),
+    Serve(TcpListener, ListenerSetup<R>),
 }
 
 /// Reads the words that the program was called with, and does what they ask until connections are served at once.
@@ -271,9 +271,9 @@ fn listen_in_folders<R: System>(
 {
     let log = log_of(rt, start);
     tell_limit(rt, &log, line.capacity)?;
-    let site = site_of(rt, line, bin, start)?;
+    let listener_setup = listener_setup_of(rt, line, bin, start)?;
     match bind(rt, address, &log) {
-        Ok(listener) => Ok(Begun::Serve(listener, site)),
+        Ok(listener) => Ok(Begun::Serve(listener, listener_setup)),
         Err(error) => tell(rt, address, error),
     }
 }

@@ -65,7 +65,7 @@ fn left_by<R: System>(rt: &R, words: &[&str]) -> io::Result<u64> {
     let mut output = Counted::new(Vec::new(rt.alloc()));
     let begun = begin(rt, words, &mut Counted::new(b"C\n".as_slice()), &mut output)?;
     Ok(match &begun {
-        Begun::Serve(_, site) => site.left,
+        Begun::Serve(_, listener_setup) => listener_setup.left,
         Begun::End(_) => 0,
     })
 }

@@ -1,6 +1,6 @@
 use Rattle.std.proofs.Common.{◌∙◌, arith}
 use Rattle.rmtd_serve.proofs.Hands.{seat_comes_back}
-use Rattle.rmtd_serve.proofs.bench.Bench.serve.Goals as goal
+use Rattle.rmtd_serve.proofs.worker.Worker.serve.Goals as goal
 
 pub invariant_of-result : goal.invariant_of-result
 invariant_of-result g c =

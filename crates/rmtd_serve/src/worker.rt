@@ -16,7 +16,7 @@ use std::marker::PhantomData;
 
 /// A seat of a table that holds no drive, and the stacks that sessions there work on.
 #[derive(Drop)]
-pub(crate) struct Bench<'t, S: Stacks + Drop, B: AtTable> {
+pub(crate) struct Worker<'t, S: Stacks + Drop, B: AtTable> {
     table: &'t HoldTable,
     seat: HoldSeat,
     stacks: S,
@@ -29,7 +29,7 @@ pub(crate) struct Bench<'t, S: Stacks + Drop, B: AtTable> {
     ghost enough: { S.drives stacks ≤ table.now.words },
 }
 
-impl<'t, S: Stacks + Drop, B: AtTable> Bench<'t, S, B> {
+impl<'t, S: Stacks + Drop, B: AtTable> Worker<'t, S, B> {
     /// A seat of this table that holds no drive, and stacks of as many drives as the table has, or fewer.
     pub(crate) fn new(table: &'t HoldTable, seat: HoldSeat, stacks: S) -> Self
         requires here { table.now ≡ B.table }
@@ -37,7 +37,7 @@ impl<'t, S: Stacks + Drop, B: AtTable> Bench<'t, S, B> {
         requires idle { HoldsJust seat.view None }
         requires enough { S.drives stacks ≤ table.now.words }
     {
-        Bench {
+        Worker {
             table,
             seat,
             stacks,
@@ -50,7 +50,7 @@ impl<'t, S: Stacks + Drop, B: AtTable> Bench<'t, S, B> {
         ensures seat { IsSeatAt B.table result }
         ensures idle { HoldsJust result.view None }
     {
-        let Bench {
+        let Worker {
             table: _,
             seat,
             stacks: _,
@@ -67,7 +67,7 @@ impl<'t, S: Stacks + Drop, B: AtTable> Bench<'t, S, B> {
         input: I,
         output: O,
     ) -> Self {
-        let Bench {
+        let Worker {
             table,
             seat,
             stacks,
@@ -78,7 +78,7 @@ impl<'t, S: Stacks + Drop, B: AtTable> Bench<'t, S, B> {
         let mut input = Counted::new(input);
         let mut output = Counted::new(output);
         let (seat, stacks) = serve_at(alloc, drives, seat, number, &mut input, &mut output);
-        Bench {
+        Worker {
             table,
             seat,
             stacks,

@@ -12,7 +12,7 @@ use reel_files::{FolderStacks, FolderSystem};
 
 /// What connections are served at: drives in folders, with a table of who holds them, its seats, and stacks for each seat.
 #[derive(Drop)]
-pub struct Site<R: FolderSystem + Eprint> {
+pub struct ListenerSetup<R: FolderSystem + Eprint> {
     /// How many of them are served, at most.
     pub left: u64,
     /// Who holds which drive.

@@ -4,26 +4,26 @@ ghost use Rattle.drives.specs.Holding.{HoldsJust};
 ghost use Rattle.hold_table.specs.Seats.{IsSeatAt};
 
 use crate::at_table::AtTable;
-use crate::bench::Bench;
 use crate::fresh::Fresh;
+use crate::worker::Worker;
 use drives::Stacks;
 use hold_table::{HoldSeat, SEAT_LIMIT};
 use std::alloc::Global;
 
 /// The benches that no thread has, and how many of them are promised to none.
 #[derive(Drop)]
-pub(crate) struct Pool<'t, S: Stacks + Drop, B: AtTable> {
+pub(crate) struct IdleWorkers<'t, S: Stacks + Drop, B: AtTable> {
     fresh: Fresh<'t, S, B>,
-    benches: Vec<Bench<'t, S, B>>,
+    workers: Vec<Worker<'t, S, B>>,
     free: usize,
 }
 
-impl<'t, S: Stacks + Drop, B: AtTable> Pool<'t, S, B> {
+impl<'t, S: Stacks + Drop, B: AtTable> IdleWorkers<'t, S, B> {
     /// These, of which all are free. It takes no memory.
     pub(crate) fn new(alloc: Global, fresh: Fresh<'t, S, B>) -> Self {
-        Pool {
+        IdleWorkers {
             fresh,
-            benches: Vec::new(alloc),
+            workers: Vec::new(alloc),
             free: SEAT_LIMIT,
         }
     }
@@ -35,7 +35,7 @@ impl<'t, S: Stacks + Drop, B: AtTable> Pool<'t, S, B> {
             return false;
         };
         if self
-            .benches
+            .workers
             .reserve(SEAT_LIMIT.saturating_sub(free))
             .is_err()
         {
@@ -51,16 +51,16 @@ impl<'t, S: Stacks + Drop, B: AtTable> Pool<'t, S, B> {
     }
 
     /// Gives a bench that was promised.
-    pub(crate) fn take(&mut self) -> Option<Bench<'t, S, B>> {
-        match self.benches.pop() {
-            Some(bench) => Some(bench),
+    pub(crate) fn take(&mut self) -> Option<Worker<'t, S, B>> {
+        match self.workers.pop() {
+            Some(worker) => Some(worker),
             None => self.fresh.take(),
         }
     }
 
     /// Takes a bench back. It takes no memory: room was made when it was promised.
-    pub(crate) fn put(&mut self, bench: Bench<'t, S, B>) {
-        let is_back = self.benches.push(bench).is_ok();
+    pub(crate) fn put(&mut self, worker: Worker<'t, S, B>) {
+        let is_back = self.workers.push(worker).is_ok();
         self.free = self.free.saturating_add(is_back as usize);
     }
 
@@ -69,14 +69,14 @@ impl<'t, S: Stacks + Drop, B: AtTable> Pool<'t, S, B> {
     pub(crate) fn into_seats(self) -> Vec<HoldSeat>
         ensures { All (λ s. IsSeatAt B.table s × HoldsJust s.view None) result.items }
     {
-        let Pool {
+        let IdleWorkers {
             fresh,
-            mut benches,
+            mut workers,
             free: _,
         } = self;
         let mut seats = fresh.into_seats();
-        while let Some(bench) = benches.pop() {
-            let _ = seats.push(bench.into_seat());
+        while let Some(worker) = workers.pop() {
+            let _ = seats.push(worker.into_seat());
         }
         seats
     }

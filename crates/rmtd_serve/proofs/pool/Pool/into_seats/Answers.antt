@@ -1,9 +1,0 @@
-use Rattle.std.proofs.Common.{None}
-use Rattle.drives.specs.Holding.{HoldsJust}
-use Rattle.hold_table.specs.Seats.{IsSeatAt}
-use Rattle.rmtd_serve.proofs.Closed.{pushed}
-use Rattle.rmtd_serve.proofs.pool.Pool.into_seats.Goals as goal
-
-pub loop-bench-preserved : goal.loop-bench-preserved
-loop-bench-preserved g c = pushed (λ s. IsSeatAt g.B.AtTable.table s × HoldsJust s.view None) _ _ _ _ c.push.ensures.items c.loop-bench.invariant
-    (c.into_seat.ensures.seat, c.into_seat.ensures.idle)
