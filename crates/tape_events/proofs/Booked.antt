@@ -24,9 +24,9 @@ use Rattle.tape_events.specs.World.{World, Begun, Caller, Count, Entered, Kept, 
 use Rattle.tape_events.specs.Changes.{calm, counts_of}
 use Rattle.tape_events.specs.Rows.{IsRunEntered, MayBeKept}
 use Rattle.tape_events.specs.Steps.{kept_after, entry_of, caller, recorded}
-use Rattle.tape_events.specs.Books.{volume_of, counted_if, counts_in, dates_with, dates_after}
+use Rattle.tape_events.specs.History.{volume_of, counted_if, counts_in, dates_with, dates_after}
 use Rattle.tape_events.specs.Headline.{IsEarned, AreOnce}
-use Rattle.tape_events.specs.Books.{AreCountedIn}
+use Rattle.tape_events.specs.History.{AreCountedIn}
 use Rattle.tape_events.specs.Kept.{IsKeptRun, AreBooked, HasLawful}
 use Rattle.tape_events.proofs.Numbers.{pushed_is, numbered_more, numbered_last, numbered_within}
 use Rattle.tape_events.proofs.Moves.{Listens, told_counts, Move, begins, connects, asks, fails, hears, hears_last, sees, gone, comes, forgets, gives_up, answers, enters, saves, moved}
@@ -54,7 +54,7 @@ other_counts w number k run (c ∷ counts) other =
     ∙ other_counts w number k run counts other
 
 -- all that is kept is told by these
-pub record SameBooks (w u : World) : Type 0 where
+pub record SameHistory (w u : World) : Type 0 where
   pub begun : u.begun ≡ w.begun
   pub counts : u.counts ≡ w.counts
   pub entered : u.entered ≡ w.entered
@@ -65,10 +65,10 @@ pub record SameBooks (w u : World) : Type 0 where
 same_listed : (w u : World) → u.counts ≡ w.counts → (run : ℕ) (listed : List VolumeCount) → AreCountedIn w run listed → AreCountedIn u run listed
 same_listed w u counts run listed l v among = subst (λ cs. Contains (counts_in cs run) v) (sym counts) (l v among)
 
-same_earned : (w u : World) → SameBooks w u → (e : Entered) → IsEarned w e → IsEarned u e
+same_earned : (w u : World) → SameHistory w u → (e : Entered) → IsEarned w e → IsEarned u e
 same_earned w u s e (b, at, covers, counted) = (b, ap (λ l. numbered l e.run) s.begun ∙ at, covers, same_listed w u s.counts e.run e.listed counted)
 
-same_kept : (w u : World) → SameBooks w u → (x : Kept) → IsKeptRun w x → IsKeptRun u x
+same_kept : (w u : World) → SameHistory w u → (x : Kept) → IsKeptRun w x → IsKeptRun u x
 same_kept w u s x k = record {
   begun = k.begun;
   begun_as = ap (λ l. numbered l x.run) s.begun ∙ k.begun_as;
@@ -80,7 +80,7 @@ same_kept w u s x k = record {
 }
 
 -- nothing of it changes
-beside_booked : (w u : World) → SameBooks w u → u.caller ≡ w.caller → AreBooked w → AreBooked u
+beside_booked : (w u : World) → SameHistory w u → u.caller ≡ w.caller → AreBooked w → AreBooked u
 beside_booked w u s same k = record {
   last = λ c is. k.last c (sym same ∙ is) ∙ sym (ap length s.begun);
   begun = λ c is. (let b = k.begun c (sym same ∙ is) in (b.0, ap (λ l. numbered l c.number) s.begun ∙ b.1, b.2));
@@ -94,7 +94,7 @@ beside_booked w u s same k = record {
 }
 
 -- there is no client
-gone_booked : (w u : World) → SameBooks w u → u.caller ≡ None → AreBooked w → AreBooked u
+gone_booked : (w u : World) → SameHistory w u → u.caller ≡ None → AreBooked w → AreBooked u
 gone_booked w u s nobody k = record {
   last = λ c is. (let clash = sym nobody ∙ is in absurd cc);
   begun = λ c is. (let clash = sym nobody ∙ is in absurd cc);
@@ -199,7 +199,7 @@ at_stage : (x : Standing) (next : Stage) → x.stage ≢ Finished → GoesOnWith
 at_stage x next unlike = record { run = refl; counts = sym (append-nil x.counts); finished = λ e. absurd (unlike e) }
 
 -- nothing is counted
-alone_booked : (w u : World) (x y : Caller) → SameBooks w u → w.caller ≡ Some x → u.caller ≡ Some y → y.number ≡ x.number → GoesOnWith x.at y.at []
+alone_booked : (w u : World) (x y : Caller) → SameHistory w u → w.caller ≡ Some x → u.caller ≡ Some y → y.number ≡ x.number → GoesOnWith x.at y.at []
     → AreBooked w → AreBooked u
 alone_booked w u x y s was is number goes k =
     goes_booked w u x y [] [] record {
@@ -371,7 +371,7 @@ over_is run counts at (inl (covers, is)) = (ap (λ (s : Standing). s.run) is, ap
 over_is run counts at (inr (left, is)) = (ap (λ (s : Standing). s.run) is, ap (λ (s : Standing). s.counts) is)
 
 -- a client comes back with what is kept
-back_booked : (w u : World) (z : Kept) (b : Begun) (at : Standing) (reader : ReplyHeld) → SameBooks w u → w.kept ≡ Some z → numbered w.begun z.run ≡ Some b
+back_booked : (w u : World) (z : Kept) (b : Begun) (at : Standing) (reader : ReplyHeld) → SameHistory w u → w.kept ≡ Some z → numbered w.begun z.run ≡ Some b
     → IsOver b.run z.listed at → u.caller ≡ Some (caller z.run at reader) → AreBooked w → AreBooked u
 back_booked w u z b at reader s is_kept begun over is k =
     let q = k.kept z is_kept in

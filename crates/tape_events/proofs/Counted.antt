@@ -5,7 +5,7 @@ use Rattle.tape.specs.Tape.PlainEntry.{Record}
 use Rattle.std.proofs.lemmas.Option.{same_Some}
 use Rattle.dump_run.specs.Run.{PlainRun}
 use Rattle.dump_run.specs.Label.{label}
-use Rattle.tape_events.specs.World.{World, Link, Dumping, Begun, Count, numbered}
+use Rattle.tape_events.specs.World.{World, Connection, Dumping, Begun, Count, numbered}
 use Rattle.tape_events.specs.Changes.{opening}
 use Rattle.tape_events.specs.Standing.{AreHeld, StandsOn}
 use Rattle.tape_events.specs.Kept.{AreLaid}
@@ -22,7 +22,7 @@ use Rattle.tape_events.proofs.LabelledThere.{stands_somewhere}
 use Rattle.tape_events.proofs.SparedAlone.{spared_alone}
 
 -- what an attempt wrote that was counted is its volume
-written_whole : (w : World) (run : PlainRun) (payload : List (List ℕ)) (x : Count) (l : Link) (d : Dumping) (b : Begun) → IsEarnedBy w x l d b
+written_whole : (w : World) (run : PlainRun) (payload : List (List ℕ)) (x : Count) (l : Connection) (d : Dumping) (b : Begun) → IsEarnedBy w x l d b
     → attempt_written run payload d ≡ whole_volume run payload x.volume x.first x.count
 written_whole w run payload x l d b e =
     ap (λ t. label_if t run d.volume d.first ++ (block_records payload d.first d.blocks ++ mark_if d.mark)) e.label

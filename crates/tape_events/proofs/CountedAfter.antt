@@ -4,8 +4,8 @@ use Rattle.std.proofs.lemmas.List.{append-nil}
 use Rattle.std.proofs.lemmas.List.Elements.{Contains-push_cases, Contains-append_cases, Contains-append_right}
 use Rattle.std.proofs.lemmas.Bool.Decides.{eqb_tells}
 use Rattle.dump_client.specs.Standing.{checkpoint_of, count_to}
-use Rattle.tape_events.specs.World.{World, Link, Dumping, Begun, Count, Opening, numbered}
-use Rattle.tape_events.specs.Changes.{side_of, link_of, opening, reel_opened_by, counts_of}
+use Rattle.tape_events.specs.World.{World, Connection, Dumping, Begun, Count, Opening, numbered}
+use Rattle.tape_events.specs.Changes.{side_of, connection_of, opening, reel_opened_by, counts_of}
 use Rattle.tape_events.specs.Owning.{IsOwned}
 use Rattle.tape_events.specs.Sending.{AreTold}
 use Rattle.tape_events.specs.Attempts.{IsSingle, AreSingle, IsEarnedBy, AreCountsEarned}
@@ -13,7 +13,7 @@ use Rattle.tape_events.proofs.Booked.{drop_front}
 use Rattle.tape_events.proofs.Sent.{still_unloaded}
 use Rattle.tape_events.proofs.SentWire.{OneReply}
 use Rattle.tape_events.proofs.ToldHears.{open_attempt}
-use Rattle.tape_events.proofs.LabelledEvents.{Like, link_still, Quietly}
+use Rattle.tape_events.proofs.LabelledEvents.{Like, connection_still, Quietly}
 use Rattle.tape_events.proofs.Moves.{Listens, told_counts}
 use Rattle.tape_events.proofs.CountedHears.{HasCounted, heard_counts}
 
@@ -41,10 +41,10 @@ reel_there k [] reel (i, within, is) = absurd (omega (arith, within))
 reel_there k (o ∷ rest) reel among = first_there (o.connection == k) k o rest reel refl among (reel_there k rest reel)
 
 -- an attempt that is told of later, with the same notes
-still_earned : (w u : World) (x : Count) (l : Link) (d : Dumping) (b : Begun) → Quietly w u → IsEarnedBy w x l d b
-    → (m : Link) × (e : Dumping) × (c : Begun) × IsEarnedBy u x m e c
+still_earned : (w u : World) (x : Count) (l : Connection) (d : Dumping) (b : Begun) → Quietly w u → IsEarnedBy w x l d b
+    → (m : Connection) × (e : Dumping) × (c : Begun) × IsEarnedBy u x m e c
 still_earned w u x l d b q e =
-    let y = link_still w.links u.links q.links x.connection l e.there in
+    let y = connection_still w.connections u.connections q.connections x.connection l e.there in
     let f = subst (λ o. Like o y.0.dump) e.dump y.2 in (
       y.0,
       f.0,
@@ -75,7 +75,7 @@ same_earned w u q counts earned x among =
 -- the count of an attempt of which all was done up to its close
 new_earned : (w u : World) (t : Listens w) → Quietly w u → IsSingle w.opens t.k t.d → HasCounted w.begun (side_of w.server t.k) t.c t.d t.at
     → (x : Count) → x ≡ counts_of w t.c.number t.k (count_to (checkpoint_of t.c.at.counts) (t.d.first + t.d.blocks))
-    → (m : Link) × (e : Dumping) × (c : Begun) × IsEarnedBy u x m e c
+    → (m : Connection) × (e : Dumping) × (c : Begun) × IsEarnedBy u x m e c
 new_earned w u t q single h x is =
     let done = h.goes.done in
     let at = open_attempt t.c.at.counts h.step h.other in
@@ -83,7 +83,7 @@ new_earned w u t q single h x is =
     let its = single.some done.label in
     let count : t.d.blocks ≡ (t.d.first + t.d.blocks) - (checkpoint_of t.c.at.counts).1 = omega (arith, first) in
     still_earned w u x t.l t.d h.b q record {
-      there = subst (λ (z : Count). link_of w z.connection ≡ Some t.l) (sym is) t.there;
+      there = subst (λ (z : Count). connection_of w z.connection ≡ Some t.l) (sym is) t.there;
       dump = t.dump;
       begun = subst (λ (z : Count). numbered w.begun z.run ≡ Some h.b) (sym is) (ap (numbered w.begun) (sym h.attempt.number) ∙ h.attempt.begun_as);
       run = h.attempt.number ∙ sym (ap (λ (z : Count). z.run) is);

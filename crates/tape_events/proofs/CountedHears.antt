@@ -12,8 +12,8 @@ use Rattle.dump_client.specs.declared.stage.Stage.{Stage}
 use Rattle.dump_client.specs.declared.stage.Stage.TheVariants.{ToSend, Waiting}
 use Rattle.dump_client.specs.declared.stage.Progress.{Progress}
 use Rattle.dump_client.proofs.Heard.{HeardAs, has_failed, goes_to, has_counted, has_ended, counted_last, heard_as}
-use Rattle.tape_events.specs.World.{Link, Dumping, Begun, Caller}
-use Rattle.tape_events.specs.Sending.{GoesTo, LeadsOn, IsStepReply, IsAttempt, IsStepReplied, IsLinkToldAt}
+use Rattle.tape_events.specs.World.{Connection, Dumping, Begun, Caller}
+use Rattle.tape_events.specs.Sending.{GoesTo, LeadsOn, IsStepReply, IsAttempt, IsStepReplied, IsConnectionToldAt}
 use Rattle.tape_events.proofs.SentWire.{OneReply}
 use Rattle.tape_events.proofs.Pieces.{HearsPiece, waits, whole, hearing}
 use Rattle.tape_events.proofs.ToldHears.{unlike_close, some_way}
@@ -54,7 +54,7 @@ hearing_counts begun o c d step b new bytes way reply progress attempt leads (wh
   }
 ]
 
-reply_counts : OneReply → (begun : List Begun) (o : Option ServerConnection) (l : Link) (c : Caller) (d : Dumping) (step : Step) (b : Begun) (new : Standing) (fed : List ℕ)
+reply_counts : OneReply → (begun : List Begun) (o : Option ServerConnection) (l : Connection) (c : Caller) (d : Dumping) (step : Step) (b : Begun) (new : Standing) (fed : List ℕ)
     (n : ℕ) (progress : Progress) → 1 ≤ n → n ≤ length l.back → (r : IsStepReplied b o l c d step) → IsStepReply b.run o c.at d step (r.fed ++ l.back)
     → IsAttempt begun c d step b → HasFedAt (Waiting step) c.reader fed → FedAt (Waiting step) c.at fed (take n l.back) progress new
     → (new.counts ≡ c.at.counts) ⊎ HasCounted begun o c d new
@@ -67,8 +67,8 @@ reply_counts g begun o l c d step b new fed n progress first within r (inr (repl
     (hearing g c.reader c.at new step reply r.fed fed l.back n progress brief is r.has had feeds)
 
 -- What was heard: no count more, or that of an attempt of which all was done up to its close.
-pub heard_counts : OneReply → (stage : Stage) (begun : List Begun) (o : Option ServerConnection) (l : Link) (c : Caller) (d : Dumping) (new : Standing) (fed : List ℕ) (n : ℕ)
-    (progress : Progress) → 1 ≤ n → n ≤ length l.back → IsLinkToldAt stage begun o l c d → HasFedAt stage c.reader fed
+pub heard_counts : OneReply → (stage : Stage) (begun : List Begun) (o : Option ServerConnection) (l : Connection) (c : Caller) (d : Dumping) (new : Standing) (fed : List ℕ) (n : ℕ)
+    (progress : Progress) → 1 ≤ n → n ≤ length l.back → IsConnectionToldAt stage begun o l c d → HasFedAt stage c.reader fed
     → FedAt stage c.at fed (take n l.back) progress new → (new.counts ≡ c.at.counts) ⊎ HasCounted begun o c d new
 heard_counts g (ToSend step) begun o l c d new fed n progress first within (b, attempt, turn) had feeds = absurd (some_way l n first within turn.back)
 heard_counts g (Waiting step) begun o l c d new fed n progress first within (b, attempt, inl asked) had feeds = absurd (some_way l n first within asked.back)

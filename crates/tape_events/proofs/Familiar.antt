@@ -4,12 +4,12 @@ use Rattle.dump_client.specs.Standing.{IsAtStep}
 use Rattle.dump_client.specs.declared.step.Step.{Step}
 use Rattle.dump_client.specs.declared.stage.Stage.{Stage}
 use Rattle.dump_client.specs.declared.stage.Stage.TheVariants.{ToSend, Waiting}
-use Rattle.tape_events.specs.World.{World, Link, Dumping, Begun, Caller, Count}
+use Rattle.tape_events.specs.World.{World, Connection, Dumping, Begun, Caller, Count}
 use Rattle.tape_events.specs.Changes.{side_of, HasDump}
 use Rattle.tape_events.specs.Naming.{IsUnopenedSince}
 use Rattle.tape_events.specs.Headline.{IsSpared}
 use Rattle.tape_events.specs.Written.{IsAlone}
-use Rattle.tape_events.specs.Sending.{IsLinkToldAt}
+use Rattle.tape_events.specs.Sending.{IsConnectionToldAt}
 use Rattle.tape_events.specs.Further.{FamiliarOpens}
 use Rattle.tape_events.specs.Kept.{IsWorldKept}
 use Rattle.tape_events.proofs.Numbers.{numbered_within, numbered_there, numbered_first}
@@ -22,8 +22,8 @@ pub unwritten : (w : World) (k : ℕ) (reel : List ℕ) → IsWorldKept w → Is
 unwritten w k reel kept = last_alone w k reel kept.writers
 
 -- the own connection is of the client's run
-own_number : (begun : List Begun) (w : World) (k : ℕ) (l : Link) (c : Caller) (d : Dumping) (stage : Stage)
-    → IsLinkToldAt stage begun (side_of w.server k) l c d → (step : Step) → IsAtStep stage step → d.run ≡ c.number
+own_number : (begun : List Begun) (w : World) (k : ℕ) (l : Connection) (c : Caller) (d : Dumping) (stage : Stage)
+    → IsConnectionToldAt stage begun (side_of w.server k) l c d → (step : Step) → IsAtStep stage step → d.run ≡ c.number
 own_number begun w k l c d (ToSend s) (b, attempt, turn) step at = attempt.number
 own_number begun w k l c d (Waiting s) (b, attempt, asked) step at = attempt.number
 own_number begun w k l c d stage told step at = absurd at

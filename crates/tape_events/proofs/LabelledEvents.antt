@@ -5,10 +5,10 @@ use Rattle.std.proofs.lemmas.Option.{same_Some}
 use Rattle.rmt_wire.specs.RequestReader.{RequestHeld, held}
 use Rattle.rmt_server.specs.ServerState.{ServerState, server, ServerConnection, side}
 use Rattle.rmt_server.specs.Session.PlainSession.{Idle}
-use Rattle.tape_events.specs.World.{World, Link, Dumping, Begun, numbered, with_numbered}
-use Rattle.tape_events.specs.Changes.{changed, side_of, with_side, new_link, over_there, over_here, ended_from, noted_sent}
+use Rattle.tape_events.specs.World.{World, Connection, Dumping, Begun, numbered, with_numbered}
+use Rattle.tape_events.specs.Changes.{changed, side_of, with_side, new_connection, over_there, over_here, ended_from, noted_sent}
 use Rattle.tape_events.specs.Standing.{online_drive_in, AreHeld}
-use Rattle.tape_events.specs.Steps.{sent_link}
+use Rattle.tape_events.specs.Steps.{sent_connection}
 use Rattle.tape_events.proofs.Numbers.{changed_is, length_changed, map_at, pushed_is, numbered_within, numbered_there, numbered_first}
 use Rattle.tape_events.proofs.ServerMoves.{ServerMove, leaves, joins, reads, serves, ends, restarts, arranges, server_after, IsNoRequest}
 use Rattle.tape_events.proofs.Moves as move
@@ -50,52 +50,52 @@ IsFresh None = Unit {0}
 IsFresh (Some d) = (d.label ≡ false) × (d.carried ≡ 0)
 
 -- each connection was there so, or is new
-pub record LinksLike (xs ys : List Link) : Type 0 where
-  pub at : (k : ℕ) (y : Link) → numbered ys k ≡ Some y
-      → ((x : Link) × (numbered xs k ≡ Some x) × Like x.dump y.dump) ⊎ ((length xs < k) × IsFresh y.dump)
+pub record ConnectionsLike (xs ys : List Connection) : Type 0 where
+  pub at : (k : ℕ) (y : Connection) → numbered ys k ≡ Some y
+      → ((x : Connection) × (numbered xs k ≡ Some x) × Like x.dump y.dump) ⊎ ((length xs < k) × IsFresh y.dump)
   pub more : length xs ≤ length ys
 
-same_links : (xs : List Link) → LinksLike xs xs
-same_links xs = record { at = λ k y at. inl (y, at, like_same y.dump); more = omega arith }
+same_connections : (xs : List Connection) → ConnectionsLike xs xs
+same_connections xs = record { at = λ k y at. inl (y, at, like_same y.dump); more = omega arith }
 
-then_changed : (xs : List Link) (f : Link → Link) (j : ℕ) → ((x : Link) → Like x.dump (f x).dump) → LinksLike xs (changed f xs j)
+then_changed : (xs : List Connection) (f : Connection → Connection) (j : ℕ) → ((x : Connection) → Like x.dump (f x).dump) → ConnectionsLike xs (changed f xs j)
 then_changed xs f j like = record {
   at = λ k y at. elim (changed_is f xs j k y at) [
-    | inl (same, (z, was, new)) ↦ inl (z, ap (numbered xs) same ∙ was, subst (λ (l : Link). Like z.dump l.dump) (sym new) (like z))
+    | inl (same, (z, was, new)) ↦ inl (z, ap (numbered xs) same ∙ was, subst (λ (l : Connection). Like z.dump l.dump) (sym new) (like z))
     | inr (other, on) ↦ inl (y, on, like_same y.dump)
   ];
   more = (let many = length_changed f xs j in omega (arith, many));
 }
 
 -- with the same attempt
-then_kept : (xs : List Link) (f : Link → Link) (j : ℕ) → ((x : Link) → (f x).dump ≡ x.dump) → LinksLike xs (changed f xs j)
+then_kept : (xs : List Connection) (f : Connection → Connection) (j : ℕ) → ((x : Connection) → (f x).dump ≡ x.dump) → ConnectionsLike xs (changed f xs j)
 then_kept xs f j keeps = then_changed xs f j (λ x. subst (Like x.dump) (sym (keeps x)) (like_same x.dump))
 
-then_joined : (xs : List Link) (l : Link) → IsFresh l.dump → LinksLike xs (xs ++ l ∷ [])
+then_joined : (xs : List Connection) (l : Connection) → IsFresh l.dump → ConnectionsLike xs (xs ++ l ∷ [])
 then_joined xs l fresh = record {
   at = λ k y at. elim (pushed_is xs l k y at) [
     | inl on ↦ inl (y, on, like_same y.dump)
-    | inr (last, new) ↦ inr (omega (arith, last), subst (λ (z : Link). IsFresh z.dump) (sym new) fresh)
+    | inr (last, new) ↦ inr (omega (arith, last), subst (λ (z : Connection). IsFresh z.dump) (sym new) fresh)
   ];
   more = (let many = length-append xs (l ∷ []) in omega (arith, many));
 }
 
-then_mapped : (xs : List Link) (f : Link → Link) → ((x : Link) → Like x.dump (f x).dump) → LinksLike xs (map f xs)
+then_mapped : (xs : List Connection) (f : Connection → Connection) → ((x : Connection) → Like x.dump (f x).dump) → ConnectionsLike xs (map f xs)
 then_mapped xs f like = record {
-  at = λ k y at. (let m = map_at f xs k y at in inl (m.0, m.1, subst (λ (z : Link). Like m.0.dump z.dump) (sym m.2) (like m.0)));
+  at = λ k y at. (let m = map_at f xs k y at in inl (m.0, m.1, subst (λ (z : Connection). Like m.0.dump z.dump) (sym m.2) (like m.0)));
   more = (let many = length-map xs f in omega (arith, many));
 }
 
 -- a connection that was there
-pub link_still : (xs ys : List Link) → LinksLike xs ys → (k : ℕ) (x : Link) → numbered xs k ≡ Some x → (y : Link) × (numbered ys k ≡ Some y) × Like x.dump y.dump
-link_still xs ys t k x at =
+pub connection_still : (xs ys : List Connection) → ConnectionsLike xs ys → (k : ℕ) (x : Connection) → numbered xs k ≡ Some x → (y : Connection) × (numbered ys k ≡ Some y) × Like x.dump y.dump
+connection_still xs ys t k x at =
     let within = numbered_within xs k x at in
     let more = t.more in
     let y = numbered_there ys k (numbered_first xs k x at) (omega (arith, within, more)) in (
       y.0,
       y.1,
       elim (t.at k y.0 y.1) [
-        | inl (z, was, like) ↦ subst (λ (l : Link). Like l.dump y.0.dump) (same_Some z x (sym was ∙ at)) like
+        | inl (z, was, like) ↦ subst (λ (l : Connection). Like l.dump y.0.dump) (same_Some z x (sym was ∙ at)) like
         | inr (last, fresh) ↦ absurd (omega (arith, last, within))
       ],
     )
@@ -112,7 +112,7 @@ pub record Quietly (w u : World) : Type 0 where
   pub opens : u.opens ≡ w.opens
   pub writings : u.writings ≡ w.writings
   pub begun : (n : ℕ) (b : Begun) → numbered w.begun n ≡ Some b → numbered u.begun n ≡ Some b
-  pub links : LinksLike w.links u.links
+  pub connections : ConnectionsLike w.connections u.connections
 
 -- a side more
 joined_stay : (h : ServerState) → SidesStay h (with_side h)
@@ -158,22 +158,22 @@ server_stands h restarts none a = held_all_ended_by (StoodIn h) (over_stands h) 
 server_stands h (arranges d names within free) none a = arranged_stands h d names a free
 
 -- and of connections
-links_like : (w : World) (m : Move w) → IsNoRequest w.server (server_move w m) → LinksLike w.links (moved w m).links
-links_like w (move.serves t) none = absurd none
-links_like w (move.connects c there stage) none = then_joined w.links _ (refl, refl)
-links_like w move.joins none = then_joined w.links (new_link None) tt
-links_like w move.restarts none = then_mapped w.links over_here (λ x. like_same x.dump)
-links_like w (move.asks t) none = then_changed w.links (sent_link _) t.k (λ x. like_sent x.dump)
-links_like w (move.fails k n c reader there stage own) none = then_kept w.links over_there k (λ x. refl)
-links_like w (move.reaches k n s l reached live at grows) none = then_kept w.links _ k (λ x. refl)
-links_like w (move.ends k) none = then_kept w.links over_here k (λ x. refl)
-links_like w (move.cuts k) none = then_kept w.links _ k (λ x. refl)
-links_like w (move.talks k l t at stranger) none = then_kept w.links (talked t) k (talked_dump t)
-links_like w (move.hears t on) none = then_kept w.links _ t.k (λ x. refl)
-links_like w (move.hears_last t failure over) none = then_kept w.links over_there t.k (λ x. refl)
-links_like w (move.sees t failure) none = then_kept w.links over_there t.k (λ x. refl)
-links_like w (move.gives_up x k own) none = then_kept w.links over_there k (λ x. refl)
-links_like w m none = same_links w.links
+connections_like : (w : World) (m : Move w) → IsNoRequest w.server (server_move w m) → ConnectionsLike w.connections (moved w m).connections
+connections_like w (move.serves t) none = absurd none
+connections_like w (move.connects c there stage) none = then_joined w.connections _ (refl, refl)
+connections_like w move.joins none = then_joined w.connections (new_connection None) tt
+connections_like w move.restarts none = then_mapped w.connections over_here (λ x. like_same x.dump)
+connections_like w (move.asks t) none = then_changed w.connections (sent_connection _) t.k (λ x. like_sent x.dump)
+connections_like w (move.fails k n c reader there stage own) none = then_kept w.connections over_there k (λ x. refl)
+connections_like w (move.reaches k n s l reached live at grows) none = then_kept w.connections _ k (λ x. refl)
+connections_like w (move.ends k) none = then_kept w.connections over_here k (λ x. refl)
+connections_like w (move.cuts k) none = then_kept w.connections _ k (λ x. refl)
+connections_like w (move.talks k l t at stranger) none = then_kept w.connections (talked t) k (talked_dump t)
+connections_like w (move.hears t on) none = then_kept w.connections _ t.k (λ x. refl)
+connections_like w (move.hears_last t failure over) none = then_kept w.connections over_there t.k (λ x. refl)
+connections_like w (move.sees t failure) none = then_kept w.connections over_there t.k (λ x. refl)
+connections_like w (move.gives_up x k own) none = then_kept w.connections over_there k (λ x. refl)
+connections_like w m none = same_connections w.connections
 
 same_opens : (w : World) (m : Move w) → IsNoRequest w.server (server_move w m) → (moved w m).opens ≡ w.opens
 same_opens w (move.serves t) none = absurd none
@@ -190,5 +190,5 @@ quiet_moved w m none a = record {
   opens = same_opens w m none;
   writings = same_writings w m none;
   begun = begun_more w m;
-  links = links_like w m none;
+  connections = connections_like w m none;
 }

@@ -61,7 +61,7 @@ alone_back w u q k reel (i, at, alone) =
     (i, ap (λ os. numbered os i) (sym q.opens) ∙ at, λ x among. alone x (subst (λ xs. Contains xs x) (sym q.writings) among))
 
 pub quiet_labelled : (w u : World) → Quietly w u → AreLabelled w → AreLabelled u
-quiet_labelled w u q labelled k l d at dump label = elim (q.links.at k l at) [
+quiet_labelled w u q labelled k l d at dump label = elim (q.connections.at k l at) [
   | inl (x, was, like) ↦
       let e = like_back x.dump l.dump d like dump in
       let a = labelled k x e.0 was e.1 (sym e.2.label ∙ label) in (

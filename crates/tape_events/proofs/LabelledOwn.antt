@@ -6,7 +6,7 @@ use Rattle.tape.specs.Tape.{PlainEntry}
 use Rattle.dump_client.specs.declared.step.Step.{Step}
 use Rattle.dump_client.specs.declared.step.Step.TheVariants.{Operation, Close}
 use Rattle.dump_client.specs.declared.step.TapeOp.TheVariants.{Unload}
-use Rattle.tape_events.specs.World.{World, Link, Dumping, Begun, with_numbered}
+use Rattle.tape_events.specs.World.{World, Connection, Dumping, Begun, with_numbered}
 use Rattle.tape_events.specs.Standing.{AreHeld, StandsOn}
 use Rattle.tape_events.specs.Sending.{HasDone, request_in}
 use Rattle.tape_events.specs.Written.{attempt_written}
@@ -24,7 +24,7 @@ marked_reads b o d Close done marked = refl
 marked_reads b o d step done marked = let clash = sym done.mark ∙ marked in absurd cc
 
 -- what stands on the reel stood there before, so it is what was written
-pub marked_stands : (w : World) (v : Turn w) (l : Link) (d : Dumping) → IsServed w v l d → d.mark ≡ true → AreHeld w.server → AreHeld (turned w v).server → (b : Begun) (reel : List ℕ)
+pub marked_stands : (w : World) (v : Turn w) (l : Connection) (d : Dumping) → IsServed w v l d → d.mark ≡ true → AreHeld w.server → AreHeld (turned w v).server → (b : Begun) (reel : List ℕ)
     → IsReelWritten w v.k b d reel → (entries : List PlainEntry) → StandsOn (turned w v).server reel entries → entries ≡ attempt_written b.run b.payload d
 marked_stands w v l d p marked a c b reel was entries on =
     let h : ServerState = server v.library v.holders (with_numbered w.server.sides v.k (Some (side v.reached v.session))) in

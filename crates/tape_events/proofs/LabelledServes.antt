@@ -4,9 +4,9 @@ use Rattle.std.proofs.lemmas.List.Elements.{Contains-append_left}
 use Rattle.dump_client.specs.declared.step.Step.{Step}
 use Rattle.dump_client.specs.declared.step.Step.TheVariants.{Operation, Close}
 use Rattle.dump_client.specs.declared.step.TapeOp.TheVariants.{Unload}
-use Rattle.tape_events.specs.World.{World, Link, Dumping, Begun, Count, Opening, numbered}
-use Rattle.tape_events.specs.Changes.{link_of, opening, noted, answered}
-use Rattle.tape_events.specs.Sending.{HasDone, request_in, IsLinkSent, AreTold}
+use Rattle.tape_events.specs.World.{World, Connection, Dumping, Begun, Count, Opening, numbered}
+use Rattle.tape_events.specs.Changes.{connection_of, opening, noted, answered}
+use Rattle.tape_events.specs.Sending.{HasDone, request_in, IsConnectionSent, AreTold}
 use Rattle.tape_events.specs.Attempts.{IsEarnedBy, AreCountsEarned}
 use Rattle.tape_events.proofs.Numbers.{changed_is, changed_there}
 use Rattle.tape_events.proofs.Sent.{still_unloaded}
@@ -16,19 +16,19 @@ use Rattle.tape_events.proofs.ToldEvents.{mapped}
 use Rattle.tape_events.proofs.Moves.{Turn, turned}
 
 -- the attempt of the connection that was served, or another's
-pub served_dump : (w : World) (v : Turn w) (j : ℕ) (l : Link) (d : Dumping) → link_of (turned w v) j ≡ Some l → l.dump ≡ Some d
-    → ((j ≡ v.k) × ((x : Link) × (e : Dumping) × (link_of w v.k ≡ Some x) × (x.dump ≡ Some e) × (d ≡ noted v.request v.reply e)))
-    ⊎ ((j ≢ v.k) × (link_of w j ≡ Some l))
+pub served_dump : (w : World) (v : Turn w) (j : ℕ) (l : Connection) (d : Dumping) → connection_of (turned w v) j ≡ Some l → l.dump ≡ Some d
+    → ((j ≡ v.k) × ((x : Connection) × (e : Dumping) × (connection_of w v.k ≡ Some x) × (x.dump ≡ Some e) × (d ≡ noted v.request v.reply e)))
+    ⊎ ((j ≢ v.k) × (connection_of w j ≡ Some l))
 served_dump w v j l d at dump =
-    elim (changed_is (answered v.request v.reply) w.links v.k j l at) [
+    elim (changed_is (answered v.request v.reply) w.connections v.k j l at) [
       | inl (same, (x, was, new)) ↦ (
-          let m = mapped (noted v.request v.reply) x.dump d (sym (ap (λ (y : Link). y.dump) new) ∙ dump) in
+          let m = mapped (noted v.request v.reply) x.dump d (sym (ap (λ (y : Connection). y.dump) new) ∙ dump) in
           inl (same, (x, m.0, was, m.1, m.2)))
       | inr (other, on) ↦ inr (other, on)
     ]
 
 -- the request that was served is that of a step, before which all was done
-pub record IsServed (w : World) (v : Turn w) (l : Link) (d : Dumping) : Type 0 where
+pub record IsServed (w : World) (v : Turn w) (l : Connection) (d : Dumping) : Type 0 where
   pub b : Begun
   pub step : Step
   pub begun : numbered w.begun d.run ≡ Some b
@@ -36,7 +36,7 @@ pub record IsServed (w : World) (v : Turn w) (l : Link) (d : Dumping) : Type 0 w
   pub few : d.carried + 1 < 2 ^ 64
   pub asks : v.request ≡ request_in b d step
 
-served_sent : OneReading → DroppedWrites → (w : World) (v : Turn w) (l : Link) (d : Dumping) → IsLinkSent w.begun (Some v.s) l d → IsServed w v l d
+served_sent : OneReading → DroppedWrites → (w : World) (v : Turn w) (l : Connection) (d : Dumping) → IsConnectionSent w.begun (Some v.s) l d → IsServed w v l d
 served_sent g h w v l d (inl settled) = absurd (nothing_there h v.s l.toward v.bytes v.rest v.request settled.unserved v.unread v.gives)
 served_sent g h w v l d (inr (b, step, at, p)) =
     let all = serve_pending g h b v.s l.toward d step v.bytes v.rest v.request v.reply v.reached v.session p v.unread v.gives v.left in
@@ -49,10 +49,10 @@ served_sent g h w v l d (inr (b, step, at, p)) =
       asks = all.0;
     }
 
-pub served_step : OneReading → DroppedWrites → (w : World) (v : Turn w) → AreTold w → (l : Link) (d : Dumping) → link_of w v.k ≡ Some l → l.dump ≡ Some d
+pub served_step : OneReading → DroppedWrites → (w : World) (v : Turn w) → AreTold w → (l : Connection) (d : Dumping) → connection_of w v.k ≡ Some l → l.dump ≡ Some d
     → IsServed w v l d
 served_step g h w v told l d at dump =
-    served_sent g h w v l d (subst (λ o. IsLinkSent w.begun o l d) v.live ((told.each v.k l at).sent d dump))
+    served_sent g h w v l d (subst (λ o. IsConnectionSent w.begun o l d) v.live ((told.each v.k l at).sent d dump))
 
 -- all but how many were carried out, and those are no fewer
 pub record SameWrites (d e : Dumping) : Type 0 where
@@ -75,9 +75,9 @@ marked_writes w v b d Close done asks marked =
 marked_writes w v b d step done asks marked = let clash = sym done.mark ∙ marked in absurd cc
 
 -- a connection that was there
-link_after : (w : World) (v : Turn w) (j : ℕ) (l : Link) → link_of w j ≡ Some l
-    → (y : Link) × (link_of (turned w v) j ≡ Some y) × (((j ≡ v.k) × (y ≡ answered v.request v.reply l)) ⊎ (y ≡ l))
-link_after w v j l at = elim (changed_there (answered v.request v.reply) w.links v.k j l at) [
+connection_after : (w : World) (v : Turn w) (j : ℕ) (l : Connection) → connection_of w j ≡ Some l
+    → (y : Connection) × (connection_of (turned w v) j ≡ Some y) × (((j ≡ v.k) × (y ≡ answered v.request v.reply l)) ⊎ (y ≡ l))
+connection_after w v j l at = elim (changed_there (answered v.request v.reply) w.connections v.k j l at) [
   | inl (same, there) ↦ (answered v.request v.reply l, there, inl (same, refl))
   | inr there ↦ (l, there, inr refl)
 ]
@@ -85,7 +85,7 @@ link_after w v j l at = elim (changed_there (answered v.request v.reply) w.links
 pub opens_after : (w : World) (v : Turn w) (o : Opening) → Contains w.opens o → Contains (turned w v).opens o
 opens_after w v o among = Contains-append_left w.opens _ o among
 
-earned_as : (w : World) (v : Turn w) (x : Count) (l y : Link) (d e : Dumping) (b : Begun) → IsEarnedBy w x l d b → link_of (turned w v) x.connection ≡ Some y → y.dump ≡ Some e
+earned_as : (w : World) (v : Turn w) (x : Count) (l y : Connection) (d e : Dumping) (b : Begun) → IsEarnedBy w x l d b → connection_of (turned w v) x.connection ≡ Some y → y.dump ≡ Some e
     → SameWrites d e → IsEarnedBy (turned w v) x y e b
 earned_as w v x l y d e b p at dump same = record {
   there = at;
@@ -106,23 +106,23 @@ earned_as w v x l y d e b p at dump same = record {
 pub served_earned : OneReading → DroppedWrites → (w : World) (v : Turn w) → AreTold w → AreCountsEarned w → AreCountsEarned (turned w v)
 served_earned g h w v told earned x among =
     let p = earned x among in
-    let y = link_after w v x.connection p.0 p.3.there in
+    let y = connection_after w v x.connection p.0 p.3.there in
     elim y.2 [
       | inl (same, new) ↦ (
-          let at : link_of w v.k ≡ Some p.0 = ap (numbered w.links) (sym same) ∙ p.3.there in
+          let at : connection_of w v.k ≡ Some p.0 = ap (numbered w.connections) (sym same) ∙ p.3.there in
           let s = served_step g h w v told p.0 p.1 at p.3.dump in
           let writes = marked_writes w v s.b p.1 s.step s.done s.asks p.3.mark in (
             y.0,
             noted v.request v.reply p.1,
             p.2,
             earned_as w v x p.0 y.0 p.1 (noted v.request v.reply p.1) p.2 p.3 y.1
-                (ap (λ (z : Link). z.dump) new ∙ ap (option_map (noted v.request v.reply)) p.3.dump) writes,
+                (ap (λ (z : Connection). z.dump) new ∙ ap (option_map (noted v.request v.reply)) p.3.dump) writes,
           ))
       | inr same ↦ (
         y.0,
         p.1,
         p.2,
-        earned_as w v x p.0 y.0 p.1 p.1 p.2 p.3 y.1 (ap (λ (z : Link). z.dump) same ∙ p.3.dump)
+        earned_as w v x p.0 y.0 p.1 p.1 p.2 p.3 y.1 (ap (λ (z : Connection). z.dump) same ∙ p.3.dump)
             record { run = refl; volume = refl; first = refl; label = refl; blocks = refl; mark = refl; fault = refl; more = omega arith },
       )
     ]

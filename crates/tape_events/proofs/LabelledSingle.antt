@@ -13,7 +13,7 @@ use Rattle.rmt_server.specs.Session.{PlainSession}
 use Rattle.dump_client.specs.declared.step.Step.{Step}
 use Rattle.dump_client.specs.declared.step.Step.TheVariants.{Open, Operation, Look, Label}
 use Rattle.dump_client.specs.declared.step.TapeOp.TheVariants.{Rewind, RewindAgain}
-use Rattle.tape_events.specs.World.{World, Link, Dumping, Begun, Opening, numbered}
+use Rattle.tape_events.specs.World.{World, Connection, Dumping, Begun, Opening, numbered}
 use Rattle.tape_events.specs.Changes.{opening, opened_reel, written_reel, first_name, noted}
 use Rattle.tape_events.specs.Naming.{AreOpened}
 use Rattle.tape_events.specs.Sending.{HasDone, StandsFor, request_in, AreTold}
@@ -35,7 +35,7 @@ like_back (Some e) p d (f, is, same) at = (e, refl, subst (SameNotes e) (same_So
 
 -- no opening is of a connection that is not there
 pub quiet_single : (w u : World) → Quietly w u → AreOpened w → AreSingle w → AreSingle u
-quiet_single w u q opened single k l d at dump = elim (q.links.at k l at) [
+quiet_single w u q opened single k l d at dump = elim (q.connections.at k l at) [
   | inl (x, was, like) ↦
       let e = like_back x.dump l.dump d like dump in
       let s = single k x e.0 was e.1 in
@@ -73,14 +73,14 @@ pub carried_more : (d : Dumping) (request : PlainRequest) (reply : PlainReply) �
 carried_more d request reply few = ap raised (noted_same d request reply).carried ∙ raised_one d.carried few
 
 -- what is open before the label, and the last opening of it
-label_opened : (w : World) (v : Turn w) (l : Link) (d : Dumping) (p : IsServed w v l d) → AreOpened w → p.step ≡ Label → (reel : List ℕ) × Contains w.opens (opening v.k reel)
+label_opened : (w : World) (v : Turn w) (l : Connection) (d : Dumping) (p : IsServed w v l d) → AreOpened w → p.step ≡ Label → (reel : List ℕ) × Contains w.opens (opening v.k reel)
 label_opened w v l d p opened is =
     let on = subst (λ s. StandsFor s v.s.session) is (p.done.stands v.s refl) in
     let name = first_name (drive_at w.server.library on.1.0).stack in
     let last = opened.last v.k v.s name v.live (ap (written_reel w.server.library) on.1.1) in
     (name, among_at w.opens last.0 (opening v.k name) last.1)
 
-label_some : (w : World) (v : Turn w) (l : Link) (d : Dumping) (p : IsServed w v l d) (b : Bool) → d.label ≡ b → AreOpened w → IsSingle w.opens v.k d
+label_some : (w : World) (v : Turn w) (l : Connection) (d : Dumping) (p : IsServed w v l d) (b : Bool) → d.label ≡ b → AreOpened w → IsSingle w.opens v.k d
     → (noted v.request v.reply d).label ≡ true → (reel : List ℕ) × Contains w.opens (opening v.k reel)
 label_some w v l d p true test opened single labelled = single.some test
 label_some w v l d p false test opened single labelled =
@@ -114,7 +114,7 @@ was_placed w v i o at = elim (was_placed_new w v i o at) [
   | inr (last, (reel, is, new)) ↦ inr (last, (reel, is))
 ]
 
-own_single : (w : World) (v : Turn w) (l : Link) (d : Dumping) → IsServed w v l d → AreOpened w → IsSingle w.opens v.k d → IsSingle (turned w v).opens v.k (noted v.request v.reply d)
+own_single : (w : World) (v : Turn w) (l : Connection) (d : Dumping) → IsServed w v l d → AreOpened w → IsSingle w.opens v.k d → IsSingle (turned w v).opens v.k (noted v.request v.reply d)
 own_single w v l d p opened single = record {
   one = λ i j o q at other mine its. both i j o q (was_placed w v i o at) (was_placed w v j q other) mine its;
   none = λ nothing. (let more = carried_more d v.request v.reply p.few in absurd (omega (arith, more, nothing)));

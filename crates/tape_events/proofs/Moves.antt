@@ -27,10 +27,10 @@ use Rattle.dump_client.specs.declared.stage.Progress.TheVariants as came
 use Rattle.dump_client.specs.declared.stage.Stage.TheVariants.{Ready, ToSend, Waiting, Asking, Finished}
 use Rattle.dump_client.specs.declared.step.Step.{Step}
 use Rattle.dump_client.specs.declared.step.Step.TheVariants.{Block}
-use Rattle.tape_events.specs.World.{World, Link, Dumping, Begun, Caller, Count, Kept, numbered, with_numbered}
+use Rattle.tape_events.specs.World.{World, Connection, Dumping, Begun, Caller, Count, Kept, numbered, with_numbered}
 use Rattle.tape_events.specs.Events.{PlainEvent}
 use Rattle.tape_events.specs.Events.PlainEvent.{StartRun, Connect, Send, ToServer, Serve, ToClient, Cut, EndAtServer, EndAtClient, ServerRestart, ClientRestart, Respond, Arrange, Stranger, Says, Enter, Save}
-use Rattle.tape_events.specs.Changes.{changed, changed_from, side_of, link_of, new_link, over_there, over_here, sent_on, opened_reel, calm, given_up, joined, restarted, ended_at, counts_of, came_to}
+use Rattle.tape_events.specs.Changes.{changed, changed_from, side_of, connection_of, new_connection, over_there, over_here, sent_on, opened_reel, calm, given_up, joined, restarted, ended_at, counts_of, came_to}
 use Rattle.tape_events.specs.Owning.{is_in_attempt}
 use Rattle.tape_events.specs.Rows.{NoRun, IsRunEntered, MayBeKept}
 use Rattle.tape_events.specs.Serving.{ServerTurn}
@@ -79,14 +79,14 @@ turned w t = carried w t.k t.request t.reply t.reached t.library t.session t.hol
 pub record Listens (w : World) : Type 0 where
   pub k : ℕ
   pub n : ℕ
-  pub l : Link
+  pub l : Connection
   pub d : Dumping
   pub c : Caller
   pub fed : List ℕ
   pub at : Standing
   pub reader : ReplyHeld
   pub progress : Progress
-  pub there : link_of w k ≡ Some l
+  pub there : connection_of w k ≡ Some l
   pub dump : l.dump ≡ Some d
   pub other : IsTrue l.other
   pub some : 1 ≤ n
@@ -99,13 +99,13 @@ pub record Listens (w : World) : Type 0 where
 -- it sees the end of one of them
 pub record Seeing (w : World) : Type 0 where
   pub k : ℕ
-  pub l : Link
+  pub l : Connection
   pub d : Dumping
   pub c : Caller
   pub at : Standing
   pub reader : ReplyHeld
   pub progress : Progress
-  pub there : link_of w k ≡ Some l
+  pub there : connection_of w k ≡ Some l
   pub dump : l.dump ≡ Some d
   pub other : IsTrue l.other
   pub client : w.caller ≡ Some c
@@ -117,12 +117,12 @@ pub data Talking : Type 0 where
   drops : (n : ℕ) → Talking
   leaves : Talking
 
-abbrev pub talked : Talking → Link → Link
+abbrev pub talked : Talking → Connection → Connection
 talked (says bytes) l = record l { toward = sent_on l.cut l.toward bytes }
 talked (drops n) l = record l { back = drop n l.back }
 talked leaves l = over_there l
 
-pub talked_dump : (t : Talking) (l : Link) → (talked t l).dump ≡ l.dump
+pub talked_dump : (t : Talking) (l : Connection) → (talked t l).dump ≡ l.dump
 talked_dump (says bytes) l = refl
 talked_dump (drops n) l = refl
 talked_dump leaves l = refl
@@ -164,13 +164,13 @@ pub data Move (w : World) : Type 0 where
   connects : (c : Caller) → w.caller ≡ Some c → c.at.stage ≡ Ready → Move w
   asks : Sender w → Move w
   fails : (k n : ℕ) (c : Caller) (reader : ReplyHeld) → w.caller ≡ Some c → c.at.stage ≡ ToSend (Block n) → w.own ≡ Some k → Move w
-  reaches : (k n : ℕ) (s : ServerConnection) (l : Link) (reached : RequestHeld) → side_of w.server k ≡ Some s → link_of w k ≡ Some l
+  reaches : (k n : ℕ) (s : ServerConnection) (l : Connection) (reached : RequestHeld) → side_of w.server k ≡ Some s → connection_of w k ≡ Some l
       → IsPushed s.reached (take n l.toward) reached → Move w
   serves : Turn w → Move w
   ends : (k : ℕ) → Move w
   restarts : Move w
   cuts : (k : ℕ) → Move w
-  talks : (k : ℕ) (l : Link) (t : Talking) → link_of w k ≡ Some l → l.dump ≡ None → Move w
+  talks : (k : ℕ) (l : Connection) (t : Talking) → connection_of w k ≡ Some l → l.dump ≡ None → Move w
   hears : (t : Listens w) → is_over t.progress ≡ false → Move w
   hears_last : (t : Listens w) → Failure → is_over t.progress ≡ true → Move w
   sees : Seeing w → Failure → Move w
@@ -189,7 +189,7 @@ told_counts w t = map (counts_of w t.c.number t.k) (drop (length t.c.at.counts) 
 -- the client heard
 abbrev heard_by : (w : World) → Listens w → World
 heard_by w t = record (calm w) {
-  links = changed (λ l. record l { back = drop t.n l.back }) w.links t.k;
+  connections = changed (λ l. record l { back = drop t.n l.back }) w.connections t.k;
   caller = Some (caller t.c.number t.at t.reader);
   counts = w.counts ++ told_counts w t;
 }
@@ -204,8 +204,8 @@ moved w (reaches k n s l reached live at grows) = reached_by w k n s reached
 moved w (serves t) = turned w t
 moved w (ends k) = ended_at (calm w) k
 moved w restarts = restarted (calm w)
-moved w (cuts k) = record (calm w) { links = changed (λ l. record l { cut = true }) w.links k }
-moved w (talks k l t at none) = record (calm w) { links = changed (talked t) w.links k }
+moved w (cuts k) = record (calm w) { connections = changed (λ l. record l { cut = true }) w.connections k }
+moved w (talks k l t at none) = record (calm w) { connections = changed (talked t) w.connections k }
 moved w (hears t on) = heard_by w t
 moved w (hears_last t failure over) = record (given_up w t.k) {
   caller = Some (caller t.c.number t.at t.reader);
@@ -240,28 +240,28 @@ server_moved w restarts = refl
 server_moved w m = refl
 
 -- no connection goes
-as_many : (f : Link → Link) (xs : List Link) (k : ℕ) → length xs ≤ length (changed f xs k)
+as_many : (f : Connection → Connection) (xs : List Connection) (k : ℕ) → length xs ≤ length (changed f xs k)
 as_many f xs k = let same = length_changed f xs k in omega (arith, same)
 
-one_more : (xs : List Link) (new : Link) → length xs ≤ length (xs ++ new ∷ [])
+one_more : (xs : List Connection) (new : Connection) → length xs ≤ length (xs ++ new ∷ [])
 one_more xs new = let all = length-append xs (new ∷ []) in omega (arith, all)
 
-pub links_more : (w : World) (m : Move w) → length w.links ≤ length (moved w m).links
-links_more w (connects c there ready) = one_more w.links _
-links_more w joins = one_more w.links (new_link None)
-links_more w restarts = let same = length-map w.links over_here in omega (arith, same)
-links_more w (asks t) = as_many _ w.links t.k
-links_more w (fails k n c reader there stage own) = as_many over_there w.links k
-links_more w (reaches k n s l reached live at grows) = as_many _ w.links k
-links_more w (serves t) = as_many _ w.links t.k
-links_more w (ends k) = as_many over_here w.links k
-links_more w (cuts k) = as_many _ w.links k
-links_more w (talks k l t at none) = as_many (talked t) w.links k
-links_more w (hears t on) = as_many _ w.links t.k
-links_more w (hears_last t failure over) = as_many over_there w.links t.k
-links_more w (sees t failure) = as_many over_there w.links t.k
-links_more w (gives_up x k own) = as_many over_there w.links k
-links_more w m = omega arith
+pub connections_more : (w : World) (m : Move w) → length w.connections ≤ length (moved w m).connections
+connections_more w (connects c there ready) = one_more w.connections _
+connections_more w joins = one_more w.connections (new_connection None)
+connections_more w restarts = let same = length-map w.connections over_here in omega (arith, same)
+connections_more w (asks t) = as_many _ w.connections t.k
+connections_more w (fails k n c reader there stage own) = as_many over_there w.connections k
+connections_more w (reaches k n s l reached live at grows) = as_many _ w.connections k
+connections_more w (serves t) = as_many _ w.connections t.k
+connections_more w (ends k) = as_many over_here w.connections k
+connections_more w (cuts k) = as_many _ w.connections k
+connections_more w (talks k l t at none) = as_many (talked t) w.connections k
+connections_more w (hears t on) = as_many _ w.connections t.k
+connections_more w (hears_last t failure over) = as_many over_there w.connections t.k
+connections_more w (sees t failure) = as_many over_there w.connections t.k
+connections_more w (gives_up x k own) = as_many over_there w.connections k
+connections_more w m = omega arith
 
 -- no run goes
 pub begun_more : (w : World) (m : Move w) (n : ℕ) (b : Begun) → numbered w.begun n ≡ Some b → numbered (moved w m).begun n ≡ Some b
@@ -269,14 +269,14 @@ begun_more w (begins run payload reader none good long) n b at = numbered_more w
 begun_more w m n b at = at
 
 -- a connection that was changed, and of which a side is over then
-over_from : (f : Link → Link) → ((l : Link) → over_there (f l) ≡ over_there l) → (xs : List Link) (k : ℕ) (o : Option Link) → numbered xs k ≡ o
+over_from : (f : Connection → Connection) → ((l : Connection) → over_there (f l) ≡ over_there l) → (xs : List Connection) (k : ℕ) (o : Option Connection) → numbered xs k ≡ o
     → changed over_there (changed_from f xs k o) k ≡ changed_from over_there xs k o
 over_from f same xs k None is = ap (changed_from over_there xs k) is
 over_from f same xs k (Some x) is =
     ap (changed_from over_there (changed_from f xs k (Some x)) k) (with_here xs k x (f x) is) ∙ with_twice xs k (f x) (over_there (f x))
     ∙ ap (with_numbered xs k) (same x)
 
-over_then : (f : Link → Link) → ((l : Link) → over_there (f l) ≡ over_there l) → (xs : List Link) (k : ℕ)
+over_then : (f : Connection → Connection) → ((l : Connection) → over_there (f l) ≡ over_there l) → (xs : List Connection) (k : ℕ)
     → changed over_there (changed f xs k) k ≡ changed over_there xs k
 over_then f same xs k = over_from f same xs k (numbered xs k) refl
 
@@ -358,11 +358,11 @@ listens_moves w t u is = elim (came_on (heard_by w t) t.k t.at t.progress) [
   | inl (on, same) ↦ (hears t on, is ∙ same)
   | inr (over, (failure, same)) ↦ (
     hears_last t failure over,
-    is ∙ same ∙ ap (λ ls. record (moved w (hears_last t failure over)) { links = ls }) (over_then (λ l. record l { back = drop t.n l.back }) (λ l. refl) w.links t.k),
+    is ∙ same ∙ ap (λ ls. record (moved w (hears_last t failure over)) { connections = ls }) (over_then (λ l. record l { back = drop t.n l.back }) (λ l. refl) w.connections t.k),
   )
 ]
 
-hears_moves : (o : Option Dumping) (w : World) (k n : ℕ) (l : Link) (u : World) → link_of w k ≡ Some l → l.dump ≡ o → IsTrue l.other → 1 ≤ n → n ≤ length l.back
+hears_moves : (o : Option Dumping) (w : World) (k n : ℕ) (l : Connection) (u : World) → connection_of w k ≡ Some l → l.dump ≡ o → IsTrue l.other → 1 ≤ n → n ≤ length l.back
     → Hears o w k n (take n l.back) u → Moves w u
 hears_moves None w k n l u at none other some within is = (talks k l (drops n) at none, is)
 hears_moves (Some dump) w k n l u at its other some within (c, fed, new, reader, progress, there, had, feeds, has, is) =
@@ -387,7 +387,7 @@ hears_moves (Some dump) w k n l u at its other some within (c, fed, new, reader,
       has = has;
     } u is
 
-sees_moves : (o : Option Dumping) (w : World) (k : ℕ) (l : Link) (u : World) → link_of w k ≡ Some l → l.dump ≡ o → IsTrue l.other → SeesEnd o w k u → Moves w u
+sees_moves : (o : Option Dumping) (w : World) (k : ℕ) (l : Connection) (u : World) → connection_of w k ≡ Some l → l.dump ≡ o → IsTrue l.other → SeesEnd o w k u → Moves w u
 sees_moves None w k l u at none other is = (talks k l leaves at none, is)
 sees_moves (Some dump) w k l u at its other (c, new, reader, progress, there, ended, has, is) =
     let t : Seeing w
@@ -396,7 +396,7 @@ sees_moves (Some dump) w k l u at its other (c, new, reader, progress, there, en
       | inl (on, same) ↦ (sees t None, is ∙ same)
       | inr (over, (failure, same)) ↦ (
         sees t failure,
-        is ∙ same ∙ ap (λ ls. record (moved w (sees t failure)) { links = ls }) (over_then over_there (λ x. refl) w.links k),
+        is ∙ same ∙ ap (λ ls. record (moved w (sees t failure)) { connections = ls }) (over_then over_there (λ x. refl) w.connections k),
       )
     ]
 
@@ -428,11 +428,11 @@ happened w (ToServer k n) u (may, (s, l, reached, live, at, grows, is)) = (reach
 happened w (Serve k trouble) u happens = elim (carries w u k trouble happens) [ inl c ↦ (serves (carries_turn w u k trouble c), c.is) | inr is ↦ (ends k, is) ]
 happened w (ToClient k n) u ((x, (there, other), (some, within)), (l, at, heard)) =
     let same : x ≡ l = same_Some x l (sym there ∙ at) in
-    hears_moves l.dump w k n l u at refl (subst (λ (z : Link). IsTrue z.other) same other) some (subst (λ (z : Link). n ≤ length z.back) same within) heard
+    hears_moves l.dump w k n l u at refl (subst (λ (z : Connection). IsTrue z.other) same other) some (subst (λ (z : Connection). n ≤ length z.back) same within) heard
 happened w (Cut k) u (may, is) = (cuts k, is)
 happened w (EndAtServer k) u (may, is) = (ends k, is)
 happened w (EndAtClient k) u ((x, (there, other), cut), (l, at, seen)) =
-    sees_moves l.dump w k l u at refl (subst (λ (z : Link). IsTrue z.other) (same_Some x l (sym there ∙ at)) other) seen
+    sees_moves l.dump w k l u at refl (subst (λ (z : Connection). IsTrue z.other) (same_Some x l (sym there ∙ at)) other) seen
 happened w ServerRestart u (may, is) = (restarts, is)
 happened w ClientRestart u (may, back) = back_moves w w.kept u refl back
 happened w (Respond answer) u (may, (c, reader, there, stage, is)) = (answers c answer reader there stage, is)

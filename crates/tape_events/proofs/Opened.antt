@@ -29,7 +29,7 @@ use Rattle.tape_events.proofs.Laid.{IsOnlineElse, IsOpenElse, online_else, apart
 use Rattle.tape_events.proofs.NamedRequests.{use_of, Comes, stays, closes, opens, moves, step_comes}
 use Rattle.tape_events.proofs.ServerMoves.{ServerMove, leaves, joins, reads, serves, ends, restarts, arranges, server_after, IsNoRequest}
 use Rattle.tape_events.proofs.Moves as move
-use Rattle.tape_events.proofs.Moves.{Move, moved, server_move, links_more}
+use Rattle.tape_events.proofs.Moves.{Move, moved, server_move, connections_more}
 use Rattle.tape_events.proofs.Named.{first_times, comes_reel, written_is, opening_is}
 
 -- an opening that was the last of its reel, where one may have been added
@@ -199,23 +199,23 @@ served_last holders h u k s x all opened t comes a b laid once l =
     l
 
 -- what an event makes of the openings
-same_there : (w u : World) → u.opens ≡ w.opens → length w.links ≤ length u.links → AreOpened w → (o : Opening) → Contains u.opens o
-    → (1 ≤ o.connection) × (o.connection ≤ length u.links)
+same_there : (w u : World) → u.opens ≡ w.opens → length w.connections ≤ length u.connections → AreOpened w → (o : Opening) → Contains u.opens o
+    → (1 ≤ o.connection) × (o.connection ≤ length u.connections)
 same_there w u made more n o among =
     let before = n.there o (subst (λ l. Contains l o) made among) in
     (before.0, (let few = before.1 in omega (arith, few, more)))
 
 served_there : (w u : World) (k : ℕ) (s : ServerConnection) (opened : Option (List ℕ)) → side_of w.server k ≡ Some s → u.opens ≡ w.opens ++ option_to_list (option_map (opening k) opened)
-    → length u.links ≡ length w.links → AreTidy w → AreOpened w → (o : Opening) → Contains u.opens o → (1 ≤ o.connection) × (o.connection ≤ length u.links)
-served_there w u k s opened live made links t n o among = elim (opening_is w.opens k opened o (subst (λ l. Contains l o) made among)) [
-  | inl before ↦ (let was = n.there o before in (was.0, (let few = was.1 in omega (arith, few, links))))
+    → length u.connections ≡ length w.connections → AreTidy w → AreOpened w → (o : Opening) → Contains u.opens o → (1 ≤ o.connection) × (o.connection ≤ length u.connections)
+served_there w u k s opened live made connections t n o among = elim (opening_is w.opens k opened o (subst (λ l. Contains l o) made among)) [
+  | inl before ↦ (let was = n.there o before in (was.0, (let few = was.1 in omega (arith, few, connections))))
   | inr (reel, is, its) ↦ (
       let member = side_there w.server k s live in
       let within = numbered_within w.server.sides k (Some s) member in
       let first = numbered_first w.server.sides k (Some s) member in
       let paired = t.paired in
       let same : o.connection ≡ k = ap (λ (z : Opening). z.connection) its in
-      (omega (arith, first, same), omega (arith, within, paired, links, same)))
+      (omega (arith, first, same), omega (arith, within, paired, connections, same)))
 ]
 
 -- each event
@@ -237,12 +237,12 @@ opened_moved w (move.serves t) tidy a b l once n =
     let u = moved w (move.serves t) in
     let o = opened_reel t.request t.library t.session in
     record {
-      there = served_there w u t.k t.s o t.live refl (length_changed (answered t.request t.reply) w.links t.k) tidy n;
+      there = served_there w u t.k t.s o t.live refl (length_changed (answered t.request t.reply) w.connections t.k) tidy n;
       last = served_last w.server.holders w.server u.server t.k t.s (side t.reached t.session) w.opens o record { was = t.live; sides = refl }
           (step_comes t.trouble w.server.holders (session_view w.server.library t.s.session) t.request t.reply (session_view t.library t.session) t.served.step) a b l once n.last;
     }
 opened_moved w m tidy a b l once n = record {
-  there = same_there w (moved w m) refl (links_more w m) n;
+  there = same_there w (moved w m) refl (connections_more w m) n;
   last = server_last w.server (server_move w m) w.opens tt a n.last;
 }
 

@@ -15,10 +15,10 @@ use Rattle.dump_client.specs.declared.stage.Stage.{Stage}
 use Rattle.dump_client.specs.declared.stage.Stage.TheVariants.{Ready, ToSend, Waiting, Asking, Finished, Abandoned}
 use Rattle.dump_client.specs.declared.step.Step.{Step}
 use Rattle.dump_client.specs.declared.step.Step.TheVariants.{Open, Close}
-use Rattle.tape_events.specs.World.{World, Link, Dumping, Caller, numbered}
-use Rattle.tape_events.specs.Changes.{changed, link_of, new_link, over_here, over_there, answered, noted, noted_sent}
+use Rattle.tape_events.specs.World.{World, Connection, Dumping, Caller, numbered}
+use Rattle.tape_events.specs.Changes.{changed, connection_of, new_connection, over_here, over_there, answered, noted, noted_sent}
 use Rattle.tape_events.specs.Rows.{NoRun, is_run_done}
-use Rattle.tape_events.specs.Steps.{sent_link, caller, next_text, client_connected, fresh}
+use Rattle.tape_events.specs.Steps.{sent_connection, caller, next_text, client_connected, fresh}
 use Rattle.tape_events.specs.Owning.{is_in_attempt, IsClients, IsOwned}
 use Rattle.tape_events.proofs.Moves.{Talking, says, drops, leaves, talked, talked_dump, is_over, Move, begins, connects, asks, fails, reaches, serves, ends, restarts, cuts, talks, hears, hears_last, sees, back_idle, forgets, gives_up, answers, joins}
 use Rattle.tape_events.proofs.Moves as move
@@ -65,60 +65,60 @@ same_attempt : (w u : World) → u.caller ≡ w.caller → (Attempts w → Attem
 same_attempt w u same = (λ (c, is, inside). (c, same ∙ is, inside), λ (c, is, inside). (c, sym same ∙ is, inside))
 
 -- a change of connections that leaves each the client's, or no one of its
-abbrev KeepsOurs : (Link → Link) → Type 0
-KeepsOurs f = (l : Link) → (IsTrue l.other × ((d : Dumping) × (l.dump ≡ Some d)) → IsTrue (f l).other × ((d : Dumping) × ((f l).dump ≡ Some d)))
+abbrev KeepsOurs : (Connection → Connection) → Type 0
+KeepsOurs f = (l : Connection) → (IsTrue l.other × ((d : Dumping) × (l.dump ≡ Some d)) → IsTrue (f l).other × ((d : Dumping) × ((f l).dump ≡ Some d)))
     × (IsTrue (f l).other × ((d : Dumping) × ((f l).dump ≡ Some d)) → IsTrue l.other × ((d : Dumping) × (l.dump ≡ Some d)))
 
-clients_on : (f : Link → Link) → KeepsOurs f → (w u : World) (j : ℕ) → u.links ≡ changed f w.links j → (k : ℕ) → IsClients w k → IsClients u k
-clients_on f keeps w u j is k (l, d, at, other, dump) = elim (changed_there f w.links j k l at) [
+clients_on : (f : Connection → Connection) → KeepsOurs f → (w u : World) (j : ℕ) → u.connections ≡ changed f w.connections j → (k : ℕ) → IsClients w k → IsClients u k
+clients_on f keeps w u j is k (l, d, at, other, dump) = elim (changed_there f w.connections j k l at) [
   | inl (same, there) ↦ (let ours = (keeps l).0 (other, (d, dump)) in (f l, ours.1.0, ap (λ xs. numbered xs k) is ∙ there, ours.0, ours.1.1))
   | inr there ↦ (l, d, ap (λ xs. numbered xs k) is ∙ there, other, dump)
 ]
 
-clients_back : (f : Link → Link) → KeepsOurs f → (w u : World) (j : ℕ) → u.links ≡ changed f w.links j → (k : ℕ) → IsClients u k → IsClients w k
-clients_back f keeps w u j is k (l, d, at, other, dump) = elim (changed_is f w.links j k l (ap (λ xs. numbered xs k) (sym is) ∙ at)) [
+clients_back : (f : Connection → Connection) → KeepsOurs f → (w u : World) (j : ℕ) → u.connections ≡ changed f w.connections j → (k : ℕ) → IsClients u k → IsClients w k
+clients_back f keeps w u j is k (l, d, at, other, dump) = elim (changed_is f w.connections j k l (ap (λ xs. numbered xs k) (sym is) ∙ at)) [
   | inl (same, (x, was, new)) ↦ (
-      let ours = (keeps x).1 (subst (λ (y : Link). IsTrue y.other × ((d : Dumping) × (y.dump ≡ Some d))) new (other, (d, dump))) in
-      (x, ours.1.0, ap (numbered w.links) same ∙ was, ours.0, ours.1.1))
+      let ours = (keeps x).1 (subst (λ (y : Connection). IsTrue y.other × ((d : Dumping) × (y.dump ≡ Some d))) new (other, (d, dump))) in
+      (x, ours.1.0, ap (numbered w.connections) same ∙ was, ours.0, ours.1.1))
   | inr (beside, on) ↦ (l, d, on, other, dump)
 ]
 
 -- one connection is changed so, and the client's attempt goes on
-changed_owned : (f : Link → Link) → KeepsOurs f → (w u : World) (j : ℕ) → u.links ≡ changed f w.links j → u.own ≡ w.own → (Attempts w → Attempts u)
+changed_owned : (f : Connection → Connection) → KeepsOurs f → (w u : World) (j : ℕ) → u.connections ≡ changed f w.connections j → u.own ≡ w.own → (Attempts w → Attempts u)
     → (Attempts u → Attempts w) → IsOwned w → IsOwned u
 changed_owned f keeps w u j is own on back o = owned_as w u own on back (clients_on f keeps w u j is) (clients_back f keeps w u j is) o
 
-same_links : (w u : World) → u.links ≡ w.links → u.own ≡ w.own → (Attempts w → Attempts u) → (Attempts u → Attempts w) → IsOwned w → IsOwned u
-same_links w u is own on back o = owned_as w u own on back
+same_connections : (w u : World) → u.connections ≡ w.connections → u.own ≡ w.own → (Attempts w → Attempts u) → (Attempts u → Attempts w) → IsOwned w → IsOwned u
+same_connections w u is own on back o = owned_as w u own on back
     (λ k (l, d, at, other, dump). (l, d, ap (λ xs. numbered xs k) is ∙ at, other, dump))
     (λ k (l, d, at, other, dump). (l, d, ap (λ xs. numbered xs k) (sym is) ∙ at, other, dump)) o
 
 -- once the client's side of its own connection is over, no connection is its
-over_clients : (w u : World) (k : ℕ) → u.links ≡ changed over_there w.links k → IsOwned w → w.own ≡ Some k → (j : ℕ) → IsClients u j → ⊥
-over_clients w u k is o own j (l, d, at, other, dump) = elim (changed_is over_there w.links k j l (ap (λ xs. numbered xs j) (sym is) ∙ at)) [
-  | inl (same, (x, was, new)) ↦ (let off : l.other ≡ false = ap (λ (y : Link). y.other) new in not_both l.other off other)
+over_clients : (w u : World) (k : ℕ) → u.connections ≡ changed over_there w.connections k → IsOwned w → w.own ≡ Some k → (j : ℕ) → IsClients u j → ⊥
+over_clients w u k is o own j (l, d, at, other, dump) = elim (changed_is over_there w.connections k j l (ap (λ xs. numbered xs j) (sym is) ∙ at)) [
+  | inl (same, (x, was, new)) ↦ (let off : l.other ≡ false = ap (λ (y : Connection). y.other) new in not_both l.other off other)
   | inr (beside, on) ↦ beside (same_Some j k (sym (o.only j (l, d, on, other, dump)) ∙ own))
 ]
 
-over_owned : (w u : World) (k : ℕ) → u.links ≡ changed over_there w.links k → u.own ≡ None → w.own ≡ Some k → (Attempts u → ⊥) → IsOwned w → IsOwned u
+over_owned : (w u : World) (k : ℕ) → u.connections ≡ changed over_there w.connections k → u.own ≡ None → w.own ≡ Some k → (Attempts u → ⊥) → IsOwned w → IsOwned u
 over_owned w u k is none own idle o = owned_none u none idle (over_clients w u k is o own)
 
 -- a stranger's connection is changed
-strangers_owned : (f : Link → Link) → ((l : Link) → (f l).dump ≡ l.dump) → (w u : World) (k : ℕ) (x : Link) → u.links ≡ changed f w.links k → u.own ≡ w.own → u.caller ≡ w.caller
-    → link_of w k ≡ Some x → x.dump ≡ None → IsOwned w → IsOwned u
+strangers_owned : (f : Connection → Connection) → ((l : Connection) → (f l).dump ≡ l.dump) → (w u : World) (k : ℕ) (x : Connection) → u.connections ≡ changed f w.connections k → u.own ≡ w.own → u.caller ≡ w.caller
+    → connection_of w k ≡ Some x → x.dump ≡ None → IsOwned w → IsOwned u
 strangers_owned f keeps w u k x is own same here none o =
     let a = same_attempt w u same in
     owned_as w u own a.0 a.1
-    (λ j (l, d, at, other, dump). elim (changed_there f w.links k j l at) [
+    (λ j (l, d, at, other, dump). elim (changed_there f w.connections k j l at) [
       | inl (equal, there) ↦ (
-          let one : x ≡ l = same_Some x l (sym here ∙ ap (numbered w.links) (sym equal) ∙ at) in
-          let clash = sym none ∙ ap (λ (y : Link). y.dump) one ∙ dump in absurd cc)
+          let one : x ≡ l = same_Some x l (sym here ∙ ap (numbered w.connections) (sym equal) ∙ at) in
+          let clash = sym none ∙ ap (λ (y : Connection). y.dump) one ∙ dump in absurd cc)
       | inr there ↦ (l, d, ap (λ xs. numbered xs j) is ∙ there, other, dump)
     ])
-    (λ j (l, d, at, other, dump). elim (changed_is f w.links k j l (ap (λ xs. numbered xs j) (sym is) ∙ at)) [
+    (λ j (l, d, at, other, dump). elim (changed_is f w.connections k j l (ap (λ xs. numbered xs j) (sym is) ∙ at)) [
       | inl (equal, (y, was, new)) ↦ (
           let one : x ≡ y = same_Some x y (sym here ∙ was) in
-          let clash = sym none ∙ ap (λ (z : Link). z.dump) one ∙ sym (keeps y) ∙ ap (λ (z : Link). z.dump) (sym new) ∙ dump in absurd cc)
+          let clash = sym none ∙ ap (λ (z : Connection). z.dump) one ∙ sym (keeps y) ∙ ap (λ (z : Connection). z.dump) (sym new) ∙ dump in absurd cc)
       | inr (beside, on) ↦ (l, d, on, other, dump)
     ]) o
 
@@ -143,7 +143,7 @@ noted_was : (f : Dumping → Dumping) (o : Option Dumping) → ((d : Dumping) ×
 noted_was f None (d, is) = absurd cc
 noted_was f (Some x) (d, is) = (x, refl)
 
-sent_ours : (text : List ℕ) → KeepsOurs (sent_link text)
+sent_ours : (text : List ℕ) → KeepsOurs (sent_connection text)
 sent_ours text l = (λ (other, dump). (other, noted_there noted_sent l.dump dump), λ (other, dump). (other, noted_was noted_sent l.dump dump))
 
 answered_ours : (request : PlainRequest) (reply : PlainReply) → KeepsOurs (answered request reply)
@@ -175,42 +175,42 @@ no_run_rests w (inr (c, there, done)) attempts = rests w.caller c c.at.stage the
 connected_owned : (w : World) (c : Caller) → w.caller ≡ Some c → c.at.stage ≡ Ready → IsOwned w → IsOwned (client_connected w c)
 connected_owned w c there ready o =
     let idle = rests w.caller c Ready there ready refl in
-    let place : suc (length w.links) ≡ length w.links + 1 = omega arith in
-    let here : link_of (client_connected w c) (length w.links + 1) ≡ Some (new_link (Some (fresh c)))
-    = ap (numbered (w.links ++ new_link (Some (fresh c)) ∷ [])) (sym place) ∙ numbered_last w.links (new_link (Some (fresh c))) in
+    let place : suc (length w.connections) ≡ length w.connections + 1 = omega arith in
+    let here : connection_of (client_connected w c) (length w.connections + 1) ≡ Some (new_connection (Some (fresh c)))
+    = ap (numbered (w.connections ++ new_connection (Some (fresh c)) ∷ [])) (sym place) ∙ numbered_last w.connections (new_connection (Some (fresh c))) in
     record {
       own = λ k is. (
-          let same : length w.links + 1 ≡ k = same_Some (length w.links + 1) k is in (
-            (new_link (Some (fresh c)), fresh c, ap (numbered (client_connected w c).links) (sym same) ∙ here, refl, refl),
+          let same : length w.connections + 1 ≡ k = same_Some (length w.connections + 1) k is in (
+            (new_connection (Some (fresh c)), fresh c, ap (numbered (client_connected w c).connections) (sym same) ∙ here, refl, refl),
             (caller c.number (standing c.at.run c.at.counts (ToSend Open)) (reply_held None []), refl, refl),
           ));
-      attempt = λ d is inside. (length w.links + 1, refl);
-      only = λ k (l, d, at, other, dump). elim (pushed_is w.links (new_link (Some (fresh c))) k l at) [
+      attempt = λ d is inside. (length w.connections + 1, refl);
+      only = λ k (l, d, at, other, dump). elim (pushed_is w.connections (new_connection (Some (fresh c))) k l at) [
         | inl before ↦ absurd (none_clients w o idle k (l, d, before, other, dump))
         | inr (last, new) ↦ ap Some (sym (last ∙ place))
       ];
     }
 
 -- a connection of a stranger more
-stranger_owned : (w u : World) → u.links ≡ w.links ++ new_link None ∷ [] → u.own ≡ w.own → u.caller ≡ w.caller → IsOwned w → IsOwned u
+stranger_owned : (w u : World) → u.connections ≡ w.connections ++ new_connection None ∷ [] → u.own ≡ w.own → u.caller ≡ w.caller → IsOwned w → IsOwned u
 stranger_owned w u is own same o =
     let a = same_attempt w u same in
     owned_as w u own a.0 a.1
-    (λ k (l, d, at, other, dump). (l, d, ap (λ xs. numbered xs k) is ∙ numbered_more w.links (new_link None ∷ []) k l at, other, dump))
-    (λ k (l, d, at, other, dump). elim (pushed_is w.links (new_link None) k l (ap (λ xs. numbered xs k) (sym is) ∙ at)) [
+    (λ k (l, d, at, other, dump). (l, d, ap (λ xs. numbered xs k) is ∙ numbered_more w.connections (new_connection None ∷ []) k l at, other, dump))
+    (λ k (l, d, at, other, dump). elim (pushed_is w.connections (new_connection None) k l (ap (λ xs. numbered xs k) (sym is) ∙ at)) [
       | inl before ↦ (l, d, before, other, dump)
-      | inr (last, new) ↦ (let none = sym (ap (λ (x : Link). x.dump) new) ∙ dump in absurd cc)
+      | inr (last, new) ↦ (let none = sym (ap (λ (x : Connection). x.dump) new) ∙ dump in absurd cc)
     ]) o
 
 -- the server's sides of all connections are over
-restarted_owned : (w u : World) → u.links ≡ map over_here w.links → u.own ≡ w.own → u.caller ≡ w.caller → IsOwned w → IsOwned u
+restarted_owned : (w u : World) → u.connections ≡ map over_here w.connections → u.own ≡ w.own → u.caller ≡ w.caller → IsOwned w → IsOwned u
 restarted_owned w u is own same o =
     let a = same_attempt w u same in
     owned_as w u own a.0 a.1
-    (λ k (l, d, at, other, dump). (over_here l, d, ap (λ xs. numbered xs k) is ∙ at_map over_here w.links k l at, other, dump))
+    (λ k (l, d, at, other, dump). (over_here l, d, ap (λ xs. numbered xs k) is ∙ at_map over_here w.connections k l at, other, dump))
     (λ k (l, d, at, other, dump). (
-    let found = map_at over_here w.links k l (ap (λ xs. numbered xs k) (sym is) ∙ at) in
-    (found.0, d, found.1, subst IsTrue (ap (λ (x : Link). x.other) found.2) other, sym (ap (λ (x : Link). x.dump) found.2) ∙ dump))) o
+    let found = map_at over_here w.connections k l (ap (λ xs. numbered xs k) (sym is) ∙ at) in
+    (found.0, d, found.1, subst IsTrue (ap (λ (x : Connection). x.other) found.2) other, sym (ap (λ (x : Connection). x.dump) found.2) ∙ dump))) o
 
 -- a client that is in an attempt sends, or waits
 no_attempt : (s : Stage) → IsTrue (is_in_attempt s) → ((step : Step) → (s ≢ ToSend step) × (s ≢ Waiting step)) → ⊥
@@ -246,25 +246,25 @@ cut_rests (Waiting step) old new progress at cut = end_rests old new step progre
 cut_rests stage old new progress at (tells, is) = stands_so new old is (ap is_in_attempt at)
 
 -- a client that is in no attempt, and stays in none
-idle_owned : (w u : World) → u.links ≡ w.links → u.own ≡ w.own → (Attempts w → ⊥) → (Attempts u → ⊥) → IsOwned w → IsOwned u
-idle_owned w u links own before after o = same_links w u links own (λ a. absurd (before a)) (λ a. absurd (after a)) o
+idle_owned : (w u : World) → u.connections ≡ w.connections → u.own ≡ w.own → (Attempts w → ⊥) → (Attempts u → ⊥) → IsOwned w → IsOwned u
+idle_owned w u connections own before after o = same_connections w u connections own (λ a. absurd (before a)) (λ a. absurd (after a)) o
 
 pub answer_rests : (answer : Answer) → is_in_attempt (stage_after answer) ≡ false
 answer_rests Retry = refl
 answer_rests Abandon = refl
 
 -- what of a world its client's own connection is told by does not change
-beside_owned : (w u : World) → u.links ≡ w.links → u.own ≡ w.own → u.caller ≡ w.caller → IsOwned w → IsOwned u
-beside_owned w u links own same o = let a = same_attempt w u same in same_links w u links own a.0 a.1 o
+beside_owned : (w u : World) → u.connections ≡ w.connections → u.own ≡ w.own → u.caller ≡ w.caller → IsOwned w → IsOwned u
+beside_owned w u connections own same o = let a = same_attempt w u same in same_connections w u connections own a.0 a.1 o
 
-moved_owned : (f : Link → Link) → KeepsOurs f → (w u : World) (k : ℕ) → u.links ≡ changed f w.links k → u.own ≡ w.own → u.caller ≡ w.caller → IsOwned w → IsOwned u
-moved_owned f keeps w u k links own same o = let a = same_attempt w u same in changed_owned f keeps w u k links own a.0 a.1 o
+moved_owned : (f : Connection → Connection) → KeepsOurs f → (w u : World) (k : ℕ) → u.connections ≡ changed f w.connections k → u.own ≡ w.own → u.caller ≡ w.caller → IsOwned w → IsOwned u
+moved_owned f keeps w u k connections own same o = let a = same_attempt w u same in changed_owned f keeps w u k connections own a.0 a.1 o
 
 pub owned_moved : Standings → (w : World) (m : Move w) → IsOwned w → IsOwned (move.moved w m)
 owned_moved g w (begins run payload reader none good long) o = idle_owned w _ refl refl (no_run_rests w none) (rests _ _ Ready refl refl refl) o
 owned_moved g w (connects c there ready) o = connected_owned w c there ready o
 owned_moved g w (asks t) o =
-    changed_owned (sent_link (next_text t.c t.b.payload t.step)) (sent_ours (next_text t.c t.b.payload t.step)) w _ t.k refl refl (λ a. (_, refl, refl))
+    changed_owned (sent_connection (next_text t.c t.b.payload t.step)) (sent_ours (next_text t.c t.b.payload t.step)) w _ t.k refl refl (λ a. (_, refl, refl))
     (λ a. (t.c, t.there, sends_attempt t.c.at.stage t.step t.stage)) o
 owned_moved g w (fails k n c reader there stage own) o = over_owned w _ k refl refl own (rests _ _ Asking refl refl refl) o
 owned_moved g w (reaches k n s l reached live at grows) o = moved_owned (λ l. record l { toward = drop n l.toward }) (pass_ours n) w _ k refl refl refl o
@@ -294,7 +294,7 @@ owned_moved g w joins o = stranger_owned w _ refl refl refl o
 owned_moved g w m o = beside_owned w _ refl refl refl o
 
 -- nothing has happened
-pub first_owned : (w : World) → w.links ≡ [] → w.own ≡ None → w.caller ≡ None → IsOwned w
-first_owned w links own gone =
+pub first_owned : (w : World) → w.connections ≡ [] → w.own ≡ None → w.caller ≡ None → IsOwned w
+first_owned w connections own gone =
     owned_none w own (λ (c, is, inside). (let clash = sym gone ∙ is in cc))
-    (λ k (l, d, at, other, dump). no_number k l (ap (λ xs. numbered xs k) (sym links) ∙ at))
+    (λ k (l, d, at, other, dump). no_number k l (ap (λ xs. numbered xs k) (sym connections) ∙ at))

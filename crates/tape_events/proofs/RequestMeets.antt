@@ -21,12 +21,12 @@ use Rattle.rmt_server.specs.Session.{PlainReel, PlainSession, SessionView, sessi
 use Rattle.rmt_server.specs.Session.Status.{NothingOpen}
 use Rattle.rmt_server.specs.Session.PlainSession.{Idle, Offline, Online}
 use Rattle.rmt_server.specs.TroubledServe.{drive_in, with_holder, holder_of, TroubledServeStep, TroubledOpens, TroubledReelStep, TroubledMoveStep, TroubledOpStep, TroubledDoneStep}
-use Rattle.tape_events.specs.World.{World, Link, Dumping, with_numbered}
+use Rattle.tape_events.specs.World.{World, Connection, Dumping, with_numbered}
 use Rattle.tape_events.specs.Events.PlainEvent.{Serve}
-use Rattle.tape_events.specs.Changes.{side_of, link_of}
+use Rattle.tape_events.specs.Changes.{side_of, connection_of}
 use Rattle.tape_events.specs.Standing.{AreHeld}
 use Rattle.tape_events.specs.Steps.{Happens}
-use Rattle.tape_events.specs.Sending.{IsLinkSent, AreTold}
+use Rattle.tape_events.specs.Sending.{IsConnectionSent, AreTold}
 use Rattle.tape_events.specs.Serving.{ServerTurn, IsNextSent, is_open, undone, undone_holders, Refuses, IsRefused, ChangesAt, Meets, refusal, own, free, OthersStay}
 use Rattle.tape_events.proofs.Sides.{Sits, sits_other}
 use Rattle.tape_events.proofs.Laid.{apart, drive_other}
@@ -43,7 +43,7 @@ carries_happens w u k trouble c = (
 )
 
 -- it is the one that was sent and not carried out
-sent_next : OneReading → DroppedWrites → (w : World) (v : Turn w) (l : Link) (d : Dumping) → IsLinkSent w.begun (Some v.s) l d → IsNextSent w d v.request
+sent_next : OneReading → DroppedWrites → (w : World) (v : Turn w) (l : Connection) (d : Dumping) → IsConnectionSent w.begun (Some v.s) l d → IsNextSent w d v.request
 sent_next g h w v l d (inl settled) = absurd (nothing_there h v.s l.toward v.bytes v.rest v.request settled.unserved v.unread v.gives)
 sent_next g h w v l d (inr (b, step, at, p)) =
     let all = serve_pending g h b v.s l.toward d step v.bytes v.rest v.request v.reply v.reached v.session p v.unread v.gives v.left in
@@ -59,9 +59,9 @@ sent_next g h w v l d (inr (b, step, at, p)) =
       asks = all.0;
     }
 
-pub next_request : OneReading → DroppedWrites → (w : World) (v : Turn w) (l : Link) (d : Dumping) → AreTold w → link_of w v.k ≡ Some l → l.dump ≡ Some d
+pub next_request : OneReading → DroppedWrites → (w : World) (v : Turn w) (l : Connection) (d : Dumping) → AreTold w → connection_of w v.k ≡ Some l → l.dump ≡ Some d
     → IsNextSent w d v.request
-next_request g h w v l d told at dump = sent_next g h w v l d (subst (λ o. IsLinkSent w.begun o l d) v.live ((told.each v.k l at).sent d dump))
+next_request g h w v l d told at dump = sent_next g h w v l d (subst (λ o. IsConnectionSent w.begun o l d) v.live ((told.each v.k l at).sent d dump))
 
 -- with nothing open all but an open is refused
 idle_checked : (request : PlainRequest) → is_open request ≡ false → check NothingOpen request ≡ None → ⊥

@@ -17,8 +17,8 @@ use Rattle.rmt_server.specs.TroubledServe.{TroubledServeStep, TroubledMoveStep, 
 use Rattle.dump_client.specs.declared.step.Step.{Step}
 use Rattle.dump_client.specs.declared.step.Step.TheVariants.{Operation}
 use Rattle.dump_client.specs.declared.step.TapeOp.TheVariants.{Rewind, RewindAgain, Mark, Unload}
-use Rattle.tape_events.specs.World.{World, Link, Dumping, Begun}
-use Rattle.tape_events.specs.Changes.{side_of, link_of, first_name, written_reel, opening}
+use Rattle.tape_events.specs.World.{World, Connection, Dumping, Begun}
+use Rattle.tape_events.specs.Changes.{side_of, connection_of, first_name, written_reel, opening}
 use Rattle.tape_events.specs.Standing.{IsFirstAway, online_drive_in}
 use Rattle.tape_events.specs.Kept.{IsWorldKept}
 use Rattle.tape_events.specs.Sending.{HasDone, request_in}
@@ -76,7 +76,7 @@ stands_whole : (w : World) (k : ℕ) (s : ServerConnection) (b : Begun) (d : Dum
 stands_whole w k s b d drive reel live online labelled marked written =
     written.stands (entries_of reel.tape) (inr (k, s, live, (drive, Both, reel, online, refl, refl))) ∙ labelled_as b.run b.payload d true labelled marked
 
-moved_whole : (w : World) (v : Turn w) (l : Link) (d : Dumping) (p : IsServed w v l d) (next n : ℕ) → IsWorldKept w → link_of w v.k ≡ Some l → l.dump ≡ Some d
+moved_whole : (w : World) (v : Turn w) (l : Connection) (d : Dumping) (p : IsServed w v l d) (next n : ℕ) → IsWorldKept w → connection_of w v.k ≡ Some l → l.dump ≡ Some d
     → HasDone p.b.run (Some v.s) d (Operation (Unload next)) → v.request ≡ Op MTOFFL 1 → v.reply ≡ Done n → IsWholeInBin w v.k d (turned w v)
 moved_whole w v l d p next n kept at dump done asks replies =
     let on = done.stands v.s refl in
@@ -106,7 +106,7 @@ moved_whole w v l d p next n kept at dump done asks replies =
           ∙ ap (λ e. w.server.library.bin ++ slot name (Some (kept_reel e reel.capacity)) ∷ []) whole;
     }
 
-pub whole_at_the_move : OneReading → DroppedWrites → (w : World) (v : Turn w) (l : Link) (d : Dumping) → IsWorldKept w → link_of w v.k ≡ Some l → l.dump ≡ Some d
+pub whole_at_the_move : OneReading → DroppedWrites → (w : World) (v : Turn w) (l : Connection) (d : Dumping) → IsWorldKept w → connection_of w v.k ≡ Some l → l.dump ≡ Some d
     → IsMoveDone v.request v.reply → IsWholeInBin w v.k d (turned w v)
 whole_at_the_move g h w v l d kept at dump ((count, asks), (n, replies)) =
     let p = served_step g h w v kept.told l d at dump in

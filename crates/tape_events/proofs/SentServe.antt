@@ -26,9 +26,9 @@ use Rattle.dump_client.specs.declared.step.Step.TheVariants.{Open, Operation, Lo
 use Rattle.dump_client.specs.declared.step.TapeOp.TheVariants.{Rewind, RewindAgain, Mark, Unload}
 use Rattle.dump_client.specs.declared.stage.Stage.{Stage}
 use Rattle.dump_client.specs.declared.stage.Stage.TheVariants.{ToSend, Waiting}
-use Rattle.tape_events.specs.World.{Link, Dumping, Begun, Caller, numbered}
+use Rattle.tape_events.specs.World.{Connection, Dumping, Begun, Caller, numbered}
 use Rattle.tape_events.specs.Changes.{sent_on, noted, noted_by, noted_write, noted_marks, answered}
-use Rattle.tape_events.specs.Sending.{HasDone, AreUnserved, request_in, IsPending, IsLinkSettled, IsLinkSent, LeadsOn, IsBrief, IsStepReply, IsAttempt, IsStepAsked, IsStepReplied, IsLinkToldAt, IsGood}
+use Rattle.tape_events.specs.Sending.{HasDone, AreUnserved, request_in, IsPending, IsConnectionSettled, IsConnectionSent, LeadsOn, IsBrief, IsStepReply, IsAttempt, IsStepAsked, IsStepReplied, IsConnectionToldAt, IsGood}
 use Rattle.tape_events.proofs.Sent.{raised_one}
 use Rattle.tape_events.proofs.SentWire.{OneReading, DroppedWrites, one_read, nothing_long, text_not_long, gives_whole, nothing_given}
 use Rattle.tape_events.proofs.SentSteps.{ReplyTexts, plain_brief, shown_brief, write_online, marks_online, look_online, rewind_first, unload_away, open_first, close_plain}
@@ -95,11 +95,11 @@ never_dropped b d step n is = cc
 -- what is carried out then is the request that was sent last
 pub serve_pending : OneReading → DroppedWrites → (b : Begun) (s : ServerConnection) (way : List ℕ) (d : Dumping) (step : Step) (bytes rest : List ℕ) (found : PlainRequest) (reply : PlainReply)
     (reached : RequestHeld) (session : PlainSession) → IsPending b (Some s) way d step → Unread s.reached bytes → Gives bytes (Ok (Some found)) rest → Unread reached rest
-    → (found ≡ request_in b d step) × IsLinkSettled (Some (side reached session)) way (noted found reply d)
+    → (found ≡ request_in b d step) × IsConnectionSettled (Some (side reached session)) way (noted found reply d)
 serve_pending g h b s way d step bytes rest found reply reached session p unread gives left = unserved_by p.unserved
   where
     unserved_by : AreUnserved (Some s) way (request_text (request_in b d step)) ⊎ AreUnserved (Some s) way []
-        → (found ≡ request_in b d step) × IsLinkSettled (Some (side reached session)) way (noted found reply d)
+        → (found ≡ request_in b d step) × IsConnectionSettled (Some (side reached session)) way (noted found reply d)
     unserved_by (inr none) = absurd (nothing_there h s way bytes rest found none unread gives)
     unserved_by (inl (mine, was, is)) =
         let text = request_text (request_in b d step) in
@@ -116,9 +116,9 @@ serve_pending g h b s way d step bytes rest found reply reached session p unread
           },
         )
 
-pub serve_sent : OneReading → DroppedWrites → (begun : List Begun) (s : ServerConnection) (l : Link) (d : Dumping) (bytes rest : List ℕ) (found : PlainRequest) (reply : PlainReply)
-    (reached : RequestHeld) (session : PlainSession) → IsLinkSent begun (Some s) l d → Unread s.reached bytes → Gives bytes (Ok (Some found)) rest → Unread reached rest
-    → IsLinkSent begun (Some (side reached session)) (answered found reply l) (noted found reply d)
+pub serve_sent : OneReading → DroppedWrites → (begun : List Begun) (s : ServerConnection) (l : Connection) (d : Dumping) (bytes rest : List ℕ) (found : PlainRequest) (reply : PlainReply)
+    (reached : RequestHeld) (session : PlainSession) → IsConnectionSent begun (Some s) l d → Unread s.reached bytes → Gives bytes (Ok (Some found)) rest → Unread reached rest
+    → IsConnectionSent begun (Some (side reached session)) (answered found reply l) (noted found reply d)
 serve_sent g h begun s l d bytes rest found reply reached session (inl settled) unread gives left =
     absurd (nothing_there h s l.toward bytes rest found settled.unserved unread gives)
 serve_sent g h begun s l d bytes rest found reply reached session (inr (b, step, at, p)) unread gives left =
@@ -185,7 +185,7 @@ at_checkpoint o old d noted (Block number) reply first leads = from_checkpoint o
 at_checkpoint o old d noted step reply first leads = leads
 
 -- the client's own connection, at which it waits
-asked_replied : ReplyTexts → OneReading → DroppedWrites → (b : Begun) (s : ServerConnection) (l : Link) (c : Caller) (d : Dumping) (step : Step) (bytes rest : List ℕ) (found : PlainRequest)
+asked_replied : ReplyTexts → OneReading → DroppedWrites → (b : Begun) (s : ServerConnection) (l : Connection) (c : Caller) (d : Dumping) (step : Step) (bytes rest : List ℕ) (found : PlainRequest)
     (reply : PlainReply) (reached : RequestHeld) (trouble : Trouble) (holders : List ℕ) (library library' : TapeLibrary) (session : PlainSession) → IsRun b.run → b.run ≡ c.at.run
     → d.first ≡ (attempt_at step c.at.counts).1 → IsStepAsked b (Some s) l c d step → Unread s.reached bytes → Gives bytes (Ok (Some found)) rest → Unread reached rest
     → TroubledServeStep trouble holders (session_view library s.session) found reply (session_view library' session)
@@ -228,11 +228,11 @@ noted_attempt begun c d step b found reply a =
       first = keeps.first ∙ a.first;
     }
 
-pub serve_told : ReplyTexts → OneReading → DroppedWrites → (begun : List Begun) (stage : Stage) (s : ServerConnection) (l : Link) (c : Caller) (d : Dumping) (bytes rest : List ℕ)
+pub serve_told : ReplyTexts → OneReading → DroppedWrites → (begun : List Begun) (stage : Stage) (s : ServerConnection) (l : Connection) (c : Caller) (d : Dumping) (bytes rest : List ℕ)
     (found : PlainRequest) (reply : PlainReply) (reached : RequestHeld) (trouble : Trouble) (holders : List ℕ) (library library' : TapeLibrary) (session : PlainSession)
-    → ((n : ℕ) (b : Begun) → numbered begun n ≡ Some b → IsGood b) → IsLinkToldAt stage begun (Some s) l c d → Unread s.reached bytes → Gives bytes (Ok (Some found)) rest
+    → ((n : ℕ) (b : Begun) → numbered begun n ≡ Some b → IsGood b) → IsConnectionToldAt stage begun (Some s) l c d → Unread s.reached bytes → Gives bytes (Ok (Some found)) rest
     → Unread reached rest → TroubledServeStep trouble holders (session_view library s.session) found reply (session_view library' session)
-    → IsLinkToldAt stage begun (Some (side reached session)) (answered found reply l) c (noted found reply d)
+    → IsConnectionToldAt stage begun (Some (side reached session)) (answered found reply l) c (noted found reply d)
 serve_told t g h begun (ToSend step) s l c d bytes rest found reply reached trouble holders library library' session good (b, attempt, turn) unread gives left served =
     absurd (nothing_there h s l.toward bytes rest found turn.settled.unserved unread gives)
 serve_told t g h begun (Waiting step) s l c d bytes rest found reply reached trouble holders library library' session good (b, attempt, inl asked) unread gives left served = (

@@ -19,14 +19,14 @@ use Rattle.dump_client.specs.declared.step.Step.{Step}
 use Rattle.dump_client.specs.declared.step.Step.TheVariants.{Open}
 use Rattle.dump_client.specs.declared.stage.Stage.{Stage}
 use Rattle.dump_client.specs.declared.stage.Stage.TheVariants.{Ready, ToSend, Waiting}
-use Rattle.tape_events.specs.World.{World, Link, Dumping, Begun, Caller, numbered}
+use Rattle.tape_events.specs.World.{World, Connection, Dumping, Begun, Caller, numbered}
 use Rattle.tape_events.specs.First.{PlainDriveSpec}
-use Rattle.tape_events.specs.Changes.{link_of, changed, changed_from, side_of, sent_on, answered, noted}
+use Rattle.tape_events.specs.Changes.{connection_of, changed, changed_from, side_of, sent_on, answered, noted}
 use Rattle.tape_events.specs.Steps.{Finds, carried}
 use Rattle.tape_events.specs.Kept.{IsWorldKept}
 use Rattle.tape_events.specs.Owning.{is_in_attempt}
-use Rattle.tape_events.specs.Sending.{AreUnserved, request_in, IsPending, IsAttempt, IsStepAsked, IsBrief, IsLinkToldAt}
-use Rattle.tape_events.specs.Smooth.{IsSmooth, IsOwnLink, IsStepUnanswered, ReelsStandAt, StandsWith, StandsBefore, Leads, Stock, stock_of, volume_slots, attempt_on}
+use Rattle.tape_events.specs.Sending.{AreUnserved, request_in, IsPending, IsAttempt, IsStepAsked, IsBrief, IsConnectionToldAt}
+use Rattle.tape_events.specs.Smooth.{IsSmooth, IsOwnConnection, IsStepUnanswered, ReelsStandAt, StandsWith, StandsBefore, Leads, Stock, stock_of, volume_slots, attempt_on}
 use Rattle.tape_events.proofs.SmoothBins.{served_bin}
 use Rattle.tape_events.proofs.Numbers.{changed_is, with_here, numbered_there, numbered_within, numbered_first}
 use Rattle.tape_events.proofs.Held.{side_there}
@@ -84,10 +84,10 @@ pending_no_fault g h b s way d step bytes rest fault p unread gives = unserved_b
         request_no_fault text bytes way rest (request_in b d step) fault p.spelled (is ∙ ap (λ l. l ++ way) same) gives
 
 -- what is carried out of the request that the client waits for
-record Carries (w u : World) (k : ℕ) (c : Caller) (l : Link) (d : Dumping) (b : Begun) (s : ServerConnection) (step : Step) : Type 0 where
+record Carries (w u : World) (k : ℕ) (c : Caller) (l : Connection) (d : Dumping) (b : Begun) (s : ServerConnection) (step : Step) : Type 0 where
   caller : w.caller ≡ Some c
   stage : c.at.stage ≡ Waiting step
-  own : IsOwnLink w k l d b s
+  own : IsOwnConnection w k l d b s
   attempt : IsAttempt w.begun c d step b
   asked : IsStepAsked b (Some s) l c d step
   request : PlainRequest
@@ -110,7 +110,7 @@ pub before_bin : (drive : PlainDriveSpec) (t : Stock) (k : ℕ) (b : Begun) (d :
 before_bin drive t k b d session Open q = ap (λ (x : TapeLibrary). x.bin) q.0.library
 before_bin drive t k b d session step q = ap (λ (x : TapeLibrary). x.bin) q.library
 
-carried_smooth : OneReading → DroppedWrites → (drive : PlainDriveSpec) (w u : World) (k : ℕ) (c : Caller) (l : Link) (d : Dumping) (b : Begun) (s : ServerConnection) (step : Step) → IsWorldKept w → IsSmooth drive w
+carried_smooth : OneReading → DroppedWrites → (drive : PlainDriveSpec) (w u : World) (k : ℕ) (c : Caller) (l : Connection) (d : Dumping) (b : Begun) (s : ServerConnection) (step : Step) → IsWorldKept w → IsSmooth drive w
     → IsStepUnanswered drive w (attempt_on k b d s.session) l step → Carries w u k c l d b s step → IsSmooth drive u
 carried_smooth g h drive w u k c l d b s step kept sm un v =
     let p = v.asked.pending in
@@ -139,10 +139,10 @@ carried_smooth g h drive w u k c l d b s step kept sm un v =
     let live : side_of x.server k ≡ Some y = turned_here w x k s (Some y) v.own.live refl in
     let way : [] ++ sent_on l.cut l.back (reply_text v.reply) ≡ reply_text v.reply
     = ap (λ cut. sent_on cut l.back (reply_text v.reply)) v.own.whole ∙ ap (λ back. back ++ reply_text v.reply) un.back in
-    let mine : IsOwnLink x k (answered v.request v.reply l) (noted v.request v.reply d) b y
+    let mine : IsOwnConnection x k (answered v.request v.reply l) (noted v.request v.reply d) b y
     = record {
       own = v.own.own;
-      there = changed_here (answered v.request v.reply) w.links k l v.own.there;
+      there = changed_here (answered v.request v.reply) w.connections k l v.own.there;
       whole = v.own.whole;
       dump = ap (option_map (noted v.request v.reply)) v.own.dump;
       begun = ap (numbered w.begun) (noted_same d v.request v.reply).run ∙ v.own.begun;
@@ -168,12 +168,12 @@ carried_smooth g h drive w u k c l d b s step kept sm un v =
       },
     ) in
     subst (IsSmooth drive) (sym v.is) record {
-      clients = λ j z at. elim (changed_is (answered v.request v.reply) w.links k j z at) [
+      clients = λ j z at. elim (changed_is (answered v.request v.reply) w.connections k j z at) [
         | inl (same, (a, was, new)) ↦ (let o = sm.clients k a was in
-            (noted v.request v.reply o.0, ap (λ (m : Link). m.dump) new ∙ ap (option_map (noted v.request v.reply)) o.1))
+            (noted v.request v.reply o.0, ap (λ (m : Connection). m.dump) new ∙ ap (option_map (noted v.request v.reply)) o.1))
         | inr (other, on) ↦ sm.clients j z on
       ];
-      still = λ j z at not_own. elim (changed_is (answered v.request v.reply) w.links k j z at) [
+      still = λ j z at not_own. elim (changed_is (answered v.request v.reply) w.connections k j z at) [
         | inl (same, more) ↦ absurd (not_own (v.own.own ∙ ap Some (sym same)))
         | inr (other, on) ↦ subst (λ o. AreUnserved o z.toward []) (sym (turned_beside w x k (Some y) refl j other)) (sm.still j z on not_own)
       ];
@@ -183,16 +183,16 @@ carried_smooth g h drive w u k c l d b s step kept sm un v =
     }
 
 -- what is told of the client's own connection
-pub own_told : (w : World) (k : ℕ) (l : Link) (d : Dumping) (b : Begun) (s : ServerConnection) (c : Caller) (stage : Stage) → IsWorldKept w → IsOwnLink w k l d b s → w.caller ≡ Some c
-    → c.at.stage ≡ stage → IsLinkToldAt stage w.begun (Some s) l c d
+pub own_told : (w : World) (k : ℕ) (l : Connection) (d : Dumping) (b : Begun) (s : ServerConnection) (c : Caller) (stage : Stage) → IsWorldKept w → IsOwnConnection w k l d b s → w.caller ≡ Some c
+    → c.at.stage ≡ stage → IsConnectionToldAt stage w.begun (Some s) l c d
 own_told w k l d b s c stage kept own there at =
-    subst (λ o. IsLinkToldAt stage w.begun o l c d) own.live
-    (subst (λ x. IsLinkToldAt x w.begun (side_of w.server k) l c d) at ((kept.told.each k l own.there).own d c own.dump own.own there))
+    subst (λ o. IsConnectionToldAt stage w.begun o l c d) own.live
+    (subst (λ x. IsConnectionToldAt x w.begun (side_of w.server k) l c d) at ((kept.told.each k l own.there).own d c own.dump own.own there))
 
 -- the server finds something on a connection where the client waits
-found_smooth : OneReading → DroppedWrites → (drive : PlainDriveSpec) (w u : World) (k : ℕ) (c : Caller) (l : Link) (d : Dumping) (b : Begun) (s : ServerConnection) (step : Step)
-    (found : Result (Option PlainRequest) WireFault) (bytes rest : List ℕ) → IsWorldKept w → IsSmooth drive w → w.caller ≡ Some c → c.at.stage ≡ Waiting step → IsOwnLink w k l d b s
-    → IsStepUnanswered drive w (attempt_on k b d s.session) l step → IsLinkToldAt (Waiting step) w.begun (Some s) l c d → Unread s.reached bytes → Gives bytes found rest
+found_smooth : OneReading → DroppedWrites → (drive : PlainDriveSpec) (w u : World) (k : ℕ) (c : Caller) (l : Connection) (d : Dumping) (b : Begun) (s : ServerConnection) (step : Step)
+    (found : Result (Option PlainRequest) WireFault) (bytes rest : List ℕ) → IsWorldKept w → IsSmooth drive w → w.caller ≡ Some c → c.at.stage ≡ Waiting step → IsOwnConnection w k l d b s
+    → IsStepUnanswered drive w (attempt_on k b d s.session) l step → IsConnectionToldAt (Waiting step) w.begun (Some s) l c d → Unread s.reached bytes → Gives bytes found rest
     → Finds w k NoTrouble s found rest u → IsSmooth drive u
 found_smooth g h drive w u k c l d b s step found bytes rest kept sm there stage own un (b', attempt, inr replied) unread gives finds =
     absurd (nothing_found h w u k s l.toward bytes rest found replied.settled.unserved unread gives finds)
@@ -223,49 +223,49 @@ found_smooth g h drive w u k c l d b s step (Ok (Some request)) bytes rest kept 
     }
 
 -- What may be unserved on a connection: nothing is, or it is the client's own, whose request was not carried out.
-pub data Unserved (drive : PlainDriveSpec) (w : World) (k : ℕ) (s : ServerConnection) (l : Link) : Type 0 where
+pub data Unserved (drive : PlainDriveSpec) (w : World) (k : ℕ) (s : ServerConnection) (l : Connection) : Type 0 where
   none_left : AreUnserved (Some s) l.toward [] → Unserved drive w k s l
-  one_left : (c : Caller) (step : Step) (d : Dumping) (b : Begun) → w.caller ≡ Some c → c.at.stage ≡ Waiting step → IsOwnLink w k l d b s
+  one_left : (c : Caller) (step : Step) (d : Dumping) (b : Begun) → w.caller ≡ Some c → c.at.stage ≡ Waiting step → IsOwnConnection w k l d b s
       → IsStepUnanswered drive w (attempt_on k b d s.session) l step → Unserved drive w k s l
 
 -- on the client's own, by its stage
-unserved_at : (drive : PlainDriveSpec) (w : World) (k : ℕ) (s : ServerConnection) (l : Link) (c : Caller) (stage : Stage) → IsWorldKept w → side_of w.server k ≡ Some s → link_of w k ≡ Some l
+unserved_at : (drive : PlainDriveSpec) (w : World) (k : ℕ) (s : ServerConnection) (l : Connection) (c : Caller) (stage : Stage) → IsWorldKept w → side_of w.server k ≡ Some s → connection_of w k ≡ Some l
     → w.own ≡ Some k → w.caller ≡ Some c → c.at.stage ≡ stage → IsTrue (is_in_attempt stage) → ReelsStandAt stage drive w c → Unserved drive w k s l
-unserved_at drive w k s l c (ToSend step) kept live link mine there at under (j, x, d, b, y, own, stands) =
+unserved_at drive w k s l c (ToSend step) kept live conn mine there at under (j, x, d, b, y, own, stands) =
     let same : j ≡ k = same_Some j k (sym own.own ∙ mine) in
-    let links : x ≡ l = same_Some x l (sym own.there ∙ ap (link_of w) same ∙ link) in
+    let connections : x ≡ l = same_Some x l (sym own.there ∙ ap (connection_of w) same ∙ conn) in
     let sides : y ≡ s = same_Some y s (sym own.live ∙ ap (side_of w.server) same ∙ live) in
     let told = own_told w j x d b y c (ToSend step) kept own there at in
-    none_left (subst (λ (z : Link). AreUnserved (Some s) z.toward []) links (subst (λ z. AreUnserved (Some z) x.toward []) sides told.2.settled.unserved))
-unserved_at drive w k s l c (Waiting step) kept live link mine there at under (j, x, d, b, y, own, inr done) =
+    none_left (subst (λ (z : Connection). AreUnserved (Some s) z.toward []) connections (subst (λ z. AreUnserved (Some z) x.toward []) sides told.2.settled.unserved))
+unserved_at drive w k s l c (Waiting step) kept live conn mine there at under (j, x, d, b, y, own, inr done) =
     let same : j ≡ k = same_Some j k (sym own.own ∙ mine) in
-    let links : x ≡ l = same_Some x l (sym own.there ∙ ap (link_of w) same ∙ link) in
-    none_left (subst (λ (z : Link). AreUnserved (Some s) z.toward []) links (subst (λ o. AreUnserved o x.toward []) (ap (side_of w.server) same ∙ live) done.served))
-unserved_at drive w k s l c (Waiting step) kept live link mine there at under (j, x, d, b, y, own, inl un) =
+    let connections : x ≡ l = same_Some x l (sym own.there ∙ ap (connection_of w) same ∙ conn) in
+    none_left (subst (λ (z : Connection). AreUnserved (Some s) z.toward []) connections (subst (λ o. AreUnserved o x.toward []) (ap (side_of w.server) same ∙ live) done.served))
+unserved_at drive w k s l c (Waiting step) kept live conn mine there at under (j, x, d, b, y, own, inl un) =
     let same : j ≡ k = same_Some j k (sym own.own ∙ mine) in
-    let links : l ≡ x = sym (same_Some x l (sym own.there ∙ ap (link_of w) same ∙ link)) in
+    let connections : l ≡ x = sym (same_Some x l (sym own.there ∙ ap (connection_of w) same ∙ conn)) in
     let sides : y ≡ s = same_Some y s (sym own.live ∙ ap (side_of w.server) same ∙ live) in
     one_left c step d b there at
     record {
       own = mine;
-      there = link;
-      whole = ap (λ (z : Link). z.cut) links ∙ own.whole;
-      dump = ap (λ (z : Link). z.dump) links ∙ own.dump;
+      there = conn;
+      whole = ap (λ (z : Connection). z.cut) connections ∙ own.whole;
+      dump = ap (λ (z : Connection). z.dump) connections ∙ own.dump;
       begun = own.begun;
       live = live;
     }
     record {
-      back = ap (λ (z : Link). z.back) links ∙ un.back;
+      back = ap (λ (z : Connection). z.back) connections ∙ un.back;
       stands = subst (λ m. StandsBefore step drive (stock_of w) m b d s.session) same (subst (λ (z : ServerConnection). StandsBefore step drive (stock_of w) j b d z.session) sides un.stands);
     }
-unserved_at drive w k s l c stage kept live link mine there at under stands = absurd cc
+unserved_at drive w k s l c stage kept live conn mine there at under stands = absurd cc
 
-pub unserved_on : (drive : PlainDriveSpec) (w : World) (k : ℕ) (s : ServerConnection) (l : Link) → IsWorldKept w → IsSmooth drive w → side_of w.server k ≡ Some s → link_of w k ≡ Some l
+pub unserved_on : (drive : PlainDriveSpec) (w : World) (k : ℕ) (s : ServerConnection) (l : Connection) → IsWorldKept w → IsSmooth drive w → side_of w.server k ≡ Some s → connection_of w k ≡ Some l
     → Unserved drive w k s l
-unserved_on drive w k s l kept sm live link = by_own w.own refl
+unserved_on drive w k s l kept sm live conn = by_own w.own refl
   where
     another : (w.own ≢ Some k) → Unserved drive w k s l
-    another not_own = none_left (subst (λ o. AreUnserved o l.toward []) live (sm.still k l link not_own))
+    another not_own = none_left (subst (λ o. AreUnserved o l.toward []) live (sm.still k l conn not_own))
 
     by_own : (o : Option ℕ) → w.own ≡ o → Unserved drive w k s l
     by_own None is = another (λ mine. (let clash = sym is ∙ mine in absurd cc))
@@ -273,7 +273,7 @@ unserved_on drive w k s l kept sm live link = by_own w.own refl
       | inl (equal, same) ↦ (
           let mine : w.own ≡ Some k = is ∙ ap Some same in
           let client = (kept.owned.own k mine).1 in
-          unserved_at drive w k s l client.0 client.0.at.stage kept live link mine client.1 refl client.2 (subst (λ o. StandsWith o drive w) client.1 sm.stands))
+          unserved_at drive w k s l client.0 client.0.at.stage kept live conn mine client.1 refl client.2 (subst (λ o. StandsWith o drive w) client.1 sm.stands))
       | inr (unequal, other) ↦ another (λ mine. other (same_Some j k (sym is ∙ mine)))
     ]
 
@@ -284,7 +284,7 @@ serve_smooth g h drive w u k s found bytes rest kept sm live unread gives finds 
     let paired = kept.tidy.paired in
     let here = side_there w.server k s live in
     let within = numbered_within w.server.sides k (Some s) here in
-    let l = numbered_there w.links k (numbered_first w.server.sides k (Some s) here) (omega (arith, paired, within)) in
+    let l = numbered_there w.connections k (numbered_first w.server.sides k (Some s) here) (omega (arith, paired, within)) in
     elim (unserved_on drive w k s l.0 kept sm live l.1) [
       | none_left none ↦ absurd (nothing_found h w u k s l.0.toward bytes rest found none unread gives finds)
       | one_left c step d b there at own un ↦

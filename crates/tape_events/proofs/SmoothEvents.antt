@@ -14,20 +14,20 @@ use Rattle.dump_client.specs.declared.step.Step.{Step}
 use Rattle.dump_client.specs.declared.step.Step.TheVariants.{Open, Close}
 use Rattle.dump_client.specs.declared.stage.Stage.{Stage}
 use Rattle.dump_client.specs.declared.stage.Stage.TheVariants.{Ready, ToSend, Waiting, Finished, Abandoned}
-use Rattle.tape_events.specs.World.{World, Link, Dumping, Begun, Caller}
+use Rattle.tape_events.specs.World.{World, Connection, Dumping, Begun, Caller}
 use Rattle.tape_events.specs.First.{PlainDriveSpec}
-use Rattle.tape_events.specs.Changes.{side_of, link_of, new_link, noted_sent}
+use Rattle.tape_events.specs.Changes.{side_of, connection_of, new_connection, noted_sent}
 use Rattle.tape_events.specs.Rows.{NoRun, is_run_done}
-use Rattle.tape_events.specs.Steps.{begun, client_connected, fresh, asked, sent_link, next_text, reached_by}
+use Rattle.tape_events.specs.Steps.{begun, client_connected, fresh, asked, sent_connection, next_text, reached_by}
 use Rattle.tape_events.specs.Kept.{IsWorldKept}
 use Rattle.tape_events.specs.Owning.{is_in_attempt}
 use Rattle.tape_events.specs.Sending.{AreUnserved}
-use Rattle.tape_events.specs.Smooth.{Stock, stock_of, blanks, one_drive, names_left, volume_by, volume_slot, volume_slots, IsFree, IsLatched, IsOwnLink, StandsBefore, ReelsStandAt, StandsWith, IsSmooth}
+use Rattle.tape_events.specs.Smooth.{Stock, stock_of, blanks, one_drive, names_left, volume_by, volume_slot, volume_slots, IsFree, IsLatched, IsOwnConnection, StandsBefore, ReelsStandAt, StandsWith, IsSmooth}
 use Rattle.tape_events.proofs.Numbers.{pushed_is, numbered_more, numbered_last, numbered_there, numbered_within, numbered_first}
 use Rattle.tape_events.proofs.ToldEvents.{turned_here, turned_beside}
 use Rattle.tape_events.proofs.SmoothLists.{map_same}
 use Rattle.tape_events.proofs.SmoothCarried.{changed_here, own_told, none_left, one_left, unserved_on}
-use Rattle.tape_events.proofs.SmoothHears.{changed_links, settles}
+use Rattle.tape_events.proofs.SmoothHears.{changed_connections, settles}
 
 -- without a run no session has the drive
 free_stage : (drive : PlainDriveSpec) (w : World) (c : Caller) (stage : Stage) → IsTrue (is_run_done stage) → ReelsStandAt stage drive w c → IsFree drive (stock_of w)
@@ -74,33 +74,33 @@ idle_own w c kept there ready j mine =
 pub connected_smooth : (drive : PlainDriveSpec) (w : World) (c : Caller) → IsWorldKept w → IsSmooth drive w → w.caller ≡ Some c → c.at.stage ≡ Ready → IsSmooth drive (client_connected w c)
 connected_smooth drive w c kept sm there ready =
     let u : World = client_connected w c in
-    let k = length w.links + 1 in
-    let l : Link = new_link (Some (fresh c)) in
+    let k = length w.connections + 1 in
+    let l : Connection = new_connection (Some (fresh c)) in
     let s : ServerConnection = side (held [] 0) Idle in
-    let last : suc (length w.links) ≡ k = omega arith in
+    let last : suc (length w.connections) ≡ k = omega arith in
     let paired = kept.tidy.paired in
     let b = kept.booked.begun c there in
     let free : IsFree drive (stock_of w) = subst (λ x. ReelsStandAt x drive w c) ready (subst (λ o. StandsWith o drive w) there sm.stands) in
     let live : side_of u.server k ≡ Some s
     = ap (side_of u.server) (let same : k ≡ suc (length w.server.sides) = omega (arith, paired) in same) ∙ ap (option_and_then (λ y. y)) (numbered_last w.server.sides (Some s)) in
-    let mine : IsOwnLink u k l (fresh c) b.0 s
+    let mine : IsOwnConnection u k l (fresh c) b.0 s
     = record {
       own = refl;
-      there = ap (link_of u) (sym last) ∙ numbered_last w.links l;
+      there = ap (connection_of u) (sym last) ∙ numbered_last w.connections l;
       whole = refl;
       dump = refl;
       begun = b.1;
       live = live;
     } in
     record {
-      clients = λ j y at. elim (pushed_is w.links l j y at) [
+      clients = λ j y at. elim (pushed_is w.connections l j y at) [
         | inl on ↦ sm.clients j y on
-        | inr (here, new) ↦ (fresh c, ap (λ (x : Link). x.dump) new)
+        | inr (here, new) ↦ (fresh c, ap (λ (x : Connection). x.dump) new)
       ];
-      still = λ j y at not_own. elim (pushed_is w.links l j y at) [
+      still = λ j y at not_own. elim (pushed_is w.connections l j y at) [
         | inl on ↦ (
-            let within = numbered_within w.links j y on in
-            let o = numbered_there w.server.sides j (numbered_first w.links j y on) (omega (arith, within, paired)) in
+            let within = numbered_within w.connections j y on in
+            let o = numbered_there w.server.sides j (numbered_first w.connections j y on) (omega (arith, within, paired)) in
             let same : side_of u.server j ≡ side_of w.server j
             = ap (option_and_then (λ x. x)) (numbered_more w.server.sides (Some s ∷ []) j o.0 o.1 ∙ sym o.1) in
             subst (λ x. AreUnserved x y.toward []) (sym same) (sm.still j y on (λ own. idle_own w c kept there ready j own)))
@@ -143,10 +143,10 @@ asked_smooth drive w k c payload step reader kept sm mine there stage =
         let text = next_text c payload step in
         let same : j ≡ k = same_Some j k (sym own.own ∙ mine) in
         let told = own_told w j l d b s c (ToSend step) kept own there stage in
-        let now : IsOwnLink u j (sent_link text l) (noted_sent d) b s
+        let now : IsOwnConnection u j (sent_connection text l) (noted_sent d) b s
         = record {
           own = own.own;
-          there = changed_here (sent_link text) w.links j l own.there;
+          there = changed_here (sent_connection text) w.connections j l own.there;
           whole = own.whole;
           dump = ap (option_map noted_sent) own.dump;
           begun = own.begun;
@@ -154,12 +154,12 @@ asked_smooth drive w k c payload step reader kept sm mine there stage =
         } in
         subst (λ n. IsSmooth drive (asked w n c payload step reader)) same (settles drive w u j sm record {
           own = own.own;
-          links = changed_links w u j (sent_link text) refl (λ x e is. (noted_sent e, ap (option_map noted_sent) is));
+          connections = changed_connections w u j (sent_connection text) refl (λ x e is. (noted_sent e, ap (option_map noted_sent) is));
           sides = λ i other. refl;
           here = λ y at not_own. absurd (not_own own.own);
           begun = refl;
           reels = sm.reels;
-          stands = (j, sent_link text l, noted_sent d, b, s, now, inl record { back = told.2.back; stands = sent_stands drive (stock_of w) j b d s.session step stands });
+          stands = (j, sent_connection text l, noted_sent d, b, s, now, inl record { back = told.2.back; stands = sent_stands drive (stock_of w) j b d s.session step stands });
           failure = λ volume fault is. absurd cc;
         })
 
@@ -171,22 +171,22 @@ no_way s way n (reached, unread, is) first within =
     omega (arith, size, both, first, within)
 
 -- bytes reach the server
-pub reached_smooth : (drive : PlainDriveSpec) (w : World) (k n : ℕ) (s : ServerConnection) (l : Link) (reached : RequestHeld) → IsWorldKept w → IsSmooth drive w → side_of w.server k ≡ Some s
-    → link_of w k ≡ Some l → 1 ≤ n → n ≤ length l.toward → IsSmooth drive (reached_by w k n s reached)
-reached_smooth drive w k n s l reached kept sm live link first within = elim (unserved_on drive w k s l kept sm live link) [
+pub reached_smooth : (drive : PlainDriveSpec) (w : World) (k n : ℕ) (s : ServerConnection) (l : Connection) (reached : RequestHeld) → IsWorldKept w → IsSmooth drive w → side_of w.server k ≡ Some s
+    → connection_of w k ≡ Some l → 1 ≤ n → n ≤ length l.toward → IsSmooth drive (reached_by w k n s reached)
+reached_smooth drive w k n s l reached kept sm live conn first within = elim (unserved_on drive w k s l kept sm live conn) [
   | none_left none ↦ absurd (no_way s l.toward n none first within)
   | one_left c step d b there stage own un ↦ moved_on d b c step there stage own un.back un.stands
 ]
   where
-    moved_on : (d : Dumping) (b : Begun) (c : Caller) (step : Step) → w.caller ≡ Some c → c.at.stage ≡ Waiting step → IsOwnLink w k l d b s
+    moved_on : (d : Dumping) (b : Begun) (c : Caller) (step : Step) → w.caller ≡ Some c → c.at.stage ≡ Waiting step → IsOwnConnection w k l d b s
         → l.back ≡ [] → StandsBefore step drive (stock_of w) k b d s.session → IsSmooth drive (reached_by w k n s reached)
     moved_on d b c step there stage own back stands =
         let u : World = reached_by w k n s reached in
         let z : ServerConnection = side reached s.session in
-        let now : IsOwnLink u k (record l { toward = drop n l.toward }) d b z
+        let now : IsOwnConnection u k (record l { toward = drop n l.toward }) d b z
         = record {
           own = own.own;
-          there = changed_here (λ a. record a { toward = drop n a.toward }) w.links k l own.there;
+          there = changed_here (λ a. record a { toward = drop n a.toward }) w.connections k l own.there;
           whole = own.whole;
           dump = own.dump;
           begun = own.begun;
@@ -196,7 +196,7 @@ reached_smooth drive w k n s l reached kept sm live link first within = elim (un
         = (k, record l { toward = drop n l.toward }, d, b, z, now, inl record { back = back; stands = stands }) in
         settles drive w u k sm record {
           own = own.own;
-          links = changed_links w u k (λ a. record a { toward = drop n a.toward }) refl (λ a e is. (e, is));
+          connections = changed_connections w u k (λ a. record a { toward = drop n a.toward }) refl (λ a e is. (e, is));
           sides = λ i other. turned_beside w u k (Some z) refl i other;
           here = λ a is not_own. absurd (not_own own.own);
           begun = refl;

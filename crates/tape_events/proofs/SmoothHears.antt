@@ -16,15 +16,15 @@ use Rattle.dump_client.specs.declared.stage.Stage.{Stage}
 use Rattle.dump_client.specs.declared.stage.Stage.TheVariants.{Ready, ToSend, Waiting, Asking, Finished}
 use Rattle.dump_client.specs.declared.stage.Progress.{Progress}
 use Rattle.dump_client.specs.declared.stage.Progress.TheVariants as moved
-use Rattle.tape_events.specs.World.{World, Link, Dumping, Begun, Caller, Count, numbered}
+use Rattle.tape_events.specs.World.{World, Connection, Dumping, Begun, Caller, Count, numbered}
 use Rattle.tape_events.specs.First.{PlainDriveSpec}
-use Rattle.tape_events.specs.Changes.{changed, side_of, link_of, over_there, counts_of, reel_opened_by}
+use Rattle.tape_events.specs.Changes.{changed, side_of, connection_of, over_there, counts_of, reel_opened_by}
 use Rattle.tape_events.specs.Steps.{Hears, caller, heard}
 use Rattle.tape_events.specs.Kept.{IsWorldKept}
 use Rattle.tape_events.specs.Owning.{is_in_attempt}
 use Rattle.tape_events.specs.Sending.{AreUnserved, IsAttempt}
 use Rattle.tape_events.specs.Written.{whole_volume}
-use Rattle.tape_events.specs.Smooth.{Stock, stock_of, blanks, one_drive, volume_slot, volume_slots, volume_by, IsFree, IsMoved, IsOffline, IsOwnLink, IsStepAnswered, StandsBefore, StandsThen, CountsThen, Leads, ReelsStandAt, StandsWith, FailsFaultless, IsFaultlessFailure, IsSmooth, attempt_on}
+use Rattle.tape_events.specs.Smooth.{Stock, stock_of, blanks, one_drive, volume_slot, volume_slots, volume_by, IsFree, IsMoved, IsOffline, IsOwnConnection, IsStepAnswered, StandsBefore, StandsThen, CountsThen, Leads, ReelsStandAt, StandsWith, FailsFaultless, IsFaultlessFailure, IsSmooth, attempt_on}
 use Rattle.tape_events.proofs.Numbers.{changed_is}
 use Rattle.tape_events.proofs.Booked.{Goings, drop_front}
 use Rattle.tape_events.proofs.SentWire.{OneReply}
@@ -35,18 +35,18 @@ use Rattle.tape_events.proofs.SmoothLists.{next_of, length_push, reel_is}
 use Rattle.tape_events.proofs.SmoothCarried.{changed_here, own_told}
 
 -- Each connection was there; but for one, what is on the way to the server is the same.
-abbrev pub LinksFrom : World → World → ℕ → Type 0
-LinksFrom w u k =
-    (j : ℕ) (y : Link) → link_of u j ≡ Some y
-    → (x : Link) × (link_of w j ≡ Some x) × ((d : Dumping) → x.dump ≡ Some d → (e : Dumping) × (y.dump ≡ Some e)) × (j ≢ k → y.toward ≡ x.toward)
+abbrev pub ConnectionsFrom : World → World → ℕ → Type 0
+ConnectionsFrom w u k =
+    (j : ℕ) (y : Connection) → connection_of u j ≡ Some y
+    → (x : Connection) × (connection_of w j ≡ Some x) × ((d : Dumping) → x.dump ≡ Some d → (e : Dumping) × (y.dump ≡ Some e)) × (j ≢ k → y.toward ≡ x.toward)
 
-pub changed_links : (w u : World) (k : ℕ) (f : Link → Link) → u.links ≡ changed f w.links k
-    → ((l : Link) (d : Dumping) → l.dump ≡ Some d → (e : Dumping) × ((f l).dump ≡ Some e)) → LinksFrom w u k
-changed_links w u k f links dumps j y at = elim (changed_is f w.links k j y (ap (λ ls. numbered ls j) (sym links) ∙ at)) [
+pub changed_connections : (w u : World) (k : ℕ) (f : Connection → Connection) → u.connections ≡ changed f w.connections k
+    → ((l : Connection) (d : Dumping) → l.dump ≡ Some d → (e : Dumping) × ((f l).dump ≡ Some e)) → ConnectionsFrom w u k
+changed_connections w u k f connections dumps j y at = elim (changed_is f w.connections k j y (ap (λ ls. numbered ls j) (sym connections) ∙ at)) [
   | inl (same, (x, was, new)) ↦ (
     x,
-    ap (numbered w.links) same ∙ was,
-    λ d is. (let e = dumps x d is in (e.0, ap (λ (l : Link). l.dump) new ∙ e.1)),
+    ap (numbered w.connections) same ∙ was,
+    λ d is. (let e = dumps x d is in (e.0, ap (λ (l : Connection). l.dump) new ∙ e.1)),
     λ other. absurd (other same),
   )
   | inr (other, on) ↦ (y, on, λ d is. (d, is), λ different. refl)
@@ -55,9 +55,9 @@ changed_links w u k f links dumps j y at = elim (changed_is f w.links k j y (ap 
 -- What an event on the client's own connection leaves.
 pub record Settles (drive : PlainDriveSpec) (w u : World) (k : ℕ) : Type 0 where
   pub own : w.own ≡ Some k
-  pub links : LinksFrom w u k
+  pub connections : ConnectionsFrom w u k
   pub sides : (j : ℕ) → j ≢ k → side_of u.server j ≡ side_of w.server j
-  pub here : (y : Link) → link_of u k ≡ Some y → u.own ≢ Some k → AreUnserved (side_of u.server k) y.toward []
+  pub here : (y : Connection) → connection_of u k ≡ Some y → u.own ≢ Some k → AreUnserved (side_of u.server k) y.toward []
   pub begun : u.begun ≡ w.begun
   pub reels : map (λ (x : Count). x.reel) u.counts ≡ take (length u.counts) drive.reels
   pub stands : StandsWith u.caller drive u
@@ -65,12 +65,12 @@ pub record Settles (drive : PlainDriveSpec) (w u : World) (k : ℕ) : Type 0 whe
 
 pub settles : (drive : PlainDriveSpec) (w u : World) (k : ℕ) → IsSmooth drive w → Settles drive w u k → IsSmooth drive u
 settles drive w u k sm v = record {
-  clients = λ j y at. (let x = v.links j y at in let d = sm.clients j x.0 x.1 in x.2 d.0 d.1);
+  clients = λ j y at. (let x = v.connections j y at in let d = sm.clients j x.0 x.1 in x.2 d.0 d.1);
   still = λ j y at not_own. elim (eqb_tells j k) [
     | inl (equal, same) ↦
-        subst (λ n. AreUnserved (side_of u.server n) y.toward []) (sym same) (v.here y (ap (link_of u) (sym same) ∙ at) (λ mine. not_own (mine ∙ ap Some (sym same))))
+        subst (λ n. AreUnserved (side_of u.server n) y.toward []) (sym same) (v.here y (ap (connection_of u) (sym same) ∙ at) (λ mine. not_own (mine ∙ ap Some (sym same))))
     | inr (unequal, other) ↦ (
-        let x = v.links j y at in
+        let x = v.connections j y at in
         subst (λ way. AreUnserved (side_of u.server j) way []) (sym (x.3 other))
         (subst (λ o. AreUnserved o x.0.toward []) (sym (v.sides j other)) (sm.still j x.0 x.1 (λ mine. other (same_Some j k (sym mine ∙ v.own))))))
   ];
@@ -90,29 +90,29 @@ none_counted w number k c new same =
 abbrev with_counts : Stock → List Count → Stock
 with_counts t counts = record t { counts = counts }
 
-back_dumps : (n : ℕ) (l : Link) (d : Dumping) → l.dump ≡ Some d → (e : Dumping) × ((record l { back = drop n l.back }).dump ≡ Some e)
+back_dumps : (n : ℕ) (l : Connection) (d : Dumping) → l.dump ≡ Some d → (e : Dumping) × ((record l { back = drop n l.back }).dump ≡ Some e)
 back_dumps n l d is = (d, is)
 
 -- the client goes on
-goes_on : (drive : PlainDriveSpec) (w : World) (k n : ℕ) (c : Caller) (l : Link) (d : Dumping) (b : Begun) (s : ServerConnection) (at : Standing) (reader : ReplyHeld) (progress : Progress)
-    (counts : List Count) → IsSmooth drive w → IsOwnLink w k l d b s → (came : heard w k n c at reader progress ≡ heard w k n c at reader moved.Send)
+goes_on : (drive : PlainDriveSpec) (w : World) (k n : ℕ) (c : Caller) (l : Connection) (d : Dumping) (b : Begun) (s : ServerConnection) (at : Standing) (reader : ReplyHeld) (progress : Progress)
+    (counts : List Count) → IsSmooth drive w → IsOwnConnection w k l d b s → (came : heard w k n c at reader progress ≡ heard w k n c at reader moved.Send)
     → w.counts ++ map (counts_of w c.number k) (drop (length c.at.counts) at.counts) ≡ counts
     → map (λ (x : Count). x.reel) counts ≡ take (length counts) drive.reels
-    → (IsOwnLink (heard w k n c at reader moved.Send) k (record l { back = drop n l.back }) d b s
+    → (IsOwnConnection (heard w k n c at reader moved.Send) k (record l { back = drop n l.back }) d b s
     → ReelsStandAt at.stage drive (heard w k n c at reader moved.Send) (caller c.number at reader))
     → IsSmooth drive (heard w k n c at reader progress)
 goes_on drive w k n c l d b s at reader progress counts sm own came are reels stands =
     let u : World = heard w k n c at reader moved.Send in
     subst (IsSmooth drive) (sym came) (settles drive w u k sm record {
       own = own.own;
-      links = changed_links w u k (λ x. record x { back = drop n x.back }) refl (back_dumps n);
+      connections = changed_connections w u k (λ x. record x { back = drop n x.back }) refl (back_dumps n);
       sides = λ j other. refl;
       here = λ y there not_own. absurd (not_own own.own);
       begun = refl;
       reels = subst (λ cs. map (λ (x : Count). x.reel) cs ≡ take (length cs) drive.reels) (sym are) reels;
       stands = stands record {
         own = own.own;
-        there = changed_here (λ x. record x { back = drop n x.back }) w.links k l own.there;
+        there = changed_here (λ x. record x { back = drop n x.back }) w.connections k l own.there;
         whole = own.whole;
         dump = own.dump;
         begun = own.begun;
@@ -122,8 +122,8 @@ goes_on drive w k n c l d b s at reader progress counts sm own came are reels st
     })
 
 -- it goes on to a step that is not its close
-goes_to : (drive : PlainDriveSpec) (w : World) (k n : ℕ) (c : Caller) (l : Link) (d : Dumping) (b : Begun) (s : ServerConnection) (at : Standing) (reader : ReplyHeld) (next : Step)
-    → IsSmooth drive w → IsOwnLink w k l d b s → at.stage ≡ ToSend next → at.counts ≡ c.at.counts → StandsBefore next drive (stock_of w) k b d s.session
+goes_to : (drive : PlainDriveSpec) (w : World) (k n : ℕ) (c : Caller) (l : Connection) (d : Dumping) (b : Begun) (s : ServerConnection) (at : Standing) (reader : ReplyHeld) (next : Step)
+    → IsSmooth drive w → IsOwnConnection w k l d b s → at.stage ≡ ToSend next → at.counts ≡ c.at.counts → StandsBefore next drive (stock_of w) k b d s.session
     → IsSmooth drive (heard w k n c at reader moved.Send)
 goes_to drive w k n c l d b s at reader next sm own stage same stands =
     let u : World = heard w k n c at reader moved.Send in
@@ -133,8 +133,8 @@ goes_to drive w k n c l d b s at reader next sm own stage same stands =
     (k, record l { back = drop n l.back }, d, b, s, mine, subst (λ cs. StandsBefore next drive (with_counts (stock_of w) cs) k b d s.session) (sym counts) stands))
 
 -- it counts its volume, and goes on to its close
-counts_now : (drive : PlainDriveSpec) (w : World) (k n : ℕ) (c : Caller) (l : Link) (d : Dumping) (b : Begun) (s : ServerConnection) (step : Step) (at : Standing) (reader : ReplyHeld)
-    → IsWorldKept w → IsSmooth drive w → IsOwnLink w k l d b s → IsAttempt w.begun c d step b → step ≢ Close → at.stage ≡ ToSend Close
+counts_now : (drive : PlainDriveSpec) (w : World) (k n : ℕ) (c : Caller) (l : Connection) (d : Dumping) (b : Begun) (s : ServerConnection) (step : Step) (at : Standing) (reader : ReplyHeld)
+    → IsWorldKept w → IsSmooth drive w → IsOwnConnection w k l d b s → IsAttempt w.begun c d step b → step ≢ Close → at.stage ≡ ToSend Close
     → at.counts ≡ counted_to c.at.counts (d.first + d.blocks) → IsMoved drive (stock_of w) k b d s.session → IsSmooth drive (heard w k n c at reader moved.Send)
 counts_now drive w k n c l d b s step at reader kept sm own attempt other stage counted q =
     let u : World = heard w k n c at reader moved.Send in
@@ -175,37 +175,37 @@ counts_now drive w k n c l d b s step at reader kept sm own attempt other stage 
     (k, record l { back = drop n l.back }, d, b, s, mine, subst (λ cs. IsOffline drive (with_counts (stock_of w) cs) k s.session) (sym all) off))
 
 -- what was on the way to the server is so still
-over_links : (w u : World) (k n : ℕ) → u.links ≡ changed over_there (changed (λ x. record x { back = drop n x.back }) w.links k) k
-    → (j : ℕ) (y : Link) → link_of u j ≡ Some y → (x : Link) × (link_of w j ≡ Some x) × (y.dump ≡ x.dump) × (y.toward ≡ x.toward)
-over_links w u k n links j y at =
-    elim (changed_is over_there (changed (λ x. record x { back = drop n x.back }) w.links k) k j y (ap (λ ls. numbered ls j) (sym links) ∙ at)) [
-      | inl (same, (z, was, new)) ↦ elim (changed_is (λ x. record x { back = drop n x.back }) w.links k j z (ap (numbered _) same ∙ was)) [
+over_connections : (w u : World) (k n : ℕ) → u.connections ≡ changed over_there (changed (λ x. record x { back = drop n x.back }) w.connections k) k
+    → (j : ℕ) (y : Connection) → connection_of u j ≡ Some y → (x : Connection) × (connection_of w j ≡ Some x) × (y.dump ≡ x.dump) × (y.toward ≡ x.toward)
+over_connections w u k n connections j y at =
+    elim (changed_is over_there (changed (λ x. record x { back = drop n x.back }) w.connections k) k j y (ap (λ ls. numbered ls j) (sym connections) ∙ at)) [
+      | inl (same, (z, was, new)) ↦ elim (changed_is (λ x. record x { back = drop n x.back }) w.connections k j z (ap (numbered _) same ∙ was)) [
         | inl (here, (x, there, turned)) ↦ (
           x,
-          ap (numbered w.links) here ∙ there,
-          ap (λ (l : Link). l.dump) new ∙ ap (λ (l : Link). l.dump) turned,
-          ap (λ (l : Link). l.toward) new ∙ ap (λ (l : Link). l.toward) turned,
+          ap (numbered w.connections) here ∙ there,
+          ap (λ (l : Connection). l.dump) new ∙ ap (λ (l : Connection). l.dump) turned,
+          ap (λ (l : Connection). l.toward) new ∙ ap (λ (l : Connection). l.toward) turned,
         )
         | inr (other, on) ↦ absurd (other same)
       ]
-      | inr (other, on) ↦ elim (changed_is (λ x. record x { back = drop n x.back }) w.links k j y on) [
+      | inr (other, on) ↦ elim (changed_is (λ x. record x { back = drop n x.back }) w.connections k j y on) [
         | inl (here, more) ↦ absurd (other here)
         | inr (different, there) ↦ (y, there, refl, refl)
       ]
     ]
 
 -- the attempt is over
-is_over : (drive : PlainDriveSpec) (w u : World) (k n : ℕ) (l : Link) (d : Dumping) (b : Begun) (s : ServerConnection) → IsSmooth drive w → IsOwnLink w k l d b s
-    → AreUnserved (side_of w.server k) l.toward [] → u.server ≡ w.server → u.links ≡ changed over_there (changed (λ x. record x { back = drop n x.back }) w.links k) k → u.begun ≡ w.begun
+is_over : (drive : PlainDriveSpec) (w u : World) (k n : ℕ) (l : Connection) (d : Dumping) (b : Begun) (s : ServerConnection) → IsSmooth drive w → IsOwnConnection w k l d b s
+    → AreUnserved (side_of w.server k) l.toward [] → u.server ≡ w.server → u.connections ≡ changed over_there (changed (λ x. record x { back = drop n x.back }) w.connections k) k → u.begun ≡ w.begun
     → u.counts ≡ w.counts → StandsWith u.caller drive u → FailsFaultless drive u → IsSmooth drive u
-is_over drive w u k n l d b s sm own served server links begun counts stands failure = settles drive w u k sm record {
+is_over drive w u k n l d b s sm own served server connections begun counts stands failure = settles drive w u k sm record {
   own = own.own;
-  links = λ j y at. (let x = over_links w u k n links j y at in (x.0, x.1, (λ e is. (e, x.2 ∙ is)), λ other. x.3));
+  connections = λ j y at. (let x = over_connections w u k n connections j y at in (x.0, x.1, (λ e is. (e, x.2 ∙ is)), λ other. x.3));
   sides = λ j other. ap (λ h. side_of h j) server;
   here = λ y at none. (
-      let x = over_links w u k n links k y at in
+      let x = over_connections w u k n connections k y at in
       let same = same_Some x.0 l (sym x.1 ∙ own.there) in
-      subst (λ way. AreUnserved (side_of u.server k) way []) (sym (x.3 ∙ ap (λ (z : Link). z.toward) same)) (subst (λ h. AreUnserved (side_of h k) l.toward []) (sym server) served));
+      subst (λ way. AreUnserved (side_of u.server k) way []) (sym (x.3 ∙ ap (λ (z : Connection). z.toward) same)) (subst (λ h. AreUnserved (side_of h k) l.toward []) (sym server) served));
   begun = begun;
   reels = subst (λ cs. map (λ (x : Count). x.reel) cs ≡ take (length cs) drive.reels) (sym counts) sm.reels;
   stands = stands;
@@ -213,8 +213,8 @@ is_over drive w u k n l d b s sm own served server links begun counts stands fai
 }
 
 -- it failed
-has_failed : (drive : PlainDriveSpec) (w : World) (k n : ℕ) (c : Caller) (l : Link) (d : Dumping) (b : Begun) (s : ServerConnection) (step : Step) (at : Standing) (reader : ReplyHeld) (fault : AttemptFault)
-    → IsSmooth drive w → IsOwnLink w k l d b s → AreUnserved (side_of w.server k) l.toward [] → at.stage ≡ Asking → at.counts ≡ c.at.counts → b.run ≡ at.run
+has_failed : (drive : PlainDriveSpec) (w : World) (k n : ℕ) (c : Caller) (l : Connection) (d : Dumping) (b : Begun) (s : ServerConnection) (step : Step) (at : Standing) (reader : ReplyHeld) (fault : AttemptFault)
+    → IsSmooth drive w → IsOwnConnection w k l d b s → AreUnserved (side_of w.server k) l.toward [] → at.stage ≡ Asking → at.counts ≡ c.at.counts → b.run ≡ at.run
     → IsFaultlessFailure drive.capacity b.run fault → w.server.library.bin ≡ volume_slots drive (stock_of w) → IsSmooth drive (heard w k n c at reader (moved.Failed fault))
 has_failed drive w k n c l d b s step at reader fault sm own served stage same run why bin =
     let u : World = heard w k n c at reader (moved.Failed fault) in
@@ -230,8 +230,8 @@ has_failed drive w k n c l d b s step at reader fault sm own served stage same r
     ))
 
 -- it ended
-has_ended : (drive : PlainDriveSpec) (w : World) (k n : ℕ) (c : Caller) (l : Link) (d : Dumping) (b : Begun) (s : ServerConnection) (at : Standing) (reader : ReplyHeld) (stage : Stage)
-    → IsSmooth drive w → IsOwnLink w k l d b s → AreUnserved (side_of w.server k) l.toward [] → at.stage ≡ stage → at.counts ≡ c.at.counts
+has_ended : (drive : PlainDriveSpec) (w : World) (k n : ℕ) (c : Caller) (l : Connection) (d : Dumping) (b : Begun) (s : ServerConnection) (at : Standing) (reader : ReplyHeld) (stage : Stage)
+    → IsSmooth drive w → IsOwnConnection w k l d b s → AreUnserved (side_of w.server k) l.toward [] → at.stage ≡ stage → at.counts ≡ c.at.counts
     → ((u : World) (x : Caller) → IsFree drive (stock_of u) → ReelsStandAt stage drive u x) → IsFree drive (stock_of w) → IsSmooth drive (heard w k n c at reader moved.Ended)
 has_ended drive w k n c l d b s at reader stage sm own served is same stands free =
     let u : World = heard w k n c at reader moved.Ended in
@@ -242,8 +242,8 @@ has_ended drive w k n c l d b s at reader stage sm own served is same stands fre
     (λ volume fault failed. absurd cc)
 
 -- by what came of it
-by_then : (drive : PlainDriveSpec) (w : World) (k n : ℕ) (c : Caller) (l : Link) (d : Dumping) (b : Begun) (s : ServerConnection) (step : Step) (at : Standing) (reader : ReplyHeld)
-    (progress : Progress) (stage : Stage) → IsWorldKept w → IsSmooth drive w → IsOwnLink w k l d b s → IsAttempt w.begun c d step b → AreUnserved (side_of w.server k) l.toward []
+by_then : (drive : PlainDriveSpec) (w : World) (k n : ℕ) (c : Caller) (l : Connection) (d : Dumping) (b : Begun) (s : ServerConnection) (step : Step) (at : Standing) (reader : ReplyHeld)
+    (progress : Progress) (stage : Stage) → IsWorldKept w → IsSmooth drive w → IsOwnConnection w k l d b s → IsAttempt w.begun c d step b → AreUnserved (side_of w.server k) l.toward []
     → ((next : Step) → at.stage ≡ ToSend next → step ≢ Close) → b.run ≡ at.run → at.stage ≡ stage → StandsThen progress stage drive (stock_of w) k b d s.session
     → CountsThen stage c.at.counts d at.counts → IsSmooth drive (heard w k n c at reader progress)
 by_then drive w k n c l d b s step at reader moved.Send (ToSend Close) kept sm own attempt served early run is stands counts =
@@ -267,8 +267,8 @@ by_then drive w k n c l d b s step at reader moved.Ended Finished kept sm own at
 by_then drive w k n c l d b s step at reader progress stage kept sm own attempt served early run is stands counts = absurd stands
 
 -- it waits for more
-waits_on : (drive : PlainDriveSpec) (w : World) (k n : ℕ) (c : Caller) (l : Link) (d : Dumping) (b : Begun) (s : ServerConnection) (step : Step) (at : Standing) (reader : ReplyHeld)
-    (bytes : List ℕ) → IsSmooth drive w → IsOwnLink w k l d b s → (a : IsStepAnswered drive w (attempt_on k b d s.session) l c step) → c.at.stage ≡ Waiting step → at ≡ c.at
+waits_on : (drive : PlainDriveSpec) (w : World) (k n : ℕ) (c : Caller) (l : Connection) (d : Dumping) (b : Begun) (s : ServerConnection) (step : Step) (at : Standing) (reader : ReplyHeld)
+    (bytes : List ℕ) → IsSmooth drive w → IsOwnConnection w k l d b s → (a : IsStepAnswered drive w (attempt_on k b d s.session) l c step) → c.at.stage ≡ Waiting step → at ≡ c.at
     → reply_text a.reply ≡ bytes ++ drop n l.back → HasFedAt at.stage reader (unanswered at.stage bytes) → IsSmooth drive (heard w k n c at reader moved.Waiting)
 waits_on drive w k n c l d b s step at reader bytes sm own a was same text has =
     let u : World = heard w k n c at reader moved.Send in
@@ -296,8 +296,8 @@ waits_on drive w k n c l d b s step at reader bytes sm own a was same text has =
     ))
 
 -- by what it makes of the bytes
-hearing_smooth : (drive : PlainDriveSpec) (w : World) (k n : ℕ) (c : Caller) (l : Link) (d : Dumping) (b : Begun) (s : ServerConnection) (step : Step) (at : Standing) (reader : ReplyHeld)
-    (bytes : List ℕ) (progress : Progress) → IsWorldKept w → IsSmooth drive w → IsOwnLink w k l d b s → IsAttempt w.begun c d step b
+hearing_smooth : (drive : PlainDriveSpec) (w : World) (k n : ℕ) (c : Caller) (l : Connection) (d : Dumping) (b : Begun) (s : ServerConnection) (step : Step) (at : Standing) (reader : ReplyHeld)
+    (bytes : List ℕ) (progress : Progress) → IsWorldKept w → IsSmooth drive w → IsOwnConnection w k l d b s → IsAttempt w.begun c d step b
     → (a : IsStepAnswered drive w (attempt_on k b d s.session) l c step) → c.at.stage ≡ Waiting step → at.run ≡ c.at.run → HearsPiece c.at step a.reply bytes (drop n l.back) progress at
     → HasFedAt at.stage reader (unanswered at.stage bytes) → IsSmooth drive (heard w k n c at reader progress)
 hearing_smooth drive w k n c l d b s step at reader bytes progress kept sm own attempt a was run (waits moves same text) has =
@@ -308,8 +308,8 @@ hearing_smooth drive w k n c l d b s step at reader bytes progress kept sm own a
     (attempt.run ∙ sym run) refl led.0 led.1
 
 -- what reached the client that waits
-fed_smooth : OneReply → Goings → (drive : PlainDriveSpec) (w : World) (k n : ℕ) (c : Caller) (l : Link) (d : Dumping) (b : Begun) (s : ServerConnection) (step : Step) (at : Standing)
-    (reader : ReplyHeld) (fed : List ℕ) (progress : Progress) → IsWorldKept w → IsSmooth drive w → IsOwnLink w k l d b s → IsAttempt w.begun c d step b
+fed_smooth : OneReply → Goings → (drive : PlainDriveSpec) (w : World) (k n : ℕ) (c : Caller) (l : Connection) (d : Dumping) (b : Begun) (s : ServerConnection) (step : Step) (at : Standing)
+    (reader : ReplyHeld) (fed : List ℕ) (progress : Progress) → IsWorldKept w → IsSmooth drive w → IsOwnConnection w k l d b s → IsAttempt w.begun c d step b
     → IsStepAnswered drive w (attempt_on k b d s.session) l c step → c.at.stage ≡ Waiting step → HasFedAt (Waiting step) c.reader fed
     → FedAt c.at.stage c.at fed (take n l.back) progress at → FedAt (Waiting step) c.at fed (take n l.back) progress at
     → HasFedAt at.stage reader (unanswered at.stage (fed ++ take n l.back)) → IsSmooth drive (heard w k n c at reader progress)
@@ -317,33 +317,33 @@ fed_smooth g o drive w k n c l d b s step at reader fed progress kept sm own att
     hearing_smooth drive w k n c l d b s step at reader (fed ++ take n l.back) progress kept sm own attempt a was ((o.0 c.at at fed (take n l.back) progress feeds).1.run)
     (hearing g c.reader c.at at step a.reply a.fed fed l.back n progress a.brief a.text a.has had waited) has
 
-stage_hears : OneReply → Goings → (drive : PlainDriveSpec) (w : World) (k n : ℕ) (l : Link) (c : Caller) (stage : Stage) (at : Standing) (reader : ReplyHeld) (fed : List ℕ)
-    (progress : Progress) → IsWorldKept w → IsSmooth drive w → w.caller ≡ Some c → c.at.stage ≡ stage → w.own ≡ Some k → IsTrue (is_in_attempt stage) → link_of w k ≡ Some l
+stage_hears : OneReply → Goings → (drive : PlainDriveSpec) (w : World) (k n : ℕ) (l : Connection) (c : Caller) (stage : Stage) (at : Standing) (reader : ReplyHeld) (fed : List ℕ)
+    (progress : Progress) → IsWorldKept w → IsSmooth drive w → w.caller ≡ Some c → c.at.stage ≡ stage → w.own ≡ Some k → IsTrue (is_in_attempt stage) → connection_of w k ≡ Some l
     → 1 ≤ n → n ≤ length l.back → ReelsStandAt stage drive w c → HasFedAt c.at.stage c.reader fed → FedAt c.at.stage c.at fed (take n l.back) progress at
     → HasFedAt at.stage reader (unanswered at.stage (fed ++ take n l.back)) → IsSmooth drive (heard w k n c at reader progress)
-stage_hears g o drive w k n l c (ToSend step) at reader fed progress kept sm there is mine under link first within (j, x, d, b, s, own, stands) had feeds has =
+stage_hears g o drive w k n l c (ToSend step) at reader fed progress kept sm there is mine under conn first within (j, x, d, b, s, own, stands) had feeds has =
     let same : j ≡ k = same_Some j k (sym own.own ∙ mine) in
-    let links : x ≡ l = same_Some x l (sym own.there ∙ ap (link_of w) same ∙ link) in
+    let connections : x ≡ l = same_Some x l (sym own.there ∙ ap (connection_of w) same ∙ conn) in
     let told = own_told w j x d b s c (ToSend step) kept own there is in
-    absurd (some_way l n first within (ap (λ (y : Link). y.back) (sym links) ∙ told.2.back))
-stage_hears g o drive w k n l c (Waiting step) at reader fed progress kept sm there is mine under link first within (j, x, d, b, s, own, inl un) had feeds has =
+    absurd (some_way l n first within (ap (λ (y : Connection). y.back) (sym connections) ∙ told.2.back))
+stage_hears g o drive w k n l c (Waiting step) at reader fed progress kept sm there is mine under conn first within (j, x, d, b, s, own, inl un) had feeds has =
     let same : j ≡ k = same_Some j k (sym own.own ∙ mine) in
-    let links : x ≡ l = same_Some x l (sym own.there ∙ ap (link_of w) same ∙ link) in
-    absurd (some_way l n first within (ap (λ (y : Link). y.back) (sym links) ∙ un.back))
-stage_hears g o drive w k n l c (Waiting step) at reader fed progress kept sm there is mine under link first within (j, x, d, b, s, own, inr done) had feeds has =
+    let connections : x ≡ l = same_Some x l (sym own.there ∙ ap (connection_of w) same ∙ conn) in
+    absurd (some_way l n first within (ap (λ (y : Connection). y.back) (sym connections) ∙ un.back))
+stage_hears g o drive w k n l c (Waiting step) at reader fed progress kept sm there is mine under conn first within (j, x, d, b, s, own, inr done) had feeds has =
     let same : j ≡ k = same_Some j k (sym own.own ∙ mine) in
-    let links : x ≡ l = same_Some x l (sym own.there ∙ ap (link_of w) same ∙ link) in
+    let connections : x ≡ l = same_Some x l (sym own.there ∙ ap (connection_of w) same ∙ conn) in
     let told = own_told w j x d b s c (Waiting step) kept own there is in
     let its : told.0 ≡ b = same_Some told.0 b (sym told.1.begun_as ∙ own.begun) in
-    let pieces : FedAt c.at.stage c.at fed (take n x.back) progress at = subst (λ (y : Link). FedAt c.at.stage c.at fed (take n y.back) progress at) (sym links) feeds in
+    let pieces : FedAt c.at.stage c.at fed (take n x.back) progress at = subst (λ (y : Connection). FedAt c.at.stage c.at fed (take n y.back) progress at) (sym connections) feeds in
     subst (λ m. IsSmooth drive (heard w m n c at reader progress)) same
     (fed_smooth g o drive w j n c x d b s step at reader fed progress kept sm own (subst (λ y. IsAttempt w.begun c d step y) its told.1) done is
     (subst (λ y. HasFedAt y c.reader fed) is had) pieces (subst (λ y. FedAt y c.at fed (take n x.back) progress at) is pieces)
-    (subst (λ (y : Link). HasFedAt at.stage reader (unanswered at.stage (fed ++ take n y.back))) (sym links) has))
-stage_hears g o drive w k n l c stage at reader fed progress kept sm there is mine under link first within stands had feeds has = absurd cc
+    (subst (λ (y : Connection). HasFedAt at.stage reader (unanswered at.stage (fed ++ take n y.back))) (sym connections) has))
+stage_hears g o drive w k n l c stage at reader fed progress kept sm there is mine under conn first within stands had feeds has = absurd cc
 
 -- Bytes reach the side that is not the server's: on this link it is the client.
-pub hears_smooth : OneReply → Goings → (dump : Option Dumping) (drive : PlainDriveSpec) (w u : World) (k n : ℕ) (l : Link) → IsWorldKept w → IsSmooth drive w → link_of w k ≡ Some l
+pub hears_smooth : OneReply → Goings → (dump : Option Dumping) (drive : PlainDriveSpec) (w u : World) (k n : ℕ) (l : Connection) → IsWorldKept w → IsSmooth drive w → connection_of w k ≡ Some l
     → IsTrue l.other → l.dump ≡ dump → 1 ≤ n → n ≤ length l.back → Hears dump w k n (take n l.back) u → IsSmooth drive u
 hears_smooth g o None drive w u k n l kept sm at other dump first within hears =
     let d = sm.clients k l at in

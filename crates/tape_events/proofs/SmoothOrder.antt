@@ -11,7 +11,7 @@ use Rattle.drives.proofs.Shops.{bit, named, times_named, sum_by_with_drive}
 use Rattle.rmt_server.specs.ServerState.{ServerState}
 use Rattle.dump_client.specs.declared.stage.Stage.{Stage}
 use Rattle.dump_client.specs.declared.stage.Stage.TheVariants.{Ready, ToSend, Waiting, Asking, Finished, Abandoned}
-use Rattle.tape_events.specs.World.{World, Link, Begun, Caller, Count, numbered}
+use Rattle.tape_events.specs.World.{World, Connection, Begun, Caller, Count, numbered}
 use Rattle.tape_events.specs.Events.{PlainEvent}
 use Rattle.tape_events.specs.Events.PlainEvent.{StartRun, Connect, Send, ToServer, Serve, ToClient}
 use Rattle.tape_events.specs.First.{PlainDriveSpec, AreGoodDrives, first_world}
@@ -47,15 +47,15 @@ smooth_after g drive w u (Send fails) kept sm whole (may, (c, step, k, b, there,
     let s : Sends false w k c b.payload step u = subst (λ f. Sends (is_failing f step) w k c b.payload step u) whole sends in
     subst (IsSmooth drive) (sym s.2) (asked_smooth drive w k c b.payload step s.0 kept sm own there stage)
 smooth_after g drive w u (ToServer k n) kept sm whole ((s, l, live, at, part, room), (x, y, reached, here, there, grows, is)) =
-    let links : l ≡ y = same_Some l y (sym at ∙ there) in
+    let connections : l ≡ y = same_Some l y (sym at ∙ there) in
     subst (IsSmooth drive) (sym is)
-    (reached_smooth drive w k n x y reached kept sm here there part.0 (subst (λ (z : Link). n ≤ length z.toward) links part.1))
+    (reached_smooth drive w k n x y reached kept sm here there part.0 (subst (λ (z : Connection). n ≤ length z.toward) connections part.1))
 smooth_after g drive w u (Serve k trouble) kept sm whole (may, (s, found, bytes, rest, live, unread, gives, finds)) =
     serve_smooth g.reading g.dropped drive w u k s found bytes rest kept sm live unread gives (subst (λ t. Finds w k t s found rest u) whole finds)
 smooth_after g drive w u (ToClient k n) kept sm whole ((l, (there, other), part), (y, at, hears)) =
-    let links : l ≡ y = same_Some l y (sym there ∙ at) in
-    hears_smooth g.reply g.goings y.dump drive w u k n y kept sm at (subst (λ (z : Link). IsTrue z.other) links other) refl part.0
-    (subst (λ (z : Link). n ≤ length z.back) links part.1) hears
+    let connections : l ≡ y = same_Some l y (sym there ∙ at) in
+    hears_smooth g.reply g.goings y.dump drive w u k n y kept sm at (subst (λ (z : Connection). IsTrue z.other) connections other) refl part.0
+    (subst (λ (z : Connection). n ≤ length z.back) connections part.1) hears
 smooth_after g drive w u event kept sm whole happens = absurd whole
 
 -- a list without faults and an event without one

@@ -2,7 +2,7 @@
 use Rattle.std.proofs.Common.{◌≡◌, List, None, refl, sym, ◌∙◌, arith}
 use Rattle.tape_events.specs.World.{World}
 use Rattle.tape_events.specs.First.{PlainDriveSpec, first_world}
-use Rattle.tape_events.specs.Changes.{over_here, over_there, new_link}
+use Rattle.tape_events.specs.Changes.{over_here, over_there, new_connection}
 use Rattle.tape_events.specs.Attempts.{AreSingle, AreCountsEarned}
 use Rattle.tape_events.specs.Kept.{HasLawful}
 use Rattle.tape_events.specs.Owning.{IsOwned}
@@ -97,7 +97,7 @@ spared_moved r h g w (talks k l t at none) a owned lawful after =
     a.opened a.writers refl refl refl a.spared
 spared_moved r h g w joins a owned lawful after =
     let u = moved w joins in
-    same_spared w u (quiet w u refl refl refl) (joined_dumps w u (new_link None) refl) (joined_backs w u (new_link None) owned refl) a.opened a.writers refl
+    same_spared w u (quiet w u refl refl refl) (joined_dumps w u (new_connection None) refl) (joined_backs w u (new_connection None) owned refl) a.opened a.writers refl
     refl refl a.spared
 spared_moved r h g w m a owned lawful after =
     let u = moved w m in

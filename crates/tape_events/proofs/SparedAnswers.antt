@@ -20,13 +20,13 @@ use Rattle.dump_client.specs.declared.step.TapeOp.TheVariants.{Rewind, RewindAga
 use Rattle.dump_client.specs.declared.stage.Stage.{Stage}
 use Rattle.dump_client.specs.declared.stage.Stage.TheVariants.{ToSend, Waiting}
 use Rattle.dump_client.specs.declared.stage.Progress.{Progress}
-use Rattle.tape_events.specs.World.{World, Link, Dumping, Begun, Caller, Count, numbered}
-use Rattle.tape_events.specs.Changes.{side_of, link_of, sent_on, opening, opened_reel, noted, answered}
+use Rattle.tape_events.specs.World.{World, Connection, Dumping, Begun, Caller, Count, numbered}
+use Rattle.tape_events.specs.Changes.{side_of, connection_of, sent_on, opening, opened_reel, noted, answered}
 use Rattle.tape_events.specs.Headline.{IsSpared}
 use Rattle.tape_events.specs.Kept.{HasLawful}
 use Rattle.tape_events.specs.Owning.{is_in_attempt, IsOwned}
 use Rattle.tape_events.specs.Attempts.{AreSingle, AreCountsEarned}
-use Rattle.tape_events.specs.Sending.{StandsFor, request_in, IsBrief, IsAttempt, IsStepAsked, IsStepReplied, IsLinkToldAt, AreTold}
+use Rattle.tape_events.specs.Sending.{StandsFor, request_in, IsBrief, IsAttempt, IsStepAsked, IsStepReplied, IsConnectionToldAt, AreTold}
 use Rattle.tape_events.specs.Sparing.{HasOpenedSince, HasLooked}
 use Rattle.tape_events.proofs.Numbers.{changed_is}
 use Rattle.tape_events.proofs.Sent.{steps_len, before_length}
@@ -55,10 +55,10 @@ look_step run first next (Operation (Unload end)) is = absurd (omega (arith, is)
 look_step run first next Close is = absurd (omega (arith, is))
 
 -- The client's own session carries out the request of the step at which it waits, and the reply leads on to the second rewind.
-record IsAnswered (w : World) (v : Turn w) (c : Caller) (l : Link) (d : Dumping) (progress : Progress) (new : Standing) : Type 0 where
+record IsAnswered (w : World) (v : Turn w) (c : Caller) (l : Connection) (d : Dumping) (progress : Progress) (new : Standing) : Type 0 where
   own : w.own ≡ Some v.k
   there : w.caller ≡ Some c
-  at : link_of w v.k ≡ Some l
+  at : connection_of w v.k ≡ Some l
   dump : l.dump ≡ Some d
   served : IsServed w v l d
   b : Begun
@@ -74,7 +74,7 @@ record IsAnswered (w : World) (v : Turn w) (c : Caller) (l : Link) (d : Dumping)
   noted_three : (noted v.request v.reply d).carried ≡ 3
 
 -- it is the look, for the client and for the server
-step_is : (w : World) (v : Turn w) (c : Caller) (l : Link) (d : Dumping) (progress : Progress) (new : Standing) → (a : IsAnswered w v c l d progress new)
+step_is : (w : World) (v : Turn w) (c : Caller) (l : Connection) (d : Dumping) (progress : Progress) (new : Standing) → (a : IsAnswered w v c l d progress new)
     → (a.step ≡ Look) × (a.served.step ≡ Look)
 step_is w v c l d progress new a =
     let more = carried_more d v.request v.reply a.served.few in
@@ -86,7 +86,7 @@ step_is w v c l d progress new a =
     )
 
 -- and what the client hears is what the server answered
-reply_is : OneReply → (w : World) (v : Turn w) (c : Caller) (l : Link) (d : Dumping) (progress : Progress) (new : Standing)
+reply_is : OneReply → (w : World) (v : Turn w) (c : Caller) (l : Connection) (d : Dumping) (progress : Progress) (new : Standing)
     → (a : IsAnswered w v c l d progress new) → v.reply ≡ a.reply
 reply_is g w v c l d progress new a =
     let is = step_is w v c l d progress new a in
@@ -110,7 +110,7 @@ shows_both run at reply (inr (shown, data_is, counted)) bytes is none =
     counted (ap (counted_label run at.counts) same ∙ none)
 
 -- so the reel is not that of a count
-answered_past : OneReply → (w : World) (v : Turn w) (c : Caller) (l : Link) (d : Dumping) (progress : Progress) (new : Standing) (x : Count) → Grounds w
+answered_past : OneReply → (w : World) (v : Turn w) (c : Caller) (l : Connection) (d : Dumping) (progress : Progress) (new : Standing) (x : Count) → Grounds w
     → HasLawful w → IsAnswered w v c l d progress new → Contains w.counts x → IsSpared w x → HasOpenedSince w x v.k ⊎ ((v.k ≡ v.k) × OpensNow w v) → ⊥
 answered_past g w v c l d progress new x k lawful a counted spared (inr (same, (reel, opened))) =
     let first = open_step a.served.b d a.served.step v.library v.session reel (subst (λ q. opened_reel q v.library v.session ≡ Some reel) a.served.asks opened) in
@@ -150,10 +150,10 @@ arrives true text reply is = absurd (no_text reply is)
 arrives false text reply is = is
 
 -- The client's own session is served, and after it what is on the way leads on past the look; the reel is that of a count.
-record IsServedHere (w : World) (v : Turn w) (c : Caller) (l m : Link) (d : Dumping) (new : Standing) (x : Count) : Type 0 where
+record IsServedHere (w : World) (v : Turn w) (c : Caller) (l m : Connection) (d : Dumping) (new : Standing) (x : Count) : Type 0 where
   own : w.own ≡ Some v.k
   there : w.caller ≡ Some c
-  at : link_of w v.k ≡ Some l
+  at : connection_of w v.k ≡ Some l
   dump : l.dump ≡ Some d
   served : IsServed w v l d
   back : m.back ≡ sent_on l.cut l.back (reply_text v.reply)
@@ -163,7 +163,7 @@ record IsServedHere (w : World) (v : Turn w) (c : Caller) (l m : Link) (d : Dump
   since : HasOpenedSince w x v.k ⊎ ((v.k ≡ v.k) × OpensNow w v)
 
 -- its request is the one that the client waits for
-asked_past : OneReply → (w : World) (v : Turn w) (c : Caller) (l m : Link) (d : Dumping) (step : Step) (b e : Begun) (o : Option ServerConnection) (fed : List ℕ)
+asked_past : OneReply → (w : World) (v : Turn w) (c : Caller) (l m : Connection) (d : Dumping) (step : Step) (b e : Begun) (o : Option ServerConnection) (fed : List ℕ)
     (progress : Progress) (new : Standing) (x : Count) → Grounds w → HasLawful w → IsServedHere w v c l m d new x → c.at.stage ≡ Waiting step
     → IsAttempt w.begun c d step b → IsStepAsked b (Some v.s) l c d step → (r : IsStepReplied e o m c (noted v.request v.reply d) step)
     → HasFedAt (Waiting step) c.reader fed → FedAt (Waiting step) c.at fed m.back progress new → ⊥
@@ -192,9 +192,9 @@ asked_past g w v c l m d step b e o fed progress new x k lawful s stage attempt 
     } s.counted s.spared s.since
 
 -- at the stage where the client stands
-stage_past : DroppedWrites → OneReply → (w : World) (v : Turn w) (stage : Stage) (c : Caller) (l m : Link) (d : Dumping) (begun : List Begun) (o : Option ServerConnection)
+stage_past : DroppedWrites → OneReply → (w : World) (v : Turn w) (stage : Stage) (c : Caller) (l m : Connection) (d : Dumping) (begun : List Begun) (o : Option ServerConnection)
     (fed : List ℕ) (progress : Progress) (new : Standing) (x : Count) → Grounds w → HasLawful w → IsServedHere w v c l m d new x → c.at.stage ≡ stage
-    → IsTrue (is_in_attempt stage) → IsLinkToldAt stage w.begun (Some v.s) l c d → IsLinkToldAt stage begun o m c (noted v.request v.reply d)
+    → IsTrue (is_in_attempt stage) → IsConnectionToldAt stage w.begun (Some v.s) l c d → IsConnectionToldAt stage begun o m c (noted v.request v.reply d)
     → HasFedAt stage c.reader fed → FedAt stage c.at fed m.back progress new → ⊥
 stage_past h g w v (ToSend step) c l m d begun o fed progress new x k lawful s stage inside (b, attempt, turn) told had feeds =
     nothing_there h v.s l.toward v.bytes v.rest v.request turn.settled.unserved v.unread v.gives
@@ -211,19 +211,19 @@ stage_past h g w v (Waiting step) c l m d begun o fed progress new x k lawful s 
 stage_past h g w v other c l m d begun o fed progress new x k lawful s stage inside told again had feeds = absurd cc
 
 -- the client's own session is served
-own_looked : OneReading → DroppedWrites → OneReply → (w : World) (v : Turn w) (c : Caller) (y l : Link) (fed : List ℕ) (progress : Progress) (new : Standing)
-    (x : Count) → Grounds w → IsOwned w → HasLawful w → AreTold (turned w v) → w.own ≡ Some v.k → w.caller ≡ Some c → link_of w v.k ≡ Some y
-    → link_of (turned w v) v.k ≡ Some l → l ≡ answered v.request v.reply y → HasFedAt c.at.stage c.reader fed → FedAt c.at.stage c.at fed l.back progress new
+own_looked : OneReading → DroppedWrites → OneReply → (w : World) (v : Turn w) (c : Caller) (y l : Connection) (fed : List ℕ) (progress : Progress) (new : Standing)
+    (x : Count) → Grounds w → IsOwned w → HasLawful w → AreTold (turned w v) → w.own ≡ Some v.k → w.caller ≡ Some c → connection_of w v.k ≡ Some y
+    → connection_of (turned w v) v.k ≡ Some l → l ≡ answered v.request v.reply y → HasFedAt c.at.stage c.reader fed → FedAt c.at.stage c.at fed l.back progress new
     → new.stage ≡ ToSend (Operation RewindAgain) → Contains w.counts x → IsSpared w x → HasOpenedSince w x v.k ⊎ ((v.k ≡ v.k) × OpensNow w v) → ⊥
 own_looked r h g w v c y l fed progress new x k owned lawful told own there was at is had feeds goes counted spared since =
     let mine = owned.own v.k own in
     let same : mine.0.0 ≡ y = same_Some mine.0.0 y (sym mine.0.2 ∙ was) in
     let d = mine.0.1 in
-    let dump : y.dump ≡ Some d = ap (λ (z : Link). z.dump) (sym same) ∙ mine.0.4 in
-    let noted_dump = ap (λ (z : Link). z.dump) is ∙ ap (option_map (noted v.request v.reply)) dump in
+    let dump : y.dump ≡ Some d = ap (λ (z : Connection). z.dump) (sym same) ∙ mine.0.4 in
+    let noted_dump = ap (λ (z : Connection). z.dump) is ∙ ap (option_map (noted v.request v.reply)) dump in
     let client = mine.1 in
     let inside = subst (λ (z : Caller). IsTrue (is_in_attempt z.at.stage)) (same_Some client.0 c (sym client.1 ∙ there)) client.2 in
-    let before = subst (λ o. IsLinkToldAt c.at.stage w.begun o y c d) v.live ((k.told.each v.k y was).own d c dump own there) in
+    let before = subst (λ o. IsConnectionToldAt c.at.stage w.begun o y c d) v.live ((k.told.each v.k y was).own d c dump own there) in
     let after = (told.each v.k l at).own (noted v.request v.reply d) c noted_dump own there in
     let here : IsServedHere w v c y l d new x = record {
       own = own;
@@ -231,7 +231,7 @@ own_looked r h g w v c y l fed progress new x k owned lawful told own there was 
       at = was;
       dump = dump;
       served = served_step r h w v k.told y d was dump;
-      back = ap (λ (z : Link). z.back) is;
+      back = ap (λ (z : Connection). z.back) is;
       goes = goes;
       counted = counted;
       spared = spared;
@@ -242,9 +242,9 @@ own_looked r h g w v c y l fed progress new x k owned lawful told own there was 
 pub served_looked : OneReading → DroppedWrites → OneReply → (w : World) (v : Turn w) → Grounds w → IsOwned w → HasLawful w → AreTold (turned w v)
     → AreCountsEarned (turned w v) → AreSingle (turned w v) → HasLooked (turned w v)
 served_looked r h g w v a owned lawful told earned single k l c fed progress new x own at there had feeds goes counted spared since =
-    elim (changed_is (answered v.request v.reply) w.links v.k k l at) [
+    elim (changed_is (answered v.request v.reply) w.connections v.k k l at) [
       | inl (same, (y, was, is)) ↦
-          own_looked r h g w v c y l fed progress new x a owned lawful told (own ∙ ap Some same) there was (ap (link_of (turned w v)) (sym same) ∙ at) is had
+          own_looked r h g w v c y l fed progress new x a owned lawful told (own ∙ ap Some same) there was (ap (connection_of (turned w v)) (sym same) ∙ at) is had
           feeds goes counted before
           (served_since w v x v.k placed (subst (HasOpenedSince (turned w v) x) same since))
       | inr (other, on) ↦ elim (served_since w v x k placed since) [

@@ -1,7 +1,7 @@
 -- What is spared after an event was so before it.
 use Rattle.std.proofs.Common.{◌≡◌, ℕ, ◌≤◌, List, [], ◌∷◌, ◌++◌, length, map, Some, Contains, refl, sym, ap, ◌∙◌, inl, inr, arith}
 use Rattle.dump_run.specs.declared.count.VolumeCount.{VolumeCount}
-use Rattle.tape_events.specs.World.{World, Link, Dumping, Count, Opening, Writing, numbered}
+use Rattle.tape_events.specs.World.{World, Connection, Dumping, Count, Opening, Writing, numbered}
 use Rattle.tape_events.specs.Changes.{changed, opening, HasDump}
 use Rattle.tape_events.specs.Headline.{IsSpared}
 use Rattle.tape_events.specs.Naming.{AreOpened, AreWritersLast}
@@ -12,7 +12,7 @@ use Rattle.tape_events.proofs.Writers.{front_in}
 
 -- Openings stay at their places, with their lists, and an attempt that was there is of its run still.
 pub record GoesBack (w u : World) : Type 0 where
-  pub dumps : (k : ℕ) (d : Dumping) → HasDump u k d → k ≤ length w.links → (e : Dumping) × HasDump w k e × (e.run ≡ d.run)
+  pub dumps : (k : ℕ) (d : Dumping) → HasDump u k d → k ≤ length w.connections → (e : Dumping) × HasDump w k e × (e.run ≡ d.run)
   pub opens : (m : ℕ) (o : Opening) → numbered w.opens m ≡ Some o → numbered u.opens m ≡ Some o
   pub lists : (m : ℕ) (o : Opening) (list : List VolumeCount) → numbered w.opens m ≡ Some o → numbered u.lists m ≡ Some list → numbered w.lists m ≡ Some list
 
@@ -30,24 +30,24 @@ spared_back w u b opened x (i, at, familiar) was = (
 
 -- each attempt that was there is as it was
 abbrev pub DumpsStay : World → World → Type 0
-DumpsStay w u = (k : ℕ) (d : Dumping) → HasDump u k d → k ≤ length w.links → HasDump w k d
+DumpsStay w u = (k : ℕ) (d : Dumping) → HasDump u k d → k ≤ length w.connections → HasDump w k d
 
-pub same_dumps : (w u : World) → u.links ≡ w.links → DumpsStay w u
-same_dumps w u links k d (l, at, dump) within = (l, ap (λ ls. numbered ls k) (sym links) ∙ at, dump)
+pub same_dumps : (w u : World) → u.connections ≡ w.connections → DumpsStay w u
+same_dumps w u connections k d (l, at, dump) within = (l, ap (λ ls. numbered ls k) (sym connections) ∙ at, dump)
 
-pub changed_dumps : (f : Link → Link) → ((x : Link) → (f x).dump ≡ x.dump) → (w u : World) (j : ℕ) → u.links ≡ changed f w.links j → DumpsStay w u
-changed_dumps f keeps w u j links k d (l, at, dump) within = elim (changed_is f w.links j k l (ap (λ ls. numbered ls k) (sym links) ∙ at)) [
-  | inl (same, (x, was, new)) ↦ (x, ap (numbered w.links) same ∙ was, sym (keeps x) ∙ ap (λ (y : Link). y.dump) (sym new) ∙ dump)
+pub changed_dumps : (f : Connection → Connection) → ((x : Connection) → (f x).dump ≡ x.dump) → (w u : World) (j : ℕ) → u.connections ≡ changed f w.connections j → DumpsStay w u
+changed_dumps f keeps w u j connections k d (l, at, dump) within = elim (changed_is f w.connections j k l (ap (λ ls. numbered ls k) (sym connections) ∙ at)) [
+  | inl (same, (x, was, new)) ↦ (x, ap (numbered w.connections) same ∙ was, sym (keeps x) ∙ ap (λ (y : Connection). y.dump) (sym new) ∙ dump)
   | inr (other, on) ↦ (l, on, dump)
 ]
 
-pub mapped_dumps : (f : Link → Link) → ((x : Link) → (f x).dump ≡ x.dump) → (w u : World) → u.links ≡ map f w.links → DumpsStay w u
-mapped_dumps f keeps w u links k d (l, at, dump) within =
-    let m = map_at f w.links k l (ap (λ ls. numbered ls k) (sym links) ∙ at) in
-    (m.0, m.1, sym (keeps m.0) ∙ ap (λ (y : Link). y.dump) (sym m.2) ∙ dump)
+pub mapped_dumps : (f : Connection → Connection) → ((x : Connection) → (f x).dump ≡ x.dump) → (w u : World) → u.connections ≡ map f w.connections → DumpsStay w u
+mapped_dumps f keeps w u connections k d (l, at, dump) within =
+    let m = map_at f w.connections k l (ap (λ ls. numbered ls k) (sym connections) ∙ at) in
+    (m.0, m.1, sym (keeps m.0) ∙ ap (λ (y : Connection). y.dump) (sym m.2) ∙ dump)
 
-pub joined_dumps : (w u : World) (new : Link) → u.links ≡ w.links ++ new ∷ [] → DumpsStay w u
-joined_dumps w u new links k d (l, at, dump) within = elim (pushed_is w.links new k l (ap (λ ls. numbered ls k) (sym links) ∙ at)) [
+pub joined_dumps : (w u : World) (new : Connection) → u.connections ≡ w.connections ++ new ∷ [] → DumpsStay w u
+joined_dumps w u new connections k d (l, at, dump) within = elim (pushed_is w.connections new k l (ap (λ ls. numbered ls k) (sym connections) ∙ at)) [
   | inl on ↦ (l, on, dump)
   | inr (last, is) ↦ absurd (omega (arith, last, within))
 ]
@@ -73,10 +73,10 @@ quiet_since w u s x k (i, m, at, less, opened) =
     (i, m, ap (λ os. numbered os i) (sym s.opens) ∙ at, less, ap (λ os. numbered os m) (sym s.opens) ∙ opened)
 
 -- whoever opened a reel since is there, and whoever wrote
-pub since_there : (w : World) (x : Count) (k : ℕ) → AreOpened w → HasOpenedSince w x k → k ≤ length w.links
+pub since_there : (w : World) (x : Count) (k : ℕ) → AreOpened w → HasOpenedSince w x k → k ≤ length w.connections
 since_there w x k opened (i, m, at, less, since) = (opened.there (opening k x.reel) (among_at w.opens m (opening k x.reel) since)).1
 
-pub writer_there : (w : World) (y : Writing) → AreOpened w → AreWritersLast w → Contains w.writings y → y.connection ≤ length w.links
+pub writer_there : (w : World) (y : Writing) → AreOpened w → AreWritersLast w → Contains w.writings y → y.connection ≤ length w.connections
 writer_there w y opened writers among =
     let last = writers y among in
     let m = last.1 in

@@ -19,14 +19,14 @@ use Rattle.dump_client.specs.declared.stage.Stage.TheVariants.{ToSend, Waiting}
 use Rattle.dump_client.specs.declared.stage.Progress.{Progress}
 use Rattle.dump_client.proofs.Heard.{heard_as}
 use Rattle.dump_client.specs.declared.fault.AttemptFault.{AttemptFault}
-use Rattle.tape_events.specs.World.{World, Link, Begun, Caller, Count}
-use Rattle.tape_events.specs.Changes.{side_of, link_of, opening, counts_of, over_there}
+use Rattle.tape_events.specs.World.{World, Connection, Begun, Caller, Count}
+use Rattle.tape_events.specs.Changes.{side_of, connection_of, opening, counts_of, over_there}
 use Rattle.tape_events.specs.Headline.{IsSpared}
 use Rattle.tape_events.specs.Kept.{HasLawful}
 use Rattle.tape_events.specs.Naming.{AreOpened, AreWritersLast}
 use Rattle.tape_events.specs.Owning.{is_in_attempt, IsOwned}
 use Rattle.tape_events.specs.Attempts.{AreSingle}
-use Rattle.tape_events.specs.Sending.{LeadsOn, IsBrief, IsStepReply, IsStepReplied, IsLinkToldAt, AreTold}
+use Rattle.tape_events.specs.Sending.{LeadsOn, IsBrief, IsStepReply, IsStepReplied, IsConnectionToldAt, AreTold}
 use Rattle.tape_events.specs.Sparing.{HasOpenedSince, AreStopped, AreListedNow, AreSpared}
 use Rattle.tape_events.specs.Steps.{caller}
 use Rattle.tape_events.proofs.Booked.{drop_front}
@@ -72,7 +72,7 @@ replied_hearing g w t step b stage r (inr (reply, is, brief, leads)) had feeds =
 }
 
 stage_hearing : OneReply → (w : World) (t : Listens w) (stage : Stage) → t.c.at.stage ≡ stage → IsTrue (is_in_attempt stage)
-    → IsLinkToldAt stage w.begun (side_of w.server t.k) t.l t.c t.d → HasFedAt stage t.c.reader t.fed
+    → IsConnectionToldAt stage w.begun (side_of w.server t.k) t.l t.c t.d → HasFedAt stage t.c.reader t.fed
     → FedAt stage t.c.at t.fed (take t.n t.l.back) t.progress t.at → IsHearing w t
 stage_hearing g w t (ToSend step) stage inside (b, attempt, turn) had feeds = absurd (some_way t.l t.n t.some t.within turn.back)
 stage_hearing g w t (Waiting step) stage inside (b, attempt, inl asked) had feeds = absurd (some_way t.l t.n t.some t.within asked.back)
@@ -309,9 +309,9 @@ heard_spared g w t on owned lawful told single opened writers p = record {
     own : w.own ≡ Some t.k
     own = own_listens w t owned
 
-    back_is : (k : ℕ) (l : Link) → w.own ≡ Some k → link_of u k ≡ Some l → l.back ≡ drop t.n t.l.back
-    back_is k l mine at = elim (changed_is (λ x. record x { back = drop t.n x.back }) w.links t.k k l at) [
-      | inl (same, (x, was, new)) ↦ ap (λ (y : Link). y.back) new ∙ ap (λ (y : Link). drop t.n y.back) (same_Some x t.l (sym was ∙ t.there))
+    back_is : (k : ℕ) (l : Connection) → w.own ≡ Some k → connection_of u k ≡ Some l → l.back ≡ drop t.n t.l.back
+    back_is k l mine at = elim (changed_is (λ x. record x { back = drop t.n x.back }) w.connections t.k k l at) [
+      | inl (same, (x, was, new)) ↦ ap (λ (y : Connection). y.back) new ∙ ap (λ (y : Connection). drop t.n y.back) (same_Some x t.l (sym was ∙ t.there))
       | inr (other, on) ↦ absurd (other (same_Some k t.k (sym mine ∙ own)))
     ]
 

@@ -23,9 +23,9 @@ use Rattle.dump_client.specs.Script.{counted_label}
 use Rattle.dump_client.specs.Standing.{IsAtStep}
 use Rattle.dump_client.specs.Lawful.{IsLawful}
 use Rattle.dump_client.specs.declared.step.Step.TheVariants.{Look}
-use Rattle.tape_events.specs.World.{World, Link, Dumping, Begun, Caller, Count, numbered}
-use Rattle.tape_events.specs.Changes.{link_of, opening, written_reel, first_name}
-use Rattle.tape_events.specs.Books.{HasCountOf}
+use Rattle.tape_events.specs.World.{World, Connection, Dumping, Begun, Caller, Count, numbered}
+use Rattle.tape_events.specs.Changes.{connection_of, opening, written_reel, first_name}
+use Rattle.tape_events.specs.History.{HasCountOf}
 use Rattle.tape_events.specs.Standing.{AreHeld, StandsOn}
 use Rattle.tape_events.specs.Kept.{AreLaid}
 use Rattle.tape_events.specs.Headline.{IsSpared}
@@ -80,10 +80,10 @@ label_whole run volume first good v f =
 
 -- All that is known where the client's own session looks at a reel that it opened after that of a count.
 pub record IsLooking (w : World) (v : Turn w) (c : Caller) (x : Count) : Type 0 where
-  pub l : Link
+  pub l : Connection
   pub d : Dumping
   pub b : Begun
-  pub at : link_of w v.k ≡ Some l
+  pub at : connection_of w v.k ≡ Some l
   pub dump : l.dump ≡ Some d
   pub served : IsServed w v l d
   pub look : served.step ≡ Look
@@ -138,8 +138,8 @@ its_count w v c x k g =
     let e = k.earned x g.counted in
     let one = (k.single x.connection e.0 e.1 e.3.there e.3.dump).one j i (opening x.connection x.reel) (opening x.connection x.reel) at place refl refl in
     let (d, (l, here, dump), run, list, lists, has) = familiar m (opening v.k x.reel) (omega (arith, one, less)) opened refl in
-    let links : l ≡ g.l = same_Some l g.l (sym here ∙ g.at) in
-    let dumps : d ≡ g.d = same_Some d g.d (sym dump ∙ ap (λ (y : Link). y.dump) links ∙ g.dump) in
+    let connections : l ≡ g.l = same_Some l g.l (sym here ∙ g.at) in
+    let dumps : d ≡ g.d = same_Some d g.d (sym dump ∙ ap (λ (y : Connection). y.dump) connections ∙ g.dump) in
     let same = k.spared.listed v.k m m c Look (opening v.k x.reel) list g.own g.there g.waits (λ is. cc) opened refl (omega arith) lists in
     (ap (λ (y : Dumping). y.run) (sym dumps) ∙ run, subst (λ cs. HasCountOf cs x.volume x.first) same has)
 

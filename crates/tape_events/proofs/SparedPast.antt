@@ -22,8 +22,8 @@ use Rattle.dump_client.specs.declared.step.TapeOp.TheVariants.{RewindAgain}
 use Rattle.dump_client.specs.declared.stage.Stage.TheVariants.{ToSend, Waiting, Asking}
 use Rattle.dump_client.specs.declared.stage.Progress.{Progress}
 use Rattle.rmt_server.specs.ServerState.{ServerConnection}
-use Rattle.tape_events.specs.World.{Link, Dumping, Begun, Caller}
-use Rattle.tape_events.specs.Books.{HasCountOf}
+use Rattle.tape_events.specs.World.{Connection, Dumping, Begun, Caller}
+use Rattle.tape_events.specs.History.{HasCountOf}
 use Rattle.tape_events.specs.Sending.{GoesTo, LeadsOn, IsBrief, IsStepReply, IsStepReplied}
 use Rattle.tape_events.proofs.SentWire.{OneReply, one_heard}
 use Rattle.tape_events.proofs.Pieces.{HearsPiece, waits, whole, hearing}
@@ -91,7 +91,7 @@ turn_past old new step next fed progress at (inl (none, moves, is)) goes =
 turn_past old new step next fed progress at (inr (some, hears)) goes = absurd (some refl)
 
 -- What leads it on is the whole reply, and before the next step all was done.
-pub record RepliesPast (run : PlainRun) (o : Option ServerConnection) (l : Link) (c : Caller) (d : Dumping) (step next : Step) (progress : Progress) (new : Standing) :
+pub record RepliesPast (run : PlainRun) (o : Option ServerConnection) (l : Connection) (c : Caller) (d : Dumping) (step next : Step) (progress : Progress) (new : Standing) :
     Type 0 where
   pub reply : PlainReply
   pub text : l.back ≡ reply_text reply
@@ -99,7 +99,7 @@ pub record RepliesPast (run : PlainRun) (o : Option ServerConnection) (l : Link)
   pub heard : HearsAt c.at step (Reply reply) false progress new
   pub goes : GoesTo run o c.at d new next
 
-piece_past : (run : PlainRun) (o : Option ServerConnection) (l : Link) (c : Caller) (d : Dumping) (step next : Step) (bytes way : List ℕ) (progress : Progress)
+piece_past : (run : PlainRun) (o : Option ServerConnection) (l : Connection) (c : Caller) (d : Dumping) (step next : Step) (bytes way : List ℕ) (progress : Progress)
     (new : Standing) (reply : PlainReply)
     → c.at.stage ≡ Waiting step → new.stage ≡ ToSend next → l.back ≡ reply_text reply → IsBrief (wanted_of step) reply → LeadsOn run o c.at d step reply
     → HearsPiece c.at step reply bytes way progress new → RepliesPast run o l c d step next progress new
@@ -108,7 +108,7 @@ piece_past run o l c d step next bytes way progress new reply at goes text brief
 piece_past run o l c d step next bytes way progress new reply at goes text brief leads (whole spelled none heard) =
     record { reply = reply; text = text; brief = brief; heard = heard; goes = leads progress new next heard goes }
 
-pub reply_past : OneReply → (b : Begun) (o : Option ServerConnection) (l : Link) (c : Caller) (d : Dumping) (step next : Step) (progress : Progress) (new : Standing)
+pub reply_past : OneReply → (b : Begun) (o : Option ServerConnection) (l : Connection) (c : Caller) (d : Dumping) (step next : Step) (progress : Progress) (new : Standing)
     → c.at.stage ≡ Waiting step → (r : IsStepReplied b o l c d step) → IsStepReply b.run o c.at d step (r.fed ++ l.back) → HasFedAt (Waiting step) c.reader []
     → FedAt (Waiting step) c.at [] l.back progress new → new.stage ≡ ToSend next → RepliesPast b.run o l c d step next progress new
 reply_past g b o l c d step next progress new at r (inl none) has feeds goes =

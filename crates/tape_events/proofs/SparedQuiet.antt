@@ -2,8 +2,8 @@
 use Rattle.std.proofs.Common.{◌≡◌, ℕ, ◌+◌, ◌≤◌, true, false, [], ◌∷◌, ◌++◌, length, map, Some, None, Contains, refl, sym, ap, subst, ◌∙◌, inl, inr, arith}
 use Rattle.std.proofs.lemmas.Option.{same_Some}
 use Rattle.dump_client.specs.Standing.{FedAt}
-use Rattle.tape_events.specs.World.{World, Link, Dumping, Caller, Count, numbered}
-use Rattle.tape_events.specs.Changes.{changed, link_of, new_link, HasDump}
+use Rattle.tape_events.specs.World.{World, Connection, Dumping, Caller, Count, numbered}
+use Rattle.tape_events.specs.Changes.{changed, connection_of, new_connection, HasDump}
 use Rattle.tape_events.specs.Headline.{IsSpared}
 use Rattle.tape_events.specs.Naming.{AreOpened, AreWritersLast}
 use Rattle.tape_events.specs.Owning.{is_in_attempt, IsOwned}
@@ -42,7 +42,7 @@ idle_spared w u s stay opened writers counts none p = record {
 
 -- a connection of the client's has the same on the way back
 abbrev pub BacksStay : World → World → Type 0
-BacksStay w u = (k : ℕ) (l : Link) → w.own ≡ Some k → link_of u k ≡ Some l → (x : Link) × (link_of w k ≡ Some x) × (l.back ≡ x.back)
+BacksStay w u = (k : ℕ) (l : Connection) → w.own ≡ Some k → connection_of u k ≡ Some l → (x : Connection) × (connection_of w k ≡ Some x) × (l.back ≡ x.back)
 
 -- the attempt that is under way is as it was
 pub same_spared : (w u : World) → SameOpens w u → DumpsStay w u → BacksStay w u → AreOpened w → AreWritersLast w → u.counts ≡ w.counts → u.own ≡ w.own
@@ -61,37 +61,37 @@ same_spared w u s stay backs opened writers counts own caller p = record {
       (subst (λ xs. Contains xs x) counts counted) (quiet_spared w u s (quiet_back w u s stay) opened x spared) (quiet_since w u s x k since));
 }
 
-pub same_backs : (w u : World) → u.links ≡ w.links → BacksStay w u
-same_backs w u links k l own at = (l, ap (λ ls. numbered ls k) (sym links) ∙ at, refl)
+pub same_backs : (w u : World) → u.connections ≡ w.connections → BacksStay w u
+same_backs w u connections k l own at = (l, ap (λ ls. numbered ls k) (sym connections) ∙ at, refl)
 
-pub changed_backs : (f : Link → Link) → ((x : Link) → (f x).back ≡ x.back) → (w u : World) (j : ℕ) → u.links ≡ changed f w.links j → BacksStay w u
-changed_backs f keeps w u j links k l own at = elim (changed_is f w.links j k l (ap (λ ls. numbered ls k) (sym links) ∙ at)) [
-  | inl (same, (x, was, new)) ↦ (x, ap (numbered w.links) same ∙ was, ap (λ (y : Link). y.back) new ∙ keeps x)
+pub changed_backs : (f : Connection → Connection) → ((x : Connection) → (f x).back ≡ x.back) → (w u : World) (j : ℕ) → u.connections ≡ changed f w.connections j → BacksStay w u
+changed_backs f keeps w u j connections k l own at = elim (changed_is f w.connections j k l (ap (λ ls. numbered ls k) (sym connections) ∙ at)) [
+  | inl (same, (x, was, new)) ↦ (x, ap (numbered w.connections) same ∙ was, ap (λ (y : Connection). y.back) new ∙ keeps x)
   | inr (other, on) ↦ (l, on, refl)
 ]
 
-pub mapped_backs : (f : Link → Link) → ((x : Link) → (f x).back ≡ x.back) → (w u : World) → u.links ≡ map f w.links → BacksStay w u
-mapped_backs f keeps w u links k l own at =
-    let m = map_at f w.links k l (ap (λ ls. numbered ls k) (sym links) ∙ at) in
-    (m.0, m.1, ap (λ (y : Link). y.back) m.2 ∙ keeps m.0)
+pub mapped_backs : (f : Connection → Connection) → ((x : Connection) → (f x).back ≡ x.back) → (w u : World) → u.connections ≡ map f w.connections → BacksStay w u
+mapped_backs f keeps w u connections k l own at =
+    let m = map_at f w.connections k l (ap (λ ls. numbered ls k) (sym connections) ∙ at) in
+    (m.0, m.1, ap (λ (y : Connection). y.back) m.2 ∙ keeps m.0)
 
-pub joined_backs : (w u : World) (new : Link) → IsOwned w → u.links ≡ w.links ++ new ∷ [] → BacksStay w u
-joined_backs w u new owned links k l own at = elim (pushed_is w.links new k l (ap (λ ls. numbered ls k) (sym links) ∙ at)) [
+pub joined_backs : (w u : World) (new : Connection) → IsOwned w → u.connections ≡ w.connections ++ new ∷ [] → BacksStay w u
+joined_backs w u new owned connections k l own at = elim (pushed_is w.connections new k l (ap (λ ls. numbered ls k) (sym connections) ∙ at)) [
   | inl on ↦ (l, on, refl)
   | inr (last, is) ↦ (
       let c = (owned.own k own).0 in
-      let within = numbered_within w.links k c.0 c.2 in
+      let within = numbered_within w.connections k c.0 c.2 in
       absurd (omega (arith, last, within)))
 ]
 
 -- what a stranger's connection has on the way is no client's
-pub strangers_backs : (f : Link → Link) (w u : World) (j : ℕ) (y : Link) → IsOwned w → u.links ≡ changed f w.links j → link_of w j ≡ Some y → y.dump ≡ None
+pub strangers_backs : (f : Connection → Connection) (w u : World) (j : ℕ) (y : Connection) → IsOwned w → u.connections ≡ changed f w.connections j → connection_of w j ≡ Some y → y.dump ≡ None
     → BacksStay w u
-strangers_backs f w u j y owned links here stranger k l own at = elim (changed_is f w.links j k l (ap (λ ls. numbered ls k) (sym links) ∙ at)) [
+strangers_backs f w u j y owned connections here stranger k l own at = elim (changed_is f w.connections j k l (ap (λ ls. numbered ls k) (sym connections) ∙ at)) [
   | inl (same, (x, was, new)) ↦ (
       let c = (owned.own k own).0 in
-      let one : c.0 ≡ y = same_Some c.0 y (sym c.2 ∙ ap (numbered w.links) same ∙ here) in
-      let clash = sym stranger ∙ ap (λ (z : Link). z.dump) (sym one) ∙ c.4 in absurd cc)
+      let one : c.0 ≡ y = same_Some c.0 y (sym c.2 ∙ ap (numbered w.connections) same ∙ here) in
+      let clash = sym stranger ∙ ap (λ (z : Connection). z.dump) (sym one) ∙ c.4 in absurd cc)
   | inr (other, on) ↦ (l, on, refl)
 ]
 
@@ -112,11 +112,11 @@ connected_spared w c opened writers p = record {
   stopped = quiet_stopped w (client_connected w c) s stay opened p.stopped;
   listed = λ k i m d step o list own there at other opens mine from lists. (
       let few = (opened.there o (among_at w.opens i o opens)).1 in
-      let new : length w.links + 1 ≡ k = same_Some _ k own in
+      let new : length w.connections + 1 ≡ k = same_Some _ k own in
       absurd (omega (arith, few, new, mine)));
   looked = λ k l d fed progress new x own at there had feeds goes counted spared since. (
       let few = since_there w x k opened since in
-      let its : length w.links + 1 ≡ k = same_Some _ k own in
+      let its : length w.connections + 1 ≡ k = same_Some _ k own in
       omega (arith, few, its));
 }
   where
@@ -124,4 +124,4 @@ connected_spared w c opened writers p = record {
     s = record { opens = refl; lists = refl; writings = refl }
 
     stay : DumpsStay w (client_connected w c)
-    stay = joined_dumps w (client_connected w c) (new_link (Some (fresh c))) refl
+    stay = joined_dumps w (client_connected w c) (new_connection (Some (fresh c))) refl

@@ -11,14 +11,14 @@ use Rattle.dump_client.specs.declared.step.TapeOp.TheVariants.{Rewind, RewindAga
 use Rattle.dump_client.specs.declared.stage.Stage.TheVariants.{ToSend, Waiting}
 use Rattle.dump_client.specs.declared.stage.Progress.{Progress}
 use Rattle.dump_client.specs.declared.stage.Progress.TheVariants as came
-use Rattle.tape_events.specs.World.{World, Link, Dumping, Begun, Caller, Count}
-use Rattle.tape_events.specs.Changes.{side_of, link_of, HasDump, noted_sent}
+use Rattle.tape_events.specs.World.{World, Connection, Dumping, Begun, Caller, Count}
+use Rattle.tape_events.specs.Changes.{side_of, connection_of, HasDump, noted_sent}
 use Rattle.tape_events.specs.Headline.{IsSpared}
 use Rattle.tape_events.specs.Naming.{AreOpened}
 use Rattle.tape_events.specs.Owning.{IsOwned}
-use Rattle.tape_events.specs.Sending.{IsAttempt, IsItsTurn, IsLinkToldAt, AreTold}
+use Rattle.tape_events.specs.Sending.{IsAttempt, IsItsTurn, IsConnectionToldAt, AreTold}
 use Rattle.tape_events.specs.Sparing.{looked_requests, HasOpenedSince, AreSpared}
-use Rattle.tape_events.specs.Steps.{caller, next_text, sent_link}
+use Rattle.tape_events.specs.Steps.{caller, next_text, sent_connection}
 use Rattle.tape_events.proofs.Numbers.{changed_is}
 use Rattle.tape_events.proofs.Sent.{steps_len, before_length, raised_one}
 use Rattle.tape_events.proofs.SentWire.{one_heard}
@@ -30,9 +30,9 @@ use Rattle.tape_events.proofs.SparedPast.{nothing_past}
 -- the attempt that sends, or another's
 sent_dump : (w : World) (t : Sender w) (k : ℕ) (d : Dumping) → HasDump (moved w (asks t)) k d
     → ((k ≡ t.k) × ((e : Dumping) × HasDump w t.k e × (d ≡ noted_sent e))) ⊎ HasDump w k d
-sent_dump w t k d (l, at, dump) = elim (changed_is (sent_link (next_text t.c t.b.payload t.step)) w.links t.k k l at) [
+sent_dump w t k d (l, at, dump) = elim (changed_is (sent_connection (next_text t.c t.b.payload t.step)) w.connections t.k k l at) [
   | inl (same, (x, was, new)) ↦ (
-      let m = mapped noted_sent x.dump d (sym (ap (λ (y : Link). y.dump) new) ∙ dump) in
+      let m = mapped noted_sent x.dump d (sym (ap (λ (y : Connection). y.dump) new) ∙ dump) in
       inl (same, (m.0, (x, was, m.1), m.2)))
   | inr (other, on) ↦ inr (l, on, dump)
 ]
@@ -51,10 +51,10 @@ sent_back w t = record {
 }
 
 -- it is the client's turn, and it has heard nothing
-its_turn : (w : World) (t : Sender w) (x : Link) (e : Dumping) → AreTold w → link_of w t.k ≡ Some x → x.dump ≡ Some e
+its_turn : (w : World) (t : Sender w) (x : Connection) (e : Dumping) → AreTold w → connection_of w t.k ≡ Some x → x.dump ≡ Some e
     → (b : Begun) × IsAttempt w.begun t.c e t.step b × IsItsTurn b (side_of w.server t.k) x t.c e t.step
 its_turn w t x e told at dump =
-    subst (λ s. IsLinkToldAt s w.begun (side_of w.server t.k) x t.c e) t.stage ((told.each t.k x at).own e t.c dump t.own t.there)
+    subst (λ s. IsConnectionToldAt s w.begun (side_of w.server t.k) x t.c e) t.stage ((told.each t.k x at).own e t.c dump t.own t.there)
 
 -- a step up to the look is among the first
 early_steps : (run : PlainRun) (first next : ℕ) (step : Step) → step ≢ Operation RewindAgain → steps_len run first next step ≤ 3
@@ -85,17 +85,17 @@ stopped_here w t x e told p (l, at, dump) counted spared since =
     omega (arith, one, early, sent, many)
 
 -- after it was sent nothing of the reply is there
-nothing_yet : (w : World) (t : Sender w) (l : Link) (c : Caller) (fed : List ℕ) (progress : Progress) (new : Standing) → IsOwned w → AreTold w
-    → link_of (moved w (asks t)) t.k ≡ Some l
+nothing_yet : (w : World) (t : Sender w) (l : Connection) (c : Caller) (fed : List ℕ) (progress : Progress) (new : Standing) → IsOwned w → AreTold w
+    → connection_of (moved w (asks t)) t.k ≡ Some l
     → (moved w (asks t)).caller ≡ Some c → HasFedAt c.at.stage c.reader fed → FedAt c.at.stage c.at fed l.back progress new
     → new.stage ≡ ToSend (Operation RewindAgain) → ⊥
 nothing_yet w t l c fed progress new owned told at there had feeds goes =
-    elim (changed_is (sent_link (next_text t.c t.b.payload t.step)) w.links t.k t.k l at) [
+    elim (changed_is (sent_connection (next_text t.c t.b.payload t.step)) w.connections t.k t.k l at) [
       | inl (same, (x, was, is)) ↦ (
           let mine = (owned.own t.k t.own).0 in
           let one : mine.0 ≡ x = same_Some mine.0 x (sym mine.2 ∙ was) in
-          let turn = its_turn w t x mine.1 told was (ap (λ (y : Link). y.dump) (sym one) ∙ mine.4) in
-          let back : l.back ≡ [] = ap (λ (y : Link). y.back) is ∙ turn.2.back in
+          let turn = its_turn w t x mine.1 told was (ap (λ (y : Connection). y.dump) (sym one) ∙ mine.4) in
+          let back : l.back ≡ [] = ap (λ (y : Connection). y.back) is ∙ turn.2.back in
           waits_on (subst (λ (z : Caller). HasFedAt z.at.stage z.reader fed) (sym caller_is) had)
           (subst (λ way. FedAt (Waiting t.step) now.at fed way progress new) back (subst (λ (z : Caller). FedAt z.at.stage z.at fed l.back progress new)
           (sym caller_is) feeds)))
@@ -138,5 +138,5 @@ asked_spared w t owned told opened p = record {
       ∙ ap (λ (z : Caller). z.at.counts) is);
   looked = λ k l c fed progress new x own at there had feeds goes counted spared since. (
       let same : k ≡ t.k = same_Some k t.k (sym own ∙ t.own) in
-      nothing_yet w t l c fed progress new owned told (ap (link_of (moved w (asks t))) (sym same) ∙ at) there had feeds goes);
+      nothing_yet w t l c fed progress new owned told (ap (connection_of (moved w (asks t))) (sym same) ∙ at) there had feeds goes);
 }

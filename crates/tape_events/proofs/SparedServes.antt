@@ -10,7 +10,7 @@ use Rattle.dump_run.specs.declared.count.VolumeCount.{VolumeCount}
 use Rattle.dump_client.specs.declared.step.Step.{Step}
 use Rattle.dump_client.specs.declared.step.Step.TheVariants.{Open, Operation, Look, Label, Block, Close}
 use Rattle.dump_client.specs.declared.step.TapeOp.TheVariants.{Rewind, RewindAgain, Mark, Unload}
-use Rattle.tape_events.specs.World.{World, Link, Dumping, Begun, Count, Opening, Writing, numbered}
+use Rattle.tape_events.specs.World.{World, Connection, Dumping, Begun, Count, Opening, Writing, numbered}
 use Rattle.tape_events.specs.Changes.{HasDump, opening, opened_reel, list_in, writing, reel_written, noted}
 use Rattle.tape_events.specs.Headline.{IsSpared}
 use Rattle.tape_events.specs.Attempts.{AreSingle, AreCountsEarned}
@@ -53,7 +53,7 @@ served_back w v paired = record {
   dumps = λ k d (l, at, dump) within. elim (served_dump w v k l d at dump) [
     | inl (same, (x, e, was, its, new)) ↦ (
       e,
-      (x, ap (numbered w.links) same ∙ was, its),
+      (x, ap (numbered w.connections) same ∙ was, its),
       sym (noted_same e v.request v.reply).run ∙ sym (ap (λ (y : Dumping). y.run) new),
     )
     | inr (other, was) ↦ (d, (l, was, dump), refl)
@@ -102,14 +102,14 @@ pub served_late : OneReading → DroppedWrites → (w : World) (v : Turn w) → 
 served_late g h w v told late y d among (l, at, dump) = by_writing (writing_is w.writings v.k (length w.opens) (reel_written v.request v.library v.session) y
     among)
   where
-    more : (x : Link) (e : Dumping) → (p : IsServed w v x e) → d ≡ noted v.request v.reply e → d.carried ≡ e.carried + 1
+    more : (x : Connection) (e : Dumping) → (p : IsServed w v x e) → d ≡ noted v.request v.reply e → d.carried ≡ e.carried + 1
     more x e p new = ap (λ (z : Dumping). z.carried) new ∙ carried_more e v.request v.reply p.few
 
     by_writing : Contains w.writings y ⊎ ((reel : List ℕ) × (reel_written v.request v.library v.session ≡ Some reel) × (y ≡ writing v.k (length w.opens) reel))
         → looked_requests < d.carried
     by_writing (inl before) = elim (served_dump w v y.connection l d at dump) [
       | inl (same, (x, e, was, its, new)) ↦ (
-          let many = late y e before (x, ap (numbered w.links) same ∙ was, its) in
+          let many = late y e before (x, ap (numbered w.connections) same ∙ was, its) in
           let one = more x e (served_step g h w v told x e was its) new in
           omega (arith, many, one))
       | inr (other, was) ↦ late y d before (l, was, dump)
@@ -138,7 +138,7 @@ served_stopped g h w v a earned single x k d counted spared since (l, at, dump) 
       let sent = ap (λ (z : Dumping). z.sent) new ∙ (noted_same e v.request v.reply).sent in
       elim (served_since w v x k own since) [
         | inl earlier ↦ (
-            let few = a.spared.stopped x k e counted before earlier (y, ap (numbered w.links) same ∙ was, its) in
+            let few = a.spared.stopped x k e counted before earlier (y, ap (numbered w.connections) same ∙ was, its) in
             omega (arith, few, sent))
         | inr (here, (reel, is)) ↦ (
             let p = served_step g h w v a.told y e was its in

@@ -19,14 +19,14 @@ use Rattle.dump_client.specs.declared.step.TapeOp.TheVariants.{Rewind, RewindAga
 use Rattle.dump_client.specs.declared.stage.Stage.TheVariants.{ToSend}
 use Rattle.dump_client.specs.declared.stage.Progress.{Progress}
 use Rattle.dump_client.specs.declared.stage.Progress.TheVariants as moved
-use Rattle.tape_events.specs.World.{World, Link, Dumping, Begun, Caller, numbered, Kept}
+use Rattle.tape_events.specs.World.{World, Connection, Dumping, Begun, Caller, numbered, Kept}
 use Rattle.tape_events.specs.Events.{PlainEvent}
 use Rattle.tape_events.specs.Events.PlainEvent.{StartRun, Connect, Send, ToServer, Serve, ToClient, Cut, EndAtServer, EndAtClient, ServerRestart, ClientRestart, Respond, Arrange, Stranger, Says, Enter, Save}
-use Rattle.tape_events.specs.Changes.{changed, side_of, new_link, over_there, over_here, noted_sent, sent_on, came_to, calm}
+use Rattle.tape_events.specs.Changes.{changed, side_of, new_connection, over_there, over_here, noted_sent, sent_on, came_to, calm}
 use Rattle.tape_events.specs.First.{PlainDriveSpec, AreGoodDrives, first_world}
-use Rattle.tape_events.specs.Steps.{Happens, Sends, Finds, Hears, SeesEnd, Runs, none, one_more, forgotten_from, sent_link, is_failing, fresh, ComesBack}
+use Rattle.tape_events.specs.Steps.{Happens, Sends, Finds, Hears, SeesEnd, Runs, none, one_more, forgotten_from, sent_connection, is_failing, fresh, ComesBack}
 use Rattle.tape_events.specs.Kept.{IsWorldKept}
-use Rattle.tape_events.specs.Sending.{is_labelled, VolumeHasBlocks, request_in, IsAttempt, IsItsTurn, IsLinkToldAt}
+use Rattle.tape_events.specs.Sending.{is_labelled, VolumeHasBlocks, request_in, IsAttempt, IsItsTurn, IsConnectionToldAt}
 use Rattle.tape_events.specs.Serving.{ServerTurn, IsNextSent}
 use Rattle.tape_events.specs.Talk as talk
 use Rattle.tape_events.specs.Talk.{Talks, IsBeginning, Sent, CarriedOut, one_if_here, sent_here, carried_here}
@@ -37,7 +37,7 @@ use Rattle.tape_events.proofs.SentServe.{noted_same}
 use Rattle.tape_events.proofs.SentWire.{OneReading, DroppedWrites}
 use Rattle.tape_events.proofs.ToldEvents.{mapped}
 use Rattle.tape_events.proofs.ToldSends.{same_request}
-use Rattle.tape_events.proofs.Moves.{Turn, turned, turn_of, carries_turn, links_more, begun_more, happened}
+use Rattle.tape_events.proofs.Moves.{Turn, turned, turn_of, carries_turn, connections_more, begun_more, happened}
 use Rattle.tape_events.proofs.LabelledServes.{served_dump, served_step}
 use Rattle.tape_events.proofs.LabelledSingle.{carried_more}
 use Rattle.tape_events.proofs.RequestMeets.{next_request}
@@ -112,67 +112,67 @@ one_next w d request other n m =
     n.asks ∙ ap (λ x. request_in x d n.step) b ∙ ap (request_in m.begun d) same ∙ sym m.asks
 
 -- each attempt on connection k was there so, or is new
-Dumped : ℕ → List Link → List Link → Type 0
+Dumped : ℕ → List Connection → List Connection → Type 0
 Dumped k xs ys =
-    (l : Link) (d : Dumping) → numbered ys k ≡ Some l → l.dump ≡ Some d
-    → ((x : Link) × (numbered xs k ≡ Some x) × (x.dump ≡ Some d)) ⊎ ((length xs < k) × (d.sent ≡ d.carried))
+    (l : Connection) (d : Dumping) → numbered ys k ≡ Some l → l.dump ≡ Some d
+    → ((x : Connection) × (numbered xs k ≡ Some x) × (x.dump ≡ Some d)) ⊎ ((length xs < k) × (d.sent ≡ d.carried))
 
-same_dumped : (k : ℕ) (xs : List Link) → Dumped k xs xs
+same_dumped : (k : ℕ) (xs : List Connection) → Dumped k xs xs
 unfolding Dumped
 same_dumped k xs l d at is = inl (l, at, is)
 
-changed_dumped : (k : ℕ) (xs ys : List Link) (f : Link → Link) (j : ℕ) → ((x : Link) → (f x).dump ≡ x.dump) → Dumped k xs ys → Dumped k xs (changed f ys j)
+changed_dumped : (k : ℕ) (xs ys : List Connection) (f : Connection → Connection) (j : ℕ) → ((x : Connection) → (f x).dump ≡ x.dump) → Dumped k xs ys → Dumped k xs (changed f ys j)
 unfolding Dumped
 changed_dumped k xs ys f j keeps t l d at is = elim (changed_is f ys j k l at) [
-  | inl (same, (z, was, new)) ↦ t z d (ap (numbered ys) same ∙ was) (sym (keeps z) ∙ ap (λ (x : Link). x.dump) (sym new) ∙ is)
+  | inl (same, (z, was, new)) ↦ t z d (ap (numbered ys) same ∙ was) (sym (keeps z) ∙ ap (λ (x : Connection). x.dump) (sym new) ∙ is)
   | inr (other, on) ↦ t l d on is
 ]
 
-other_dumped : (k : ℕ) (xs : List Link) (f : Link → Link) (j : ℕ) → j ≢ k → Dumped k xs (changed f xs j)
+other_dumped : (k : ℕ) (xs : List Connection) (f : Connection → Connection) (j : ℕ) → j ≢ k → Dumped k xs (changed f xs j)
 unfolding Dumped
 other_dumped k xs f j differs l d at is = elim (changed_is f xs j k l at) [
   | inl (same, turned) ↦ absurd (differs (sym same))
   | inr (other, on) ↦ inl (l, on, is)
 ]
 
-mapped_dumped : (k : ℕ) (xs : List Link) (f : Link → Link) → ((x : Link) → (f x).dump ≡ x.dump) → Dumped k xs (map f xs)
+mapped_dumped : (k : ℕ) (xs : List Connection) (f : Connection → Connection) → ((x : Connection) → (f x).dump ≡ x.dump) → Dumped k xs (map f xs)
 unfolding Dumped
 mapped_dumped k xs f keeps l d at is =
     let m = map_at f xs k l at in
-    inl (m.0, m.1, sym (keeps m.0) ∙ ap (λ (x : Link). x.dump) (sym m.2) ∙ is)
+    inl (m.0, m.1, sym (keeps m.0) ∙ ap (λ (x : Connection). x.dump) (sym m.2) ∙ is)
 
-joined_dumped : (k : ℕ) (xs : List Link) (new : Link) → ((d : Dumping) → new.dump ≡ Some d → d.sent ≡ d.carried) → Dumped k xs (xs ++ new ∷ [])
+joined_dumped : (k : ℕ) (xs : List Connection) (new : Connection) → ((d : Dumping) → new.dump ≡ Some d → d.sent ≡ d.carried) → Dumped k xs (xs ++ new ∷ [])
 unfolding Dumped
 joined_dumped k xs new bare l d at is = elim (pushed_is xs new k l at) [
   | inl on ↦ inl (l, on, is)
-  | inr (last, its) ↦ inr (omega (arith, last), bare d (ap (λ (x : Link). x.dump) (sym its) ∙ is))
+  | inr (last, its) ↦ inr (omega (arith, last), bare d (ap (λ (x : Connection). x.dump) (sym its) ∙ is))
 ]
 
-came_dumped : (k : ℕ) (xs : List Link) (v : World) (j : ℕ) (at : Standing) (progress : Progress) → Dumped k xs v.links → Dumped k xs (came_to v j at progress).links
-came_dumped k xs v j at (moved.Failed fault) t = changed_dumped k xs v.links over_there j (λ x. refl) t
-came_dumped k xs v j at moved.Ended t = changed_dumped k xs v.links over_there j (λ x. refl) t
+came_dumped : (k : ℕ) (xs : List Connection) (v : World) (j : ℕ) (at : Standing) (progress : Progress) → Dumped k xs v.connections → Dumped k xs (came_to v j at progress).connections
+came_dumped k xs v j at (moved.Failed fault) t = changed_dumped k xs v.connections over_there j (λ x. refl) t
+came_dumped k xs v j at moved.Ended t = changed_dumped k xs v.connections over_there j (λ x. refl) t
 came_dumped k xs v j at progress t = t
 
 -- by the world after it
-dumped_as : (k : ℕ) (w u v : World) → u ≡ v → Dumped k w.links v.links → Dumped k w.links u.links
-dumped_as k w u v is t = subst (λ (x : World). Dumped k w.links x.links) (sym is) t
+dumped_as : (k : ℕ) (w u v : World) → u ≡ v → Dumped k w.connections v.connections → Dumped k w.connections u.connections
+dumped_as k w u v is t = subst (λ (x : World). Dumped k w.connections x.connections) (sym is) t
 
-hears_dumped : (o : Option Dumping) (k : ℕ) (w : World) (j n : ℕ) (piece : List ℕ) (u : World) → Hears o w j n piece u → Dumped k w.links u.links
-hears_dumped None k w j n piece u is = dumped_as k w u _ is (changed_dumped k w.links w.links (λ x. record x { back = drop n x.back }) j (λ x. refl) (same_dumped k w.links))
+hears_dumped : (o : Option Dumping) (k : ℕ) (w : World) (j n : ℕ) (piece : List ℕ) (u : World) → Hears o w j n piece u → Dumped k w.connections u.connections
+hears_dumped None k w j n piece u is = dumped_as k w u _ is (changed_dumped k w.connections w.connections (λ x. record x { back = drop n x.back }) j (λ x. refl) (same_dumped k w.connections))
 hears_dumped (Some dump) k w j n piece u (c, fed, at, reader, progress, there, had, feeds, has, is) =
     dumped_as k w u _ is
-    (came_dumped k w.links _ j at progress (changed_dumped k w.links w.links (λ x. record x { back = drop n x.back }) j (λ x. refl) (same_dumped k w.links)))
+    (came_dumped k w.connections _ j at progress (changed_dumped k w.connections w.connections (λ x. record x { back = drop n x.back }) j (λ x. refl) (same_dumped k w.connections)))
 
-sees_dumped : (o : Option Dumping) (k : ℕ) (w : World) (j : ℕ) (u : World) → SeesEnd o w j u → Dumped k w.links u.links
-sees_dumped None k w j u is = dumped_as k w u _ is (changed_dumped k w.links w.links over_there j (λ x. refl) (same_dumped k w.links))
+sees_dumped : (o : Option Dumping) (k : ℕ) (w : World) (j : ℕ) (u : World) → SeesEnd o w j u → Dumped k w.connections u.connections
+sees_dumped None k w j u is = dumped_as k w u _ is (changed_dumped k w.connections w.connections over_there j (λ x. refl) (same_dumped k w.connections))
 sees_dumped (Some dump) k w j u (c, at, reader, progress, there, cuts, has, is) =
-    dumped_as k w u _ is (came_dumped k w.links _ j at progress (changed_dumped k w.links w.links over_there j (λ x. refl) (same_dumped k w.links)))
+    dumped_as k w u _ is (came_dumped k w.connections _ j at progress (changed_dumped k w.connections w.connections over_there j (λ x. refl) (same_dumped k w.connections)))
 
-forgotten_dumped : (k : ℕ) (w : World) (o : Option ℕ) → Dumped k w.links (forgotten_from (calm w) o).links
-forgotten_dumped k w None = same_dumped k w.links
-forgotten_dumped k w (Some j) = changed_dumped k w.links w.links over_there j (λ x. refl) (same_dumped k w.links)
+forgotten_dumped : (k : ℕ) (w : World) (o : Option ℕ) → Dumped k w.connections (forgotten_from (calm w) o).connections
+forgotten_dumped k w None = same_dumped k w.connections
+forgotten_dumped k w (Some j) = changed_dumped k w.connections w.connections over_there j (λ x. refl) (same_dumped k w.connections)
 
-back_dumped : (k : ℕ) (w : World) (o : Option Kept) (u : World) → ComesBack o w u → Dumped k w.links u.links
+back_dumped : (k : ℕ) (w : World) (o : Option Kept) (u : World) → ComesBack o w u → Dumped k w.connections u.connections
 back_dumped k w None u is = dumped_as k w u _ is (forgotten_dumped k w w.own)
 back_dumped k w (Some z) u (b, at, reader, begun, over, is) = dumped_as k w u _ is (forgotten_dumped k w w.own)
 
@@ -182,45 +182,45 @@ IsStill (Send fails) = ⊥
 IsStill (Serve k trouble) = ⊥
 IsStill event = Unit {0}
 
-still_dumped : (k : ℕ) (w : World) (event : PlainEvent) (u : World) → IsStill event → Happens w event u → Dumped k w.links u.links
-still_dumped k w (StartRun run payload) u still (may, (reader, is)) = dumped_as k w u _ is (same_dumped k w.links)
+still_dumped : (k : ℕ) (w : World) (event : PlainEvent) (u : World) → IsStill event → Happens w event u → Dumped k w.connections u.connections
+still_dumped k w (StartRun run payload) u still (may, (reader, is)) = dumped_as k w u _ is (same_dumped k w.connections)
 still_dumped k w Connect u still (may, (c, there, ready, is)) =
     dumped_as k w u _ is
-    (joined_dumped k w.links (new_link (Some (fresh c)))
+    (joined_dumped k w.connections (new_connection (Some (fresh c)))
     (λ d new. (let same = same_Some (fresh c) d new in sym (ap (λ (x : Dumping). x.sent) same) ∙ ap (λ (x : Dumping). x.carried) same)))
 still_dumped k w (Send fails) u still happens = absurd still
 still_dumped k w (ToServer j n) u still (may, (s, l, reached, live, at, grows, is)) =
-    dumped_as k w u _ is (changed_dumped k w.links w.links (λ x. record x { toward = drop n x.toward }) j (λ x. refl) (same_dumped k w.links))
+    dumped_as k w u _ is (changed_dumped k w.connections w.connections (λ x. record x { toward = drop n x.toward }) j (λ x. refl) (same_dumped k w.connections))
 still_dumped k w (Serve j trouble) u still happens = absurd still
 still_dumped k w (ToClient j n) u still (may, (l, at, hears)) = hears_dumped l.dump k w j n _ u hears
 still_dumped k w (Cut j) u still (may, is) =
-    dumped_as k w u _ is (changed_dumped k w.links w.links (λ x. record x { cut = true }) j (λ x. refl) (same_dumped k w.links))
+    dumped_as k w u _ is (changed_dumped k w.connections w.connections (λ x. record x { cut = true }) j (λ x. refl) (same_dumped k w.connections))
 still_dumped k w (EndAtServer j) u still (may, is) =
-    dumped_as k w u _ is (changed_dumped k w.links w.links over_here j (λ x. refl) (same_dumped k w.links))
+    dumped_as k w u _ is (changed_dumped k w.connections w.connections over_here j (λ x. refl) (same_dumped k w.connections))
 still_dumped k w (EndAtClient j) u still (may, (l, at, sees)) = sees_dumped l.dump k w j u sees
-still_dumped k w ServerRestart u still (may, is) = dumped_as k w u _ is (mapped_dumped k w.links over_here (λ x. refl))
+still_dumped k w ServerRestart u still (may, is) = dumped_as k w u _ is (mapped_dumped k w.connections over_here (λ x. refl))
 still_dumped k w ClientRestart u still (may, back) = back_dumped k w w.kept u back
-still_dumped k w Save u still (may, (c, there, is)) = dumped_as k w u _ is (same_dumped k w.links)
-still_dumped k w (Respond answer) u still (may, (c, reader, there, asks, is)) = dumped_as k w u _ is (same_dumped k w.links)
-still_dumped k w (Arrange drive reels) u still (may, (d, named, is)) = dumped_as k w u _ is (same_dumped k w.links)
+still_dumped k w Save u still (may, (c, there, is)) = dumped_as k w u _ is (same_dumped k w.connections)
+still_dumped k w (Respond answer) u still (may, (c, reader, there, asks, is)) = dumped_as k w u _ is (same_dumped k w.connections)
+still_dumped k w (Arrange drive reels) u still (may, (d, named, is)) = dumped_as k w u _ is (same_dumped k w.connections)
 still_dumped k w Stranger u still (may, is) =
-    dumped_as k w u _ is (joined_dumped k w.links (new_link None) (λ d new. absurd cc))
+    dumped_as k w u _ is (joined_dumped k w.connections (new_connection None) (λ d new. absurd cc))
 still_dumped k w (Says j bytes) u still (may, is) =
-    dumped_as k w u _ is (changed_dumped k w.links w.links (λ x. record x { toward = sent_on x.cut x.toward bytes }) j (λ x. refl) (same_dumped k w.links))
-still_dumped k w Enter u still (may, (c, there, is)) = dumped_as k w u _ is (same_dumped k w.links)
+    dumped_as k w u _ is (changed_dumped k w.connections w.connections (λ x. record x { toward = sent_on x.cut x.toward bytes }) j (λ x. refl) (same_dumped k w.connections))
+still_dumped k w Enter u still (may, (c, there, is)) = dumped_as k w u _ is (same_dumped k w.connections)
 
 -- Of a connection that is not there nothing was sent or carried out, and of a client's what was carried out is a beginning.
 record IsTalked (w : World) (k : ℕ) (sent carried : List PlainRequest) : Type 0 where
-  absent : length w.links < k → (sent ≡ []) × (carried ≡ [])
+  absent : length w.connections < k → (sent ≡ []) × (carried ≡ [])
   told : IsBeginning w k sent carried
 
 -- runs and connections stay
 record GoesOn (w u : World) : Type 0 where
   begun : (n : ℕ) (b : Begun) → numbered w.begun n ≡ Some b → numbered u.begun n ≡ Some b
-  links : length w.links ≤ length u.links
+  connections : length w.connections ≤ length u.connections
 
 goes_on : (w : World) (event : PlainEvent) (u : World) → Happens w event u → GoesOn w u
-goes_on w event u happens = let m = happened w event u happens in subst (GoesOn w) (sym m.1) record { begun = begun_more w m.0; links = links_more w m.0 }
+goes_on w event u happens = let m = happened w event u happens in subst (GoesOn w) (sym m.1) record { begun = begun_more w m.0; connections = connections_more w m.0 }
 
 next_on : (w u : World) (d : Dumping) (request : PlainRequest) → GoesOn w u → IsNextSent w d request → IsNextSent u d request
 next_on w u d request on n = record {
@@ -236,13 +236,13 @@ next_on w u d request on n = record {
 }
 
 -- no request of it
-still_talked : (w u : World) (k : ℕ) (sent carried more done : List PlainRequest) → GoesOn w u → Dumped k w.links u.links → more ≡ [] → done ≡ [] → IsTalked w k sent carried
+still_talked : (w u : World) (k : ℕ) (sent carried more done : List PlainRequest) → GoesOn w u → Dumped k w.connections u.connections → more ≡ [] → done ≡ [] → IsTalked w k sent carried
     → IsTalked u k (sent ++ more) (carried ++ done)
 unfolding Dumped
 still_talked w u k sent carried more done on dumped nothing idle t =
     subst (λ s. IsTalked u k s (carried ++ done)) (sym (ap (λ m. sent ++ m) nothing ∙ append-nil sent))
     (subst (IsTalked u k sent) (sym (ap (λ m. carried ++ m) idle ∙ append-nil carried)) record {
-      absent = λ past. t.absent (let more = on.links in omega (arith, more, past));
+      absent = λ past. t.absent (let more = on.connections in omega (arith, more, past));
       told = λ d (l, at, is). elim (dumped l d at is) [
         | inl was ↦ elim (t.told d was) [
           | inl same ↦ inl same
@@ -253,7 +253,7 @@ still_talked w u k sent carried more done on dumped nothing idle t =
     })
 
 -- the client sends its next request
-sent_is_next : (w u : World) (c : Caller) (b x : Begun) (o : Option ServerConnection) (l : Link) (d : Dumping) (step : Step) → IsWorldKept w → GoesOn w u → IsAttempt w.begun c d step x
+sent_is_next : (w u : World) (c : Caller) (b x : Begun) (o : Option ServerConnection) (l : Connection) (d : Dumping) (step : Step) → IsWorldKept w → GoesOn w u → IsAttempt w.begun c d step x
     → IsItsTurn x o l c d step → numbered w.begun c.number ≡ Some b
     → IsNextSent u (noted_sent d) (request_of c.at.run b.payload (checkpoint_of c.at.counts).0 (checkpoint_of c.at.counts).1 step)
 sent_is_next w u c b x o l d step kept on attempt turn begun =
@@ -277,23 +277,23 @@ sent_is_next w u c b x o l d step kept on attempt turn begun =
           ∙ ap (λ f. request_of x.run x.payload d.volume f step) (sym attempt.first);
     }
 
-own_within : (w : World) (k : ℕ) → IsWorldKept w → w.own ≡ Some k → length w.links < k → ⊥
+own_within : (w : World) (k : ℕ) → IsWorldKept w → w.own ≡ Some k → length w.connections < k → ⊥
 own_within w k kept own past =
     let l = (kept.owned.own k own).0 in
-    let within = numbered_within w.links k l.0 l.2 in
+    let within = numbered_within w.connections k l.0 l.2 in
     omega (arith, within, past)
 
-asks_talked : (w u : World) (k : ℕ) (c : Caller) (b : Begun) (step : Step) (f : Link → Link) (sent carried : List PlainRequest) → IsWorldKept w → GoesOn w u → w.own ≡ Some k
-    → w.caller ≡ Some c → c.at.stage ≡ ToSend step → numbered w.begun c.number ≡ Some b → u.links ≡ changed f w.links k → ((l : Link) → (f l).dump ≡ option_map noted_sent l.dump)
+asks_talked : (w u : World) (k : ℕ) (c : Caller) (b : Begun) (step : Step) (f : Connection → Connection) (sent carried : List PlainRequest) → IsWorldKept w → GoesOn w u → w.own ≡ Some k
+    → w.caller ≡ Some c → c.at.stage ≡ ToSend step → numbered w.begun c.number ≡ Some b → u.connections ≡ changed f w.connections k → ((l : Connection) → (f l).dump ≡ option_map noted_sent l.dump)
     → IsTalked w k sent carried
     → IsTalked u k (sent ++ request_of c.at.run b.payload (checkpoint_of c.at.counts).0 (checkpoint_of c.at.counts).1 step ∷ []) carried
-asks_talked w u k c b step f sent carried kept on own there stage begun links notes t = record {
-  absent = λ past. absurd (own_within w k kept own (let more = on.links in omega (arith, more, past)));
-  told = λ d (l, at, is). elim (changed_is f w.links k k l (ap (λ ls. numbered ls k) (sym links) ∙ at)) [
+asks_talked w u k c b step f sent carried kept on own there stage begun connections notes t = record {
+  absent = λ past. absurd (own_within w k kept own (let more = on.connections in omega (arith, more, past)));
+  told = λ d (l, at, is). elim (changed_is f w.connections k k l (ap (λ ls. numbered ls k) (sym connections) ∙ at)) [
     | inr (other, was) ↦ absurd (other refl)
     | inl (same, (x, was, new)) ↦
-        let m = mapped noted_sent x.dump d (sym (notes x) ∙ ap (λ (z : Link). z.dump) (sym new) ∙ is) in
-        let a = subst (λ s. IsLinkToldAt s w.begun (side_of w.server k) x c m.0) stage ((kept.told.each k x was).own m.0 c m.1 own there) in
+        let m = mapped noted_sent x.dump d (sym (notes x) ∙ ap (λ (z : Connection). z.dump) (sym new) ∙ is) in
+        let a = subst (λ s. IsConnectionToldAt s w.begun (side_of w.server k) x c m.0) stage ((kept.told.each k x was).own m.0 c m.1 own there) in
         let next = sent_is_next w u c b a.0 (side_of w.server k) x m.0 step kept on a.1 a.2 begun in
         elim (t.told m.0 (x, was, m.1)) [
           | inl (equal, all) ↦ inr (request, subst (λ e. IsNextSent u e request) (sym m.2) next, ap (λ s. s ++ request ∷ []) (sym all))
@@ -310,15 +310,15 @@ sends_talked : (failing : Bool) (w u : World) (k j : ℕ) (c : Caller) (b : Begu
     → more ≡ sent_here failing (j == k) (request_of c.at.run b.payload (checkpoint_of c.at.counts).0 (checkpoint_of c.at.counts).1 step) → done ≡ [] → IsTalked w k sent carried
     → IsTalked u k (sent ++ more) (carried ++ done)
 sends_talked true w u k j c b step sent carried more done kept on own there stage begun (reader, is) some nothing t =
-    still_talked w u k sent carried more done on (dumped_as k w u _ is (changed_dumped k w.links w.links over_there j (λ x. refl) (same_dumped k w.links))) some nothing t
+    still_talked w u k sent carried more done on (dumped_as k w u _ is (changed_dumped k w.connections w.connections over_there j (λ x. refl) (same_dumped k w.connections))) some nothing t
 sends_talked false w u k j c b step sent carried more done kept on own there stage begun (reader, fed, is) some nothing t = elim (eqb_tells j k) [
   | inr (unequal, other) ↦
-      still_talked w u k sent carried more done on (dumped_as k w u _ is (other_dumped k w.links _ j other)) (some ∙ ap (λ e. one_if_here e request) unequal) nothing t
+      still_talked w u k sent carried more done on (dumped_as k w u _ is (other_dumped k w.connections _ j other)) (some ∙ ap (λ e. one_if_here e request) unequal) nothing t
   | inl (equal, same) ↦
       subst (λ m. IsTalked u k (sent ++ m) (carried ++ done)) (sym (some ∙ ap (λ e. one_if_here e request) equal))
       (subst (IsTalked u k (sent ++ request ∷ [])) (sym (ap (λ m. carried ++ m) nothing ∙ append-nil carried))
-      (asks_talked w u k c b step (sent_link _) sent carried kept on (own ∙ ap Some same) there stage begun
-      (ap (λ (x : World). x.links) is ∙ ap (changed (sent_link _) w.links) same) (λ l. refl) t))
+      (asks_talked w u k c b step (sent_connection _) sent carried kept on (own ∙ ap Some same) there stage begun
+      (ap (λ (x : World). x.connections) is ∙ ap (changed (sent_connection _) w.connections) same) (λ l. refl) t))
 ]
   where
     request : PlainRequest
@@ -331,7 +331,7 @@ serves_talked g h w v sent carried kept on t = record {
   absent = λ past. (
       let within = numbered_within w.server.sides v.k (Some v.s) (side_there w.server v.k v.s v.live) in
       let paired = kept.tidy.paired in
-      let more = on.links in
+      let more = on.connections in
       absurd (omega (arith, within, paired, more, past)));
   told = λ d (l, at, is). elim (served_dump w v v.k l d at is) [
     | inr (other, was) ↦ absurd (other refl)
@@ -356,10 +356,10 @@ finds_talked : OneReading → DroppedWrites → (w u : World) (k j : ℕ) (troub
     → Finds w j trouble s found rest u → more ≡ [] → done ≡ carried_here (j == k) found → IsTalked w k sent carried → IsTalked u k (sent ++ more) (carried ++ done)
 finds_talked g h w u k j trouble s (Ok None) bytes rest sent carried more done kept on live unread gives finds nothing some t = absurd finds
 finds_talked g h w u k j trouble s (Err fault) bytes rest sent carried more done kept on live unread gives is nothing some t =
-    still_talked w u k sent carried more done on (dumped_as k w u _ is (changed_dumped k w.links w.links over_here j (λ x. refl) (same_dumped k w.links))) nothing some t
+    still_talked w u k sent carried more done on (dumped_as k w u _ is (changed_dumped k w.connections w.connections over_here j (λ x. refl) (same_dumped k w.connections))) nothing some t
 finds_talked g h w u k j trouble s (Ok (Some request)) bytes rest sent carried more done kept on live unread gives finds nothing some t = elim (eqb_tells j k) [
   | inr (unequal, other) ↦
-      still_talked w u k sent carried more done on (dumped_as k w u _ c.is (other_dumped k w.links _ j other)) nothing (some ∙ ap (λ e. one_if_here e request) unequal) t
+      still_talked w u k sent carried more done on (dumped_as k w u _ c.is (other_dumped k w.connections _ j other)) nothing (some ∙ ap (λ e. one_if_here e request) unequal) t
   | inl (equal, same) ↦
       let next = serves_talked g h w v sent carried kept (subst (GoesOn w) c.is on) (subst (λ i. IsTalked w i sent carried) (sym same) t) in
       subst (λ m. IsTalked u k m (carried ++ done)) (sym (ap (λ m. sent ++ m) nothing ∙ append-nil sent))

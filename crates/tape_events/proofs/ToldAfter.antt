@@ -1,9 +1,9 @@
 -- What is told of each connection stays so, whatever happens.
 use Rattle.std.proofs.Common.{List, None, refl, sym, ap, ◌∙◌}
 use Rattle.std.proofs.lemmas.Option.{same_Some}
-use Rattle.tape_events.specs.World.{World, Link}
+use Rattle.tape_events.specs.World.{World, Connection}
 use Rattle.tape_events.specs.First.{PlainDriveSpec, first_world}
-use Rattle.tape_events.specs.Changes.{new_link}
+use Rattle.tape_events.specs.Changes.{new_connection}
 use Rattle.tape_events.specs.Kept.{AreTidy, AreBooked, HasLawful}
 use Rattle.tape_events.specs.Owning.{IsOwned}
 use Rattle.tape_events.specs.Sending.{AreTold}
@@ -43,7 +43,7 @@ told_by g w restarts lawful owned tidy booked t = restarted_told w tidy t
 told_by g w (cuts k) lawful owned tidy booked t = cut_told w k t
 told_by g w (talks k l a at none) lawful owned tidy booked t =
     changed_told w _ k (talked a) refl refl (λ j beside. refl) (λ j beside own. (own, refl))
-    (λ x here h. strangers _ k _ _ (talked_dump a x ∙ ap (λ (y : Link). y.dump) (same_Some x l (sym here ∙ at)) ∙ none)) t
+    (λ x here h. strangers _ k _ _ (talked_dump a x ∙ ap (λ (y : Connection). y.dump) (same_Some x l (sym here ∙ at)) ∙ none)) t
 told_by g w (hears a on) lawful owned tidy booked t = hears_told g.reply w a on owned t
 told_by g w (hears_last a failure over) lawful owned tidy booked t = left_told w _ a.k refl refl refl refl t
 told_by g w (sees a failure) lawful owned tidy booked t = left_told w _ a.k refl refl refl refl t
@@ -51,7 +51,7 @@ told_by g w (forgets x none) lawful owned tidy booked t = same_told w _ refl ref
 told_by g w (gives_up x k own) lawful owned tidy booked t = left_told w _ k refl refl refl refl t
 told_by g w (answers c answer reader there stage) lawful owned tidy booked t =
     same_told w _ refl refl refl (λ k own. absurd (asking_idle w c there stage owned k own)) t
-told_by g w joins lawful owned tidy booked t = joined_told w _ None tidy.paired refl refl refl (λ j within own. (own, refl)) (strangers _ _ _ (new_link None) refl) t
+told_by g w joins lawful owned tidy booked t = joined_told w _ None tidy.paired refl refl refl (λ j within own. (own, refl)) (strangers _ _ _ (new_connection None) refl) t
 told_by g w m lawful owned tidy booked t = same_told w _ refl refl refl (λ k own. (own, refl)) t
 
 pub told_moved : OneReading → DroppedWrites → OneReply → (w : World) (m : Move w) → HasLawful w → IsOwned w → AreTidy w → AreBooked w → AreTold w → AreTold (moved w m)

@@ -5,10 +5,10 @@ use Rattle.std.proofs.lemmas.Bool.Decides.{eqb_tells}
 use Rattle.std.proofs.lemmas.Option.{same_Some}
 use Rattle.rmt_wire.specs.RequestReader.{RequestHeld, Unread}
 use Rattle.rmt_server.specs.ServerState.{ServerState, ServerConnection, side}
-use Rattle.tape_events.specs.World.{World, Link, numbered, with_numbered}
-use Rattle.tape_events.specs.Changes.{changed, side_of, link_of, over_there, over_here, ended_from, all_ended, answered, noted}
+use Rattle.tape_events.specs.World.{World, Connection, numbered, with_numbered}
+use Rattle.tape_events.specs.Changes.{changed, side_of, connection_of, over_there, over_here, ended_from, all_ended, answered, noted}
 use Rattle.tape_events.specs.Kept.{AreTidy}
-use Rattle.tape_events.specs.Sending.{IsLinkSent, IsLinkToldAt, IsLinkTold, AreTold}
+use Rattle.tape_events.specs.Sending.{IsConnectionSent, IsConnectionToldAt, IsConnectionTold, AreTold}
 use Rattle.tape_events.specs.Steps.{IsPushed}
 use Rattle.tape_events.proofs.Numbers.{map_at, with_here, with_other, numbered_within}
 use Rattle.tape_events.proofs.Held.{side_there}
@@ -50,78 +50,78 @@ mapped f None y is = absurd cc
 mapped f (Some x) y is = (x, refl, same_Some y (f x) (sym is))
 
 -- the connection is the client's, which has none under way
-still_sent : (w u : World) (k : ℕ) (l y : Link) → u.begun ≡ w.begun → side_of u.server k ≡ side_of w.server k → y.toward ≡ l.toward → y.dump ≡ l.dump
-    → (u.own ≡ Some k → ⊥) → IsLinkTold w k (side_of w.server k) l → IsLinkTold u k (side_of u.server k) y
+still_sent : (w u : World) (k : ℕ) (l y : Connection) → u.begun ≡ w.begun → side_of u.server k ≡ side_of w.server k → y.toward ≡ l.toward → y.dump ≡ l.dump
+    → (u.own ≡ Some k → ⊥) → IsConnectionTold w k (side_of w.server k) l → IsConnectionTold u k (side_of u.server k) y
 still_sent w u k l y begun sides way dump none h = record {
-  sent = λ d is. subst (λ o. IsLinkSent u.begun o y d) (sym sides)
-      (subst (λ bs. IsLinkSent bs (side_of w.server k) y d) (sym begun)
+  sent = λ d is. subst (λ o. IsConnectionSent u.begun o y d) (sym sides)
+      (subst (λ bs. IsConnectionSent bs (side_of w.server k) y d) (sym begun)
       (sent_moves w.begun (side_of w.server k) (side_of w.server k) l y d (subst (Moves (side_of w.server k) (side_of w.server k) l.toward) (sym way) (no_move (side_of w.server k) l.toward))
       (h.sent d (sym dump ∙ is))));
   own = λ d c is mine there. absurd (none mine);
 }
 
 -- a stranger's
-pub strangers : (u : World) (k : ℕ) (o : Option ServerConnection) (y : Link) → y.dump ≡ None → IsLinkTold u k o y
+pub strangers : (u : World) (k : ℕ) (o : Option ServerConnection) (y : Connection) → y.dump ≡ None → IsConnectionTold u k o y
 strangers u k o y none = record {
   sent = λ d is. (let clash = sym none ∙ is in absurd cc);
   own = λ d c is mine there. (let clash = sym none ∙ is in absurd cc);
 }
 
 -- the server's side is another, or what is on the way to it
-link_moves : (w u : World) (k : ℕ) (o p : Option ServerConnection) (l y : Link) → u.begun ≡ w.begun → u.own ≡ w.own → u.caller ≡ w.caller → Moves o p l.toward y.toward → y.back ≡ l.back
-    → y.dump ≡ l.dump → IsLinkTold w k o l → IsLinkTold u k p y
-link_moves w u k o p l y begun own caller m back dump h = record {
-  sent = λ d is. subst (λ bs. IsLinkSent bs p y d) (sym begun) (sent_moves w.begun o p l y d m (h.sent d (sym dump ∙ is)));
-  own = λ d c is mine there. subst (λ bs. IsLinkToldAt c.at.stage bs p y c d) (sym begun)
+connection_moves : (w u : World) (k : ℕ) (o p : Option ServerConnection) (l y : Connection) → u.begun ≡ w.begun → u.own ≡ w.own → u.caller ≡ w.caller → Moves o p l.toward y.toward → y.back ≡ l.back
+    → y.dump ≡ l.dump → IsConnectionTold w k o l → IsConnectionTold u k p y
+connection_moves w u k o p l y begun own caller m back dump h = record {
+  sent = λ d is. subst (λ bs. IsConnectionSent bs p y d) (sym begun) (sent_moves w.begun o p l y d m (h.sent d (sym dump ∙ is)));
+  own = λ d c is mine there. subst (λ bs. IsConnectionToldAt c.at.stage bs p y c d) (sym begun)
       (told_moves c.at.stage w.begun o p l y c d m back (h.own d c (sym dump ∙ is) (sym own ∙ mine) (sym caller ∙ there)));
 }
 
-over_link : (w u : World) (k : ℕ) (l : Link) → u.begun ≡ w.begun → u.own ≡ w.own → u.caller ≡ w.caller → side_of u.server k ≡ None → IsLinkTold w k (side_of w.server k) l
-    → IsLinkTold u k (side_of u.server k) (over_here l)
-over_link w u k l begun own caller over h =
-    subst (λ o. IsLinkTold u k o (over_here l)) (sym over)
-    (link_moves w u k (side_of w.server k) None l (over_here l) begun own caller (lost_move (side_of w.server k) l.toward) refl refl h)
+over_connection : (w u : World) (k : ℕ) (l : Connection) → u.begun ≡ w.begun → u.own ≡ w.own → u.caller ≡ w.caller → side_of u.server k ≡ None → IsConnectionTold w k (side_of w.server k) l
+    → IsConnectionTold u k (side_of u.server k) (over_here l)
+over_connection w u k l begun own caller over h =
+    subst (λ o. IsConnectionTold u k o (over_here l)) (sym over)
+    (connection_moves w u k (side_of w.server k) None l (over_here l) begun own caller (lost_move (side_of w.server k) l.toward) refl refl h)
 
 -- the connection is cut
 pub cut_told : (w : World) (k : ℕ) → AreTold w → AreTold (moved w (cuts k))
 cut_told w k t =
     changed_told w _ k (λ l. record l { cut = true }) refl refl (λ j other. refl) (λ j other own. (own, refl))
-    (λ l at h. link_moves w (moved w (cuts k)) k (side_of w.server k) (side_of w.server k) l (record l { cut = true }) refl refl refl (no_move (side_of w.server k) l.toward) refl refl h) t
+    (λ l at h. connection_moves w (moved w (cuts k)) k (side_of w.server k) (side_of w.server k) l (record l { cut = true }) refl refl refl (no_move (side_of w.server k) l.toward) refl refl h) t
 
 -- the server's side is over
 pub ended_told : (w : World) (k : ℕ) → AreTold w → AreTold (moved w (ends k))
 ended_told w k t =
     changed_told w _ k over_here refl refl (λ j other. ended_beside w.server k j (side_of w.server k) other) (λ j other mine. (mine, refl))
-    (λ l at h. over_link w (moved w (ends k)) k l refl refl refl (ended_here w.server k (side_of w.server k) refl) h) t
+    (λ l at h. over_connection w (moved w (ends k)) k l refl refl refl (ended_here w.server k (side_of w.server k) refl) h) t
 
 pub restarted_told : (w : World) → AreTidy w → AreTold w → AreTold (moved w restarts)
 restarted_told w tidy t = record {
   good = t.good;
   each = λ j y at. (
-      let x = map_at over_here w.links j y at in
-      let within = numbered_within w.links j x.0 x.1 in
+      let x = map_at over_here w.connections j y at in
+      let within = numbered_within w.connections j x.0 x.1 in
       let paired = tidy.paired in
-      subst (λ l. IsLinkTold (moved w restarts) j (side_of (moved w restarts).server j) l) (sym x.2)
-      (over_link w (moved w restarts) j x.0 refl refl refl (none_live w.server (length w.server.sides) j (omega (arith, within, paired))) (t.each j x.0 x.1)));
+      subst (λ l. IsConnectionTold (moved w restarts) j (side_of (moved w restarts).server j) l) (sym x.2)
+      (over_connection w (moved w restarts) j x.0 refl refl refl (none_live w.server (length w.server.sides) j (omega (arith, within, paired))) (t.each j x.0 x.1)));
 }
 
 -- the client's side is over, and there is no attempt
-pub left_told : (w u : World) (k : ℕ) → u.begun ≡ w.begun → u.server.sides ≡ w.server.sides → u.links ≡ changed over_there w.links k → u.own ≡ None → AreTold w → AreTold u
-left_told w u k begun sides links none t =
+pub left_told : (w u : World) (k : ℕ) → u.begun ≡ w.begun → u.server.sides ≡ w.server.sides → u.connections ≡ changed over_there w.connections k → u.own ≡ None → AreTold w → AreTold u
+left_told w u k begun sides connections none t =
     let same : (j : ℕ) → side_of u.server j ≡ side_of w.server j = λ j. ap (λ ss. option_and_then (λ s. s) (numbered ss j)) sides in
-    changed_told w u k over_there begun links (λ j other. same j) (λ j other mine. (let clash = sym none ∙ mine in absurd cc))
+    changed_told w u k over_there begun connections (λ j other. same j) (λ j other mine. (let clash = sym none ∙ mine in absurd cc))
     (λ l at h. still_sent w u k l (over_there l) begun (same k) refl refl (λ mine. (let clash = sym none ∙ mine in absurd cc)) h) t
 
 -- bytes reach the server
-pub reached_told : (w : World) (k n : ℕ) (s : ServerConnection) (l : Link) (reached : RequestHeld) (live : side_of w.server k ≡ Some s) (at : link_of w k ≡ Some l)
+pub reached_told : (w : World) (k n : ℕ) (s : ServerConnection) (l : Connection) (reached : RequestHeld) (live : side_of w.server k ≡ Some s) (at : connection_of w k ≡ Some l)
     (grows : IsPushed s.reached (take n l.toward) reached) → AreTold w → AreTold (moved w (reaches k n s l reached live at grows))
 reached_told w k n s l reached live at grows t =
     changed_told w u k (λ x. record x { toward = drop n x.toward }) refl refl (turned_beside w u k (Some p) refl) (λ j other mine. (mine, refl))
-    (λ x here h. subst (λ o. IsLinkTold u k o (record x { toward = drop n x.toward })) (sym (turned_here w u k s (Some p) live refl))
-    (link_moves w u k (Some s) (Some p) x (record x { toward = drop n x.toward }) refl refl refl
+    (λ x here h. subst (λ o. IsConnectionTold u k o (record x { toward = drop n x.toward })) (sym (turned_here w u k s (Some p) live refl))
+    (connection_moves w u k (Some s) (Some p) x (record x { toward = drop n x.toward }) refl refl refl
     (reached_move s reached x.toward n
-    (λ bytes unread. subst (λ (z : Link). Unread reached (bytes ++ take n z.toward)) (same_Some l x (sym at ∙ here)) (grows.1 bytes unread)))
-    refl refl (subst (λ o. IsLinkTold w k o x) live h))) t
+    (λ bytes unread. subst (λ (z : Connection). Unread reached (bytes ++ take n z.toward)) (same_Some l x (sym at ∙ here)) (grows.1 bytes unread)))
+    refl refl (subst (λ o. IsConnectionTold w k o x) live h))) t
   where
     p : ServerConnection
     p = side reached s.session
@@ -133,17 +133,17 @@ reached_told w k n s l reached live at grows t =
 pub served_told : ReplyTexts → OneReading → DroppedWrites → (w : World) (v : Turn w) → AreTold w → AreTold (moved w (serves v))
 served_told x g h w v t =
     changed_told w u v.k (answered v.request v.reply) refl refl (turned_beside w u v.k (Some s) refl) (λ j other mine. (mine, refl))
-    (λ l at told. subst (λ o. IsLinkTold u v.k o (answered v.request v.reply l)) (sym (turned_here w u v.k v.s (Some s) v.live refl)) record {
+    (λ l at told. subst (λ o. IsConnectionTold u v.k o (answered v.request v.reply l)) (sym (turned_here w u v.k v.s (Some s) v.live refl)) record {
       sent = λ d dump. (
           let m = mapped (noted v.request v.reply) l.dump d dump in
-          subst (IsLinkSent w.begun (Some s) (answered v.request v.reply l)) (sym m.2)
-          (serve_sent g h w.begun v.s l m.0 v.bytes v.rest v.request v.reply v.reached v.session (subst (λ o. IsLinkSent w.begun o l m.0) v.live (told.sent m.0 m.1)) v.unread v.gives
+          subst (IsConnectionSent w.begun (Some s) (answered v.request v.reply l)) (sym m.2)
+          (serve_sent g h w.begun v.s l m.0 v.bytes v.rest v.request v.reply v.reached v.session (subst (λ o. IsConnectionSent w.begun o l m.0) v.live (told.sent m.0 m.1)) v.unread v.gives
           v.left));
       own = λ d c dump mine there. (
           let m = mapped (noted v.request v.reply) l.dump d dump in
-          subst (IsLinkToldAt c.at.stage w.begun (Some s) (answered v.request v.reply l) c) (sym m.2)
+          subst (IsConnectionToldAt c.at.stage w.begun (Some s) (answered v.request v.reply l) c) (sym m.2)
           (serve_told x g h w.begun c.at.stage v.s l c m.0 v.bytes v.rest v.request v.reply v.reached v.trouble w.server.holders w.server.library v.library v.session t.good
-          (subst (λ o. IsLinkToldAt c.at.stage w.begun o l c m.0) v.live (told.own m.0 c m.1 mine there)) v.unread v.gives v.left v.served.step));
+          (subst (λ o. IsConnectionToldAt c.at.stage w.begun o l c m.0) v.live (told.own m.0 c m.1 mine there)) v.unread v.gives v.left v.served.step));
     }) t
   where
     s : ServerConnection

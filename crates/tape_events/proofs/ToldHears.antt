@@ -19,11 +19,11 @@ use Rattle.dump_client.specs.declared.stage.Stage.{Stage}
 use Rattle.dump_client.specs.declared.stage.Stage.TheVariants.{Ready, ToSend, Waiting, Asking, Finished}
 use Rattle.dump_client.specs.declared.stage.Progress.{Progress}
 use Rattle.dump_client.proofs.Heard.{HeardAs, has_failed, goes_to, has_counted, has_ended, counted_last, heard_as}
-use Rattle.tape_events.specs.World.{World, Link, Dumping, Begun, Caller}
+use Rattle.tape_events.specs.World.{World, Connection, Dumping, Begun, Caller}
 use Rattle.tape_events.specs.Changes.{side_of}
 use Rattle.tape_events.specs.Steps.{caller}
 use Rattle.tape_events.specs.Owning.{IsOwned}
-use Rattle.tape_events.specs.Sending.{GoesTo, AreCounted, LeadsOn, IsBrief, IsStepReply, IsAttempt, IsStepReplied, IsLinkToldAt, AreTold}
+use Rattle.tape_events.specs.Sending.{GoesTo, AreCounted, LeadsOn, IsBrief, IsStepReply, IsAttempt, IsStepReplied, IsConnectionToldAt, AreTold}
 use Rattle.tape_events.proofs.SentWire.{OneReply}
 use Rattle.tape_events.proofs.Pieces.{HearsPiece, waits, whole, hearing}
 use Rattle.tape_events.proofs.ToldMoves.{changed_told}
@@ -87,10 +87,10 @@ waits_no_more old new progress step (has_ended tells over) at = over_waits old.r
 waits_no_more old new progress step (counted_last end followed tells over) at = over_waits old.run (counted_to old.counts end) new step over at
 
 -- it heard the whole reply, so it waits no more
-whole_stage : (begun : List Begun) (o : Option ServerConnection) (l : Link) (c : Caller) (d : Dumping) (step : Step) (b : Begun) (reader : ReplyHeld) (new : Standing) (way bytes : List ℕ)
+whole_stage : (begun : List Begun) (o : Option ServerConnection) (l : Connection) (c : Caller) (d : Dumping) (step : Step) (b : Begun) (reader : ReplyHeld) (new : Standing) (way bytes : List ℕ)
     (reply : PlainReply) (progress : Progress) (stage : Stage) → new.stage ≡ stage → HasFedAt stage reader (unanswered stage bytes)
     → HearsAt c.at step (Reply reply) false progress new → LeadsOn b.run o c.at d step reply → IsStepReplied b o l c d step → IsAttempt begun c d step b → way ≡ []
-    → IsLinkToldAt stage begun o (record l { back = way }) (caller c.number new reader) d
+    → IsConnectionToldAt stage begun o (record l { back = way }) (caller c.number new reader) d
 whole_stage begun o l c d step b reader new way bytes reply progress (ToSend next) at has hears leads replied attempt none =
     let g = leads progress new next hears at in (
       b,
@@ -102,14 +102,14 @@ whole_stage begun o l c d step b reader new way bytes reply progress (Waiting ot
 whole_stage begun o l c d step b reader new way bytes reply progress stage at has hears leads replied attempt none = tt
 
 -- what comes of the bytes that it heard
-hearing_told : (begun : List Begun) (o : Option ServerConnection) (l : Link) (c : Caller) (d : Dumping) (step : Step) (b : Begun) (reader : ReplyHeld) (new : Standing)
+hearing_told : (begun : List Begun) (o : Option ServerConnection) (l : Connection) (c : Caller) (d : Dumping) (step : Step) (b : Begun) (reader : ReplyHeld) (new : Standing)
     (bytes way : List ℕ) (reply : PlainReply) (progress : Progress) → c.at.stage ≡ Waiting step
     → IsStepReplied b o l c d step → IsAttempt begun c d step b → IsBrief (wanted_of step) reply → LeadsOn b.run o c.at d step reply
     → HearsPiece c.at step reply bytes way progress new → HasFedAt new.stage reader (unanswered new.stage bytes)
-    → IsLinkToldAt new.stage begun o (record l { back = way }) (caller c.number new reader) d
+    → IsConnectionToldAt new.stage begun o (record l { back = way }) (caller c.number new reader) d
 hearing_told begun o l c d step b reader new bytes way reply progress stage replied attempt brief leads (waits moved is text) has =
     let at : new.stage ≡ Waiting step = ap (λ (s : Standing). s.stage) is ∙ stage in
-    subst (λ s. IsLinkToldAt s begun o (record l { back = way }) (caller c.number new reader) d) (sym at) (
+    subst (λ s. IsConnectionToldAt s begun o (record l { back = way }) (caller c.number new reader) d) (sym at) (
       b,
       record {
         begun_as = attempt.begun_as;
@@ -129,13 +129,13 @@ hearing_told begun o l c d step b reader new bytes way reply progress stage repl
     whole_stage begun o l c d step b reader new way bytes reply progress new.stage refl has heard leads replied attempt none
 
 -- something is on the way
-pub some_way : (l : Link) (n : ℕ) → 1 ≤ n → n ≤ length l.back → l.back ≡ [] → ⊥
+pub some_way : (l : Connection) (n : ℕ) → 1 ≤ n → n ≤ length l.back → l.back ≡ [] → ⊥
 some_way l n first within none = let size : length l.back ≡ 0 = ap length none in omega (arith, first, within, size)
 
-heard_reply : OneReply → (begun : List Begun) (o : Option ServerConnection) (l : Link) (c : Caller) (d : Dumping) (step : Step) (b : Begun) (reader : ReplyHeld) (new : Standing) (fed : List ℕ)
+heard_reply : OneReply → (begun : List Begun) (o : Option ServerConnection) (l : Connection) (c : Caller) (d : Dumping) (step : Step) (b : Begun) (reader : ReplyHeld) (new : Standing) (fed : List ℕ)
     (n : ℕ) (progress : Progress) → 1 ≤ n → n ≤ length l.back → c.at.stage ≡ Waiting step → (r : IsStepReplied b o l c d step) → IsStepReply b.run o c.at d step (r.fed ++ l.back)
     → IsAttempt begun c d step b → HasFedAt (Waiting step) c.reader fed → FedAt (Waiting step) c.at fed (take n l.back) progress new
-    → HasFedAt new.stage reader (unanswered new.stage (fed ++ take n l.back)) → IsLinkToldAt new.stage begun o (record l { back = drop n l.back }) (caller c.number new reader) d
+    → HasFedAt new.stage reader (unanswered new.stage (fed ++ take n l.back)) → IsConnectionToldAt new.stage begun o (record l { back = drop n l.back }) (caller c.number new reader) d
 heard_reply g begun o l c d step b reader new fed n progress first within stage r (inl none) attempt had feeds has =
     let size : length (r.fed ++ l.back) ≡ 0 = ap length none in
     let both = length-append r.fed l.back in
@@ -144,14 +144,14 @@ heard_reply g begun o l c d step b reader new fed n progress first within stage 
     hearing_told begun o l c d step b reader new (fed ++ take n l.back) (drop n l.back) reply progress stage r attempt brief leads
     (hearing g c.reader c.at new step reply r.fed fed l.back n progress brief is r.has had feeds) has
 
-rests : (begun : List Begun) (o : Option ServerConnection) (y : Link) (c : Caller) (d : Dumping) (reader : ReplyHeld) (new : Standing) (stage : Stage) → c.at.stage ≡ stage → new ≡ c.at
-    → IsLinkToldAt stage begun o y (caller c.number new reader) d → IsLinkToldAt new.stage begun o y (caller c.number new reader) d
-rests begun o y c d reader new stage at is told = subst (λ s. IsLinkToldAt s begun o y (caller c.number new reader) d) (sym (ap (λ (s : Standing). s.stage) is ∙ at)) told
+rests : (begun : List Begun) (o : Option ServerConnection) (y : Connection) (c : Caller) (d : Dumping) (reader : ReplyHeld) (new : Standing) (stage : Stage) → c.at.stage ≡ stage → new ≡ c.at
+    → IsConnectionToldAt stage begun o y (caller c.number new reader) d → IsConnectionToldAt new.stage begun o y (caller c.number new reader) d
+rests begun o y c d reader new stage at is told = subst (λ s. IsConnectionToldAt s begun o y (caller c.number new reader) d) (sym (ap (λ (s : Standing). s.stage) is ∙ at)) told
 
-heard_told : OneReply → (stage : Stage) (begun : List Begun) (o : Option ServerConnection) (l : Link) (c : Caller) (d : Dumping) (reader : ReplyHeld) (new : Standing) (fed : List ℕ) (n : ℕ)
-    (progress : Progress) → 1 ≤ n → n ≤ length l.back → c.at.stage ≡ stage → IsLinkToldAt stage begun o l c d → HasFedAt stage c.reader fed
+heard_told : OneReply → (stage : Stage) (begun : List Begun) (o : Option ServerConnection) (l : Connection) (c : Caller) (d : Dumping) (reader : ReplyHeld) (new : Standing) (fed : List ℕ) (n : ℕ)
+    (progress : Progress) → 1 ≤ n → n ≤ length l.back → c.at.stage ≡ stage → IsConnectionToldAt stage begun o l c d → HasFedAt stage c.reader fed
     → FedAt stage c.at fed (take n l.back) progress new → HasFedAt new.stage reader (unanswered new.stage (fed ++ take n l.back))
-    → IsLinkToldAt new.stage begun o (record l { back = drop n l.back }) (caller c.number new reader) d
+    → IsConnectionToldAt new.stage begun o (record l { back = drop n l.back }) (caller c.number new reader) d
 heard_told g (ToSend step) begun o l c d reader new fed n progress first within at (b, attempt, turn) had feeds has = absurd (some_way l n first within turn.back)
 heard_told g (Waiting step) begun o l c d reader new fed n progress first within at (b, attempt, inl asked) had feeds has = absurd (some_way l n first within asked.back)
 heard_told g (Waiting step) begun o l c d reader new fed n progress first within at (b, attempt, inr replied) had feeds has =
@@ -167,13 +167,13 @@ hears_told g w t on owned told =
       sent = h.sent;
       own = λ d y is_d mine now. (
           let same : t.l ≡ x = same_Some t.l x (sym t.there ∙ here) in
-          let back = ap (λ (z : Link). length z.back) same in
+          let back = ap (λ (z : Connection). length z.back) same in
           let some = t.within in
-          subst (λ (z : Caller). IsLinkToldAt z.at.stage w.begun (side_of w.server t.k) (record x { back = drop t.n x.back }) z d) (same_Some (caller t.c.number t.at t.reader) y now)
+          subst (λ (z : Caller). IsConnectionToldAt z.at.stage w.begun (side_of w.server t.k) (record x { back = drop t.n x.back }) z d) (same_Some (caller t.c.number t.at t.reader) y now)
           (heard_told g t.c.at.stage w.begun (side_of w.server t.k) x t.c d t.reader t.at t.fed t.n t.progress t.some (omega (arith, some, back)) refl
           (h.own d t.c is_d own t.client) t.had
-          (subst (λ (z : Link). FedAt t.c.at.stage t.c.at t.fed (take t.n z.back) t.progress t.at) same t.feeds)
-          (subst (λ (z : Link). HasFedAt t.at.stage t.reader (unanswered t.at.stage (t.fed ++ take t.n z.back))) same t.has)));
+          (subst (λ (z : Connection). FedAt t.c.at.stage t.c.at t.fed (take t.n z.back) t.progress t.at) same t.feeds)
+          (subst (λ (z : Connection). HasFedAt t.at.stage t.reader (unanswered t.at.stage (t.fed ++ take t.n z.back))) same t.has)));
     }) told
   where
     own : w.own ≡ Some t.k

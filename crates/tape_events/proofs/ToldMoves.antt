@@ -13,9 +13,9 @@ use Rattle.dump_client.specs.declared.step.Step.{Step}
 use Rattle.dump_client.specs.declared.stage.Stage.{Stage}
 use Rattle.dump_client.specs.declared.stage.Stage.TheVariants.{ToSend, Waiting}
 use Rattle.rmt_wire.specs.Reply.{PlainReply}
-use Rattle.tape_events.specs.World.{World, Link, Dumping, Begun, Caller, numbered}
-use Rattle.tape_events.specs.Changes.{changed, side_of, link_of, new_link, with_side}
-use Rattle.tape_events.specs.Sending.{AreUnserved, request_in, IsPending, IsLinkSettled, IsLinkSent, LeadsOn, IsStepReply, IsLinkToldAt, IsLinkTold, IsGood, AreTold}
+use Rattle.tape_events.specs.World.{World, Connection, Dumping, Begun, Caller, numbered}
+use Rattle.tape_events.specs.Changes.{changed, side_of, connection_of, new_connection, with_side}
+use Rattle.tape_events.specs.Sending.{AreUnserved, request_in, IsPending, IsConnectionSettled, IsConnectionSent, LeadsOn, IsStepReply, IsConnectionToldAt, IsConnectionTold, IsGood, AreTold}
 use Rattle.tape_events.proofs.Numbers.{changed_is, pushed_is, numbered_more, numbered_last, numbered_within, numbered_there, numbered_first}
 use Rattle.tape_events.proofs.Sent.{moved_done}
 
@@ -25,7 +25,7 @@ pub record Moves (o p : Option ServerConnection) (way new : List ℕ) : Type 0 w
   pub stays : (bytes : List ℕ) → AreUnserved o way bytes → AreUnserved p new bytes ⊎ AreUnserved p new []
   pub nothing : AreUnserved o way [] → AreUnserved p new []
 
-pub settled_moves : (o p : Option ServerConnection) (way new : List ℕ) (d : Dumping) → Moves o p way new → IsLinkSettled o way d → IsLinkSettled p new d
+pub settled_moves : (o p : Option ServerConnection) (way new : List ℕ) (d : Dumping) → Moves o p way new → IsConnectionSettled o way d → IsConnectionSettled p new d
 settled_moves o p way new d m h = record { sent = h.sent; unserved = m.nothing h.unserved }
 
 unserved_moves : (o p : Option ServerConnection) (way new bytes : List ℕ) → Moves o p way new → AreUnserved o way bytes ⊎ AreUnserved o way []
@@ -42,7 +42,7 @@ pending_moves b o p way new d step m h = record {
   unserved = unserved_moves o p way new (request_text (request_in b d step)) m h.unserved;
 }
 
-pub sent_moves : (begun : List Begun) (o p : Option ServerConnection) (l y : Link) (d : Dumping) → Moves o p l.toward y.toward → IsLinkSent begun o l d → IsLinkSent begun p y d
+pub sent_moves : (begun : List Begun) (o p : Option ServerConnection) (l y : Connection) (d : Dumping) → Moves o p l.toward y.toward → IsConnectionSent begun o l d → IsConnectionSent begun p y d
 sent_moves begun o p l y d m (inl settled) = inl (settled_moves o p l.toward y.toward d m settled)
 sent_moves begun o p l y d m (inr (b, step, at, pending)) = inr (b, step, at, pending_moves b o p l.toward y.toward d step m pending)
 
@@ -57,8 +57,8 @@ reply_moves : (run : PlainRun) (o p : Option ServerConnection) (old : Standing) 
 reply_moves run o p old d step bytes m (inl none) = inl none
 reply_moves run o p old d step bytes m (inr (reply, is, brief, leads)) = inr (reply, is, brief, leads_moves run o p old d step reply m leads)
 
-pub told_moves : (stage : Stage) (begun : List Begun) (o p : Option ServerConnection) (l y : Link) (c : Caller) (d : Dumping) → Moves o p l.toward y.toward → y.back ≡ l.back
-    → IsLinkToldAt stage begun o l c d → IsLinkToldAt stage begun p y c d
+pub told_moves : (stage : Stage) (begun : List Begun) (o p : Option ServerConnection) (l y : Connection) (c : Caller) (d : Dumping) → Moves o p l.toward y.toward → y.back ≡ l.back
+    → IsConnectionToldAt stage begun o l c d → IsConnectionToldAt stage begun p y c d
 told_moves (ToSend step) begun o p l y c d m back (b, attempt, turn) = (
   b,
   attempt,
@@ -116,62 +116,62 @@ reached_move s reached way n grows =
     }
 
 -- one that is as it was, beside a client that is as it was, or has another connection or none
-pub other_told : (w u : World) (k : ℕ) (l : Link) → u.begun ≡ w.begun → side_of u.server k ≡ side_of w.server k
-    → (u.own ≡ Some k → (w.own ≡ Some k) × (u.caller ≡ w.caller)) → IsLinkTold w k (side_of w.server k) l → IsLinkTold u k (side_of u.server k) l
+pub other_told : (w u : World) (k : ℕ) (l : Connection) → u.begun ≡ w.begun → side_of u.server k ≡ side_of w.server k
+    → (u.own ≡ Some k → (w.own ≡ Some k) × (u.caller ≡ w.caller)) → IsConnectionTold w k (side_of w.server k) l → IsConnectionTold u k (side_of u.server k) l
 other_told w u k l begun sides own h = record {
-  sent = λ d dump. subst (λ o. IsLinkSent u.begun o l d) (sym sides) (subst (λ bs. IsLinkSent bs (side_of w.server k) l d) (sym begun) (h.sent d dump));
+  sent = λ d dump. subst (λ o. IsConnectionSent u.begun o l d) (sym sides) (subst (λ bs. IsConnectionSent bs (side_of w.server k) l d) (sym begun) (h.sent d dump));
   own = λ d c dump mine there. (
       let was = own mine in
-      subst (λ o. IsLinkToldAt c.at.stage u.begun o l c d) (sym sides)
-      (subst (λ bs. IsLinkToldAt c.at.stage bs (side_of w.server k) l c d) (sym begun) (h.own d c dump was.0 (sym was.1 ∙ there))));
+      subst (λ o. IsConnectionToldAt c.at.stage u.begun o l c d) (sym sides)
+      (subst (λ bs. IsConnectionToldAt c.at.stage bs (side_of w.server k) l c d) (sym begun) (h.own d c dump was.0 (sym was.1 ∙ there))));
 }
 
 good_same : (w u : World) → u.begun ≡ w.begun → ((n : ℕ) (b : Begun) → numbered w.begun n ≡ Some b → IsGood b) → (n : ℕ) (b : Begun) → numbered u.begun n ≡ Some b → IsGood b
 good_same w u begun good n b at = good n b (ap (λ bs. numbered bs n) (sym begun) ∙ at)
 
 -- all connections are as they were
-pub same_told : (w u : World) → u.begun ≡ w.begun → u.links ≡ w.links → u.server.sides ≡ w.server.sides
+pub same_told : (w u : World) → u.begun ≡ w.begun → u.connections ≡ w.connections → u.server.sides ≡ w.server.sides
     → ((k : ℕ) → u.own ≡ Some k → (w.own ≡ Some k) × (u.caller ≡ w.caller)) → AreTold w → AreTold u
-same_told w u begun links sides own t = record {
+same_told w u begun connections sides own t = record {
   good = good_same w u begun t.good;
   each = λ k l at. other_told w u k l begun (ap (λ ss. option_and_then (λ s. s) (numbered ss k)) sides) (own k)
-      (t.each k l (ap (λ ls. numbered ls k) (sym links) ∙ at));
+      (t.each k l (ap (λ ls. numbered ls k) (sym connections) ∙ at));
 }
 
 -- one connection is changed
-pub changed_told : (w u : World) (k : ℕ) (f : Link → Link) → u.begun ≡ w.begun → u.links ≡ changed f w.links k
+pub changed_told : (w u : World) (k : ℕ) (f : Connection → Connection) → u.begun ≡ w.begun → u.connections ≡ changed f w.connections k
     → ((j : ℕ) → j ≢ k → side_of u.server j ≡ side_of w.server j) → ((j : ℕ) → j ≢ k → u.own ≡ Some j → (w.own ≡ Some j) × (u.caller ≡ w.caller))
-    → ((l : Link) → link_of w k ≡ Some l → IsLinkTold w k (side_of w.server k) l → IsLinkTold u k (side_of u.server k) (f l)) → AreTold w → AreTold u
-changed_told w u k f begun links beside own here t = record {
+    → ((l : Connection) → connection_of w k ≡ Some l → IsConnectionTold w k (side_of w.server k) l → IsConnectionTold u k (side_of u.server k) (f l)) → AreTold w → AreTold u
+changed_told w u k f begun connections beside own here t = record {
   good = good_same w u begun t.good;
-  each = λ j l at. elim (changed_is f w.links k j l (ap (λ ls. numbered ls j) (sym links) ∙ at)) [
-    | inl (same, (x, was, new)) ↦ subst (λ i. IsLinkTold u i (side_of u.server i) l) (sym same)
-        (subst (λ y. IsLinkTold u k (side_of u.server k) y) (sym new) (here x was (t.each k x was)))
+  each = λ j l at. elim (changed_is f w.connections k j l (ap (λ ls. numbered ls j) (sym connections) ∙ at)) [
+    | inl (same, (x, was, new)) ↦ subst (λ i. IsConnectionTold u i (side_of u.server i) l) (sym same)
+        (subst (λ y. IsConnectionTold u k (side_of u.server k) y) (sym new) (here x was (t.each k x was)))
     | inr (other, on) ↦ other_told w u j l begun (beside j other) (own j other) (t.each j l on)
   ];
 }
 
 -- a connection more
-pub joined_told : (w u : World) (dump : Option Dumping) → length w.server.sides ≡ length w.links → u.begun ≡ w.begun → u.links ≡ w.links ++ new_link dump ∷ []
-    → u.server.sides ≡ (with_side w.server).sides → ((j : ℕ) → j ≤ length w.links → u.own ≡ Some j → (w.own ≡ Some j) × (u.caller ≡ w.caller))
-    → IsLinkTold u (suc (length w.links)) (Some (side (held [] 0) Idle)) (new_link dump) → AreTold w → AreTold u
-joined_told w u dump paired begun links sides own here t = record {
+pub joined_told : (w u : World) (dump : Option Dumping) → length w.server.sides ≡ length w.connections → u.begun ≡ w.begun → u.connections ≡ w.connections ++ new_connection dump ∷ []
+    → u.server.sides ≡ (with_side w.server).sides → ((j : ℕ) → j ≤ length w.connections → u.own ≡ Some j → (w.own ≡ Some j) × (u.caller ≡ w.caller))
+    → IsConnectionTold u (suc (length w.connections)) (Some (side (held [] 0) Idle)) (new_connection dump) → AreTold w → AreTold u
+joined_told w u dump paired begun connections sides own here t = record {
   good = good_same w u begun t.good;
-  each = λ j l at. elim (pushed_is w.links (new_link dump) j l (ap (λ ls. numbered ls j) (sym links) ∙ at)) [
+  each = λ j l at. elim (pushed_is w.connections (new_connection dump) j l (ap (λ ls. numbered ls j) (sym connections) ∙ at)) [
     | inl on ↦
-        let within = numbered_within w.links j l on in
-        let there = numbered_there w.server.sides j (numbered_first w.links j l on) (omega (arith, paired, within)) in
+        let within = numbered_within w.connections j l on in
+        let there = numbered_there w.server.sides j (numbered_first w.connections j l on) (omega (arith, paired, within)) in
         let same : side_of u.server j ≡ side_of w.server j
         = ap (λ ss. option_and_then (λ s. s) (numbered ss j)) sides
         ∙ ap (option_and_then (λ s. s)) (numbered_more w.server.sides (Some (side (held [] 0) Idle) ∷ []) j there.0 there.1 ∙ sym there.1) in
         other_told w u j l begun same (own j within) (t.each j l on)
     | inr (last, new) ↦
-        let new_side : side_of u.server (suc (length w.links)) ≡ Some (side (held [] 0) Idle)
-        = ap (λ ss. option_and_then (λ s. s) (numbered ss (suc (length w.links)))) sides
+        let new_side : side_of u.server (suc (length w.connections)) ≡ Some (side (held [] 0) Idle)
+        = ap (λ ss. option_and_then (λ s. s) (numbered ss (suc (length w.connections)))) sides
         ∙ ap (λ n. option_and_then (λ s. s) (numbered (with_side w.server).sides (suc n))) (sym paired)
         ∙ ap (option_and_then (λ s. s)) (numbered_last w.server.sides (Some (side (held [] 0) Idle))) in
-        subst (λ i. IsLinkTold u i (side_of u.server i) l) (sym last)
-        (subst (λ y. IsLinkTold u (suc (length w.links)) (side_of u.server (suc (length w.links))) y) (sym new)
-        (subst (λ o. IsLinkTold u (suc (length w.links)) o (new_link dump)) (sym new_side) here))
+        subst (λ i. IsConnectionTold u i (side_of u.server i) l) (sym last)
+        (subst (λ y. IsConnectionTold u (suc (length w.connections)) (side_of u.server (suc (length w.connections))) y) (sym new)
+        (subst (λ o. IsConnectionTold u (suc (length w.connections)) o (new_connection dump)) (sym new_side) here))
   ];
 }

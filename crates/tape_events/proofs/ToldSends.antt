@@ -23,13 +23,13 @@ use Rattle.dump_client.specs.declared.step.TapeOp.{TapeOp}
 use Rattle.dump_client.specs.declared.step.TapeOp.TheVariants.{Rewind, RewindAgain, Mark, Unload}
 use Rattle.dump_client.specs.declared.stage.Stage.{Stage}
 use Rattle.dump_client.specs.declared.stage.Stage.TheVariants.{Ready, ToSend, Waiting, Asking}
-use Rattle.tape_events.specs.World.{World, Link, Dumping, Begun, Caller, numbered}
-use Rattle.tape_events.specs.Changes.{side_of, link_of, new_link, sent_on, noted_sent}
+use Rattle.tape_events.specs.World.{World, Connection, Dumping, Begun, Caller, numbered}
+use Rattle.tape_events.specs.Changes.{side_of, connection_of, new_connection, sent_on, noted_sent}
 use Rattle.tape_events.specs.Rows.{NoRun, is_run_done}
-use Rattle.tape_events.specs.Steps.{caller, fresh, client_connected, sent_link, next_text}
+use Rattle.tape_events.specs.Steps.{caller, fresh, client_connected, sent_connection, next_text}
 use Rattle.tape_events.specs.Kept.{AreTidy, AreBooked}
 use Rattle.tape_events.specs.Owning.{IsOwned, is_in_attempt}
-use Rattle.tape_events.specs.Sending.{HasDone, AreUnserved, request_in, IsPending, IsLinkSettled, IsLinkSent, IsAttempt, IsItsTurn, IsStepAsked, IsLinkToldAt, IsGood, AreTold}
+use Rattle.tape_events.specs.Sending.{HasDone, AreUnserved, request_in, IsPending, IsConnectionSettled, IsConnectionSent, IsAttempt, IsItsTurn, IsStepAsked, IsConnectionToldAt, IsGood, AreTold}
 use Rattle.tape_events.proofs.Numbers.{pushed_is, numbered_more}
 use Rattle.tape_events.proofs.Sent.{raised_one, done_few}
 use Rattle.tape_events.proofs.SentWire.{fresh_unread}
@@ -58,21 +58,21 @@ cut_most zero size payload i = omega arith
 cut_most (suc n) size payload zero = take_most size payload
 cut_most (suc n) size payload (suc i) = cut_most n size (drop size payload) i
 
-more_sent : (begun more : List Begun) (o : Option ServerConnection) (l : Link) (d : Dumping) → IsLinkSent begun o l d → IsLinkSent (begun ++ more) o l d
+more_sent : (begun more : List Begun) (o : Option ServerConnection) (l : Connection) (d : Dumping) → IsConnectionSent begun o l d → IsConnectionSent (begun ++ more) o l d
 more_sent begun more o l d (inl settled) = inl settled
 more_sent begun more o l d (inr (b, step, at, pending)) = inr (b, step, numbered_more begun more d.run b at, pending)
 
 -- a run is begun
-pub begun_told : (w u : World) (b : Begun) → IsGood b → u.begun ≡ w.begun ++ b ∷ [] → u.links ≡ w.links → u.server ≡ w.server → ((k : ℕ) → u.own ≡ Some k → ⊥) → AreTold w → AreTold u
-begun_told w u b good begun links server none t = record {
+pub begun_told : (w u : World) (b : Begun) → IsGood b → u.begun ≡ w.begun ++ b ∷ [] → u.connections ≡ w.connections → u.server ≡ w.server → ((k : ℕ) → u.own ≡ Some k → ⊥) → AreTold w → AreTold u
+begun_told w u b good begun connections server none t = record {
   good = λ n x at. elim (pushed_is w.begun b n x (ap (λ bs. numbered bs n) (sym begun) ∙ at)) [
     | inl on ↦ t.good n x on
     | inr (last, new) ↦ subst IsGood (sym new) good
   ];
   each = λ k l at. record {
-    sent = λ d is. subst (λ h. IsLinkSent u.begun (side_of h k) l d) (sym server)
-        (subst (λ bs. IsLinkSent bs (side_of w.server k) l d) (sym begun)
-        (more_sent w.begun (b ∷ []) (side_of w.server k) l d ((t.each k l (ap (λ ls. numbered ls k) (sym links) ∙ at)).sent d is)));
+    sent = λ d is. subst (λ h. IsConnectionSent u.begun (side_of h k) l d) (sym server)
+        (subst (λ bs. IsConnectionSent bs (side_of w.server k) l d) (sym begun)
+        (more_sent w.begun (b ∷ []) (side_of w.server k) l d ((t.each k l (ap (λ ls. numbered ls k) (sym connections) ∙ at)).sent d is)));
     own = λ d c is mine there. absurd (none k mine);
   };
 }
@@ -109,14 +109,14 @@ left_within run counts (inr less) = omega (arith, less)
 pub connected_told : (w : World) (c : Caller) → AreTidy w → AreBooked w → IsLawful c.at → w.caller ≡ Some c → c.at.stage ≡ Ready → AreTold w → AreTold (client_connected w c)
 connected_told w c tidy booked lawful there ready t =
     joined_told w (client_connected w c) (Some (fresh c)) tidy.paired refl refl refl
-    (λ j within mine. (let same : length w.links + 1 ≡ j = same_Some (length w.links + 1) j mine in absurd (omega (arith, same, within))))
+    (λ j within mine. (let same : length w.connections + 1 ≡ j = same_Some (length w.connections + 1) j mine in absurd (omega (arith, same, within))))
     record {
-      sent = λ d is. subst (IsLinkSent w.begun (Some (side (held [] 0) Idle)) (new_link (Some (fresh c)))) (same_Some (fresh c) d is) (inl settled);
+      sent = λ d is. subst (IsConnectionSent w.begun (Some (side (held [] 0) Idle)) (new_connection (Some (fresh c)))) (same_Some (fresh c) d is) (inl settled);
       own = λ d x is mine now. (
           let dump = same_Some (fresh c) d is in
           let client = same_Some (caller c.number (standing c.at.run c.at.counts (ToSend Open)) (reply_held None [])) x now in
-          subst (λ (z : Caller). IsLinkToldAt z.at.stage w.begun (Some (side (held [] 0) Idle)) (new_link (Some (fresh c))) z d) client
-          (subst (IsLinkToldAt (ToSend Open) w.begun (Some (side (held [] 0) Idle)) (new_link (Some (fresh c)))
+          subst (λ (z : Caller). IsConnectionToldAt z.at.stage w.begun (Some (side (held [] 0) Idle)) (new_connection (Some (fresh c))) z d) client
+          (subst (IsConnectionToldAt (ToSend Open) w.begun (Some (side (held [] 0) Idle)) (new_connection (Some (fresh c)))
           (caller c.number (standing c.at.run c.at.counts (ToSend Open)) (reply_held None []))) dump
           (b.0, record { begun_as = b.1; run = b.2; number = refl; volume = refl; first = refl }, record { done = done; settled = settled; back = refl; fed = fed })));
     } t
@@ -124,7 +124,7 @@ connected_told w c tidy booked lawful there ready t =
     fed : HasFedAt (ToSend Open) (reply_held None []) []
     fed = (record { waits = refl; keeps = refl }, refl)
 
-    settled : IsLinkSettled (Some (side (held [] 0) Idle)) [] (fresh c)
+    settled : IsConnectionSettled (Some (side (held [] 0) Idle)) [] (fresh c)
     settled = record { sent = refl; unserved = ([], fresh_unread, refl) }
 
     b : (x : Begun) × (numbered w.begun c.number ≡ Some x) × (x.run ≡ c.at.run)
@@ -205,7 +205,7 @@ noted_done run o d step h = record {
 }
 
 -- the client sends what its turn is
-sent_pending : RequestTexts → ShortLabels → (b : Begun) (o : Option ServerConnection) (l : Link) (c : Caller) (d : Dumping) (step : Step) (begun : List Begun) → IsGood b → IsLawful c.at
+sent_pending : RequestTexts → ShortLabels → (b : Begun) (o : Option ServerConnection) (l : Connection) (c : Caller) (d : Dumping) (step : Step) (begun : List Begun) → IsGood b → IsLawful c.at
     → (o ≡ None → l.cut ≡ true) → IsAttempt begun c d step b → IsItsTurn b o l c d step
     → IsPending b o (sent_on l.cut l.toward (next_text c b.payload step)) (noted_sent d) step
 sent_pending x g b o l c d step begun good lawful here attempt turn =
@@ -226,13 +226,13 @@ sent_pending x g b o l c d step begun good lawful here attempt turn =
           mine (sent_unserved o l.cut l.toward (next_text c b.payload step) here turn.settled.unserved);
     }
 
-sends_pending : RequestTexts → ShortLabels → (w : World) (k : ℕ) (l : Link) (c : Caller) (x : Begun) (d : Dumping) (step : Step) (reader : ReplyHeld) → AreTidy w → IsLawful c.at → AreTold w
-    → w.own ≡ Some k → link_of w k ≡ Some l → l.dump ≡ Some d → w.caller ≡ Some c → c.at.stage ≡ ToSend step → numbered w.begun c.number ≡ Some x
+sends_pending : RequestTexts → ShortLabels → (w : World) (k : ℕ) (l : Connection) (c : Caller) (x : Begun) (d : Dumping) (step : Step) (reader : ReplyHeld) → AreTidy w → IsLawful c.at → AreTold w
+    → w.own ≡ Some k → connection_of w k ≡ Some l → l.dump ≡ Some d → w.caller ≡ Some c → c.at.stage ≡ ToSend step → numbered w.begun c.number ≡ Some x
     → HasFedAt (Waiting step) reader []
     → (b : Begun) × IsAttempt w.begun (caller c.number (standing c.at.run c.at.counts (Waiting step)) reader) (noted_sent d) step b
-    × IsStepAsked b (side_of w.server k) (sent_link (next_text c x.payload step) l) (caller c.number (standing c.at.run c.at.counts (Waiting step)) reader) (noted_sent d) step
+    × IsStepAsked b (side_of w.server k) (sent_connection (next_text c x.payload step) l) (caller c.number (standing c.at.run c.at.counts (Waiting step)) reader) (noted_sent d) step
 sends_pending t g w k l c x d step reader tidy lawful told own at dump there stage mine fed =
-    let h = subst (λ s. IsLinkToldAt s w.begun (side_of w.server k) l c d) stage ((told.each k l at).own d c dump own there) in
+    let h = subst (λ s. IsConnectionToldAt s w.begun (side_of w.server k) l c d) stage ((told.each k l at).own d c dump own there) in
     let b = h.0 in
     let attempt = h.1 in
     let turn = h.2 in
@@ -250,17 +250,17 @@ sends_pending t g w k l c x d step reader tidy lawful told own at dump there sta
 -- the client sends
 pub asked_told : RequestTexts → ShortLabels → (w : World) (a : Sender w) → AreTidy w → IsLawful a.c.at → AreTold w → AreTold (move.moved w (move.asks a))
 asked_told t g w a tidy lawful told =
-    changed_told w _ a.k (sent_link text) refl refl (λ j other. refl) (λ j other now. absurd (other (same_Some j a.k (sym now ∙ a.own))))
+    changed_told w _ a.k (sent_connection text) refl refl (λ j other. refl) (λ j other now. absurd (other (same_Some j a.k (sym now ∙ a.own))))
     (λ l at h. record {
       sent = λ d is. (
           let m = mapped noted_sent l.dump d is in
           let p = sends_pending t g w a.k l a.c a.b m.0 a.step a.reader tidy lawful told a.own at m.1 a.there a.stage a.mine a.fed in
-          subst (IsLinkSent w.begun (side_of w.server a.k) (sent_link text l)) (sym m.2) (inr (p.0, a.step, p.1.begun_as, p.2.pending)));
+          subst (IsConnectionSent w.begun (side_of w.server a.k) (sent_connection text l)) (sym m.2) (inr (p.0, a.step, p.1.begun_as, p.2.pending)));
       own = λ d y is now here. (
           let m = mapped noted_sent l.dump d is in
           let p = sends_pending t g w a.k l a.c a.b m.0 a.step a.reader tidy lawful told a.own at m.1 a.there a.stage a.mine a.fed in
-          subst (λ (z : Caller). IsLinkToldAt z.at.stage w.begun (side_of w.server a.k) (sent_link text l) z d) (same_Some waits y here)
-          (subst (IsLinkToldAt (Waiting a.step) w.begun (side_of w.server a.k) (sent_link text l) waits) (sym m.2) (p.0, p.1, inl p.2)));
+          subst (λ (z : Caller). IsConnectionToldAt z.at.stage w.begun (side_of w.server a.k) (sent_connection text l) z d) (same_Some waits y here)
+          (subst (IsConnectionToldAt (Waiting a.step) w.begun (side_of w.server a.k) (sent_connection text l) waits) (sym m.2) (p.0, p.1, inl p.2)));
     }) told
   where
     text : List ℕ

@@ -6,8 +6,8 @@ use Rattle.rmt_server.specs.ServerState.{ServerConnection}
 use Rattle.rmt_server.specs.Session.{PlainReel}
 use Rattle.dump_client.specs.Lawful.{steps_before}
 use Rattle.dump_client.specs.declared.step.Step.TheVariants.{Close}
-use Rattle.tape_events.specs.World.{World, Link, Dumping, Begun, Count, Opening, numbered}
-use Rattle.tape_events.specs.Changes.{side_of, link_of, opening}
+use Rattle.tape_events.specs.World.{World, Connection, Dumping, Begun, Count, Opening, numbered}
+use Rattle.tape_events.specs.Changes.{side_of, connection_of, opening}
 use Rattle.tape_events.specs.Standing.{StandsOn, IsOnlineWith}
 use Rattle.tape_events.specs.Written.{attempt_written, IsQuiet, IsBeforeOffline}
 
@@ -26,7 +26,7 @@ IsLabelled w k d =
 
 -- each attempt is so
 abbrev pub AreLabelled : World → Type 0
-AreLabelled w = (k : ℕ) (l : Link) (d : Dumping) → link_of w k ≡ Some l → l.dump ≡ Some d → IsLabelled w k d
+AreLabelled w = (k : ℕ) (l : Connection) (d : Dumping) → connection_of w k ≡ Some l → l.dump ≡ Some d → IsLabelled w k d
 
 -- A connection of the client's has one opening at most, by its place in the list. Before its first request was carried out there is
 -- none, and once its label was accepted there is one.
@@ -36,12 +36,12 @@ pub record IsSingle (opens : List Opening) (k : ℕ) (d : Dumping) : Type 0 wher
   pub some : d.label ≡ true → (reel : List ℕ) × Contains opens (opening k reel)
 
 abbrev pub AreSingle : World → Type 0
-AreSingle w = (k : ℕ) (l : Link) (d : Dumping) → link_of w k ≡ Some l → l.dump ≡ Some d → IsSingle w.opens k d
+AreSingle w = (k : ℕ) (l : Connection) (d : Dumping) → connection_of w k ≡ Some l → l.dump ≡ Some d → IsSingle w.opens k d
 
 -- A count is that of an attempt of a run that was begun: its label, as many blocks of the run and its mark were accepted, its MTOFFL
 -- was carried out, no write met a device fault, and its connection opened that reel.
-pub record IsEarnedBy (w : World) (x : Count) (l : Link) (d : Dumping) (b : Begun) : Type 0 where
-  pub there : link_of w x.connection ≡ Some l
+pub record IsEarnedBy (w : World) (x : Count) (l : Connection) (d : Dumping) (b : Begun) : Type 0 where
+  pub there : connection_of w x.connection ≡ Some l
   pub dump : l.dump ≡ Some d
   pub begun : numbered w.begun x.run ≡ Some b
   pub run : d.run ≡ x.run
@@ -57,4 +57,4 @@ pub record IsEarnedBy (w : World) (x : Count) (l : Link) (d : Dumping) (b : Begu
 
 -- each count is so
 abbrev pub AreCountsEarned : World → Type 0
-AreCountsEarned w = (x : Count) → Contains w.counts x → (l : Link) × (d : Dumping) × (b : Begun) × IsEarnedBy w x l d b
+AreCountsEarned w = (x : Count) → Contains w.counts x → (l : Connection) × (d : Dumping) × (b : Begun) × IsEarnedBy w x l d b

@@ -18,7 +18,7 @@ use Rattle.dump_client.specs.Standing.{Standing, checkpoint_of}
 use Rattle.dump_run.specs.declared.count.VolumeCount.{VolumeCount}
 use Rattle.dump_client.specs.declared.stage.Progress.{Progress}
 use Rattle.dump_client.specs.declared.stage.Progress.TheVariants.{Failed, Ended}
-use Rattle.tape_events.specs.World.{World, Link, Dumping, Caller, Count, Opening, Writing, numbered, with_numbered}
+use Rattle.tape_events.specs.World.{World, Connection, Dumping, Caller, Count, Opening, Writing, numbered, with_numbered}
 
 -- the list with the member of this number changed, if there is one
 abbrev pub changed_from : {X : Type 0} → (X → X) → List X → ℕ → Option X → List X
@@ -32,26 +32,26 @@ changed f xs n = changed_from f xs n (numbered xs n)
 abbrev pub side_of : ServerState → ℕ → Option ServerConnection
 side_of h k = option_and_then (λ s. s) (numbered h.sides k)
 
-abbrev pub link_of : World → ℕ → Option Link
-link_of w k = numbered w.links k
+abbrev pub connection_of : World → ℕ → Option Connection
+connection_of w k = numbered w.connections k
 
 -- connection k is one of the client's, and its attempt came to this
 abbrev pub HasDump : World → ℕ → Dumping → Type 0
-HasDump w k d = (l : Link) × (link_of w k ≡ Some l) × (l.dump ≡ Some d)
+HasDump w k d = (l : Connection) × (connection_of w k ≡ Some l) × (l.dump ≡ Some d)
 
 -- the last event made nothing fail
 abbrev pub calm : World → World
 calm w = record w { failure = None }
 
 -- a new connection: its server's side reads from the start, and has nothing open
-abbrev pub new_link : Option Dumping → Link
-new_link dump = record { toward = []; back = []; cut = false; other = true; dump = dump }
+abbrev pub new_connection : Option Dumping → Connection
+new_connection dump = record { toward = []; back = []; cut = false; other = true; dump = dump }
 
 abbrev pub with_side : ServerState → ServerState
 with_side h = server h.library h.holders (h.sides ++ Some (side (held [] 0) Idle) ∷ [])
 
 abbrev pub joined : World → Option Dumping → World
-joined w dump = record w { server = with_side w.server; links = w.links ++ new_link dump ∷ [] }
+joined w dump = record w { server = with_side w.server; connections = w.connections ++ new_connection dump ∷ [] }
 
 -- bytes are sent: after a cut they are lost
 abbrev pub sent_on : Bool → List ℕ → List ℕ → List ℕ
@@ -59,15 +59,15 @@ sent_on true way bytes = way
 sent_on false way bytes = way ++ bytes
 
 -- One side is over: the connection is cut, and what is on the way to that side is lost.
-abbrev pub over_there : Link → Link
+abbrev pub over_there : Connection → Connection
 over_there l = record l { back = []; cut = true; other = false }
 
-abbrev pub over_here : Link → Link
+abbrev pub over_here : Connection → Connection
 over_here l = record l { toward = []; cut = true }
 
 -- the side that is not the server's is over
 abbrev pub other_left : World → ℕ → World
-other_left w k = record w { links = changed over_there w.links k }
+other_left w k = record w { connections = changed over_there w.connections k }
 
 -- the client's own connection is over on its side, and with it the attempt
 abbrev pub given_up : World → ℕ → World
@@ -88,10 +88,10 @@ all_ended h zero = h
 all_ended h (suc k) = ended (all_ended h k) (suc k)
 
 abbrev pub ended_at : World → ℕ → World
-ended_at w k = record w { server = ended w.server k; links = changed over_here w.links k }
+ended_at w k = record w { server = ended w.server k; connections = changed over_here w.connections k }
 
 abbrev pub restarted : World → World
-restarted w = record w { server = all_ended w.server (length w.server.sides); links = map over_here w.links }
+restarted w = record w { server = all_ended w.server (length w.server.sides); connections = map over_here w.connections }
 
 -- the name of the first reel of a stack
 abbrev pub first_name : {X : Type 0} → List (ReelSlot X) → List ℕ
@@ -159,7 +159,7 @@ noted_by d request reply = d
 abbrev pub noted : PlainRequest → PlainReply → Dumping → Dumping
 noted request reply d = let d' = noted_by d request reply in record d' { carried = raised d'.carried }
 
-abbrev pub answered : PlainRequest → PlainReply → Link → Link
+abbrev pub answered : PlainRequest → PlainReply → Connection → Connection
 answered request reply l =
     record l { back = sent_on l.cut l.back (reply_text reply); dump = option_map (noted request reply) l.dump }
 

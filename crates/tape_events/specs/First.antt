@@ -30,7 +30,7 @@ AreGoodDrives drives =
 abbrev pub first_world : List PlainDriveSpec → World
 first_world drives = record {
   server = server (library (map blank_drive drives) []) (replicate (length drives) 0) [];
-  links = [];
+  connections = [];
   begun = [];
   caller = None;
   own = None;
@@ -50,7 +50,7 @@ IsReached w = (drives : List PlainDriveSpec) × (events : List PlainEvent) × Ar
 
 -- each connection has a server's side, live or over, and each drive a holder, or 0
 pub record IsPaired (w : World) : Type 0 where
-  pub links : length w.server.sides ≡ length w.links
+  pub connections : length w.server.sides ≡ length w.connections
   pub holders : length w.server.holders ≡ length w.server.library.drives
 
 -- something is unread by each live side, if only no bytes

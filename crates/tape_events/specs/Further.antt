@@ -11,10 +11,10 @@ use Rattle.tape_events.specs.World.{World, Dumping, Begun, Caller, Count, Openin
 use Rattle.tape_events.specs.Changes.{side_of, HasDump, first_name, counts_of}
 use Rattle.tape_events.specs.Events.{PlainEvent}
 use Rattle.tape_events.specs.Events.PlainEvent.{ToClient}
-use Rattle.tape_events.specs.Books.{counts_in}
+use Rattle.tape_events.specs.History.{counts_in}
 use Rattle.tape_events.specs.Standing.{ReelHoldsJust, IsFirstAway, IsOnlineWith, online_drive_in}
 use Rattle.tape_events.specs.Headline.{IsFamiliar, IsSpared}
-use Rattle.tape_events.specs.Books.{AreCountedIn}
+use Rattle.tape_events.specs.History.{AreCountedIn}
 use Rattle.tape_events.specs.Written.{attempt_written, IsQuiet, IsBeforeOffline}
 
 -- As many requests were carried out of a client's connection as were sent there, or one fewer.

@@ -4,7 +4,7 @@ use Rattle.dump_client.specs.Position.{Covers}
 use Rattle.dump_run.specs.declared.count.VolumeCount.{VolumeCount}
 use Rattle.tape_events.specs.World.{World, Dumping, Begun, Count, Opening, Entered, numbered}
 use Rattle.tape_events.specs.Changes.{opening, HasDump}
-use Rattle.tape_events.specs.Books.{HasCountOf, AreCountedIn, dates_after}
+use Rattle.tape_events.specs.History.{HasCountOf, AreCountedIn, dates_after}
 use Rattle.tape_events.specs.Standing.{HasReel, ReelHoldsJust, HasOpen}
 use Rattle.tape_events.specs.Written.{whole_volume}
 

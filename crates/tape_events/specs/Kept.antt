@@ -7,12 +7,12 @@ use Rattle.dump_run.specs.Run.{IsRun}
 use Rattle.dump_run.specs.Counts.{AreVolumes}
 use Rattle.dump_client.specs.Lawful.{IsLawful}
 use Rattle.dump_client.specs.declared.stage.Stage.TheVariants.{Finished}
-use Rattle.tape_events.specs.World.{World, Link, Begun, Caller, Entered, Kept, numbered}
-use Rattle.tape_events.specs.Changes.{side_of, link_of}
-use Rattle.tape_events.specs.Books.{counts_in, dates_after}
+use Rattle.tape_events.specs.World.{World, Connection, Begun, Caller, Entered, Kept, numbered}
+use Rattle.tape_events.specs.Changes.{side_of, connection_of}
+use Rattle.tape_events.specs.History.{counts_in, dates_after}
 use Rattle.tape_events.specs.Standing.{AreHeld, AreThere, IsFirstAway, IsOnlineAt}
 use Rattle.tape_events.specs.Headline.{AreOnce, IsEarned}
-use Rattle.tape_events.specs.Books.{AreCountedIn}
+use Rattle.tape_events.specs.History.{AreCountedIn}
 use Rattle.tape_events.specs.Owning.{IsOwned}
 use Rattle.tape_events.specs.Sending.{AreTold}
 use Rattle.tape_events.specs.Attempts.{AreSingle, AreLabelled, AreCountsEarned}
@@ -21,15 +21,15 @@ use Rattle.tape_events.specs.Sparing.{AreSpared}
 use Rattle.tape_events.specs.First.{IsReadable}
 
 -- A connection of which either side is over is cut, and where the server's is, nothing is on the way to that.
-pub record IsTidy (s : Option ServerConnection) (l : Link) : Type 0 where
+pub record IsTidy (s : Option ServerConnection) (l : Connection) : Type 0 where
   pub here : s ≡ None → l.cut ≡ true
   pub there : l.other ≡ false → l.cut ≡ true
   pub nothing : s ≡ None → l.toward ≡ []
 
 -- each connection is so, and has a server's side, live or over
 pub record AreTidy (w : World) : Type 0 where
-  pub paired : length w.server.sides ≡ length w.links
-  pub each : (k : ℕ) (l : Link) → link_of w k ≡ Some l → IsTidy (side_of w.server k) l
+  pub paired : length w.server.sides ≡ length w.connections
+  pub each : (k : ℕ) (l : Connection) → connection_of w k ≡ Some l → IsTidy (side_of w.server k) l
 
 -- A reel is away from its slot only as the first of its stack, and exactly while a session is online at the drive.
 pub record AreLaid (h : ServerState) : Type 0 where

@@ -6,7 +6,7 @@ pub mod Changes
 pub mod Rows
 pub mod Steps
 pub mod First
-pub mod Books
+pub mod History
 pub mod Standing
 pub mod Written
 pub mod Headline

@@ -23,7 +23,7 @@ IsUnopenedSince opens k reel = (i : ℕ) × (numbered opens i ≡ Some (opening 
 
 -- Each opening is that of a connection that is there. While a session may write on a reel, no other opened that reel since.
 pub record AreOpened (w : World) : Type 0 where
-  pub there : (o : Opening) → Contains w.opens o → (1 ≤ o.connection) × (o.connection ≤ length w.links)
+  pub there : (o : Opening) → Contains w.opens o → (1 ≤ o.connection) × (o.connection ≤ length w.connections)
   pub last : (k : ℕ) (s : ServerConnection) (reel : List ℕ) → side_of w.server k ≡ Some s
       → written_reel w.server.library s.session ≡ Some reel → IsUnopenedSince w.opens k reel
 

@@ -3,8 +3,8 @@
 use Rattle.std.specs.Prelude.{◌≡◌, ℕ, IsTrue, Bool, true, false, Some}
 use Rattle.dump_client.specs.declared.stage.Stage.{Stage}
 use Rattle.dump_client.specs.declared.stage.Stage.TheVariants.{ToSend, Waiting}
-use Rattle.tape_events.specs.World.{World, Link, Dumping, Begun, Caller, numbered}
-use Rattle.tape_events.specs.Changes.{link_of}
+use Rattle.tape_events.specs.World.{World, Connection, Dumping, Begun, Caller, numbered}
+use Rattle.tape_events.specs.Changes.{connection_of}
 
 -- the client is in an attempt
 abbrev pub is_in_attempt : Stage → Bool
@@ -14,7 +14,7 @@ is_in_attempt stage = false
 
 -- that connection is one of the client's, and its side there is live
 abbrev pub IsClients : World → ℕ → Type 0
-IsClients w k = (l : Link) × (d : Dumping) × (link_of w k ≡ Some l) × IsTrue l.other × (l.dump ≡ Some d)
+IsClients w k = (l : Connection) × (d : Dumping) × (connection_of w k ≡ Some l) × IsTrue l.other × (l.dump ≡ Some d)
 
 -- The client's own connection is there exactly while it is in an attempt, and it is the only one of the client's whose other
 -- side is live.

@@ -13,10 +13,10 @@ use Rattle.dump_run.specs.Run.{IsRun}
 use Rattle.dump_client.specs.declared.step.Step.{Step}
 use Rattle.dump_client.specs.declared.stage.Stage.{Stage}
 use Rattle.dump_client.specs.declared.stage.Stage.TheVariants.{Ready, ToSend, Asking, Finished, Abandoned}
-use Rattle.tape_events.specs.World.{World, Link, Caller, Entered}
+use Rattle.tape_events.specs.World.{World, Connection, Caller, Entered}
 use Rattle.tape_events.specs.Events.{PlainEvent}
 use Rattle.tape_events.specs.Events.PlainEvent.{StartRun, Connect, Send, ToServer, Serve, ToClient, Cut, EndAtServer, EndAtClient, ServerRestart, ClientRestart, Respond, Arrange, Stranger, Says, Enter, Save}
-use Rattle.tape_events.specs.Changes.{side_of, link_of}
+use Rattle.tape_events.specs.Changes.{side_of, connection_of}
 
 -- the client stands so
 abbrev pub StandsIn : World → (Stage → Type 0) → Type 0
@@ -40,8 +40,8 @@ abbrev pub IsLiveHere : World → ℕ → ServerConnection → Type 0
 IsLiveHere w k s = side_of w.server k ≡ Some s
 
 -- the other side is live
-abbrev pub IsLiveThere : World → ℕ → Link → Type 0
-IsLiveThere w k l = (link_of w k ≡ Some l) × IsTrue l.other
+abbrev pub IsLiveThere : World → ℕ → Connection → Type 0
+IsLiveThere w k l = (connection_of w k ≡ Some l) × IsTrue l.other
 
 -- that many bytes are on the way
 abbrev pub IsPart : ℕ → List ℕ → Type 0
@@ -70,19 +70,19 @@ Possible w (StartRun run payload) = NoRun w × IsRun run × (length payload ≡ 
 Possible w Connect = StandsIn w (λ stage. stage ≡ Ready)
 Possible w (Send fails) = StandsIn w (λ stage. (step : Step) × (stage ≡ ToSend step))
 Possible w (ToServer k n) =
-    (s : ServerConnection) × (l : Link) × IsLiveHere w k s × (link_of w k ≡ Some l) × IsPart n l.toward × HasRoomFor s.reached n
+    (s : ServerConnection) × (l : Connection) × IsLiveHere w k s × (connection_of w k ≡ Some l) × IsPart n l.toward × HasRoomFor s.reached n
 Possible w (Serve k trouble) =
     (s : ServerConnection) × (found : Result (Option PlainRequest) WireFault) × IsLiveHere w k s × IsRequestFound s.reached found
-Possible w (ToClient k n) = (l : Link) × IsLiveThere w k l × IsPart n l.back
-Possible w (Cut k) = (l : Link) × (link_of w k ≡ Some l) × (l.cut ≡ false)
-Possible w (EndAtServer k) = (s : ServerConnection) × (l : Link) × IsLiveHere w k s × (link_of w k ≡ Some l) × IsTrue l.cut
-Possible w (EndAtClient k) = (l : Link) × IsLiveThere w k l × IsTrue l.cut
+Possible w (ToClient k n) = (l : Connection) × IsLiveThere w k l × IsPart n l.back
+Possible w (Cut k) = (l : Connection) × (connection_of w k ≡ Some l) × (l.cut ≡ false)
+Possible w (EndAtServer k) = (s : ServerConnection) × (l : Connection) × IsLiveHere w k s × (connection_of w k ≡ Some l) × IsTrue l.cut
+Possible w (EndAtClient k) = (l : Connection) × IsLiveThere w k l × IsTrue l.cut
 Possible w ServerRestart = Unit {0}
 Possible w ClientRestart = (c : Caller) × (w.caller ≡ Some c)
 Possible w (Respond answer) = StandsIn w (λ stage. stage ≡ Asking)
 Possible w (Arrange drive reels) = MayArrange w.server drive reels
 Possible w Stranger = Unit {0}
-Possible w (Says k bytes) = (l : Link) × IsLiveThere w k l × (l.dump ≡ None)
+Possible w (Says k bytes) = (l : Connection) × IsLiveThere w k l × (l.dump ≡ None)
 Possible w Enter =
     (c : Caller) × (w.caller ≡ Some c) × (c.at.stage ≡ Finished) × (IsRunEntered w c.number → ⊥)
 Possible w Save = (c : Caller) × (w.caller ≡ Some c) × MayBeKept w c

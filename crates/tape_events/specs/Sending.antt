@@ -23,8 +23,8 @@ use Rattle.dump_run.specs.declared.count.VolumeCount.{VolumeCount}
 use Rattle.dump_client.specs.declared.stage.Progress.{Progress}
 use Rattle.dump_client.specs.declared.stage.Stage.{Stage}
 use Rattle.dump_client.specs.declared.stage.Stage.TheVariants.{ToSend, Waiting}
-use Rattle.tape_events.specs.World.{World, Link, Dumping, Begun, Caller, numbered}
-use Rattle.tape_events.specs.Changes.{side_of, link_of}
+use Rattle.tape_events.specs.World.{World, Connection, Dumping, Begun, Caller, numbered}
+use Rattle.tape_events.specs.Changes.{side_of, connection_of}
 use Rattle.tape_events.specs.Standing.{IsOnlineWith}
 
 -- a step that comes after the label, and one that comes after the mark
@@ -89,14 +89,14 @@ pub record IsPending (b : Begun) (o : Option ServerConnection) (way : List ℕ) 
   pub unserved : AreUnserved o way (request_text (request_in b d step)) ⊎ AreUnserved o way []
 
 -- all that was sent was carried out
-pub record IsLinkSettled (o : Option ServerConnection) (way : List ℕ) (d : Dumping) : Type 0 where
+pub record IsConnectionSettled (o : Option ServerConnection) (way : List ℕ) (d : Dumping) : Type 0 where
   pub sent : d.sent ≡ d.carried
   pub unserved : AreUnserved o way []
 
 -- Of a connection of the client's all that was sent was carried out, or all but the last request.
-abbrev pub IsLinkSent : List Begun → Option ServerConnection → Link → Dumping → Type 0
-IsLinkSent begun o l d =
-    IsLinkSettled o l.toward d
+abbrev pub IsConnectionSent : List Begun → Option ServerConnection → Connection → Dumping → Type 0
+IsConnectionSent begun o l d =
+    IsConnectionSettled o l.toward d
     ⊎ ((b : Begun) × (step : Step) × (numbered begun d.run ≡ Some b) × IsPending b o l.toward d step)
 
 -- at the close the volume is counted, with the blocks that were written, and before it nothing is
@@ -141,36 +141,36 @@ pub record IsAttempt (begun : List Begun) (c : Caller) (d : Dumping) (step : Ste
   pub first : d.first ≡ (attempt_at step c.at.counts).1
 
 -- it is the client's turn, and it has heard nothing yet
-pub record IsItsTurn (b : Begun) (o : Option ServerConnection) (l : Link) (c : Caller) (d : Dumping) (step : Step) : Type 0 where
+pub record IsItsTurn (b : Begun) (o : Option ServerConnection) (l : Connection) (c : Caller) (d : Dumping) (step : Step) : Type 0 where
   pub done : HasDone b.run o d step
-  pub settled : IsLinkSettled o l.toward d
+  pub settled : IsConnectionSettled o l.toward d
   pub back : l.back ≡ []
   pub fed : HasFedAt (ToSend step) c.reader []
 
 -- its request was sent, and not carried out
-pub record IsStepAsked (b : Begun) (o : Option ServerConnection) (l : Link) (c : Caller) (d : Dumping) (step : Step) : Type 0 where
+pub record IsStepAsked (b : Begun) (o : Option ServerConnection) (l : Connection) (c : Caller) (d : Dumping) (step : Step) : Type 0 where
   pub pending : IsPending b o l.toward d step
   pub back : l.back ≡ []
   pub fed : HasFedAt (Waiting step) c.reader []
 
 -- its request was carried out
-pub record IsStepReplied (b : Begun) (o : Option ServerConnection) (l : Link) (c : Caller) (d : Dumping) (step : Step) : Type 0 where
-  pub settled : IsLinkSettled o l.toward d
+pub record IsStepReplied (b : Begun) (o : Option ServerConnection) (l : Connection) (c : Caller) (d : Dumping) (step : Step) : Type 0 where
+  pub settled : IsConnectionSettled o l.toward d
   pub fed : List ℕ
   pub has : HasFedAt (Waiting step) c.reader fed
   pub reply : IsStepReply b.run o c.at d step (fed ++ l.back)
 
 -- what is told of the client's own connection, by the stage
-abbrev pub IsLinkToldAt : Stage → List Begun → Option ServerConnection → Link → Caller → Dumping → Type 0
-IsLinkToldAt (ToSend step) begun o l c d = (b : Begun) × IsAttempt begun c d step b × IsItsTurn b o l c d step
-IsLinkToldAt (Waiting step) begun o l c d =
+abbrev pub IsConnectionToldAt : Stage → List Begun → Option ServerConnection → Connection → Caller → Dumping → Type 0
+IsConnectionToldAt (ToSend step) begun o l c d = (b : Begun) × IsAttempt begun c d step b × IsItsTurn b o l c d step
+IsConnectionToldAt (Waiting step) begun o l c d =
     (b : Begun) × IsAttempt begun c d step b × (IsStepAsked b o l c d step ⊎ IsStepReplied b o l c d step)
-IsLinkToldAt stage begun o l c d = Unit {0}
+IsConnectionToldAt stage begun o l c d = Unit {0}
 
 -- all that is told of a connection: of a stranger's nothing
-pub record IsLinkTold (w : World) (k : ℕ) (o : Option ServerConnection) (l : Link) : Type 0 where
-  pub sent : (d : Dumping) → l.dump ≡ Some d → IsLinkSent w.begun o l d
-  pub own : (d : Dumping) (c : Caller) → l.dump ≡ Some d → w.own ≡ Some k → w.caller ≡ Some c → IsLinkToldAt c.at.stage w.begun o l c d
+pub record IsConnectionTold (w : World) (k : ℕ) (o : Option ServerConnection) (l : Connection) : Type 0 where
+  pub sent : (d : Dumping) → l.dump ≡ Some d → IsConnectionSent w.begun o l d
+  pub own : (d : Dumping) (c : Caller) → l.dump ≡ Some d → w.own ≡ Some k → w.caller ≡ Some c → IsConnectionToldAt c.at.stage w.begun o l c d
 
 -- A run within its limits, and a payload each block of which fits a record. It has all blocks of the run, and each is whole.
 pub record IsGood (b : Begun) : Type 0 where
@@ -181,4 +181,4 @@ pub record IsGood (b : Begun) : Type 0 where
 -- of each connection that is told
 pub record AreTold (w : World) : Type 0 where
   pub good : (n : ℕ) (b : Begun) → numbered w.begun n ≡ Some b → IsGood b
-  pub each : (k : ℕ) (l : Link) → link_of w k ≡ Some l → IsLinkTold w k (side_of w.server k) l
+  pub each : (k : ℕ) (l : Connection) → connection_of w k ≡ Some l → IsConnectionTold w k (side_of w.server k) l

@@ -24,11 +24,11 @@ use Rattle.dump_client.specs.declared.stage.Stage.TheVariants.{Ready, ToSend, Wa
 use Rattle.dump_client.specs.declared.stage.Progress.{Progress}
 use Rattle.dump_client.specs.declared.stage.Progress.TheVariants as moved
 use Rattle.dump_run.specs.declared.count.VolumeCount.{VolumeCount}
-use Rattle.tape_events.specs.World.{World, Link, Dumping, Begun, Caller, Count, Opening, numbered}
+use Rattle.tape_events.specs.World.{World, Connection, Dumping, Begun, Caller, Count, Opening, numbered}
 use Rattle.tape_events.specs.Events.{PlainEvent}
 use Rattle.tape_events.specs.Events.PlainEvent.{StartRun, Connect, Send, ToServer, Serve, ToClient}
 use Rattle.tape_events.specs.First.{PlainDriveSpec}
-use Rattle.tape_events.specs.Changes.{side_of, link_of, opening}
+use Rattle.tape_events.specs.Changes.{side_of, connection_of, opening}
 use Rattle.tape_events.specs.Rows.{StandsIn}
 use Rattle.tape_events.specs.Sending.{AreUnserved, AreCounted, IsBrief}
 use Rattle.tape_events.specs.Standing.{StandsOn}
@@ -195,22 +195,22 @@ Leads drive t a old step reply =
     → StandsThen progress new.stage drive t a.connection a.begun a.dump a.session × CountsThen new.stage old.counts a.dump new.counts
 
 -- the connection of the client's attempt, which no fault met
-pub record IsOwnLink (w : World) (k : ℕ) (l : Link) (d : Dumping) (b : Begun) (s : ServerConnection) : Type 0 where
+pub record IsOwnConnection (w : World) (k : ℕ) (l : Connection) (d : Dumping) (b : Begun) (s : ServerConnection) : Type 0 where
   pub own : w.own ≡ Some k
-  pub there : link_of w k ≡ Some l
+  pub there : connection_of w k ≡ Some l
   pub whole : l.cut ≡ false
   pub dump : l.dump ≡ Some d
   pub begun : numbered w.begun d.run ≡ Some b
   pub live : side_of w.server k ≡ Some s
 
 -- the request was sent, and nothing is on the way back
-pub record IsStepUnanswered (drive : PlainDriveSpec) (w : World) (a : Attempt) (l : Link) (step : Step) : Type 0 where
+pub record IsStepUnanswered (drive : PlainDriveSpec) (w : World) (a : Attempt) (l : Connection) (step : Step) : Type 0 where
   pub back : l.back ≡ []
   pub stands : StandsBefore step drive (stock_of w) a.connection a.begun a.dump a.session
 
 -- The request was carried out: what the client heard and what is on the way to it are the reply. The reels of the counts come first
 -- in the bin.
-pub record IsStepAnswered (drive : PlainDriveSpec) (w : World) (a : Attempt) (l : Link) (c : Caller) (step : Step) : Type 0 where
+pub record IsStepAnswered (drive : PlainDriveSpec) (w : World) (a : Attempt) (l : Connection) (c : Caller) (step : Step) : Type 0 where
   pub served : AreUnserved (side_of w.server a.connection) l.toward []
   pub fed : List ℕ
   pub has : HasFedAt (Waiting step) c.reader fed
@@ -223,10 +223,10 @@ pub record IsStepAnswered (drive : PlainDriveSpec) (w : World) (a : Attempt) (l 
 -- how all stands, by the stage of the client
 abbrev pub ReelsStandAt : Stage → PlainDriveSpec → World → Caller → Type 0
 ReelsStandAt (ToSend step) drive w c =
-    (k : ℕ) × (l : Link) × (d : Dumping) × (b : Begun) × (s : ServerConnection) × IsOwnLink w k l d b s
+    (k : ℕ) × (l : Connection) × (d : Dumping) × (b : Begun) × (s : ServerConnection) × IsOwnConnection w k l d b s
     × StandsBefore step drive (stock_of w) k b d s.session
 ReelsStandAt (Waiting step) drive w c =
-    (k : ℕ) × (l : Link) × (d : Dumping) × (b : Begun) × (s : ServerConnection) × IsOwnLink w k l d b s
+    (k : ℕ) × (l : Connection) × (d : Dumping) × (b : Begun) × (s : ServerConnection) × IsOwnConnection w k l d b s
     × (IsStepUnanswered drive w (attempt_on k b d s.session) l step ⊎ IsStepAnswered drive w (attempt_on k b d s.session) l c step)
 ReelsStandAt Asking drive w c = w.server.library.bin ≡ volume_slots drive (stock_of w)
 ReelsStandAt Abandoned drive w c = ⊥
@@ -239,8 +239,8 @@ StandsWith (Some c) drive w = ReelsStandAt c.at.stage drive w c
 -- What stays so while no fault comes: each connection is the client's, and on all but its own nothing is unserved; the reels of
 -- the counts are the first of the opening stack, in order.
 pub record IsSmooth (drive : PlainDriveSpec) (w : World) : Type 0 where
-  pub clients : (j : ℕ) (l : Link) → link_of w j ≡ Some l → (d : Dumping) × (l.dump ≡ Some d)
-  pub still : (j : ℕ) (l : Link) → link_of w j ≡ Some l → w.own ≢ Some j → AreUnserved (side_of w.server j) l.toward []
+  pub clients : (j : ℕ) (l : Connection) → connection_of w j ≡ Some l → (d : Dumping) × (l.dump ≡ Some d)
+  pub still : (j : ℕ) (l : Connection) → connection_of w j ≡ Some l → w.own ≢ Some j → AreUnserved (side_of w.server j) l.toward []
   pub reels : map (λ (x : Count). x.reel) w.counts ≡ take (length w.counts) drive.reels
   pub stands : StandsWith w.caller drive w
   pub failure : FailsFaultless drive w

@@ -9,8 +9,8 @@ use Rattle.dump_client.specs.declared.step.Step.TheVariants.{Operation, Close}
 use Rattle.dump_client.specs.declared.step.TapeOp.TheVariants.{RewindAgain}
 use Rattle.dump_client.specs.declared.stage.Stage.TheVariants.{ToSend}
 use Rattle.dump_client.specs.declared.stage.Progress.{Progress}
-use Rattle.tape_events.specs.World.{World, Link, Dumping, Caller, Count, Opening, Writing, numbered}
-use Rattle.tape_events.specs.Changes.{HasDump, link_of, opening}
+use Rattle.tape_events.specs.World.{World, Connection, Dumping, Caller, Count, Opening, Writing, numbered}
+use Rattle.tape_events.specs.Changes.{HasDump, connection_of, opening}
 use Rattle.tape_events.specs.Headline.{IsSpared}
 
 -- connection k opened the count's reel for writing after the count's own
@@ -42,8 +42,8 @@ AreListedNow w =
 -- The client goes on past the look, whatever of its reply it has heard already, only where the reel is that of no such count.
 abbrev pub HasLooked : World → Type 0
 HasLooked w =
-    (k : ℕ) (l : Link) (c : Caller) (fed : List ℕ) (progress : Progress) (new : Standing) (x : Count) → w.own ≡ Some k
-    → link_of w k ≡ Some l → w.caller ≡ Some c → HasFedAt c.at.stage c.reader fed → FedAt c.at.stage c.at fed l.back progress new
+    (k : ℕ) (l : Connection) (c : Caller) (fed : List ℕ) (progress : Progress) (new : Standing) (x : Count) → w.own ≡ Some k
+    → connection_of w k ≡ Some l → w.caller ≡ Some c → HasFedAt c.at.stage c.reader fed → FedAt c.at.stage c.at fed l.back progress new
     → new.stage ≡ ToSend (Operation RewindAgain) → Contains w.counts x → IsSpared w x → HasOpenedSince w x k → ⊥
 
 -- what keeps reels of counts spared; each opening has its list

@@ -26,11 +26,11 @@ use Rattle.dump_client.specs.declared.stage.Answer.TheVariants.{Retry, Abandon}
 use Rattle.dump_client.specs.declared.stage.Stage.TheVariants.{Ready, ToSend, Waiting, Asking}
 use Rattle.dump_client.specs.declared.stage.Progress.{Progress}
 use Rattle.dump_client.specs.declared.fault.AttemptFault.TheVariants.{SourceFault}
-use Rattle.tape_events.specs.World.{World, Link, Dumping, Begun, Caller, Kept, numbered, with_numbered}
+use Rattle.tape_events.specs.World.{World, Connection, Dumping, Begun, Caller, Kept, numbered, with_numbered}
 use Rattle.tape_events.specs.Events.{PlainEvent}
 use Rattle.tape_events.specs.Events.PlainEvent.{StartRun, Connect, Send, ToServer, Serve, ToClient, Cut, EndAtServer, EndAtClient, ServerRestart, ClientRestart, Respond, Arrange, Stranger, Says, Enter, Save}
 use Rattle.tape_events.specs.Rows.{Possible}
-use Rattle.tape_events.specs.Changes.{changed, side_of, link_of, calm, joined, sent_on, other_left, given_up, ended_at, restarted, opened_reel, opening, list_in, reel_written, writing, answered, noted_sent, counted_from, came_to}
+use Rattle.tape_events.specs.Changes.{changed, side_of, connection_of, calm, joined, sent_on, other_left, given_up, ended_at, restarted, opened_reel, opening, list_in, reel_written, writing, answered, noted_sent, counted_from, came_to}
 
 abbrev pub caller : ℕ → Standing → ReplyHeld → Caller
 caller number at reader = record { number = number; at = at; reader = reader }
@@ -62,7 +62,7 @@ fresh c = record {
 abbrev pub client_connected : World → Caller → World
 client_connected w c = record (joined w (Some (fresh c))) {
   caller = Some (caller c.number (standing c.at.run c.at.counts (ToSend Open)) (reply_held None []));
-  own = Some (length w.links + 1);
+  own = Some (length w.connections + 1);
   failure = None;
 }
 
@@ -78,8 +78,8 @@ failed_read w k c reader = record (given_up w k) {
   failure = Some ((checkpoint_of c.at.counts).0, SourceFault);
 }
 
-abbrev pub sent_link : List ℕ → Link → Link
-sent_link text l = record l { toward = sent_on l.cut l.toward text; dump = option_map noted_sent l.dump }
+abbrev pub sent_connection : List ℕ → Connection → Connection
+sent_connection text l = record l { toward = sent_on l.cut l.toward text; dump = option_map noted_sent l.dump }
 
 abbrev pub next_text : Caller → List (List ℕ) → Step → List ℕ
 next_text c payload step =
@@ -87,7 +87,7 @@ next_text c payload step =
 
 abbrev pub asked : World → ℕ → Caller → List (List ℕ) → Step → ReplyHeld → World
 asked w k c payload step reader = record w {
-  links = changed (sent_link (next_text c payload step)) w.links k;
+  connections = changed (sent_connection (next_text c payload step)) w.connections k;
   caller = Some (caller c.number (standing c.at.run c.at.counts (Waiting step)) reader);
   failure = None;
 }
@@ -107,14 +107,14 @@ IsPushed before piece after =
 abbrev pub reached_by : World → ℕ → ℕ → ServerConnection → RequestHeld → World
 reached_by w k n s reached = record (calm w) {
   server = server w.server.library w.server.holders (with_numbered w.server.sides k (Some (side reached s.session)));
-  links = changed (λ l. record l { toward = drop n l.toward }) w.links k;
+  connections = changed (λ l. record l { toward = drop n l.toward }) w.connections k;
 }
 
 -- one request is carried out, and its reply is on the way back
 abbrev pub carried : World → ℕ → PlainRequest → PlainReply → RequestHeld → TapeLibrary → PlainSession → List ℕ → World
 carried w k request reply reached library session holders = record (calm w) {
   server = server library holders (with_numbered w.server.sides k (Some (side reached session)));
-  links = changed (answered request reply) w.links k;
+  connections = changed (answered request reply) w.connections k;
   opens = w.opens ++ option_to_list (option_map (opening k) (opened_reel request library session));
   lists = w.lists ++ option_to_list (option_map (λ reel. list_in w.caller) (opened_reel request library session));
   writings = w.writings ++ option_to_list (option_map (writing k (length w.opens)) (reel_written request library session));
@@ -133,14 +133,14 @@ Finds w k trouble s (Err fault) rest u = u ≡ ended_at (calm w) k
 abbrev pub heard : World → ℕ → ℕ → Caller → Standing → ReplyHeld → Progress → World
 heard w k n c at reader progress =
     came_to (counted_from (record (calm w) {
-      links = changed (λ l. record l { back = drop n l.back }) w.links k;
+      connections = changed (λ l. record l { back = drop n l.back }) w.connections k;
       caller = Some (caller c.number at reader);
     })
     c.number k (drop (length c.at.counts) at.counts)) k at progress
 
 -- a stranger drops what reaches it
 abbrev pub Hears : Option Dumping → World → ℕ → ℕ → List ℕ → World → Type 0
-Hears None w k n piece u = u ≡ record (calm w) { links = changed (λ l. record l { back = drop n l.back }) w.links k }
+Hears None w k n piece u = u ≡ record (calm w) { connections = changed (λ l. record l { back = drop n l.back }) w.connections k }
 Hears (Some dump) w k n piece u =
     (c : Caller) × (fed : List ℕ) × (at : Standing) × (reader : ReplyHeld) × (progress : Progress) × (w.caller ≡ Some c)
     × HasFedAt c.at.stage c.reader fed × FedAt c.at.stage c.at fed piece progress at
@@ -190,15 +190,15 @@ WorldStep w (Send fails) u =
     (c : Caller) × (step : Step) × (k : ℕ) × (b : Begun) × (w.caller ≡ Some c) × (c.at.stage ≡ ToSend step) × (w.own ≡ Some k)
     × (numbered w.begun c.number ≡ Some b) × Sends (is_failing fails step) w k c b.payload step u
 WorldStep w (ToServer k n) u =
-    (s : ServerConnection) × (l : Link) × (reached : RequestHeld) × (side_of w.server k ≡ Some s) × (link_of w k ≡ Some l)
+    (s : ServerConnection) × (l : Connection) × (reached : RequestHeld) × (side_of w.server k ≡ Some s) × (connection_of w k ≡ Some l)
     × IsPushed s.reached (take n l.toward) reached × (u ≡ reached_by w k n s reached)
 WorldStep w (Serve k trouble) u =
     (s : ServerConnection) × (found : Result (Option PlainRequest) WireFault) × (bytes : List ℕ) × (rest : List ℕ) × (side_of w.server k ≡ Some s)
     × Unread s.reached bytes × Gives bytes found rest × Finds w k trouble s found rest u
-WorldStep w (ToClient k n) u = (l : Link) × (link_of w k ≡ Some l) × Hears l.dump w k n (take n l.back) u
-WorldStep w (Cut k) u = u ≡ record (calm w) { links = changed (λ l. record l { cut = true }) w.links k }
+WorldStep w (ToClient k n) u = (l : Connection) × (connection_of w k ≡ Some l) × Hears l.dump w k n (take n l.back) u
+WorldStep w (Cut k) u = u ≡ record (calm w) { connections = changed (λ l. record l { cut = true }) w.connections k }
 WorldStep w (EndAtServer k) u = u ≡ ended_at (calm w) k
-WorldStep w (EndAtClient k) u = (l : Link) × (link_of w k ≡ Some l) × SeesEnd l.dump w k u
+WorldStep w (EndAtClient k) u = (l : Connection) × (connection_of w k ≡ Some l) × SeesEnd l.dump w k u
 WorldStep w ServerRestart u = u ≡ restarted (calm w)
 WorldStep w ClientRestart u = ComesBack w.kept w u
 WorldStep w (Respond answer) u =
@@ -212,7 +212,7 @@ WorldStep w (Arrange drive reels) u =
     × (u ≡ record (calm w) { server = server (arranged w.server.library d reels) w.server.holders w.server.sides })
 WorldStep w Stranger u = u ≡ joined (calm w) None
 WorldStep w (Says k bytes) u =
-    u ≡ record (calm w) { links = changed (λ l. record l { toward = sent_on l.cut l.toward bytes }) w.links k }
+    u ≡ record (calm w) { connections = changed (λ l. record l { toward = sent_on l.cut l.toward bytes }) w.connections k }
 WorldStep w Enter u = (c : Caller) × (w.caller ≡ Some c) × (u ≡ recorded w c)
 WorldStep w Save u =
     (c : Caller) × (w.caller ≡ Some c) × (u ≡ record (calm w) { kept = Some (record { run = c.number; listed = c.at.counts }) })

@@ -24,7 +24,7 @@ pub record Dumping : Type 0 where
 
 -- A connection: what is on the way to the server and back, whether it was cut, whether the side that is not the server's is
 -- live, and what an attempt came to on it, where it is the client's and no stranger's.
-pub record Link : Type 0 where
+pub record Connection : Type 0 where
   pub toward : List ℕ
   pub back : List ℕ
   pub cut : Bool
@@ -79,7 +79,7 @@ pub record Kept : Type 0 where
 -- volume, and why.
 pub record World : Type 0 where
   pub server : ServerState
-  pub links : List Link
+  pub connections : List Connection
   pub begun : List Begun
   pub caller : Option Caller
   pub own : Option ℕ

@@ -6,20 +6,20 @@ use Rattle.std.specs.Result.{is_err}
 use Rattle.std.specs.List.{list_all}
 use Rattle.drives.specs.TapeLibrary.{TapeLibrary, IsDriveNamed, latched_at}
 use Rattle.drives.specs.Arranging.{are_distinct, is_piled, may_arrange}
-use Rattle.tape_events.specs.World.{World, Link, numbered}
-use Rattle.tape_events.specs.Changes.{link_of}
-use Rattle.tape_world.specs.declared.link.Link.{Link as RealLink}
-use Rattle.tape_world.specs.Seen.{seen_link}
-use Rattle.tape_world.proofs.Linked.{no_link}
+use Rattle.tape_events.specs.World.{World, Connection, numbered}
+use Rattle.tape_events.specs.Changes.{connection_of}
+use Rattle.tape_world.specs.declared.conn.Connection.{Connection as RealConnection}
+use Rattle.tape_world.specs.Seen.{seen_connection}
+use Rattle.tape_world.proofs.Linked.{no_connection}
 
-pub none_found : (w : World) (items xs : List RealLink) (k : ℕ) (r : Option RealLink) (x : Link) → w.links ≡ map seen_link items → xs ≡ items
-    → option_map seen_link r ≡ numbered (map seen_link xs) k → r ≡ None → link_of w k ≡ Some x → ⊥
-none_found w items xs k r x links value is none at =
-    no_link w k x (ap (λ ls. numbered ls k) (links ∙ ap (map seen_link) (sym value)) ∙ sym is ∙ ap (option_map seen_link) none) at
+pub none_found : (w : World) (items xs : List RealConnection) (k : ℕ) (r : Option RealConnection) (x : Connection) → w.connections ≡ map seen_connection items → xs ≡ items
+    → option_map seen_connection r ≡ numbered (map seen_connection xs) k → r ≡ None → connection_of w k ≡ Some x → ⊥
+none_found w items xs k r x connections value is none at =
+    no_connection w k x (ap (λ ls. numbered ls k) (connections ∙ ap (map seen_connection) (sym value)) ∙ sym is ∙ ap (option_map seen_connection) none) at
 
-pub link_first : (xs : List RealLink) (k : ℕ) (r : Option RealLink) (l : RealLink) → option_map seen_link r ≡ numbered (map seen_link xs) k → r ≡ Some l → 1 ≤ k
-link_first xs zero r l is some = let clash : None ≡ Some (seen_link l) = sym is ∙ ap (option_map seen_link) some in absurd cc
-link_first xs (suc i) r l is some = omega arith
+pub connection_first : (xs : List RealConnection) (k : ℕ) (r : Option RealConnection) (l : RealConnection) → option_map seen_connection r ≡ numbered (map seen_connection xs) k → r ≡ Some l → 1 ≤ k
+connection_first xs zero r l is some = let clash : None ≡ Some (seen_connection l) = sym is ∙ ap (option_map seen_connection) some in absurd cc
+connection_first xs (suc i) r l is some = omega arith
 
 pub some_found : {X : Type 0} (o : Option X) → is_some o ≡ true → (x : X) × (o ≡ Some x)
 some_found None is = absurd cc

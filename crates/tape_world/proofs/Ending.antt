@@ -7,50 +7,50 @@ use Rattle.dump_client.specs.Client.{HasFedAt}
 use Rattle.dump_client.specs.declared.stage.Progress.{Progress}
 use Rattle.dump_client.specs.declared.stage.Progress.TheVariants as moved
 use Rattle.dump_client.specs.declared.fault.AttemptFault.{AttemptFault}
-use Rattle.tape_events.specs.World.{World, Link, Dumping, Caller, numbered}
+use Rattle.tape_events.specs.World.{World, Connection, Dumping, Caller, numbered}
 use Rattle.tape_events.specs.Changes.{changed, changed_from, over_there, calm, other_left, given_up, came_to}
 use Rattle.tape_events.specs.Steps.{caller, forgotten_from, SeesEnd}
-use Rattle.tape_world.specs.declared.link.Link.{Link as RealLink}
+use Rattle.tape_world.specs.declared.conn.Connection.{Connection as RealConnection}
 use Rattle.tape_world.specs.declared.caller.Begun.{Begun as RealBegun}
 use Rattle.tape_world.specs.declared.caller.Caller.{Caller as RealCaller}
-use Rattle.tape_world.specs.Seen.{seen_caller, seen_link}
+use Rattle.tape_world.specs.Seen.{seen_caller, seen_connection}
 use Rattle.tape_world.specs.Calling.{IsSameRun, ClientSeesEnd as SeesItsEnd, over_own, failure_of}
 use Rattle.tape_world.specs.Holding.{IsClients, IsOwned, IsSourced}
-use Rattle.tape_world.proofs.Linked.{links_after, links_same}
+use Rattle.tape_world.proofs.Linked.{connections_after, connections_same}
 
 -- a list of which one member is another now
-get_set : (xs : List Link) (i : ℕ) (x y : Link) → slice_get xs i ≡ Some x → slice_get (slice_set xs i y) i ≡ Some y
+get_set : (xs : List Connection) (i : ℕ) (x y : Connection) → slice_get xs i ≡ Some x → slice_get (slice_set xs i y) i ≡ Some y
 get_set [] i x y at = absurd cc
 get_set (w ∷ xs) zero x y at = refl
 get_set (w ∷ xs) (suc i) x y at = get_set xs i x y at
 
-set_twice : (xs : List Link) (i : ℕ) (x y : Link) → slice_set (slice_set xs i x) i y ≡ slice_set xs i y
+set_twice : (xs : List Connection) (i : ℕ) (x y : Connection) → slice_set (slice_set xs i x) i y ≡ slice_set xs i y
 set_twice [] i x y = refl
 set_twice (w ∷ xs) zero x y = refl
 set_twice (w ∷ xs) (suc i) x y = ap (λ l. w ∷ l) (set_twice xs i x y)
 
-over_from : (xs : List Link) (k : ℕ) (o : Option Link) → numbered xs k ≡ o → changed over_there (changed_from over_there xs k o) k ≡ changed_from over_there xs k o
+over_from : (xs : List Connection) (k : ℕ) (o : Option Connection) → numbered xs k ≡ o → changed over_there (changed_from over_there xs k o) k ≡ changed_from over_there xs k o
 over_from xs k None is = ap (changed_from over_there xs k) is
 over_from xs zero (Some x) is = absurd cc
 over_from xs (suc i) (Some x) is =
     ap (changed_from over_there (slice_set xs i (over_there x)) (suc i)) (get_set xs i x (over_there x) is) ∙ set_twice xs i (over_there x) (over_there x)
 
 -- what is over is over for good
-over_twice : (xs : List Link) (k : ℕ) → changed over_there (changed over_there xs k) k ≡ changed over_there xs k
+over_twice : (xs : List Connection) (k : ℕ) → changed over_there (changed over_there xs k) k ≡ changed over_there xs k
 over_twice xs k = over_from xs k (numbered xs k) refl
 
 -- what is seen of the connections in a vector, after the client's own is over
-pub links_own : (o : Option ℕ) (n : ℕ) (items xs ws : List RealLink) → n ≡ length items → xs ≡ items → map seen_link ws ≡ over_own o (map seen_link xs)
-    → map seen_link (take n (ws ++ drop (length ws) items)) ≡ over_own o (map seen_link items)
-links_own None n items xs ws len value is = links_same n items xs ws len value is
-links_own (Some k) n items xs ws len value is = links_after over_there n items xs ws k len value is
+pub connections_own : (o : Option ℕ) (n : ℕ) (items xs ws : List RealConnection) → n ≡ length items → xs ≡ items → map seen_connection ws ≡ over_own o (map seen_connection xs)
+    → map seen_connection (take n (ws ++ drop (length ws) items)) ≡ over_own o (map seen_connection items)
+connections_own None n items xs ws len value is = connections_same n items xs ws len value is
+connections_own (Some k) n items xs ws len value is = connections_after over_there n items xs ws k len value is
 
 pub no_source : (begun : List RealBegun) → IsSourced begun None
 no_source begun c is = absurd cc
 
 -- the world with this client, or with none, whose own connection is over
 abbrev pub gone_from : World → Option ℕ → Option Caller → World
-gone_from w o x = record (calm w) { links = over_own o w.links; own = None; caller = x }
+gone_from w o x = record (calm w) { connections = over_own o w.connections; own = None; caller = x }
 
 pub forgotten_is : (w : World) (o : Option ℕ) (x : Option Caller) → w.own ≡ o → gone_from w o x ≡ record (forgotten_from (calm w) w.own) { caller = x }
 forgotten_is w None x own = ap (λ o. record (calm w) { own = o; caller = x }) (sym own) ∙ ap (λ o. record (forgotten_from (calm w) o) { caller = x }) (sym own)
@@ -74,24 +74,24 @@ pub record IsEnded (o : Option RealCaller) (failure : Option (ℕ × AttemptFaul
 
 ended_of : (o new : Option RealCaller) (failure : Option (ℕ × AttemptFault)) (x : Caller) → option_map seen_caller o ≡ Some x → SeesItsEnd o failure new
     → IsEnded o failure new
-ended_of None new failure x is ends = absurd cc
+ended_of None new failure x is world_state = absurd cc
 ended_of (Some c) new failure x is (d, progress, new-is, same, cut, fed, fails) =
     record { before = c; after = d; progress = progress; was = refl; is = new-is; same = same; cut = cut; fed = fed; fails = fails }
 
 pub ended : (w : World) (o new : Option RealCaller) (failure : Option (ℕ × AttemptFault)) (k : ℕ) → w.caller ≡ option_map seen_caller o → IsOwned w → IsClients w k
     → SeesItsEnd o failure new → IsEnded o failure new
-ended w o new failure k was s clients ends =
-    let at = (s.own k (s.only k clients)).1 in ended_of o new failure at.0 (sym was ∙ at.1) ends
+ended w o new failure k was s clients world_state =
+    let at = (s.own k (s.only k clients)).1 in ended_of o new failure at.0 (sym was ∙ at.1) world_state
 
 -- the client's connection is over
 abbrev pub ended_world : World → ℕ → Option (ℕ × AttemptFault) → Option Caller → World
-ended_world w k failure caller = record (calm w) { links = changed over_there w.links k; own = None; caller = caller; failure = failure }
+ended_world w k failure caller = record (calm w) { connections = changed over_there w.connections k; own = None; caller = caller; failure = failure }
 
 came_is : (w : World) (k : ℕ) (x : Caller) (at : Standing) (progress : Progress)
     → ended_world w k (failure_of at progress) (Some x) ≡ came_to (record (given_up (calm w) k) { caller = Some x }) k at progress
 came_is w k x at (moved.Failed fault) =
-    ap (λ ls. record (calm w) { links = ls; own = None; caller = Some x; failure = Some ((checkpoint_of at.counts).0, fault) }) (sym (over_twice w.links k))
-came_is w k x at moved.Ended = ap (λ ls. record (calm w) { links = ls; own = None; caller = Some x }) (sym (over_twice w.links k))
+    ap (λ ls. record (calm w) { connections = ls; own = None; caller = Some x; failure = Some ((checkpoint_of at.counts).0, fault) }) (sym (over_twice w.connections k))
+came_is w k x at moved.Ended = ap (λ ls. record (calm w) { connections = ls; own = None; caller = Some x }) (sym (over_twice w.connections k))
 came_is w k x at moved.Waiting = refl
 came_is w k x at moved.Send = refl
 came_is w k x at moved.Idle = refl

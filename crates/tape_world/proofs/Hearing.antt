@@ -19,7 +19,7 @@ use Rattle.dump_client.specs.declared.stage.Progress.{Progress}
 use Rattle.dump_client.specs.declared.stage.Progress.TheVariants as moved
 use Rattle.dump_client.proofs.Heard.{HeardAs, has_failed, goes_to, has_counted, has_ended, counted_last, heard_as}
 use Rattle.tape_events.specs.Changes.{reel_opened_by}
-use Rattle.tape_world.specs.declared.books.Opening.{Opening as RealOpening}
+use Rattle.tape_world.specs.declared.history.Opening.{Opening as RealOpening}
 use Rattle.tape_world.specs.Seen.{name_at, seen_opening}
 use Rattle.tape_world.specs.Holding.{is_in_attempt}
 use Rattle.tape_world.specs.declared.caller.Caller.{Caller as RealCaller}

@@ -8,33 +8,33 @@ use Rattle.dump_run.specs.declared.count.VolumeCount.{VolumeCount}
 use Rattle.dump_client.specs.declared.stage.Progress.{Progress}
 use Rattle.dump_client.specs.declared.stage.Progress.TheVariants as moved
 use Rattle.dump_client.specs.declared.fault.AttemptFault.{AttemptFault}
-use Rattle.tape_events.specs.World.{World, Link, Dumping, Caller, Count, numbered}
+use Rattle.tape_events.specs.World.{World, Connection, Dumping, Caller, Count, numbered}
 use Rattle.tape_events.specs.Changes.{calm, changed, changed_from, over_there, reel_opened_by, counts_of, came_to}
 use Rattle.tape_events.specs.Steps.{Hears, caller}
-use Rattle.tape_world.specs.declared.link.Link.{Link as RealLink}
+use Rattle.tape_world.specs.declared.conn.Connection.{Connection as RealConnection}
 use Rattle.tape_world.specs.declared.caller.Caller.{Caller as RealCaller}
-use Rattle.tape_world.specs.declared.books.Count.{Count as RealCount}
-use Rattle.tape_world.specs.declared.ends.hearing.PieceHeard.{PieceHeard}
-use Rattle.tape_world.specs.Seen.{seen_caller, seen_count, seen_link, name_at}
+use Rattle.tape_world.specs.declared.history.Count.{Count as RealCount}
+use Rattle.tape_world.specs.declared.world_state.hearing.PieceHeard.{PieceHeard}
+use Rattle.tape_world.specs.Seen.{seen_caller, seen_count, seen_connection, name_at}
 use Rattle.tape_world.specs.Holding.{is_in_attempt, IsClients, IsOwned}
 use Rattle.tape_world.specs.Calling.{failure_of}
 use Rattle.tape_world.specs.Hearing.{come_back, heard_on, own_after, is_over, IsAttempting, HasHeard, count_in}
 
 -- a number of a connection that is there is within
-get_within : (xs : List Link) (i : ℕ) (x : Link) → slice_get xs i ≡ Some x → suc i ≤ length xs
+get_within : (xs : List Connection) (i : ℕ) (x : Connection) → slice_get xs i ≡ Some x → suc i ≤ length xs
 get_within [] i x is = absurd cc
 get_within (y ∷ xs) zero x is = omega arith
 get_within (y ∷ xs) (suc i) x is = omega (arith, get_within xs i x is)
 
-numbered_within : (xs : List Link) (k : ℕ) (x : Link) → numbered xs k ≡ Some x → k ≤ length xs
+numbered_within : (xs : List Connection) (k : ℕ) (x : Connection) → numbered xs k ≡ Some x → k ≤ length xs
 numbered_within xs zero x is = omega arith
 numbered_within xs (suc i) x is = get_within xs i x is
 
-pub link_within : (xs ys : List RealLink) (k : ℕ) (r : Option RealLink) (l : RealLink) → xs ≡ ys → option_map seen_link r ≡ numbered (map seen_link xs) k
+pub connection_within : (xs ys : List RealConnection) (k : ℕ) (r : Option RealConnection) (l : RealConnection) → xs ≡ ys → option_map seen_connection r ≡ numbered (map seen_connection xs) k
     → r ≡ Some l → k ≤ length ys
-link_within xs ys k r l same is some =
-    let within = numbered_within (map seen_link xs) k (seen_link l) (sym is ∙ ap (option_map seen_link) some) in
-    omega (arith, within, length-map xs seen_link, ap length same)
+connection_within xs ys k r l same is some =
+    let within = numbered_within (map seen_connection xs) k (seen_connection l) (sym is ∙ ap (option_map seen_connection) some) in
+    omega (arith, within, length-map xs seen_connection, ap length same)
 
 -- the client whose connection it is is in an attempt
 pub attempts : (w : World) (o : Option RealCaller) (k : ℕ) → w.caller ≡ option_map seen_caller o → IsOwned w → IsClients w k → IsAttempting o
@@ -44,12 +44,12 @@ attempts w (Some c) k was s clients =
     (c, refl, subst (λ (x : Caller). IsTrue (is_in_attempt x.at.stage)) (same_Some at.0 (seen_caller c) (sym at.1 ∙ was)) at.2)
 
 -- bytes that arrive before the connection is over make no difference
-get_set : (xs : List Link) (i : ℕ) (x y : Link) → slice_get xs i ≡ Some x → slice_get (slice_set xs i y) i ≡ Some y
+get_set : (xs : List Connection) (i : ℕ) (x y : Connection) → slice_get xs i ≡ Some x → slice_get (slice_set xs i y) i ≡ Some y
 get_set [] i x y at = absurd cc
 get_set (w ∷ xs) zero x y at = refl
 get_set (w ∷ xs) (suc i) x y at = get_set xs i x y at
 
-over_from : (n : ℕ) (xs : List Link) (k : ℕ) (o : Option Link) → numbered xs k ≡ o
+over_from : (n : ℕ) (xs : List Connection) (k : ℕ) (o : Option Connection) → numbered xs k ≡ o
     → changed over_there (changed_from (come_back n) xs k o) k ≡ changed_from over_there xs k o
 over_from n xs k None is = ap (changed_from over_there xs k) is
 over_from n xs zero (Some x) is = absurd cc
@@ -57,21 +57,21 @@ over_from n xs (suc i) (Some x) is =
     ap (changed_from over_there (slice_set xs i (come_back n x)) (suc i)) (get_set xs i x (come_back n x) is)
     ∙ set-set xs i (come_back n x) (over_there x)
 
-over_back : (n : ℕ) (xs : List Link) (k : ℕ) → changed over_there (changed (come_back n) xs k) k ≡ changed over_there xs k
+over_back : (n : ℕ) (xs : List Connection) (k : ℕ) → changed over_there (changed (come_back n) xs k) k ≡ changed over_there xs k
 over_back n xs k = over_from n xs k (numbered xs k) refl
 
 -- the world after the client heard so many bytes
 abbrev pub heard_world : World → ℕ → ℕ → Bool → Option Caller → List Count → Option (ℕ × AttemptFault) → World
 heard_world w k n over caller counts failure =
-    record w { links = changed (heard_on over n) w.links k; own = own_after over w.own; caller = caller; counts = counts; failure = failure }
+    record w { connections = changed (heard_on over n) w.connections k; own = own_after over w.own; caller = caller; counts = counts; failure = failure }
 
 come_is : (w : World) (k n : ℕ) (x : Caller) (counts : List Count) (at : Standing) (progress : Progress)
     → heard_world w k n (is_over progress) (Some x) counts (failure_of at progress)
-    ≡ came_to (record (calm w) { links = changed (come_back n) w.links k; caller = Some x; counts = counts }) k at progress
+    ≡ came_to (record (calm w) { connections = changed (come_back n) w.connections k; caller = Some x; counts = counts }) k at progress
 come_is w k n x counts at (moved.Failed fault) =
-    ap (λ ls. record w { links = ls; own = None; caller = Some x; counts = counts; failure = Some ((checkpoint_of at.counts).0, fault) }) (sym (over_back n w.links k))
+    ap (λ ls. record w { connections = ls; own = None; caller = Some x; counts = counts; failure = Some ((checkpoint_of at.counts).0, fault) }) (sym (over_back n w.connections k))
 come_is w k n x counts at moved.Ended =
-    ap (λ ls. record w { links = ls; own = None; caller = Some x; counts = counts; failure = None }) (sym (over_back n w.links k))
+    ap (λ ls. record w { connections = ls; own = None; caller = Some x; counts = counts; failure = None }) (sym (over_back n w.connections k))
 come_is w k n x counts at moved.Waiting = refl
 come_is w k n x counts at moved.Send = refl
 come_is w k n x counts at moved.Idle = refl
@@ -106,7 +106,7 @@ heard_step w u k n dump d piece o new h some was e is =
     )
 
 pub dropped_step : (w u : World) (k n : ℕ) (dump : Option Dumping) (piece : List ℕ) → dump ≡ None
-    → u ≡ record (calm w) { links = changed (come_back n) w.links k } → Hears dump w k n piece u
+    → u ≡ record (calm w) { connections = changed (come_back n) w.connections k } → Hears dump w k n piece u
 dropped_step w u k n dump piece none is = subst (λ y. Hears y w k n piece u) (sym none) is
 
 -- what is seen of the counts that are kept

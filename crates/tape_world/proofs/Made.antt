@@ -20,10 +20,10 @@ use Rattle.rmt_server.specs.ServerState.{server}
 use Rattle.tape_host.specs.Servers.{Hosted, hosted}
 use Rattle.tape_host.specs.Lying.{Lie, StacksLie, AllLie}
 use Rattle.tape_events.specs.First.{PlainDriveSpec, blank_drive, first_world}
-use Rattle.tape_world.specs.declared.link.Link.{Link as RealLink}
+use Rattle.tape_world.specs.declared.conn.Connection.{Connection as RealConnection}
 use Rattle.tape_world.specs.declared.caller.Begun.{Begun as RealBegun}
-use Rattle.tape_world.specs.declared.books.Books.{Books}
-use Rattle.tape_world.specs.Seen.{seen_link, seen_begun, seen_count, seen_opening, seen_lists, seen_writing, seen_entered, book_names, world_of}
+use Rattle.tape_world.specs.declared.history.History.{History}
+use Rattle.tape_world.specs.Seen.{seen_connection, seen_begun, seen_count, seen_opening, seen_lists, seen_writing, seen_entered, book_names, world_of}
 use Rattle.tape_world.specs.declared.drive_spec.DriveSpec.{DriveSpec}
 use Rattle.tape_world.specs.Serving.{IsLibraryKnown}
 use Rattle.tape_world.specs.Making.{plain_drive_spec, reels_of, blank_slots, laid_drive, laid_library, with_laid, with_slots}
@@ -127,18 +127,18 @@ first_server host s drives n laid is count =
     ap (λ (h : Hosted). h.server) is ∙ ap (λ x. server x (replicate n 0) []) (first_library s drives laid)
     ∙ ap (λ m. server (library (map blank_drive (map plain_drive_spec drives)) []) (replicate m 0) []) (count ∙ sym (length-map drives plain_drive_spec))
 
-pub made_world : (host : Hosted) (drives : List DriveSpec) (links : List RealLink) (begun : List RealBegun) (books : Books) (dates : List DatesEntry)
-    → host.server ≡ server (library (map blank_drive (map plain_drive_spec drives)) []) (replicate (length (map plain_drive_spec drives)) 0) [] → links ≡ [] → begun ≡ []
-    → books.counts.items ≡ [] → books.opens.items ≡ [] → books.lists.items ≡ [] → books.writings.items ≡ [] → books.entered.items ≡ [] → books.failure ≡ None → dates ≡ []
-    → world_of host.server links begun None None None books dates ≡ first_world (map plain_drive_spec drives)
-made_world host drives links begun books dates there no_links no_runs no_counts no_opens no_lists no_writings no_entered no_failure no_dates =
-    let links_none : map seen_link links ≡ [] = ap (map seen_link) no_links in
+pub made_world : (host : Hosted) (drives : List DriveSpec) (connections : List RealConnection) (begun : List RealBegun) (history : History) (dates : List DatesEntry)
+    → host.server ≡ server (library (map blank_drive (map plain_drive_spec drives)) []) (replicate (length (map plain_drive_spec drives)) 0) [] → connections ≡ [] → begun ≡ []
+    → history.counts.items ≡ [] → history.opens.items ≡ [] → history.lists.items ≡ [] → history.writings.items ≡ [] → history.entered.items ≡ [] → history.failure ≡ None → dates ≡ []
+    → world_of host.server connections begun None None None history dates ≡ first_world (map plain_drive_spec drives)
+made_world host drives connections begun history dates there no_connections no_runs no_counts no_opens no_lists no_writings no_entered no_failure no_dates =
+    let connections_none : map seen_connection connections ≡ [] = ap (map seen_connection) no_connections in
     let begun_none : map seen_begun begun ≡ [] = ap (map seen_begun) no_runs in
-    let counts_none : map (seen_count (book_names books)) books.counts.items ≡ [] = ap (map (seen_count (book_names books))) no_counts in
-    let opens_none : map (seen_opening (book_names books)) books.opens.items ≡ [] = ap (map (seen_opening (book_names books))) no_opens in
-    let lists_none : seen_lists books.lists.items ≡ [] = ap seen_lists no_lists in
-    let writings_none : map (seen_writing (book_names books)) books.writings.items ≡ [] = ap (map (seen_writing (book_names books))) no_writings in
-    let entered_none : map seen_entered books.entered.items ≡ [] = ap (map seen_entered) no_entered in cc
+    let counts_none : map (seen_count (book_names history)) history.counts.items ≡ [] = ap (map (seen_count (book_names history))) no_counts in
+    let opens_none : map (seen_opening (book_names history)) history.opens.items ≡ [] = ap (map (seen_opening (book_names history))) no_opens in
+    let lists_none : seen_lists history.lists.items ≡ [] = ap seen_lists no_lists in
+    let writings_none : map (seen_writing (book_names history)) history.writings.items ≡ [] = ap (map (seen_writing (book_names history))) no_writings in
+    let entered_none : map seen_entered history.entered.items ≡ [] = ap (map seen_entered) no_entered in cc
 
 -- copies of more names
 pub name_pushed : {A : Type 0} (f : A → List ℕ) (first : List (List ℕ)) (now new : List (Vec ℕ Global)) (x : Vec ℕ Global) (more : List A) (i : ℕ) (d : A) → i < length more

@@ -20,7 +20,7 @@ use Rattle.tape_events.specs.Changes.{calm}
 use Rattle.tape_events.specs.Kept.{IsWorldKept}
 use Rattle.tape_events.specs.Rows.{IsRunEntered, MayBeKept}
 use Rattle.tape_events.specs.Steps.{ComesBack, caller, forgotten_from, kept_after}
-use Rattle.tape_world.specs.declared.books.Entered.{Entered as RealEntered}
+use Rattle.tape_world.specs.declared.history.Entered.{Entered as RealEntered}
 use Rattle.tape_world.specs.declared.caller.Begun.{Begun as RealBegun}
 use Rattle.tape_world.specs.declared.caller.Caller.{Caller as RealCaller}
 use Rattle.tape_world.specs.declared.caller.KeptRun.{KeptRun}

@@ -15,15 +15,15 @@ use Rattle.dump_client.specs.declared.stage.Stage.TheVariants.{Ready, ToSend, Wa
 use Rattle.dump_client.specs.declared.stage.State.TheVariants as told
 use Rattle.dump_client.specs.declared.fault.AttemptFault.{AttemptFault}
 use Rattle.dump_client.specs.declared.fault.AttemptFault.TheVariants.{SourceFault}
-use Rattle.tape_events.specs.World.{World, Link, Caller, numbered}
+use Rattle.tape_events.specs.World.{World, Connection, Caller, numbered}
 use Rattle.tape_events.specs.Changes.{changed, over_there}
 use Rattle.tape_events.specs.Events.PlainEvent.{Send}
 use Rattle.tape_events.specs.Rows.{StandsIn}
 use Rattle.tape_events.specs.Steps.{Happens, Sends, caller, is_failing}
-use Rattle.tape_world.specs.declared.link.Link.{Link as RealLink}
+use Rattle.tape_world.specs.declared.conn.Connection.{Connection as RealConnection}
 use Rattle.tape_world.specs.declared.caller.Begun.{Begun as RealBegun}
 use Rattle.tape_world.specs.declared.caller.Caller.{Caller as RealCaller}
-use Rattle.tape_world.specs.Seen.{seen_begun, seen_caller, seen_link}
+use Rattle.tape_world.specs.Seen.{seen_begun, seen_caller, seen_connection}
 use Rattle.tape_world.specs.Calling.{IsPlaced}
 use Rattle.tape_world.specs.Talking.{Asks, AskedOf, IsToSend, talked}
 use Rattle.tape_world.specs.Holding.{is_in_attempt, IsOwned, IsSourced}
@@ -50,24 +50,24 @@ has_own w o none (x, is, (step, stage)) =
     let clash = sym none ∙ own.1 in absurd cc
 
 -- a connection that is there has one of their numbers
-get_below : (xs : List Link) (i : ℕ) (x : Link) → slice_get xs i ≡ Some x → suc i ≤ length xs
+get_below : (xs : List Connection) (i : ℕ) (x : Connection) → slice_get xs i ≡ Some x → suc i ≤ length xs
 get_below [] i x at = absurd cc
 get_below (y ∷ xs) zero x at = omega arith
 get_below (y ∷ xs) (suc i) x at = let below = get_below xs i x at in omega (arith, below)
 
-numbered_within : (xs : List Link) (k : ℕ) (x : Link) → numbered xs k ≡ Some x → (1 ≤ k) × (k ≤ length xs)
+numbered_within : (xs : List Connection) (k : ℕ) (x : Connection) → numbered xs k ≡ Some x → (1 ≤ k) × (k ≤ length xs)
 numbered_within xs zero x at = absurd cc
 numbered_within xs (suc i) x at = (omega arith, get_below xs i x at)
 
-pub own_within : (w : World) (items : List RealLink) (k : ℕ) → w.links ≡ map seen_link items → w.own ≡ Some k → IsOwned w → (1 ≤ k) × (k ≤ length items)
-own_within w items k links own o =
+pub own_within : (w : World) (items : List RealConnection) (k : ℕ) → w.connections ≡ map seen_connection items → w.own ≡ Some k → IsOwned w → (1 ≤ k) × (k ≤ length items)
+own_within w items k connections own o =
     let (l, d, at, other, dump) = (o.own k own).0 in
-    let within = numbered_within w.links k l at in
-    (within.0, subst (λ n. k ≤ n) (ap length links ∙ length-map items seen_link) within.1)
+    let within = numbered_within w.connections k l at in
+    (within.0, subst (λ n. k ≤ n) (ap length connections ∙ length-map items seen_connection) within.1)
 
-pub own_placed : (w : World) (items : List RealLink) (o : Option ℕ) → w.links ≡ map seen_link items → w.own ≡ o → IsOwned w → IsPlaced o (length items)
-own_placed w items None links own owned = tt
-own_placed w items (Some k) links own owned = own_within w items k links own owned
+pub own_placed : (w : World) (items : List RealConnection) (o : Option ℕ) → w.connections ≡ map seen_connection items → w.own ≡ o → IsOwned w → IsPlaced o (length items)
+own_placed w items None connections own owned = tt
+own_placed w items (Some k) connections own owned = own_within w items k connections own owned
 
 -- its own connection after that
 abbrev pub own_after : Option (ℕ × AttemptFault) → Option ℕ → Option ℕ
@@ -109,7 +109,7 @@ talked_sourced begun o new fails text failure a s x at =
 -- the world then
 abbrev pub talked_world : World → ℕ → List ℕ → Option (ℕ × AttemptFault) → Option Caller → World
 talked_world w k text failure caller =
-    record w { links = changed (talked text failure) w.links k; caller = caller; own = own_after failure w.own; failure = failure }
+    record w { connections = changed (talked text failure) w.connections k; caller = caller; own = own_after failure w.own; failure = failure }
 
 numbered_map : (xs : List RealBegun) (k : ℕ) (b : RealBegun) → numbered xs k ≡ Some b → numbered (map seen_begun xs) k ≡ Some (seen_begun b)
 numbered_map xs zero b at = absurd cc
@@ -141,7 +141,7 @@ sends_so w u k o new fails text (Some failure) payload a blocks is =
     subst (λ b. Sends b w k (seen_caller a.before) payload a.step u) (sym fails) (
       a.after.client.reader,
       is ∙ ap (talked_world w k text (Some failure)) (caller_is a.before a.after new (standing a.before.client.at.run a.before.client.at.counts Asking) a.is a.number at)
-          ∙ ap (λ f. record w { links = changed over_there w.links k; caller = Some x; own = None; failure = f }) tells,
+          ∙ ap (λ f. record w { connections = changed over_there w.connections k; caller = Some x; own = None; failure = f }) tells,
     )
 
 pub talked_event : (w u : World) (k : ℕ) (begun : List RealBegun) (o new : Option RealCaller) (fails : Bool) (text : List ℕ) (failure : Option (ℕ × AttemptFault))

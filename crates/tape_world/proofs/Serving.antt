@@ -21,13 +21,13 @@ use Rattle.tape_host.specs.declared.turn.Turn.{Turn}
 use Rattle.tape_host.specs.declared.turn.Turn.TheVariants as turns
 use Rattle.tape_host.specs.Servers.{Hosted, hosted, side_at, ended}
 use Rattle.tape_host.specs.Turns.{sent_back, GivesNothing, carried_of, asked_of, answered_of, TurnsAt, TurnsSide, ServesAt, with_back}
-use Rattle.tape_events.specs.World.{Link, Dumping}
+use Rattle.tape_events.specs.World.{Connection, Dumping}
 use Rattle.tape_events.specs.Changes.{changed, sent_on, noted, noted_by, noted_write, noted_marks, answered, over_here, opening}
-use Rattle.tape_world.specs.declared.link.Link.{Link as RealLink}
-use Rattle.tape_world.specs.declared.books.Opening.{Opening as RealOpening}
-use Rattle.tape_world.specs.Seen.{seen_link, seen_opening, name_at}
+use Rattle.tape_world.specs.declared.conn.Connection.{Connection as RealConnection}
+use Rattle.tape_world.specs.declared.history.Opening.{Opening as RealOpening}
+use Rattle.tape_world.specs.Seen.{seen_connection, seen_opening, name_at}
 use Rattle.tape_world.specs.Serving.{TurnServes, noted_record, noted_mark, noted_asked, noted_carried, noted_turn}
-use Rattle.tape_world.proofs.Linked.{put_link}
+use Rattle.tape_world.proofs.Linked.{put_connection}
 
 -- ---- what is on the way back
 
@@ -93,7 +93,7 @@ sent_same false back text = refl
 
 -- ---- the connection after a turn
 
-serves_side : (trouble : Trouble) (old new : Hosted) (k : ℕ) (s : ServerConnection) (turn : Turn) (l x : Link) (back : List ℕ) → side_at old.server.sides k ≡ Some s
+serves_side : (trouble : Trouble) (old new : Hosted) (k : ℕ) (s : ServerConnection) (turn : Turn) (l x : Connection) (back : List ℕ) → side_at old.server.sides k ≡ Some s
     → TurnsSide (hosted (ended old.server k) old.ready) trouble l.cut (with_back old l.back) k s turn (with_back new back) → x ≡ noted_turn turn (record l { back = back })
     → TurnServes trouble old k turn new (λ f. x ≡ f l)
 serves_side trouble old new k s turns.Nothing l x back live (none, same, is) so =
@@ -112,7 +112,7 @@ serves_side trouble old new k s (turns.Carried c) l x back live (request, reply,
 serves_side trouble old new k s (turns.Broken fault) l x back live (gives, after, is) so =
     (s, live, gives, after, so ∙ ap (λ b. over_here (record l { back = b })) is)
 
-serves_from : (trouble : Trouble) (old new : Hosted) (k : ℕ) (o : Option ServerConnection) (turn : Turn) (l x : Link) (back : List ℕ) → side_at old.server.sides k ≡ o
+serves_from : (trouble : Trouble) (old new : Hosted) (k : ℕ) (o : Option ServerConnection) (turn : Turn) (l x : Connection) (back : List ℕ) → side_at old.server.sides k ≡ o
     → TurnsAt (hosted (ended old.server k) old.ready) trouble l.cut (with_back old l.back) k o turn (with_back new back) → x ≡ noted_turn turn (record l { back = back })
     → TurnServes trouble old k turn new (λ f. x ≡ f l)
 serves_from trouble old new k None turn l x back over (none, same, is) so =
@@ -120,23 +120,23 @@ serves_from trouble old new k None turn l x back over (none, same, is) so =
     (λ y at. (let clash = sym over ∙ at in absurd cc), same, so ∙ ap (λ t. noted_turn t (record l { back = back })) none ∙ ap (λ b. record l { back = b }) is)
 serves_from trouble old new k (Some s) turn l x back live t so = serves_side trouble old new k s turn l x back live t so
 
-pub serves_link : (trouble : Trouble) (old new : Hosted) (k : ℕ) (turn : Turn) (l x : Link) (back : List ℕ) → ServesAt trouble l.cut old k l.back turn new back
+pub serves_connection : (trouble : Trouble) (old new : Hosted) (k : ℕ) (turn : Turn) (l x : Connection) (back : List ℕ) → ServesAt trouble l.cut old k l.back turn new back
     → x ≡ noted_turn turn (record l { back = back }) → TurnServes trouble old k turn new (λ f. x ≡ f l)
-serves_link trouble old new k turn l x back t so = serves_from trouble old new k (side_at old.server.sides k) turn l x back refl t so
+serves_connection trouble old new k turn l x back t so = serves_from trouble old new k (side_at old.server.sides k) turn l x back refl t so
 
 -- the same, of all connections
-pub serves_as : (trouble : Trouble) (old new : Hosted) (k : ℕ) (turn : Turn) (p q : (Link → Link) → Type 0) → ((f : Link → Link) → p f → q f)
+pub serves_as : (trouble : Trouble) (old new : Hosted) (k : ℕ) (turn : Turn) (p q : (Connection → Connection) → Type 0) → ((f : Connection → Connection) → p f → q f)
     → TurnServes trouble old k turn new p → TurnServes trouble old k turn new q
 serves_as trouble old new k turns.Nothing p q on (none, same, is) = (none, same, on (λ l. l) is)
 serves_as trouble old new k (turns.Carried c) p q on (s, request, reply, live, carries, told, is) =
     (s, request, reply, live, carries, told, on (answered request reply) is)
 serves_as trouble old new k (turns.Broken fault) p q on (s, live, gives, after, is) = (s, live, gives, after, on over_here is)
 
-pub serves_links : {E : Type 0} (trouble : Trouble) (old new : Hosted) (links : List RealLink) (k : ℕ) (x d : RealLink) → 1 ≤ k → k ≤ length links → (r : Result Turn E)
-    → IfOk r (λ turn. TurnServes trouble old k turn new (λ f. seen_link x ≡ f (seen_link (slice_index_or links (k - 1) d))))
-    → IfOk r (λ turn. TurnServes trouble old k turn new (λ f. map seen_link (slice_set links (k - 1) x) ≡ changed f (map seen_link links) k))
-serves_links {E} trouble old new links k x d first last (Ok turn) t = serves_as trouble old new k turn _ _ (λ f is. put_link f links k x d first last is) t
-serves_links {E} trouble old new links k x d first last (Err e) t = tt
+pub serves_connections : {E : Type 0} (trouble : Trouble) (old new : Hosted) (connections : List RealConnection) (k : ℕ) (x d : RealConnection) → 1 ≤ k → k ≤ length connections → (r : Result Turn E)
+    → IfOk r (λ turn. TurnServes trouble old k turn new (λ f. seen_connection x ≡ f (seen_connection (slice_index_or connections (k - 1) d))))
+    → IfOk r (λ turn. TurnServes trouble old k turn new (λ f. map seen_connection (slice_set connections (k - 1) x) ≡ changed f (map seen_connection connections) k))
+serves_connections {E} trouble old new connections k x d first last (Ok turn) t = serves_as trouble old new k turn _ _ (λ f is. put_connection f connections k x d first last is) t
+serves_connections {E} trouble old new connections k x d first last (Err e) t = tt
 
 -- ---- the place of a name
 

@@ -28,23 +28,23 @@ use Rattle.tape_host.specs.Servers.{Hosted, side_at, with_side_at}
 use Rattle.tape_host.specs.Turns.{Carries, GivesNothing, GivesFault, asked_of, carried_of, writes_for}
 use Rattle.dumpdates.specs.Entry.{DatesEntry}
 use Rattle.dump_run.specs.declared.count.VolumeCount.{VolumeCount}
-use Rattle.tape_events.specs.World.{World, Link, Opening, Writing, numbered, with_numbered}
+use Rattle.tape_events.specs.World.{World, Connection, Opening, Writing, numbered, with_numbered}
 use Rattle.tape_events.specs.Events.PlainEvent.{Serve}
 use Rattle.tape_events.specs.Changes.{calm, changed, changed_from, ended, side_of, written_reel, opened_reel, opening, list_in, writing, answered, over_here}
 use Rattle.tape_events.specs.Rows.{Possible}
 use Rattle.tape_events.specs.Steps.{Happens}
 use Rattle.tape_events.specs.Standing.{AreHeld}
 use Rattle.tape_events.specs.Kept.{IsWorldKept}
-use Rattle.tape_world.specs.declared.link.Link.{Link as RealLink}
-use Rattle.tape_world.specs.declared.books.Books.{Books}
-use Rattle.tape_world.specs.declared.books.Count.{Count as RealCount}
-use Rattle.tape_world.specs.declared.books.Entered.{Entered as RealEntered}
+use Rattle.tape_world.specs.declared.conn.Connection.{Connection as RealConnection}
+use Rattle.tape_world.specs.declared.history.History.{History}
+use Rattle.tape_world.specs.declared.history.Count.{Count as RealCount}
+use Rattle.tape_world.specs.declared.history.Entered.{Entered as RealEntered}
 use Rattle.tape_world.specs.declared.caller.Begun.{Begun as RealBegun}
 use Rattle.tape_world.specs.declared.caller.Caller.{Caller as RealCaller}
 use Rattle.tape_world.specs.declared.caller.KeptRun.{KeptRun}
-use Rattle.tape_world.specs.Seen.{seen_link, seen_caller, seen_count, seen_opening, seen_lists, seen_writing, seen_entered, book_names, world_of}
-use Rattle.tape_world.specs.Serving.{TurnServes, IsSameBooks, IsNoted, IsLibraryKnown, IsOnlineIn, name_online, name_online_at, name_opened_by, opened_in, written_in}
-use Rattle.tape_world.proofs.Linked.{links_after}
+use Rattle.tape_world.specs.Seen.{seen_connection, seen_caller, seen_count, seen_opening, seen_lists, seen_writing, seen_entered, book_names, world_of}
+use Rattle.tape_world.specs.Serving.{TurnServes, IsSameHistory, IsNoted, IsLibraryKnown, IsOnlineIn, name_online, name_online_at, name_opened_by, opened_in, written_in}
+use Rattle.tape_world.proofs.Linked.{connections_after}
 use Rattle.tape_world.proofs.Serving.{serves_as}
 use Rattle.tape_world.proofs.Server.{side_found, ended_is}
 use Rattle.tape_world.proofs.Reached.{put_side}
@@ -53,7 +53,7 @@ use Rattle.tape_world.proofs.Wrote.{written_is}
 
 -- ---- nothing to serve
 
-pub nothing_served : (trouble : Trouble) (k : ℕ) (old new : Hosted) (turn : Turn) (p : (Link → Link) → Type 0) → turn ≡ turns.Nothing
+pub nothing_served : (trouble : Trouble) (k : ℕ) (old new : Hosted) (turn : Turn) (p : (Connection → Connection) → Type 0) → turn ≡ turns.Nothing
     → TurnServes trouble old k turn new p → new ≡ old
 nothing_served trouble k old new turn p is t = (subst (λ x. TurnServes trouble old k x new p) is t).1
 
@@ -67,13 +67,13 @@ set_own [] m x at = refl
 set_own (y ∷ xs) zero x at = ap (λ z. z ∷ xs) (sym (same_Some y x at))
 set_own (y ∷ xs) (suc m) x at = ap (λ l. y ∷ l) (set_own xs m x at)
 
-same_from : (xs : List Link) (k : ℕ) (o : Option Link) → numbered xs k ≡ o → changed_from (λ l. l) xs k o ≡ xs
+same_from : (xs : List Connection) (k : ℕ) (o : Option Connection) → numbered xs k ≡ o → changed_from (λ l. l) xs k o ≡ xs
 same_from xs k None at = refl
 same_from xs zero (Some x) at = refl
 same_from xs (suc m) (Some x) at = set_own xs m x at
 
-pub same_links : (xs : List Link) (k : ℕ) → changed (λ l. l) xs k ≡ xs
-same_links xs k = same_from xs k (numbered xs k) refl
+pub same_connections : (xs : List Connection) (k : ℕ) → changed (λ l. l) xs k ≡ xs
+same_connections xs k = same_from xs k (numbered xs k) refl
 
 -- ---- the reel that was opened
 
@@ -159,8 +159,8 @@ front_has xs n i y at =
     numbered_in xs (suc i) y at = subst (Contains xs) (get_or_from_slice_get xs i y y at) (Contains-get_or xs i y (slice_get_within xs i y at))
 
 -- the world with this hall, and these connections, openings with their lists, and writings
-abbrev pub left_with : World → ServerState → List Link → List Opening → List (List VolumeCount) → List Writing → World
-left_with w h links opens lists writings = record (calm w) { server = h; links = links; opens = opens; lists = lists; writings = writings }
+abbrev pub left_with : World → ServerState → List Connection → List Opening → List (List VolumeCount) → List Writing → World
+left_with w h connections opens lists writings = record (calm w) { server = h; connections = connections; opens = opens; lists = lists; writings = writings }
 
 -- what a turn may have noted
 abbrev pub more_opens : World → ℕ → ServerState → Turn → List Opening
@@ -173,13 +173,13 @@ abbrev pub more_writings : World → ℕ → ServerState → Turn → List Writi
 more_writings w k h turn = w.writings ++ option_to_list (option_map (writing k (length w.opens)) (written_in h k turn))
 
 -- the world after a turn, with what is to be noted
-abbrev pub turned : World → ℕ → ServerState → Turn → List Link → World
-turned w k h turn links = left_with w h links (more_opens w k h turn) (more_lists w k h turn) (more_writings w k h turn)
+abbrev pub turned : World → ℕ → ServerState → Turn → List Connection → World
+turned w k h turn connections = left_with w h connections (more_opens w k h turn) (more_lists w k h turn) (more_writings w k h turn)
 
-carried_happens : (trouble : Trouble) (k : ℕ) (w : World) (s : ServerConnection) (request : PlainRequest) (reply : PlainReply) (new : ServerState) (links : List Link)
-    → side_at w.server.sides k ≡ Some s → Carries trouble w.server k s request reply new → links ≡ changed (answered request reply) w.links k
-    → Happens w (Serve k trouble) (turned w k new (turns.Carried (carried_of request reply)) links)
-carried_happens trouble k w s request reply new links live c is =
+carried_happens : (trouble : Trouble) (k : ℕ) (w : World) (s : ServerConnection) (request : PlainRequest) (reply : PlainReply) (new : ServerState) (connections : List Connection)
+    → side_at w.server.sides k ≡ Some s → Carries trouble w.server k s request reply new → connections ≡ changed (answered request reply) w.connections k
+    → Happens w (Serve k trouble) (turned w k new (turns.Carried (carried_of request reply)) connections)
+carried_happens trouble k w s request reply new connections live c is =
     let turn = turns.Carried (carried_of request reply) in
     let here = sym (side_found w.server k) ∙ live in
     let h = server c.library c.holders (with_numbered w.server.sides k (Some (side c.reached c.session))) in
@@ -207,13 +207,13 @@ carried_happens trouble k w s request reply new links live c is =
           c.holders,
           c.given.4,
           c.served,
-          ap (λ x. left_with w x links (more_opens w k new turn) (more_lists w k new turn) (more_writings w k new turn)) hallis
+          ap (λ x. left_with w x connections (more_opens w k new turn) (more_lists w k new turn) (more_writings w k new turn)) hallis
               ∙ ap (λ l. left_with w h l (more_opens w k new turn) (more_lists w k new turn) (more_writings w k new turn)) is
-              ∙ ap (λ r. left_with w h (changed (answered request reply) w.links k)
+              ∙ ap (λ r. left_with w h (changed (answered request reply) w.connections k)
               (w.opens ++ option_to_list (option_map (opening k) r))
               (w.lists ++ option_to_list (option_map (λ reel. list_in w.caller) r)) (more_writings w k new turn))
               opened
-              ∙ ap (λ r. left_with w h (changed (answered request reply) w.links k)
+              ∙ ap (λ r. left_with w h (changed (answered request reply) w.connections k)
               (w.opens ++ option_to_list (option_map (opening k) (opened_reel request c.library c.session)))
               (w.lists ++ option_to_list (option_map (λ reel. list_in w.caller) (opened_reel request c.library c.session)))
               (w.writings ++ option_to_list (option_map (writing k (length w.opens)) r))) wrote,
@@ -221,10 +221,10 @@ carried_happens trouble k w s request reply new links live c is =
       ),
     )
 
-broken_happens : (trouble : Trouble) (k : ℕ) (w : World) (s : ServerConnection) (fault : WireFault) (new : ServerState) (links : List Link)
-    → side_at w.server.sides k ≡ Some s → GivesFault s.reached fault → new ≡ host.ended w.server k → links ≡ changed over_here w.links k
-    → Happens w (Serve k trouble) (left_with w new links (w.opens ++ []) (w.lists ++ []) (w.writings ++ []))
-broken_happens trouble k w s fault new links live (bytes, rest, unread, gives) after is =
+broken_happens : (trouble : Trouble) (k : ℕ) (w : World) (s : ServerConnection) (fault : WireFault) (new : ServerState) (connections : List Connection)
+    → side_at w.server.sides k ≡ Some s → GivesFault s.reached fault → new ≡ host.ended w.server k → connections ≡ changed over_here w.connections k
+    → Happens w (Serve k trouble) (left_with w new connections (w.opens ++ []) (w.lists ++ []) (w.writings ++ []))
+broken_happens trouble k w s fault new connections live (bytes, rest, unread, gives) after is =
     let here = sym (side_found w.server k) ∙ live in (
       (s, Err fault, here, (bytes, rest, unread, gives, λ is. cc)),
       (
@@ -235,37 +235,37 @@ broken_happens trouble k w s fault new links live (bytes, rest, unread, gives) a
         here,
         unread,
         gives,
-        ap (λ h. left_with w h links (w.opens ++ []) (w.lists ++ []) (w.writings ++ [])) (after ∙ ended_is w.server k)
+        ap (λ h. left_with w h connections (w.opens ++ []) (w.lists ++ []) (w.writings ++ [])) (after ∙ ended_is w.server k)
             ∙ ap (λ l. left_with w (ended w.server k) l (w.opens ++ []) (w.lists ++ []) (w.writings ++ [])) is
-            ∙ ap (λ o. left_with w (ended w.server k) (changed over_here w.links k) o (w.lists ++ []) (w.writings ++ [])) (append-nil w.opens)
-            ∙ ap (λ o. left_with w (ended w.server k) (changed over_here w.links k) w.opens o (w.writings ++ [])) (append-nil w.lists)
-            ∙ ap (λ x. left_with w (ended w.server k) (changed over_here w.links k) w.opens w.lists x) (append-nil w.writings),
+            ∙ ap (λ o. left_with w (ended w.server k) (changed over_here w.connections k) o (w.lists ++ []) (w.writings ++ [])) (append-nil w.opens)
+            ∙ ap (λ o. left_with w (ended w.server k) (changed over_here w.connections k) w.opens o (w.writings ++ [])) (append-nil w.lists)
+            ∙ ap (λ x. left_with w (ended w.server k) (changed over_here w.connections k) w.opens w.lists x) (append-nil w.writings),
       ),
     )
 
-pub serves_happens : (trouble : Trouble) (k : ℕ) (w : World) (old new : Hosted) (turn : Turn) (links : List Link) → w.server ≡ old.server
-    → TurnServes trouble old k turn new (λ f. links ≡ changed f w.links k) → turn ≢ turns.Nothing
-    → Happens w (Serve k trouble) (turned w k new.server turn links)
-serves_happens trouble k w old new turns.Nothing links was t some = absurd (some refl)
-serves_happens trouble k w old new (turns.Carried c) links was (s, request, reply, live, carries, told, is) some =
-    subst (λ (x : Carried). Happens w (Serve k trouble) (turned w k new.server (turns.Carried x) links)) (sym told)
-    (carried_happens trouble k w s request reply new.server links (ap (λ (h : ServerState). side_at h.sides k) was ∙ live)
+pub serves_happens : (trouble : Trouble) (k : ℕ) (w : World) (old new : Hosted) (turn : Turn) (connections : List Connection) → w.server ≡ old.server
+    → TurnServes trouble old k turn new (λ f. connections ≡ changed f w.connections k) → turn ≢ turns.Nothing
+    → Happens w (Serve k trouble) (turned w k new.server turn connections)
+serves_happens trouble k w old new turns.Nothing connections was t some = absurd (some refl)
+serves_happens trouble k w old new (turns.Carried c) connections was (s, request, reply, live, carries, told, is) some =
+    subst (λ (x : Carried). Happens w (Serve k trouble) (turned w k new.server (turns.Carried x) connections)) (sym told)
+    (carried_happens trouble k w s request reply new.server connections (ap (λ (h : ServerState). side_at h.sides k) was ∙ live)
     (subst (λ h. Carries trouble h k s request reply new.server) (sym was) carries) is)
-serves_happens trouble k w old new (turns.Broken fault) links was (s, live, gives, after, is) some =
-    broken_happens trouble k w s fault new.server links (ap (λ (h : ServerState). side_at h.sides k) was ∙ live) gives
+serves_happens trouble k w old new (turns.Broken fault) connections was (s, live, gives, after, is) some =
+    broken_happens trouble k w s fault new.server connections (ap (λ (h : ServerState). side_at h.sides k) was ∙ live) gives
     (ap (λ (h : Hosted). h.server) after ∙ ap (λ h. host.ended h k) (sym was)) is
 
 -- the reel that was opened is there, so its name is known
-pub opened_known : (names : List (List ℕ)) (w : World) (k : ℕ) (h : ServerState) (turn : Turn) (links : List Link) (name : List ℕ) → IsWorldKept (turned w k h turn links)
+pub opened_known : (names : List (List ℕ)) (w : World) (k : ℕ) (h : ServerState) (turn : Turn) (connections : List Connection) (name : List ℕ) → IsWorldKept (turned w k h turn connections)
     → IsLibraryKnown names h.library → opened_in h k turn ≡ Some name → Contains names name
-opened_known names w k h turn links name kept known is =
+opened_known names w k h turn connections name kept known is =
     known name (kept.once.opened (opening k name)
     (subst (λ o. Contains (w.opens ++ option_to_list (option_map (opening k) o)) (opening k name)) (sym is) (Contains-push w.opens (opening k name))))
 
 -- so is one that was written on, which was opened before
-pub written_known : (names : List (List ℕ)) (w : World) (k : ℕ) (h : ServerState) (turn : Turn) (links : List Link) (name : List ℕ) → IsWorldKept (turned w k h turn links)
+pub written_known : (names : List (List ℕ)) (w : World) (k : ℕ) (h : ServerState) (turn : Turn) (connections : List Connection) (name : List ℕ) → IsWorldKept (turned w k h turn connections)
     → IsLibraryKnown names h.library → written_in h k turn ≡ Some name → Contains names name
-written_known names w k h turn links name kept known is =
+written_known names w k h turn connections name kept known is =
     let x = writing k (length w.opens) name in
     let its = kept.writers x
     (subst (λ o. Contains (w.writings ++ option_to_list (option_map (writing k (length w.opens)) o)) x) (sym is) (Contains-push w.writings x)) in
@@ -276,25 +276,25 @@ online_in h k held s drive access reel at online = held_there h held k drive s (
 
 -- ---- of the vectors in memory
 
-pub serves_world : (trouble : Trouble) (k : ℕ) (old new : Hosted) (turn : Turn) (n : ℕ) (items xs ws : List RealLink) → n ≡ length items → xs ≡ items
-    → TurnServes trouble old k turn new (λ f. map seen_link ws ≡ changed f (map seen_link xs) k)
-    → TurnServes trouble old k turn new (λ f. map seen_link (take n (ws ++ drop (length ws) items)) ≡ changed f (map seen_link items) k)
-serves_world trouble k old new turn n items xs ws len value t = serves_as trouble old new k turn _ _ (λ f is. links_after f n items xs ws k len value is) t
+pub serves_world : (trouble : Trouble) (k : ℕ) (old new : Hosted) (turn : Turn) (n : ℕ) (items xs ws : List RealConnection) → n ≡ length items → xs ≡ items
+    → TurnServes trouble old k turn new (λ f. map seen_connection ws ≡ changed f (map seen_connection xs) k)
+    → TurnServes trouble old k turn new (λ f. map seen_connection (take n (ws ++ drop (length ws) items)) ≡ changed f (map seen_connection items) k)
+serves_world trouble k old new turn n items xs ws len value t = serves_as trouble old new k turn _ _ (λ f is. connections_after f n items xs ws k len value is) t
 
 -- the same names
-pub same_names : (old new : Books) → new.names ≡ old.names → book_names new ≡ book_names old
+pub same_names : (old new : History) → new.names ≡ old.names → book_names new ≡ book_names old
 same_names old new is = ap (λ (n : Vec (Vec ℕ Global) Global). map (λ (name : Vec ℕ Global). name.items) n.items) is
 
-pub still_known : (old new : Books) (s : TapeLibrary) → new.names ≡ old.names → IsLibraryKnown (book_names old) s → IsLibraryKnown (book_names new) s
+pub still_known : (old new : History) (s : TapeLibrary) → new.names ≡ old.names → IsLibraryKnown (book_names old) s → IsLibraryKnown (book_names new) s
 still_known old new s is known = subst (λ names. IsLibraryKnown names s) (sym (same_names old new is)) known
 
-pub name_known : (old new : Books) (name : List ℕ) → new.names ≡ old.names → Contains (book_names old) name → Contains (book_names new) name
+pub name_known : (old new : History) (name : List ℕ) → new.names ≡ old.names → Contains (book_names old) name → Contains (book_names new) name
 name_known old new name is known = subst (λ names. Contains names name) (sym (same_names old new is)) known
 
 -- books that hold the same
-pub same_books : (h : ServerState) (links : List RealLink) (begun : List RealBegun) (caller : Option RealCaller) (own : Option ℕ) (kept : Option KeptRun) (dates : List DatesEntry)
-    (old new : Books) → IsSameBooks old new → world_of h links begun caller own kept new dates ≡ world_of h links begun caller own kept old dates
-same_books h links begun caller own kept dates old new s =
+pub same_history : (h : ServerState) (connections : List RealConnection) (begun : List RealBegun) (caller : Option RealCaller) (own : Option ℕ) (kept : Option KeptRun) (dates : List DatesEntry)
+    (old new : History) → IsSameHistory old new → world_of h connections begun caller own kept new dates ≡ world_of h connections begun caller own kept old dates
+same_history h connections begun caller own kept dates old new s =
     let names = same_names old new s.names in
     let counts : map (seen_count (book_names new)) new.counts.items ≡ map (seen_count (book_names old)) old.counts.items
     = ap (λ n. map (seen_count n) new.counts.items) names ∙ ap (λ (c : Vec RealCount Global). map (seen_count (book_names old)) c.items) s.counts in
@@ -307,13 +307,13 @@ same_books h links begun caller own kept dates old new s =
     let failure = s.failure in cc
 
 -- books in which a turn is noted
-pub noted_books : (h : ServerState) (links : List RealLink) (begun : List RealBegun) (caller : Option RealCaller) (own : Option ℕ) (kept : Option KeptRun) (dates : List DatesEntry)
-    (old new : Books) (list : List VolumeCount) (after : ServerState) (now : List RealLink) (k : ℕ) (turn : Turn) → list ≡ list_in (option_map seen_caller caller)
+pub noted_history : (h : ServerState) (connections : List RealConnection) (begun : List RealBegun) (caller : Option RealCaller) (own : Option ℕ) (kept : Option KeptRun) (dates : List DatesEntry)
+    (old new : History) (list : List VolumeCount) (after : ServerState) (now : List RealConnection) (k : ℕ) (turn : Turn) → list ≡ list_in (option_map seen_caller caller)
     → IsNoted old list after k turn new
     → world_of after now begun caller own kept (record new { failure = None }) dates
-    ≡ turned (world_of h links begun caller own kept old dates) k after turn (map seen_link now)
-noted_books h links begun caller own kept dates old new list after now k turn is s =
-    let w = world_of h links begun caller own kept old dates in
+    ≡ turned (world_of h connections begun caller own kept old dates) k after turn (map seen_connection now)
+noted_history h connections begun caller own kept dates old new list after now k turn is s =
+    let w = world_of h connections begun caller own kept old dates in
     let names = same_names old new s.names in
     let counts : map (seen_count (book_names new)) new.counts.items ≡ w.counts
     = ap (λ n. map (seen_count n) new.counts.items) names ∙ ap (λ (c : Vec RealCount Global). map (seen_count (book_names old)) c.items) s.counts in

@@ -7,9 +7,9 @@ use Rattle.rmt_wire.specs.RequestReader.{Unread, taken_of}
 use Rattle.rmt_wire.specs.declared.limits.TheConstants.{READER_LIMIT}
 use Rattle.rmt_server.specs.ServerState.{ServerConnection}
 use Rattle.tape_host.specs.Servers.{HasRoom}
-use Rattle.tape_events.specs.World.{World, Link, Begun, numbered}
+use Rattle.tape_events.specs.World.{World, Connection, Begun, numbered}
 use Rattle.tape_events.specs.Events.PlainEvent.{ToServer, ToClient}
-use Rattle.tape_events.specs.Changes.{side_of, link_of}
+use Rattle.tape_events.specs.Changes.{side_of, connection_of}
 use Rattle.tape_events.specs.Rows.{Possible, HasRoomFor}
 use Rattle.tape_events.specs.First.{IsReadable}
 use Rattle.tape_world.specs.declared.caller.Begun.{Begun as RealBegun}
@@ -17,7 +17,7 @@ use Rattle.tape_world.specs.declared.caller.Caller.{Caller as RealCaller}
 use Rattle.tape_world.specs.Holding.{IsBegun, IsSourced}
 use Rattle.tape_world.specs.Seen.{seen_begun, seen_caller}
 use Rattle.tape_world.specs.Telling.{IsGreatest, TellsPayload}
-use Rattle.tape_world.proofs.Linked.{same_link}
+use Rattle.tape_world.proofs.Linked.{same_connection}
 
 -- so many bytes fit into the room of a live side
 within : (o : Option ServerConnection) (r : Option ℕ) (s : ServerConnection) (n : ℕ) → o ≡ Some s → HasRoom o r → (bytes : List ℕ) → Unread s.reached bytes → HasRoomFor s.reached n → n ≤ unwrap_or r 0
@@ -37,13 +37,13 @@ fitting (Some s) r n has some most =
     (s, refl, λ bytes unread. (let left : has.0 + taken_of bytes ≡ READER_LIMIT = has.2 bytes unread in omega (arith, left, told, most)))
 
 -- how many bytes can reach the server
-pub can_arrive : (w : World) (k : ℕ) (l : Link) (r : Option ℕ) (room most : ℕ) (way : List ℕ) → IsReadable w → link_of w k ≡ Some l → HasRoom (side_of w.server k) r
+pub can_arrive : (w : World) (k : ℕ) (l : Connection) (r : Option ℕ) (room most : ℕ) (way : List ℕ) → IsReadable w → connection_of w k ≡ Some l → HasRoom (side_of w.server k) r
     → room ≡ unwrap_or r 0 → way ≡ l.toward → most ≡ min (length way) room → IsGreatest (λ n. Possible w (ToServer k n)) most
 can_arrive w k l r room most way readable at has roomy same is = λ n. (
   (λ (s, m, live, there, part, fits). (
       let unread = readable k s live in
       let inside : n ≤ unwrap_or r 0 = within (side_of w.server k) r s n live has unread.0 unread.1 fits in
-      let long : length m.toward ≡ length way = ap (λ (x : Link). length x.toward) (same_link w k m l there at) ∙ ap length (sym same) in
+      let long : length m.toward ≡ length way = ap (λ (x : Connection). length x.toward) (same_connection w k m l there at) ∙ ap length (sym same) in
       (part.0, omega (arith, roomy, is, part.1, long, inside)))),
   (λ h. (
       let live = fitting (side_of w.server k) r n has h.0 (omega (arith, roomy, is, h.1)) in
@@ -52,11 +52,11 @@ can_arrive w k l r room most way readable at has roomy same is = λ n. (
 )
 
 -- how many can reach the other side, while that is live
-pub can_come : (w : World) (k : ℕ) (l : Link) (way : List ℕ) → link_of w k ≡ Some l → IsTrue l.other → way ≡ l.back
+pub can_come : (w : World) (k : ℕ) (l : Connection) (way : List ℕ) → connection_of w k ≡ Some l → IsTrue l.other → way ≡ l.back
     → IsGreatest (λ n. Possible w (ToClient k n)) (length way)
 can_come w k l way at other same = λ n. (
   (λ (m, there, part). (
-      let long : length m.back ≡ length way = ap (λ (x : Link). length x.back) (same_link w k m l there.0 at) ∙ ap length (sym same) in
+      let long : length m.back ≡ length way = ap (λ (x : Connection). length x.back) (same_connection w k m l there.0 at) ∙ ap length (sym same) in
       (part.0, omega (arith, part.1, long)))),
   (λ h. (
       let long : length way ≡ length l.back = ap length same in
@@ -64,10 +64,10 @@ can_come w k l way at other same = λ n. (
 )
 
 -- once that is over nothing reaches it
-pub cannot_come : (w : World) (k : ℕ) (l : Link) → link_of w k ≡ Some l → l.other ≡ false → IsGreatest (λ n. Possible w (ToClient k n)) 0
+pub cannot_come : (w : World) (k : ℕ) (l : Connection) → connection_of w k ≡ Some l → l.other ≡ false → IsGreatest (λ n. Possible w (ToClient k n)) 0
 cannot_come w k l at other = λ n. (
   (λ (m, there, part). (
-      let over = sym (ap (λ (x : Link). x.other) (same_link w k m l there.0 at)) in
+      let over = sym (ap (λ (x : Connection). x.other) (same_connection w k m l there.0 at)) in
       absurd cc)),
   (λ h. absurd (omega (arith, h.0, h.1))),
 )

@@ -11,7 +11,7 @@ use Rattle.dump_client.specs.declared.stage.Progress.{Progress}
 use Rattle.dump_client.specs.declared.stage.Progress.TheVariants.{Failed}
 use Rattle.dump_client.specs.declared.fault.AttemptFault.{AttemptFault}
 use Rattle.dump_client.specs.declared.fault.StartFault.{StartFault}
-use Rattle.tape_events.specs.World.{Link, Dumping}
+use Rattle.tape_events.specs.World.{Connection, Dumping}
 use Rattle.tape_events.specs.Changes.{changed, over_there}
 use Rattle.rmt_wire.specs.ReplyReader.{reply_held}
 use Rattle.tape_world.specs.Parts.{new_dumping}
@@ -26,9 +26,9 @@ pub record IsSameRun (c d : Caller) : Type 0 where
   pub source : d.client.source ≡ c.client.source
 
 -- the other side of the client's own connection, if it has one, is over
-abbrev pub over_own : Option ℕ → List Link → List Link
-over_own None links = links
-over_own (Some k) links = changed over_there links k
+abbrev pub over_own : Option ℕ → List Connection → List Connection
+over_own None connections = connections
+over_own (Some k) connections = changed over_there connections k
 
 -- its number is one of so many
 abbrev pub IsPlaced : Option ℕ → ℕ → Type 0

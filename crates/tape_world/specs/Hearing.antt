@@ -5,16 +5,16 @@ use Rattle.dump_client.specs.Client.{HasFedAt, unanswered}
 use Rattle.dump_run.specs.declared.count.VolumeCount.{VolumeCount}
 use Rattle.dump_client.specs.declared.stage.Progress.{Progress}
 use Rattle.dump_client.specs.declared.stage.Progress.TheVariants.{Failed, Ended}
-use Rattle.tape_events.specs.World.{Link}
+use Rattle.tape_events.specs.World.{Connection}
 use Rattle.tape_events.specs.Changes.{over_there}
 use Rattle.tape_world.specs.Holding.{is_in_attempt}
 use Rattle.tape_world.specs.Calling.{IsSameRun, failure_of}
-use Rattle.tape_world.specs.declared.books.Count.{Count}
+use Rattle.tape_world.specs.declared.history.Count.{Count}
 use Rattle.tape_world.specs.declared.caller.Caller.{Caller}
-use Rattle.tape_world.specs.declared.ends.hearing.PieceHeard.{PieceHeard}
+use Rattle.tape_world.specs.declared.world_state.hearing.PieceHeard.{PieceHeard}
 
 -- so many of the bytes on the way back arrived
-abbrev pub come_back : ℕ → Link → Link
+abbrev pub come_back : ℕ → Connection → Connection
 come_back n l = record l { back = drop n l.back }
 
 -- the attempt is over
@@ -24,7 +24,7 @@ is_over Ended = true
 is_over progress = false
 
 -- so many of the bytes on the way to the client arrived; where its attempt is over, so is the connection on its side
-abbrev pub heard_on : Bool → ℕ → Link → Link
+abbrev pub heard_on : Bool → ℕ → Connection → Connection
 heard_on true n l = over_there l
 heard_on false n l = come_back n l
 

@@ -1,16 +1,16 @@
 -- What becomes of a connection. No public contract needs it.
 use Rattle.std.specs.Prelude.{ℕ, true, List, drop}
-use Rattle.tape_events.specs.World.{Link}
+use Rattle.tape_events.specs.World.{Connection}
 use Rattle.tape_events.specs.Changes.{sent_on}
 
 -- it is cut
-abbrev pub severed : Link → Link
+abbrev pub severed : Connection → Connection
 severed l = record l { cut = true }
 
 -- these bytes are sent to the server
-abbrev pub said : List ℕ → Link → Link
+abbrev pub said : List ℕ → Connection → Connection
 said bytes l = record l { toward = sent_on l.cut l.toward bytes }
 
 -- so many of the bytes on the way to the server arrived
-abbrev pub arrived : ℕ → Link → Link
+abbrev pub arrived : ℕ → Connection → Connection
 arrived n l = record l { toward = drop n l.toward }

@@ -4,19 +4,19 @@ use Rattle.std.specs.Global.{Global}
 use Rattle.dumpdates.specs.Entry.{DatesEntry}
 use Rattle.rmt_server.specs.ServerState.{ServerState}
 use Rattle.dump_run.specs.declared.count.VolumeCount.{VolumeCount}
-use Rattle.tape_events.specs.World.{Link, Begun, Caller, Count, Opening, Writing, Entered, Kept, World}
-use Rattle.tape_world.specs.declared.link.Link.{Link as RealLink}
+use Rattle.tape_events.specs.World.{Connection, Begun, Caller, Count, Opening, Writing, Entered, Kept, World}
+use Rattle.tape_world.specs.declared.conn.Connection.{Connection as RealConnection}
 use Rattle.tape_world.specs.declared.caller.Begun.{Begun as RealBegun}
 use Rattle.tape_world.specs.declared.caller.Caller.{Caller as RealCaller}
 use Rattle.tape_world.specs.declared.caller.KeptRun.{KeptRun}
-use Rattle.tape_world.specs.declared.books.Count.{Count as RealCount}
-use Rattle.tape_world.specs.declared.books.Opening.{Opening as RealOpening}
-use Rattle.tape_world.specs.declared.books.Writing.{Writing as RealWriting}
-use Rattle.tape_world.specs.declared.books.Entered.{Entered as RealEntered}
-use Rattle.tape_world.specs.declared.books.Books.{Books}
+use Rattle.tape_world.specs.declared.history.Count.{Count as RealCount}
+use Rattle.tape_world.specs.declared.history.Opening.{Opening as RealOpening}
+use Rattle.tape_world.specs.declared.history.Writing.{Writing as RealWriting}
+use Rattle.tape_world.specs.declared.history.Entered.{Entered as RealEntered}
+use Rattle.tape_world.specs.declared.history.History.{History}
 
-abbrev pub seen_link : RealLink → Link
-seen_link l = record { toward = l.toward.way; back = l.back.way; cut = l.cut; other = l.other; dump = l.dump }
+abbrev pub seen_connection : RealConnection → Connection
+seen_connection l = record { toward = l.toward.way; back = l.back.way; cut = l.cut; other = l.other; dump = l.dump }
 
 abbrev pub seen_begun : RealBegun → Begun
 seen_begun b = record { run = b.run; payload = b.payload.blocks }
@@ -56,22 +56,22 @@ seen_entered e = record { run = e.run; listed = e.counts.items }
 abbrev pub seen_kept : KeptRun → Kept
 seen_kept k = record { run = k.run; listed = k.counts.items }
 
-abbrev pub book_names : Books → List (List ℕ)
+abbrev pub book_names : History → List (List ℕ)
 book_names b = map (λ name. name.items) b.names.items
 
-abbrev pub world_of : ServerState → List RealLink → List RealBegun → Option RealCaller → Option ℕ → Option KeptRun → Books → List DatesEntry → World
-world_of h links begun caller own kept books dates = record {
+abbrev pub world_of : ServerState → List RealConnection → List RealBegun → Option RealCaller → Option ℕ → Option KeptRun → History → List DatesEntry → World
+world_of h connections begun caller own kept history dates = record {
   server = h;
-  links = map seen_link links;
+  connections = map seen_connection connections;
   begun = map seen_begun begun;
   caller = option_map seen_caller caller;
   own = own;
-  counts = map (seen_count (book_names books)) books.counts.items;
-  opens = map (seen_opening (book_names books)) books.opens.items;
-  lists = seen_lists books.lists.items;
-  writings = map (seen_writing (book_names books)) books.writings.items;
-  entered = map seen_entered books.entered.items;
+  counts = map (seen_count (book_names history)) history.counts.items;
+  opens = map (seen_opening (book_names history)) history.opens.items;
+  lists = seen_lists history.lists.items;
+  writings = map (seen_writing (book_names history)) history.writings.items;
+  entered = map seen_entered history.entered.items;
   kept = option_map seen_kept kept;
-  failure = books.failure;
+  failure = history.failure;
   dates = dates;
 }

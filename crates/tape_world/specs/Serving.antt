@@ -21,10 +21,10 @@ use Rattle.tape_host.specs.declared.turn.Turn.{Turn}
 use Rattle.tape_host.specs.declared.turn.Turn.TheVariants as turns
 use Rattle.tape_host.specs.Servers.{Hosted, hosted, side_at, ended}
 use Rattle.tape_host.specs.Turns.{carried_of, Carries, GivesNothing, GivesFault}
-use Rattle.tape_events.specs.World.{Link, Dumping}
+use Rattle.tape_events.specs.World.{Connection, Dumping}
 use Rattle.tape_events.specs.Standing.{HasReel}
 use Rattle.tape_events.specs.Changes.{accepted, noted_error, answered, opening, over_here, first_name, writing}
-use Rattle.tape_world.specs.declared.books.Books.{Books}
+use Rattle.tape_world.specs.declared.history.History.{History}
 use Rattle.tape_world.specs.Seen.{seen_openings, seen_lists, seen_writings}
 
 -- what an attempt came to once a write of it was answered so
@@ -52,13 +52,13 @@ abbrev pub noted_carried : Carried → Dumping → Dumping
 noted_carried c d = let d' = noted_asked d c.asked c.answered in record d' { carried = raised d'.carried }
 
 -- a turn of the server's side was taken
-abbrev pub noted_turn : Turn → Link → Link
+abbrev pub noted_turn : Turn → Connection → Connection
 noted_turn turns.Nothing l = l
 noted_turn (turns.Carried c) l = record l { dump = option_map (noted_carried c) l.dump }
 noted_turn (turns.Broken fault) l = over_here l
 
 -- What a turn of connection k makes of the hall, and of the connection.
-abbrev pub TurnServes : Trouble → Hosted → ℕ → Turn → Hosted → ((Link → Link) → Type 0) → Type 0
+abbrev pub TurnServes : Trouble → Hosted → ℕ → Turn → Hosted → ((Connection → Connection) → Type 0) → Type 0
 TurnServes trouble old k turns.Nothing new becomes =
     ((s : ServerConnection) → side_at old.server.sides k ≡ Some s → GivesNothing s.reached) × (new ≡ old) × becomes (λ l. l)
 TurnServes trouble old k (turns.Carried carried) new becomes =
@@ -121,13 +121,13 @@ abbrev pub IsLibraryKnown : List (List ℕ) → TapeLibrary → Type 0
 IsLibraryKnown names s = (name : List ℕ) → HasReel s name → Contains names name
 
 -- there is room for what a turn may note
-pub record HasRoom (b : Books) : Type 0 where
+pub record HasRoom (b : History) : Type 0 where
   pub opens : vec_len b.opens < vec_capacity b.opens
   pub lists : vec_len b.lists < vec_capacity b.lists
   pub writings : vec_len b.writings < vec_capacity b.writings
 
 -- nothing more is noted
-pub record IsSameBooks (old new : Books) : Type 0 where
+pub record IsSameHistory (old new : History) : Type 0 where
   pub names : new.names ≡ old.names
   pub counts : new.counts ≡ old.counts
   pub opens : new.opens.items ≡ old.opens.items
@@ -137,7 +137,7 @@ pub record IsSameBooks (old new : Books) : Type 0 where
   pub failure : new.failure ≡ old.failure
 
 -- A turn of connection k is noted, where the client has this list: what it opened for writing, with the list, and what it wrote on.
-pub record IsNoted (old : Books) (list : List VolumeCount) (h : ServerState) (k : ℕ) (turn : Turn) (new : Books) : Type 0 where
+pub record IsNoted (old : History) (list : List VolumeCount) (h : ServerState) (k : ℕ) (turn : Turn) (new : History) : Type 0 where
   pub names : new.names ≡ old.names
   pub counts : new.counts ≡ old.counts
   pub opens : seen_openings old.names.items new.opens.items

@@ -10,9 +10,9 @@ use Rattle.dump_client.specs.declared.step.Step.{Step}
 use Rattle.dump_client.specs.declared.stage.Stage.TheVariants.{ToSend, Waiting, Asking}
 use Rattle.dump_client.specs.declared.fault.AttemptFault.{AttemptFault}
 use Rattle.dump_client.specs.declared.fault.AttemptFault.TheVariants.{SourceFault}
-use Rattle.tape_events.specs.World.{Link}
+use Rattle.tape_events.specs.World.{Connection}
 use Rattle.tape_events.specs.Changes.{over_there}
-use Rattle.tape_events.specs.Steps.{is_failing, sent_link}
+use Rattle.tape_events.specs.Steps.{is_failing, sent_connection}
 use Rattle.tape_world.specs.declared.caller.Caller.{Caller}
 
 -- a request is to be sent
@@ -46,6 +46,6 @@ pub record Asks (o : Option Caller) (fails : Bool) (text : List ℕ) (failure : 
   pub asked : AskedOf (is_failing fails step) before step text failure after
 
 -- the request is sent on its connection, or that is over there
-abbrev pub talked : List ℕ → Option (ℕ × AttemptFault) → Link → Link
-talked text None l = sent_link text l
+abbrev pub talked : List ℕ → Option (ℕ × AttemptFault) → Connection → Connection
+talked text None l = sent_connection text l
 talked text (Some failure) l = over_there l

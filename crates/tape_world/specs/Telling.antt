@@ -5,9 +5,9 @@ use Rattle.drives.specs.TapeLibrary.{KeptReel, ReelSlot, TapeLibrary, IsDriveNam
 use Rattle.dump_run.specs.Blocks.{ListedBlocks, listed}
 use Rattle.dump_client.specs.Standing.{Standing}
 use Rattle.dump_client.specs.Client.{ClientHeld}
-use Rattle.tape_events.specs.World.{World, Link, Begun, Caller, Count, numbered}
+use Rattle.tape_events.specs.World.{World, Connection, Begun, Caller, Count, numbered}
 use Rattle.tape_events.specs.Events.PlainEvent.{ToServer, ToClient}
-use Rattle.tape_events.specs.Changes.{link_of}
+use Rattle.tape_events.specs.Changes.{connection_of}
 use Rattle.tape_events.specs.Rows.{Possible}
 use Rattle.tape_world.specs.declared.counts.CountTold.{CountTold}
 
@@ -34,9 +34,9 @@ IsGreatest p most = (n : ℕ) → p n ↔ ((1 ≤ n) × (n ≤ most))
 
 -- of a connection, if there is one, how many bytes can reach the server now, and how many the other side
 abbrev pub TellsWay : World → ℕ → Option (ℕ × ℕ) → Type 0
-TellsWay w k None = link_of w k ≡ None
+TellsWay w k None = connection_of w k ≡ None
 TellsWay w k (Some way) =
-    (l : Link) × (link_of w k ≡ Some l) × IsGreatest (λ n. Possible w (ToServer k n)) way.0
+    (l : Connection) × (connection_of w k ≡ Some l) × IsGreatest (λ n. Possible w (ToServer k n)) way.0
     × IsGreatest (λ n. Possible w (ToClient k n)) way.1
 
 -- the reels of the first drive of that name, if there is one

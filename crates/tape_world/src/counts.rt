@@ -4,7 +4,7 @@ ghost use Rattle.std.specs.Option.{option_map};
 ghost use Rattle.tape_world.specs.Seen.{name_at, seen_count};
 ghost use Rattle.tape_world.specs.Telling.{told_count};
 
-use crate::books::Count;
+use crate::history::Count;
 use std::marker::Model;
 
 /// A volume that was counted.

@@ -5,19 +5,19 @@
 //! tells what came of them: counted volumes, dumpdates, what stands on its reels, and the real ends.
 #![tactic(auto)]
 
-mod books;
 mod caller;
+mod conn;
 mod counts;
+mod direction;
 mod drive_spec;
 mod dumping;
-mod ends;
 mod event;
 mod fault;
-mod link;
-mod pipe;
+mod history;
 mod running;
 mod stop;
 mod world;
+mod world_state;
 
 pub use counts::{CountTold, Counts};
 pub use drive_spec::{DriveSpec, good_drives};

@@ -15,9 +15,9 @@ ghost use Rattle.tape_world.specs.Running.{plain_event};
 ghost use Rattle.tape_world.specs.Volumes.{TellsVolumes};
 
 use crate::drive_spec::DriveSpec;
-use crate::ends::Ends;
 use crate::event::Event;
 use crate::stop::EventStop;
+use crate::world_state::WorldState;
 use std::alloc::{AllocError, Global};
 use std::marker::Model;
 use tape_events::kept;
@@ -28,7 +28,7 @@ use tape_events::kept;
 /// what stays so whatever happens speaks of it.
 #[derive(Drop)]
 pub struct World {
-    ends: Ends,
+    world_state: WorldState,
 }
 
 impl Model for World {
@@ -37,9 +37,9 @@ impl Model for World {
 
     ghost Value = { World };
 
-    ghost view = { λ w. w.ends };
+    ghost view = { λ w. w.world_state };
 
-    ghost invariant = { λ w. IsReached w.ends };
+    ghost invariant = { λ w. IsReached w.world_state };
 }
 
 impl World {
@@ -51,8 +51,8 @@ impl World {
         requires { AreGoodDrives (map plain_drive_spec drives.now) }
         ensures { IfOk result (λ w. w ≡ first_world (map plain_drive_spec drives.now)) }
     {
-        let ends = Ends::new(alloc, drives)?;
-        Ok(World { ends })
+        let world_state = WorldState::new(alloc, drives)?;
+        Ok(World { world_state })
     }
 
     /// What holds of each world, whatever happened: the headline. Each reel that was counted, and that no foreign session
@@ -89,7 +89,7 @@ impl World {
         ensures labelled_reels { LabelledReels self.now }
         ensures clients_counts { ClientsCounts self.now }
     {
-        let _ = &self.ends;
+        let _ = &self.world_state;
         kept();
     }
 
@@ -98,6 +98,6 @@ impl World {
         ensures { IsEvent self.old (plain_event event.now) result self.new }
     {
         self.kept();
-        self.ends.make(event)
+        self.world_state.make(event)
     }
 }

@@ -63,10 +63,14 @@ impl World {
         ensures copied { into.new ≡ with_front (told_bytes (entry_on self.now reel.now i)) into.old }
     {
         kept();
-        if let Some(lying) = self.ends.host.reel(reel) {
+        if let Some(lying) = self.world_state.host.reel(reel) {
             return lying.entry(i, into);
         }
-        let online = find_online(&self.ends.host, self.ends.links.len(), reel)?;
+        let online = find_online(
+            &self.world_state.host,
+            self.world_state.connections.len(),
+            reel,
+        )?;
         online.entry(i, into)
     }
 }

@@ -7,8 +7,8 @@ ghost use Rattle.tape_events.specs.Changes.{side_of};
 ghost use Rattle.tape_world.specs.Telling.{client_told, caller_told, TellsStack, TellsWay, TellsPayload};
 
 use super::World;
+use crate::conn::find;
 use crate::counts::Counts;
-use crate::link::find;
 use drives::{ListStacks, ListedReel, LocalHolds};
 use dump_client::{AttemptFault, Client, ListBlocks};
 use dumpdates::Dates;
@@ -20,8 +20,8 @@ impl World {
         ensures { result ≡ self.now.counts }
     {
         Counts {
-            names: &self.ends.books.names,
-            counts: &self.ends.books.counts,
+            names: &self.world_state.history.names,
+            counts: &self.world_state.history.counts,
         }
     }
 
@@ -29,21 +29,21 @@ impl World {
     pub fn dates(&self) -> &Dates
         ensures { result.now ≡ self.now.dates }
     {
-        &self.ends.dates
+        &self.world_state.dates
     }
 
     /// The volume that the last event made fail, and why. None where it made none fail.
     pub fn failure(&self) -> Option<(u32, AttemptFault)>
         ensures { result ≡ self.now.failure }
     {
-        self.ends.books.failure
+        self.world_state.history.failure
     }
 
     /// The connection of the client's attempt, while that is under way.
     pub fn own(&self) -> Option<usize>
         ensures { result ≡ self.now.own }
     {
-        self.ends.own
+        self.world_state.own
     }
 
     /// The client, while there is one.
@@ -52,7 +52,7 @@ impl World {
         ensures payload { IfSome (option_copied result) (λ client. TellsPayload self.now client.source) }
     {
         self.kept();
-        let caller = self.ends.caller.as_ref()?;
+        let caller = self.world_state.caller.as_ref()?;
         Some(&caller.client)
     }
 
@@ -62,7 +62,7 @@ impl World {
             ≡ option_map (λ s. s.session) (side_of self.now.server connection) }
         ensures number { IfSome (option_copied result) (λ s. s.seat.number ≡ connection) }
     {
-        self.ends.host.session(connection)
+        self.world_state.host.session(connection)
     }
 
     /// How many of the bytes on the way can reach the server now, and how many the other side. None where there is no such
@@ -71,13 +71,13 @@ impl World {
         ensures { TellsWay self.now connection result }
     {
         self.kept();
-        let link = find(&self.ends.links, connection)?;
-        let room = self.ends.host.room(connection).unwrap_or(0);
-        let toward = link.toward.bytes().len().min(room);
-        if !link.other {
+        let conn = find(&self.world_state.connections, connection)?;
+        let room = self.world_state.host.room(connection).unwrap_or(0);
+        let toward = conn.toward.bytes().len().min(room);
+        if !conn.other {
             return Some((toward, 0));
         }
-        Some((toward, link.back.bytes().len()))
+        Some((toward, conn.back.bytes().len()))
     }
 
     /// The reels of the first drive of that name, in their order on its stack: the first is latched, or would be next. None
@@ -85,14 +85,14 @@ impl World {
     pub fn stack(&self, drive: &[u8]) -> Option<&[ListedReel]>
         ensures { TellsStack drive.now self.now.server.library (option_map (map rest_slot) (option_copied result)) }
     {
-        let drive = self.ends.host.drive(drive)?;
-        Some(self.ends.host.stack(drive))
+        let drive = self.world_state.host.drive(drive)?;
+        Some(self.world_state.host.stack(drive))
     }
 
     /// The reels of the bin, in the order in which they were moved there.
     pub fn bin(&self) -> &[ListedReel]
         ensures { map rest_slot result.now ≡ self.now.server.library.bin }
     {
-        self.ends.host.bin()
+        self.world_state.host.bin()
     }
 }

@@ -1,8 +1,0 @@
-use Rattle.std.proofs.Common.{rules, ap, sym}
-use Rattle.tape_world.proofs.Clients.{stands}
-use Rattle.tape_world.proofs.ends.Ends.stands_in.Goals as goal
-
-pub returns-in-Some : goal.returns-in-Some
-returns-in-Some c =
-    stands c.args.self.now c.self.inside.caller c.in-Some.caller c.state.result c.args.state c.eq.result (ap (λ w. w.caller) (sym c.self.view_is)) c.in-Some.is
-    c.state.ensures.state (search rules)

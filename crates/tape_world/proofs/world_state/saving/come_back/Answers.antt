@@ -1,0 +1,48 @@
+use Rattle.std.proofs.Common.{◌≡◌, false, Some, refl, sym, ap, subst, ◌∙◌}
+use Rattle.dump_run.specs.Blocks.{ListedBlocks, listed}
+use Rattle.dump_run.specs.Checkpoint.{SpellsCheckpoint}
+use Rattle.dump_client.specs.Standing.{IsOver}
+use Rattle.tape_world.specs.declared.caller.Begun.{Begun}
+use Rattle.tape_world.specs.Holding.{IsBacked}
+use Rattle.tape_world.specs.Saving.{ComesBackWith}
+use Rattle.tape_world.proofs.Saving.{at_index, back_payload}
+use Rattle.tape_world.proofs.world_state.saving.come_back.Goals as goal
+
+-- the blocks that are given to the client are those of the run that is kept
+same_blocks : (c : goal.After-deref) → c.trouble.new.self.blocks ≡ (c.requires.text c.in-Some.kept c.in-Some.is).0.payload.blocks
+same_blocks c =
+    let its = c.requires.text c.in-Some.kept c.in-Some.is in
+    let same = at_index c.args.begun.now c.in-Some.kept.run its.0 c.index-begun-kept.result its.1 c.index-begun-kept.is in
+    ap (λ (s : ListedBlocks). s.blocks) c.trouble.ensures ∙ ap (λ (s : ListedBlocks). s.blocks) c.in_ok-source.ensures
+    ∙ ap (λ (b : Begun). b.payload.blocks) (sym same)
+
+pub resume-requires : goal.resume-requires
+resume-requires c run counts payload spells told =
+    let its = c.requires.text c.in-Some.kept c.in-Some.is in
+    let kept = subst (λ bytes. SpellsCheckpoint bytes its.0.run c.in-Some.kept.counts.items) (sym c.deref.ensures.value) its.2 in
+    back_payload c.in-Some.kept c.args.begun.now its.0 c.trouble.new.self.blocks run payload its.1
+    (subst (IsBacked c.args.begun.now) c.in-Some.is c.requires) (same_blocks c)
+    (c.one_checkpoint.ensures.run c.deref.result.now run its.0.run counts c.in-Some.kept.counts.items spells kept) told
+
+pub returns-in-Ok : goal.returns-in-Ok
+returns-in-Ok c =
+    let k = c.in-Some.kept in
+    let its = c.requires.text k c.in-Some.is in
+    let kept = subst (λ bytes. SpellsCheckpoint bytes its.0.run k.counts.items) (sym c.deref.ensures.value) its.2 in
+    let same = c.in-Ok.ensures.comes_back its.0.run k.counts.items kept in
+    let index = at_index c.args.begun.now k.run its.0 c.index-begun-kept.result its.1 c.index-begun-kept.is in
+    let at = c.in-Ok.client.at in
+    subst (λ o. ComesBackWith c.args.begun.now o (Some record { number = k.run; client = c.in-Ok.client })) (sym c.in-Some.is) (
+      record { number = k.run; client = c.in-Ok.client },
+      refl,
+      record {
+        number = refl;
+        run = its.0;
+        begun_as = its.1;
+        over = subst (λ r. IsOver r k.counts.items at) same.0 (subst (λ cs. IsOver at.run cs at) same.1 c.in-Ok.ensures.over);
+        failures = c.in_ok-source.source.failures;
+        source = c.in-Ok.ensures.given ∙ c.trouble.ensures
+            ∙ ap (λ blocks. listed blocks false c.in_ok-source.source.failures)
+            (ap (λ (s : ListedBlocks). s.blocks) c.in_ok-source.ensures ∙ ap (λ (b : Begun). b.payload.blocks) (sym index));
+      },
+    )

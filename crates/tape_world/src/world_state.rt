@@ -1,0 +1,48 @@
+//! Both ends of all connections: what events change.
+
+mod client;
+mod connection;
+mod entering;
+mod event;
+mod hearing;
+mod making;
+mod operator;
+mod saving;
+mod server;
+mod serving;
+mod talk;
+
+use crate::caller::{Begun, Caller, KeptRun};
+use crate::conn::Connection;
+use crate::history::History;
+use dumpdates::Dates;
+use std::alloc::Global;
+use std::marker::Model;
+use tape_host::Host;
+
+/// A server with its drives, all connections that were ever made, and a client: what events change.
+#[derive(Drop)]
+pub(crate) struct WorldState {
+    alloc: Global,
+    pub(crate) host: Host,
+    pub(crate) connections: Vec<Connection>,
+    begun: Vec<Begun>,
+    pub(crate) caller: Option<Caller>,
+    pub(crate) own: Option<usize>,
+    kept: Option<KeptRun>,
+    pub(crate) history: History,
+    pub(crate) dates: Dates,
+}
+
+impl Model for WorldState {
+    ghost use Rattle.tape_events.specs.World.{World};
+    ghost use Rattle.tape_world.specs.Seen.{book_names, world_of};
+    ghost use Rattle.tape_world.specs.Holding.{IsBacked, IsSourced};
+    ghost use Rattle.tape_world.specs.Serving.{IsLibraryKnown};
+
+    ghost Value = { World };
+
+    ghost view = { λ w. world_of w.host.server w.connections.items w.begun.items w.caller w.own w.kept w.history w.dates };
+
+    ghost invariant = { λ w. (IsSourced w.begun.items w.caller × IsBacked w.begun.items w.kept) × IsLibraryKnown (book_names w.history) w.host.server.library };
+}

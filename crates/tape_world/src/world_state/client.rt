@@ -1,0 +1,236 @@
+//! What happens at the client's side.
+ghost use Rattle.std.specs.Prelude.{◌≡◌, ◌*◌, ◌↔◌, ◌++◌, ◌∷◌, true, false, IfOk, OnOk, OnErr, [], length, map};
+ghost use Rattle.dump_run.specs.Blocks.{cut_blocks, listed};
+ghost use Rattle.dump_run.specs.Run.{IsRun};
+ghost use Rattle.dump_client.specs.Client.{IsPayload};
+ghost use Rattle.dump_client.specs.Standing.{standing, state_of};
+ghost use Rattle.dump_client.specs.declared.stage.Stage.TheVariants.{Ready};
+ghost use Rattle.tape_events.specs.Events.PlainEvent.{StartRun, Connect, Respond, EndAtClient};
+ghost use Rattle.tape_events.specs.Rows.{NoRun, StandsIn};
+ghost use Rattle.tape_events.specs.Kept.{IsWorldKept};
+ghost use Rattle.tape_world.specs.Holding.{IsEvent};
+ghost use Rattle.tape_world.specs.Calling.{ClientAnswers, ClientSeesEnd, IsBegunWith, IsReady, Starts};
+ghost use Rattle.tape_world.specs.declared.caller.Begun.{Begun as RealBegun};
+
+use super::WorldState;
+use super::saving::{change_kept, drop_kept};
+use crate::caller::{Begun, Caller};
+use crate::conn::{self, Connection, find};
+use crate::dumping::Dumping;
+use crate::stop::EventStop;
+use dump_client::{Answer, AttemptFault, Client, ListBlocks, Progress, Run, State};
+use std::alloc::{AllocError, Global};
+
+/// A copy of the payload as blocks of the run.
+fn blocks_of(alloc: Global, run: &Run, payload: &[u8]) -> Result<ListBlocks, AllocError>
+    requires { length payload.now ≡ run.now.blocks * run.now.block_bytes }
+    ensures listed { IfOk result (λ b. b ≡ listed (cut_blocks run.now.blocks run.now.block_bytes payload.now) false 0) }
+    ensures shaped { IfOk result (λ b. IsPayload run.now b.blocks) }
+{
+    let copy = Vec::from_slice(alloc, payload)?;
+    Ok(ListBlocks::new(copy, run.block_bytes(), run.blocks()))
+}
+
+/// A run of this payload that is begun.
+fn begun_of(alloc: Global, run: &Run, payload: &[u8]) -> Result<Begun, AllocError>
+    requires { length payload.now ≡ run.now.blocks * run.now.block_bytes }
+    ensures { IfOk result (λ b. IsBegunWith run.now payload.now b) }
+{
+    Ok(Begun {
+        run: run.clone()?,
+        payload: blocks_of(alloc, run, payload)?,
+    })
+}
+
+/// A run of this payload is begun, the last of these.
+///
+/// Fails where memory is refused. Nothing has changed then.
+fn add_begun(
+    alloc: Global,
+    begun: &mut Vec<Begun>,
+    run: &Run,
+    payload: &[u8],
+) -> Result<(), AllocError>
+    requires { length payload.now ≡ run.now.blocks * run.now.block_bytes }
+    ensures added { OnOk result ((b : RealBegun) × (begun.new.items ≡ begun.old.items ++ b ∷ []) × IsBegunWith run.now payload.now b) }
+    ensures refused { OnErr result (begun.new.items ≡ begun.old.items) }
+{
+    begun.reserve(1)?;
+    begun.push_reserved(begun_of(alloc, run, payload)?);
+    Ok(())
+}
+
+/// A client of the run, with its payload.
+fn client_of(alloc: Global, run: &Run, payload: &[u8]) -> Result<Client<ListBlocks>, AllocError>
+    requires { length payload.now ≡ run.now.blocks * run.now.block_bytes }
+    ensures made { IfOk result (λ c. c.at ≡ standing run.now [] Ready) }
+    ensures given { IfOk result (λ c. c.source ≡ listed (cut_blocks run.now.blocks run.now.block_bytes payload.now) false 0) }
+    ensures run { IfOk result (λ _. IsRun run.now) }
+{
+    let source = blocks_of(alloc, run, payload)?;
+    let client = Client::new(alloc, run.clone()?, source)?;
+    let state = client.state();
+    prove!(matches!(state, State::Ready));
+    Ok(client)
+}
+
+/// A run of this payload is begun, the last of these. Answers a client of it.
+///
+/// Fails where memory is refused. Nothing has changed then.
+fn begin(
+    alloc: Global,
+    begun: &mut Vec<Begun>,
+    run: &Run,
+    payload: &[u8],
+) -> Result<Client<ListBlocks>, AllocError>
+    requires { length payload.now ≡ run.now.blocks * run.now.block_bytes }
+    ensures made { IfOk result (λ c. c.at ≡ standing run.now [] Ready) }
+    ensures given { IfOk result (λ c. c.source ≡ listed (cut_blocks run.now.blocks run.now.block_bytes payload.now) false 0) }
+    ensures run { IfOk result (λ _. IsRun run.now) }
+    ensures added { OnOk result ((b : RealBegun) × (begun.new.items ≡ begun.old.items ++ b ∷ []) × IsBegunWith run.now payload.now b) }
+    ensures refused { OnErr result (begun.new.items ≡ begun.old.items) }
+{
+    let client = client_of(alloc, run, payload)?;
+    add_begun(alloc, begun, run, payload)?;
+    Ok(client)
+}
+
+/// The client is this one now, or there is none.
+pub(super) fn change_caller(caller: &mut Option<Caller>, new: Option<Caller>)
+    ensures { caller.new ≡ new }
+{
+    *caller = new;
+}
+
+/// The client, which is ready, starts an attempt. Answers what that has come to.
+///
+/// Fails where memory is refused. Nothing has changed then.
+fn start_attempt(caller: &mut Option<Caller>) -> Result<Dumping, EventStop>
+    requires { IsReady caller.old }
+    ensures { Starts caller.old result caller.new }
+{
+    let Some(caller) = caller else {
+        return Err(EventStop::NotPossible);
+    };
+    let (volume, first) = caller.client.checkpoint();
+    if caller.client.start().is_err() {
+        return Err(EventStop::OutOfMemory);
+    }
+    Ok(Dumping::new(caller.number, volume, first))
+}
+
+/// The client, if there is one, takes the operator's answer.
+fn give_answer(caller: &mut Option<Caller>, answer: Answer)
+    ensures { ClientAnswers caller.old answer caller.new }
+{
+    if let Some(caller) = caller {
+        let _ = caller.client.answer(answer);
+    }
+}
+
+/// The client, if there is one, sees that its connection ended. Answers what that made fail.
+fn end_attempt(caller: &mut Option<Caller>) -> Option<(u32, AttemptFault)>
+    ensures { ClientSeesEnd caller.old result caller.new }
+{
+    let Some(caller) = caller else {
+        return None;
+    };
+    match caller.client.ended() {
+        Progress::Failed(fault) => Some((caller.client.checkpoint().0, fault)),
+        _ => None,
+    }
+}
+
+impl WorldState {
+    /// Whether there is a client that stands so.
+    pub(super) fn stands_in(&self, state: State) -> bool
+        ensures { (result ≡ true) ↔ StandsIn self.now (λ stage. state_of stage ≡ state) }
+    {
+        match &self.caller {
+            Some(caller) => caller.client.state() == state,
+            None => false,
+        }
+    }
+
+    /// Whether there is no run, or it is finished or abandoned.
+    fn has_no_run(&self) -> bool
+        ensures { (result ≡ true) ↔ NoRun self.now }
+    {
+        match &self.caller {
+            Some(caller) => matches!(caller.client.state(), State::Finished | State::Abandoned),
+            None => true,
+        }
+    }
+
+    /// A run of this payload is begun, and a client for it.
+    pub(crate) fn start_run(&mut self, run: &Run, payload: &[u8]) -> Result<(), EventStop>
+        ensures { IsEvent self.old (StartRun run.now payload.now) result self.new }
+    {
+        let bytes = run.blocks() as usize * run.block_bytes();
+        if !self.has_no_run() || payload.len() != bytes {
+            return Err(EventStop::NotPossible);
+        }
+        let client = begin(self.alloc, &mut self.begun, run, payload)?;
+        let caller = Caller {
+            number: self.begun.len(),
+            client,
+        };
+        change_caller(&mut self.caller, Some(caller));
+        change_kept(&mut self.kept, None);
+        self.history.failure = None;
+        Ok(())
+    }
+
+    /// The client starts an attempt, on a new connection.
+    pub(crate) fn connect(&mut self) -> Result<(), EventStop>
+        ensures { IsEvent self.old Connect result self.new }
+    {
+        if !self.stands_in(State::Ready) {
+            return Err(EventStop::NotPossible);
+        }
+        self.connections.reserve(1)?;
+        self.host.prepare()?;
+        let dumping = start_attempt(&mut self.caller)?;
+        self.host.admit();
+        self.connections
+            .push_reserved(Connection::new(self.alloc, Some(dumping)));
+        self.own = Some(self.connections.len());
+        self.history.failure = None;
+        Ok(())
+    }
+
+    /// The operator answers the client, which asks after an attempt failed.
+    pub(crate) fn respond(&mut self, answer: Answer) -> Result<(), EventStop>
+        ensures { IsEvent self.old (Respond answer) result self.new }
+    {
+        if !self.stands_in(State::Asking) {
+            return Err(EventStop::NotPossible);
+        }
+        give_answer(&mut self.caller, answer);
+        drop_kept(&mut self.kept, answer);
+        self.history.failure = None;
+        Ok(())
+    }
+
+    /// The side that is not the server's sees that the connection ended.
+    pub(crate) fn end_at_client(&mut self, connection: usize) -> Result<(), EventStop>
+        requires { IsWorldKept self.old }
+        ensures { IsEvent self.old (EndAtClient connection) result self.new }
+    {
+        let Some(conn) = find(&self.connections, connection) else {
+            return Err(EventStop::NotPossible);
+        };
+        if !conn.other || !conn.cut {
+            return Err(EventStop::NotPossible);
+        }
+        let is_strangers = conn.dump.is_none();
+        conn::end_there(&mut self.connections, connection);
+        if is_strangers {
+            self.history.failure = None;
+            return Ok(());
+        }
+        self.own = None;
+        self.history.failure = end_attempt(&mut self.caller);
+        Ok(())
+    }
+}

@@ -1,0 +1,52 @@
+//! What happens to connections themselves.
+ghost use Rattle.tape_events.specs.Events.PlainEvent.{Cut, Stranger, Says};
+ghost use Rattle.tape_world.specs.Holding.{IsEvent};
+
+use super::WorldState;
+use crate::conn::{self, Connection, find};
+use crate::stop::EventStop;
+
+impl WorldState {
+    /// From now on what is sent on the connection is lost.
+    pub(crate) fn cut(&mut self, connection: usize) -> Result<(), EventStop>
+        ensures { IsEvent self.old (Cut connection) result self.new }
+    {
+        let Some(conn) = find(&self.connections, connection) else {
+            return Err(EventStop::NotPossible);
+        };
+        if conn.cut {
+            return Err(EventStop::NotPossible);
+        }
+        conn::cut(&mut self.connections, connection);
+        self.history.failure = None;
+        Ok(())
+    }
+
+    /// A connection of a stranger is made.
+    pub(crate) fn stranger(&mut self) -> Result<(), EventStop>
+        ensures { IsEvent self.old Stranger result self.new }
+    {
+        self.connections.reserve(1)?;
+        self.host.prepare()?;
+        self.host.admit();
+        self.connections
+            .push_reserved(Connection::new(self.alloc, None));
+        self.history.failure = None;
+        Ok(())
+    }
+
+    /// A stranger sends these bytes.
+    pub(crate) fn says(&mut self, connection: usize, bytes: &[u8]) -> Result<(), EventStop>
+        ensures { IsEvent self.old (Says connection bytes.now) result self.new }
+    {
+        let Some(conn) = find(&self.connections, connection) else {
+            return Err(EventStop::NotPossible);
+        };
+        if !conn.other || conn.dump.is_some() {
+            return Err(EventStop::NotPossible);
+        }
+        conn::send(&mut self.connections, connection, bytes)?;
+        self.history.failure = None;
+        Ok(())
+    }
+}

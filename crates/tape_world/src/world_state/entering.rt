@@ -1,0 +1,58 @@
+//! The finished run is entered in dumpdates.
+ghost use Rattle.std.specs.Prelude.{◌≡◌, ◌==◌, IfOk};
+ghost use Rattle.std.specs.List.{list_any};
+ghost use Rattle.tape_events.specs.Events.PlainEvent.{Enter};
+ghost use Rattle.tape_world.specs.Holding.{IsEvent};
+ghost use Rattle.tape_world.specs.Saving.{IsEntryOf};
+
+use super::WorldState;
+use super::saving::change_kept;
+use crate::caller::Caller;
+use crate::history::Entered;
+use crate::stop::EventStop;
+use std::alloc::{AllocError, Global};
+
+/// Whether the run of this number was entered.
+pub(super) fn has_entered(entered: &[Entered], run: usize) -> bool
+    ensures { result ≡ list_any (λ e. e.run == run) entered.now }
+{
+    entered.iter().any(|e| e.run == run)
+}
+
+/// The run of this client, with what it has counted.
+///
+/// Fails only where memory is refused.
+fn entered_of(alloc: Global, caller: &Caller) -> Result<Entered, AllocError>
+    ensures { IfOk result (IsEntryOf caller.now) }
+{
+    Ok(Entered {
+        run: caller.number,
+        counts: Vec::from_slice(alloc, caller.client.counted())?,
+    })
+}
+
+impl WorldState {
+    /// The finished run is entered in dumpdates.
+    pub(crate) fn enter(&mut self) -> Result<(), EventStop>
+        ensures { IsEvent self.old Enter result self.new }
+    {
+        let Some(caller) = &self.caller else {
+            return Err(EventStop::NotPossible);
+        };
+        let Some(entry) = caller.client.finished() else {
+            return Err(EventStop::NotPossible);
+        };
+        if has_entered(&self.history.entered, caller.number) {
+            return Err(EventStop::NotPossible);
+        }
+        let entered = entered_of(self.alloc, caller)?;
+        self.history.entered.reserve(1)?;
+        if self.dates.enter(entry).is_err() {
+            return Err(EventStop::OutOfMemory);
+        }
+        self.history.entered.push_reserved(entered);
+        change_kept(&mut self.kept, None);
+        self.history.failure = None;
+        Ok(())
+    }
+}

@@ -1,0 +1,164 @@
+//! What the client hears of its server.
+ghost use Rattle.std.specs.Prelude.{◌≡◌, ◌==◌, ◌<◌, ◌≤◌, ◌++◌, length, map, option_to_list, slice_get};
+ghost use Rattle.std.specs.Vec.{vec_capacity, vec_len};
+ghost use Rattle.tape_events.specs.Changes.{changed, reel_opened_by};
+ghost use Rattle.tape_events.specs.Events.PlainEvent.{ToClient};
+ghost use Rattle.tape_events.specs.Kept.{IsWorldKept};
+ghost use Rattle.tape_world.specs.Calling.{failure_of};
+ghost use Rattle.tape_world.specs.Hearing.{HasHeard, IsAttempting, count_in, heard_on, is_over, own_after};
+ghost use Rattle.tape_world.specs.Holding.{IsEvent};
+ghost use Rattle.tape_world.specs.Seen.{name_at, book_names, seen_connection, seen_opening};
+
+use super::WorldState;
+use crate::caller::Caller;
+use crate::conn::{self, Connection, find};
+use crate::history::{Count, History, Opening};
+use crate::stop::EventStop;
+use dump_client::{AttemptFault, Client, ListBlocks, Progress, State, VolumeCount};
+
+/// What came of bytes that the client heard.
+#[derive(Clone, Copy)]
+struct PieceHeard {
+    /// The number of its run.
+    run: usize,
+    /// The volume that was counted, if one was.
+    count: Option<VolumeCount>,
+    /// Whether the attempt is over.
+    is_over: bool,
+    /// What failed: the volume, and why.
+    failure: Option<(u32, AttemptFault)>,
+}
+
+/// Whether the attempt is over.
+fn is_over(progress: Progress) -> bool
+    ensures { result ≡ is_over progress }
+{
+    matches!(progress, Progress::Failed(_) | Progress::Ended)
+}
+
+/// What made the attempt fail: the volume, and why.
+fn failure_of(client: &Client<ListBlocks>, progress: Progress) -> Option<(u32, AttemptFault)>
+    ensures { result ≡ failure_of client.now.at progress }
+{
+    match progress {
+        Progress::Failed(fault) => Some((client.checkpoint().0, fault)),
+        _ => None,
+    }
+}
+
+/// The count at this place.
+fn count_at(counts: &[VolumeCount], place: usize) -> Option<VolumeCount>
+    ensures { result ≡ slice_get counts.now place }
+{
+    counts.get(place).copied()
+}
+
+/// The client, which is in an attempt, hears these bytes.
+fn hear(caller: &mut Option<Caller>, piece: &[u8]) -> PieceHeard
+    requires { IsAttempting caller.old }
+    ensures { HasHeard caller.old piece.now result caller.new }
+{
+    let Some(caller) = caller else {
+        return PieceHeard {
+            run: 0,
+            count: None,
+            is_over: false,
+            failure: None,
+        };
+    };
+    let state = caller.client.state();
+    prove!(matches!(state, State::ToSend | State::Waiting));
+    let before = caller.client.counted().len();
+    let progress = caller.client.feed(piece);
+    PieceHeard {
+        run: caller.number,
+        count: count_at(caller.client.counted(), before),
+        is_over: is_over(progress),
+        failure: failure_of(&caller.client, progress),
+    }
+}
+
+/// The place of the name of the reel that the connection opened first, or past all names where it opened none.
+fn reel_of(history: &History, connection: usize) -> usize
+    ensures { name_at (book_names history.now) result
+        ≡ reel_opened_by connection (map (seen_opening (book_names history.now)) history.now.opens.items) }
+{
+    for opening in &history.opens {
+        if opening.connection == connection {
+            return opening.reel;
+        }
+    }
+    history.names.len()
+}
+
+/// The volume that was counted, if one was, is kept, with its connection and the place of its reel's name.
+fn keep(counts: &mut Vec<Count>, heard: &PieceHeard, reel: usize, connection: usize)
+    requires { vec_len counts.old < vec_capacity counts.old }
+    ensures { counts.new.items ≡ counts.old.items ++ map (count_in heard.now.run reel connection) (option_to_list heard.now.count) }
+{
+    if let Some(volume) = heard.count {
+        counts.push_reserved(Count {
+            run: heard.run,
+            volume: volume.volume,
+            first: volume.first,
+            count: volume.count,
+            reel,
+            connection,
+        });
+    }
+}
+
+/// So many bytes arrived on the client's connection. Where the attempt is over, so is the connection on its side.
+fn settle(
+    connections: &mut [Connection],
+    own: &mut Option<usize>,
+    connection: usize,
+    count: usize,
+    is_over: bool,
+)
+    requires first { 1 ≤ connection }
+    requires last { connection ≤ length connections.old }
+    ensures connections { map seen_connection connections.new ≡ changed (heard_on is_over count) (map seen_connection connections.old) connection }
+    ensures own { own.new ≡ own_after is_over own.old }
+{
+    if !is_over {
+        conn::come_back(connections, connection, count);
+        return;
+    }
+    conn::end_there(connections, connection);
+    *own = None;
+}
+
+impl WorldState {
+    /// So many of the bytes on the way reach the other side.
+    pub(crate) fn to_client(&mut self, connection: usize, count: usize) -> Result<(), EventStop>
+        requires { IsWorldKept self.old }
+        ensures { IsEvent self.old (ToClient connection count) result self.new }
+    {
+        let Some(conn) = find(&self.connections, connection) else {
+            return Err(EventStop::NotPossible);
+        };
+        let way = conn.back.bytes();
+        if !conn.other || count == 0 || way.len() < count {
+            return Err(EventStop::NotPossible);
+        }
+        if conn.dump.is_none() {
+            conn::come_back(&mut self.connections, connection, count);
+            self.history.failure = None;
+            return Ok(());
+        }
+        self.history.counts.reserve(1)?;
+        let reel = reel_of(&self.history, connection);
+        let heard = hear(&mut self.caller, &way[..count]);
+        keep(&mut self.history.counts, &heard, reel, connection);
+        settle(
+            &mut self.connections,
+            &mut self.own,
+            connection,
+            count,
+            heard.is_over,
+        );
+        self.history.failure = heard.failure;
+        Ok(())
+    }
+}

@@ -1,0 +1,33 @@
+//! What an operator does at the drives.
+ghost use Rattle.std.specs.Prelude.{map};
+ghost use Rattle.tape_events.specs.Events.PlainEvent.{Arrange};
+ghost use Rattle.tape_events.specs.Kept.{IsWorldKept};
+ghost use Rattle.tape_world.specs.Holding.{IsEvent};
+
+use super::WorldState;
+use crate::stop::EventStop;
+use tape_events::kept;
+
+impl WorldState {
+    /// The operator lays these reels on the stack of a drive that nobody has open.
+    pub(crate) fn arrange(&mut self, drive: &[u8], reels: &[&[u8]]) -> Result<(), EventStop>
+        requires { IsWorldKept self.old }
+        ensures { IsEvent self.old (Arrange drive.now (map (λ n. n.now) reels.now)) result self.new }
+    {
+        let Some(place) = self.host.drive(drive) else {
+            return Err(EventStop::NotPossible);
+        };
+        if self.host.holder(place) != 0 {
+            return Err(EventStop::NotPossible);
+        }
+        if !self.host.can_arrange(place, reels) {
+            return Err(EventStop::NotPossible);
+        }
+        kept();
+        if self.host.arrange(place, reels).is_err() {
+            return Err(EventStop::OutOfMemory);
+        }
+        self.history.failure = None;
+        Ok(())
+    }
+}

@@ -1,0 +1,134 @@
+//! What is kept of a run outside of the client, as a checkpoint file keeps it, and the client that comes back with it.
+ghost use Rattle.std.specs.Prelude.{◌≡◌, ◌↔◌, true, IfOk, length, map};
+ghost use Rattle.dump_run.specs.Checkpoint.{checkpoint_text};
+ghost use Rattle.tape_events.specs.Events.PlainEvent.{ClientRestart, Save};
+ghost use Rattle.tape_events.specs.Kept.{IsWorldKept};
+ghost use Rattle.tape_world.specs.Calling.{IsPlaced, over_own};
+ghost use Rattle.tape_world.specs.Holding.{IsBacked, IsEvent};
+ghost use Rattle.tape_world.specs.Saving.{ComesBackWith, IsKeptOf, MayKeep, kept_then};
+ghost use Rattle.tape_world.specs.Seen.{seen_connection};
+
+use super::WorldState;
+use super::client::change_caller;
+use super::entering::has_entered;
+use crate::caller::{Begun, Caller, KeptRun};
+use crate::conn::{self, Connection};
+use crate::history::Entered;
+use crate::stop::EventStop;
+use dump_client::{Answer, Client, State};
+use dump_run::one_checkpoint;
+use std::alloc::{AllocError, Global};
+
+/// What is kept is this now, or nothing.
+pub(super) fn change_kept(kept: &mut Option<KeptRun>, new: Option<KeptRun>)
+    ensures { kept.new ≡ new }
+{
+    *kept = new;
+}
+
+/// An answer by which the run is given up drops what is kept.
+pub(super) fn drop_kept(kept: &mut Option<KeptRun>, answer: Answer)
+    ensures { kept.new ≡ kept_then answer kept.old }
+{
+    if answer == Answer::Abandon {
+        *kept = None;
+    }
+}
+
+/// What is kept of this client's run: its number, what is counted, and the text of its checkpoint.
+///
+/// Fails only where memory is refused.
+fn kept_of(alloc: Global, caller: &Caller) -> Result<KeptRun, AllocError>
+    ensures { IfOk result (IsKeptOf caller.now) }
+{
+    let mut text = Vec::new(alloc);
+    caller.client.checkpoint_text(&mut text)?;
+    Ok(KeptRun {
+        run: caller.number,
+        counts: Vec::from_slice(alloc, caller.client.counted())?,
+        text,
+    })
+}
+
+/// Whether the run of this client may be kept: it is not abandoned, nor finished and entered.
+fn may_keep(caller: &Caller, entered: &[Entered]) -> bool
+    ensures { (result ≡ true) ↔ MayKeep entered.now caller.now }
+{
+    match caller.client.state() {
+        State::Abandoned => false,
+        State::Finished => !has_entered(entered, caller.number),
+        _ => true,
+    }
+}
+
+/// The client that what is kept brings back. None where nothing is kept.
+///
+/// Fails only where memory is refused.
+fn come_back(
+    alloc: Global,
+    kept: &Option<KeptRun>,
+    begun: &[Begun],
+) -> Result<Option<Caller>, AllocError>
+    requires { IsBacked begun.now kept.now }
+    ensures { IfOk result (ComesBackWith begun.now kept.now) }
+{
+    let Some(kept) = kept else {
+        return Ok(None);
+    };
+    let begun = &begun[kept.run - 1];
+    let mut source = begun.payload.clone()?;
+    source.trouble(false);
+    one_checkpoint();
+    match Client::resume(alloc, &kept.text, source) {
+        Ok(client) => Ok(Some(Caller {
+            number: kept.run,
+            client,
+        })),
+        Err(_) => Err(AllocError),
+    }
+}
+
+/// The client's own connection, if it has one, is over on its side.
+fn end_own(connections: &mut [Connection], own: Option<usize>)
+    requires { IsPlaced own (length connections.old) }
+    ensures { map seen_connection connections.new ≡ over_own own (map seen_connection connections.old) }
+{
+    if let Some(own) = own {
+        conn::end_there(connections, own);
+    }
+}
+
+impl WorldState {
+    /// The client's run is kept outside of it, with what is counted.
+    pub(crate) fn save(&mut self) -> Result<(), EventStop>
+        requires { IsWorldKept self.old }
+        ensures { IsEvent self.old Save result self.new }
+    {
+        let Some(caller) = &self.caller else {
+            return Err(EventStop::NotPossible);
+        };
+        if !may_keep(caller, &self.history.entered) {
+            return Err(EventStop::NotPossible);
+        }
+        let kept = kept_of(self.alloc, caller)?;
+        change_kept(&mut self.kept, Some(kept));
+        self.history.failure = None;
+        Ok(())
+    }
+
+    /// The client comes back with the run that is kept, or with none. Its own connection, if it has one, is over on its side.
+    pub(crate) fn client_restart(&mut self) -> Result<(), EventStop>
+        requires { IsWorldKept self.old }
+        ensures { IsEvent self.old ClientRestart result self.new }
+    {
+        if self.caller.is_none() {
+            return Err(EventStop::NotPossible);
+        }
+        let caller = come_back(self.alloc, &self.kept, &self.begun)?;
+        end_own(&mut self.connections, self.own);
+        self.own = None;
+        change_caller(&mut self.caller, caller);
+        self.history.failure = None;
+        Ok(())
+    }
+}

@@ -1,0 +1,277 @@
+//! What the server does with what reached it.
+ghost use Rattle.std.specs.Prelude.{◌≡◌, ◌≤◌, ◌<◌, ◌++◌, Contains, List, ℕ, IfOk, OnErr, Some, length, map, option_map, vec_len, vec_capacity};
+ghost use Rattle.std.specs.List.{position_or_len};
+ghost use Rattle.std.specs.Option.{option_copied, option_to_list};
+ghost use Rattle.std.specs.Str.{bytes_eq};
+ghost use Rattle.drives.specs.ListLibrary.{rest_slot};
+ghost use Rattle.tape_host.specs.Servers.{side_at};
+ghost use Rattle.tape_events.specs.Changes.{changed, first_name, list_in, opening, writing};
+ghost use Rattle.tape_events.specs.Events.PlainEvent.{Serve};
+ghost use Rattle.tape_events.specs.Kept.{IsWorldKept};
+ghost use Rattle.tape_world.specs.Holding.{IsEvent};
+ghost use Rattle.tape_world.specs.Seen.{book_names, seen_caller, seen_connection, seen_lists, seen_openings, seen_writings};
+ghost use Rattle.tape_world.specs.Serving.{HasRoom, IsNoted, IsOnlineIn, IsSameHistory, TurnServes, is_write, name_online_at, opened_in, written_in};
+
+use super::WorldState;
+use crate::caller::Caller;
+use crate::conn::{Connection, find};
+use crate::history::{History, Opening, Writing};
+use crate::stop::EventStop;
+use drives::ListedReel;
+use dump_client::VolumeCount;
+use rmt_wire::READER_LIMIT;
+use rmt_wire::errno::{EACCES, EBADF};
+use std::alloc::{AllocError, Global};
+use tape::Trouble;
+use tape_events::kept;
+use tape_host::{Answered, Carried, Host, RequestKind, Turn};
+
+/// The server's side of a connection takes one turn, and what came of it is noted.
+///
+/// Fails where memory is refused. Nothing has changed then.
+fn take_turn(
+    host: &mut Host,
+    conn: &mut Connection,
+    connection: usize,
+    trouble: Trouble,
+) -> Result<Turn, AllocError>
+    ensures taken { IfOk result (λ turn. TurnServes trouble host.old connection turn host.new
+        (λ f. seen_connection conn.new ≡ f (seen_connection conn.old))) }
+    ensures refused { OnErr result ((seen_connection conn.new ≡ seen_connection conn.old) × (host.new ≡ host.old)) }
+{
+    conn.back.reserve(READER_LIMIT)?;
+    let turn = conn.back.take_reply(host, connection, trouble, conn.cut);
+    conn.back.trim();
+    conn.note_turn(turn);
+    Ok(turn)
+}
+
+/// The same, for the connection of this number, which is there.
+fn take_turn_at(
+    host: &mut Host,
+    connections: &mut [Connection],
+    connection: usize,
+    trouble: Trouble,
+) -> Result<Turn, AllocError>
+    requires first { 1 ≤ connection }
+    requires last { connection ≤ length connections.old }
+    ensures taken { IfOk result (λ turn. TurnServes trouble host.old connection turn host.new
+        (λ f. map seen_connection connections.new ≡ changed f (map seen_connection connections.old) connection)) }
+    ensures refused { OnErr result ((map seen_connection connections.new ≡ map seen_connection connections.old) × (host.new ≡ host.old)) }
+{
+    take_turn(host, &mut connections[connection - 1], connection, trouble)
+}
+
+/// The name of the first reel of a stack.
+fn name_of_first(stack: &[ListedReel]) -> &[u8]
+    ensures { result.now ≡ first_name (map rest_slot stack.now) }
+{
+    match stack.first() {
+        Some(reel) => reel.name(),
+        None => &[],
+    }
+}
+
+/// The name of the reel that a connection has online, if it has one.
+fn name_online(host: &Host, connection: usize) -> Option<&[u8]>
+    requires { IsOnlineIn host.now.server connection }
+    ensures { option_copied result ≡ name_online_at host.now.server.library (side_at host.now.server.sides connection) }
+{
+    let session = host.session(connection)?;
+    let (drive, _) = session.reel()?;
+    Some(name_of_first(host.stack(drive)))
+}
+
+/// The name of the reel that a turn of a connection opened for writing, if it did.
+fn name_opened(host: &Host, connection: usize, turn: Turn) -> Option<&[u8]>
+    requires { IsOnlineIn host.now.server connection }
+    ensures { option_copied result ≡ opened_in host.now.server connection turn }
+{
+    let Turn::Carried(carried) = turn else {
+        return None;
+    };
+    let RequestKind::Open { writes: true } = carried.asked else {
+        return None;
+    };
+    name_online(host, connection)
+}
+
+/// Whether a session wrote that had its device open for writing. One that has it open to read
+/// alone answers `EBADF` to a record, and `EACCES` to marks.
+fn is_write(carried: Carried) -> bool
+    ensures { result ≡ is_write carried }
+{
+    match carried.asked {
+        RequestKind::Write | RequestKind::WriteDropped | RequestKind::Marks => {
+            !matches!(carried.answered, Answered::Error(EBADF | EACCES))
+        }
+        RequestKind::Open { .. } | RequestKind::Other => false,
+    }
+}
+
+/// The name of the reel that a turn of a connection wrote on, if it did.
+fn name_written(host: &Host, connection: usize, turn: Turn) -> Option<&[u8]>
+    requires { IsOnlineIn host.now.server connection }
+    ensures { option_copied result ≡ written_in host.now.server connection turn }
+{
+    let Turn::Carried(carried) = turn else {
+        return None;
+    };
+    if !is_write(carried) {
+        return None;
+    }
+    name_online(host, connection)
+}
+
+/// The first place of a name among these, or the place past the end.
+fn place_of(names: &[Vec<u8>], name: &[u8]) -> usize
+    ensures { result ≡ position_or_len (λ n. bytes_eq name.now n.items) names.now }
+{
+    for (place, other) in names.iter().enumerate() {
+        if name == other.as_slice() {
+            return place;
+        }
+    }
+    names.len()
+}
+
+/// Where a turn of a connection opened a reel for writing, that is listed by the place of the reel's name.
+fn note_opening(
+    opens: &mut Vec<Opening>,
+    names: &[Vec<u8>],
+    host: &Host,
+    connection: usize,
+    turn: Turn,
+)
+    requires room { vec_len opens.old < vec_capacity opens.old }
+    requires there { IsOnlineIn host.now.server connection }
+    requires known { (name : List ℕ) → opened_in host.now.server connection turn ≡ Some name
+        → Contains (map (λ n. n.items) names.now) name }
+    ensures { seen_openings names.now opens.new.items ≡ seen_openings names.now opens.old.items
+        ++ option_to_list (option_map (opening connection) (opened_in host.now.server connection turn)) }
+{
+    let Some(name) = name_opened(host, connection, turn) else {
+        return;
+    };
+    let reel = place_of(names, name);
+    opens.push_reserved(Opening { connection, reel });
+}
+
+/// Where a turn of a connection wrote on a reel, that is listed by the place of the reel's name.
+/// So many opens for writing were listed before it.
+fn note_writing(
+    writings: &mut Vec<Writing>,
+    after: usize,
+    names: &[Vec<u8>],
+    host: &Host,
+    connection: usize,
+    turn: Turn,
+)
+    requires room { vec_len writings.old < vec_capacity writings.old }
+    requires there { IsOnlineIn host.now.server connection }
+    requires known { (name : List ℕ) → written_in host.now.server connection turn ≡ Some name
+        → Contains (map (λ n. n.items) names.now) name }
+    ensures { seen_writings names.now writings.new.items ≡ seen_writings names.now writings.old.items
+        ++ option_to_list (option_map (writing connection after) (written_in host.now.server connection turn)) }
+{
+    let Some(name) = name_written(host, connection, turn) else {
+        return;
+    };
+    let reel = place_of(names, name);
+    let writing = Writing {
+        connection,
+        reel,
+        after,
+    };
+    writings.push_reserved(writing);
+}
+
+/// Where a turn of a connection opened a reel for writing, the list of counts that the client had
+/// then is listed beside it.
+fn note_list(
+    lists: &mut Vec<Vec<VolumeCount>>,
+    list: Vec<VolumeCount>,
+    host: &Host,
+    connection: usize,
+    turn: Turn,
+)
+    requires room { vec_len lists.old < vec_capacity lists.old }
+    requires there { IsOnlineIn host.now.server connection }
+    ensures { seen_lists lists.new.items ≡ seen_lists lists.old.items
+        ++ option_to_list (option_map (λ reel. list.items) (opened_in host.now.server connection turn)) }
+{
+    if name_opened(host, connection, turn).is_some() {
+        lists.push_reserved(list);
+    }
+}
+
+/// What the client has counted, in a list of its own; nothing, where there is no client.
+///
+/// Fails only where memory is refused.
+fn counted_now(alloc: Global, caller: &Option<Caller>) -> Result<Vec<VolumeCount>, AllocError>
+    ensures { IfOk result (λ list. list.items ≡ list_in (option_map seen_caller caller.now)) }
+{
+    match caller {
+        Some(caller) => Vec::from_slice(alloc, caller.client.counted()),
+        None => Ok(Vec::new(alloc)),
+    }
+}
+
+impl History {
+    /// Makes room for what a turn may note.
+    ///
+    /// Fails only where memory is refused.
+    fn reserve_notes(&mut self) -> Result<(), AllocError>
+        ensures room { IfOk result (λ done. HasRoom self.new) }
+        ensures same { IsSameHistory self.old self.new }
+    {
+        self.opens.reserve(1)?;
+        self.lists.reserve(1)?;
+        self.writings.reserve(1)
+    }
+
+    /// What a turn of a connection opened for writing, with the list that the client has, and what
+    /// it wrote on is noted.
+    fn note_turn(&mut self, list: Vec<VolumeCount>, host: &Host, connection: usize, turn: Turn)
+        requires room { HasRoom self.old }
+        requires there { IsOnlineIn host.now.server connection }
+        requires opened { (name : List ℕ) → opened_in host.now.server connection turn ≡ Some name → Contains (book_names self.old) name }
+        requires written { (name : List ℕ) → written_in host.now.server connection turn ≡ Some name → Contains (book_names self.old) name }
+        ensures { IsNoted self.old list.items host.now.server connection turn self.new }
+    {
+        let after = self.opens.len();
+        note_writing(
+            &mut self.writings,
+            after,
+            &self.names,
+            host,
+            connection,
+            turn,
+        );
+        note_list(&mut self.lists, list, host, connection, turn);
+        note_opening(&mut self.opens, &self.names, host, connection, turn);
+    }
+}
+
+impl WorldState {
+    /// The server carries out one request that reached it, whose device call fails so, or finds that what reached it is
+    /// none.
+    pub(crate) fn serve(&mut self, connection: usize, trouble: Trouble) -> Result<(), EventStop>
+        requires { IsWorldKept self.old }
+        ensures { IsEvent self.old (Serve connection trouble) result self.new }
+    {
+        if find(&self.connections, connection).is_none() {
+            return Err(EventStop::NotPossible);
+        }
+        kept();
+        let list = counted_now(self.alloc, &self.caller)?;
+        self.history.reserve_notes()?;
+        let turn = take_turn_at(&mut self.host, &mut self.connections, connection, trouble)?;
+        if let Turn::Nothing = turn {
+            return Err(EventStop::NotPossible);
+        }
+        self.history.note_turn(list, &self.host, connection, turn);
+        self.history.failure = None;
+        Ok(())
+    }
+}

@@ -1,0 +1,112 @@
+//! What the client says to its server.
+ghost use Rattle.std.specs.Prelude.{◌≡◌, ◌≤◌, List, ℕ, [], IfOk, OnErr, length, map};
+ghost use Rattle.std.specs.Vec.{vec_capacity};
+ghost use Rattle.rmt_wire.specs.declared.limits.TheConstants.{READER_LIMIT};
+ghost use Rattle.tape_events.specs.Changes.{changed};
+ghost use Rattle.tape_events.specs.Events.PlainEvent.{Send};
+ghost use Rattle.tape_events.specs.Kept.{IsWorldKept};
+ghost use Rattle.tape_world.specs.Holding.{IsEvent};
+ghost use Rattle.tape_world.specs.Seen.{seen_connection};
+ghost use Rattle.tape_world.specs.Talking.{Asks, IsToSend, talked};
+
+use super::WorldState;
+use crate::caller::Caller;
+use crate::conn::Connection;
+use crate::stop::EventStop;
+use dump_client::{AttemptFault, State};
+use rmt_wire::READER_LIMIT;
+use std::alloc::{AllocError, Global};
+
+/// The client, which is to send, is asked for its next request. Answers what that made fail.
+fn ask(caller: &mut Option<Caller>, fails: bool, out: &mut Vec<u8>) -> Option<(u32, AttemptFault)>
+    requires sends { IsToSend caller.old }
+    requires empty { out.old.items ≡ [] }
+    requires room { READER_LIMIT ≤ vec_capacity out.old }
+    ensures { Asks caller.old fails out.new.items result caller.new }
+{
+    let Some(caller) = caller else {
+        return None;
+    };
+    let state = caller.client.state();
+    prove!(matches!(state, State::ToSend));
+    let (volume, _) = caller.client.checkpoint();
+    caller.client.source_trouble(fails);
+    let asked = caller.client.next_request(out);
+    caller.client.source_trouble(false);
+    match asked {
+        Ok(_) => None,
+        Err(fault) => Some((volume, fault)),
+    }
+}
+
+/// The client, which is to send, sends its next request on this connection. Answers what failed: the connection is over on the
+/// client's side then.
+///
+/// Fails where memory is refused. Nothing has changed then.
+fn send_on(
+    alloc: Global,
+    conn: &mut Connection,
+    caller: &mut Option<Caller>,
+    fails: bool,
+) -> Result<Option<(u32, AttemptFault)>, AllocError>
+    requires { IsToSend caller.old }
+    ensures sent { IfOk result (λ failure. (text : List ℕ) × Asks caller.old fails text failure caller.new
+        × (seen_connection conn.new ≡ talked text failure (seen_connection conn.old))) }
+    ensures refused { OnErr result ((seen_connection conn.new ≡ seen_connection conn.old) × (caller.new ≡ caller.old)) }
+{
+    let mut request = Vec::with_capacity(alloc, READER_LIMIT)?;
+    conn.reserve_request()?;
+    let failure = ask(caller, fails, &mut request);
+    if failure.is_some() {
+        conn.end_there();
+    } else {
+        conn.send_request(&request);
+    }
+    Ok(failure)
+}
+
+/// The same, on the connection of this number, which is there.
+fn send_own(
+    alloc: Global,
+    connections: &mut [Connection],
+    own: usize,
+    caller: &mut Option<Caller>,
+    fails: bool,
+) -> Result<Option<(u32, AttemptFault)>, AllocError>
+    requires first { 1 ≤ own }
+    requires last { own ≤ length connections.old }
+    requires sends { IsToSend caller.old }
+    ensures sent { IfOk result (λ failure. (text : List ℕ) × Asks caller.old fails text failure caller.new
+        × (map seen_connection connections.new ≡ changed (talked text failure) (map seen_connection connections.old) own)) }
+    ensures refused { OnErr result ((map seen_connection connections.new ≡ map seen_connection connections.old) × (caller.new ≡ caller.old)) }
+{
+    send_on(alloc, &mut connections[own - 1], caller, fails)
+}
+
+impl WorldState {
+    /// The client sends its next request. Where `fails` is true, and the request is a block's write, the read of the block
+    /// fails.
+    pub(crate) fn send(&mut self, fails: bool) -> Result<(), EventStop>
+        requires { IsWorldKept self.old }
+        ensures { IsEvent self.old (Send fails) result self.new }
+    {
+        if !self.stands_in(State::ToSend) {
+            return Err(EventStop::NotPossible);
+        }
+        let Some(own) = self.own else {
+            return Err(EventStop::NotPossible);
+        };
+        let failure = send_own(
+            self.alloc,
+            &mut self.connections,
+            own,
+            &mut self.caller,
+            fails,
+        )?;
+        if failure.is_some() {
+            self.own = None;
+        }
+        self.history.failure = failure;
+        Ok(())
+    }
+}
