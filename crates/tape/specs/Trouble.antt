@@ -45,8 +45,8 @@ left_after trouble (WriteMarks count) stood = left_by trouble stood (replicate c
 left_after trouble request stood = stood
 
 -- the device does not fail in the call: no trouble was set, or the call does not come to the device
-abbrev pub IsSpared : ℕ → Trouble → Tape → TapeRequest → Type 0
-IsSpared capacity trouble t request = (trouble ≡ None) ⊎ (ComesToDevice capacity t request → ⊥)
+abbrev pub IsUntroubled : ℕ → Trouble → Tape → TapeRequest → Type 0
+IsUntroubled capacity trouble t request = (trouble ≡ None) ⊎ (ComesToDevice capacity t request → ⊥)
 
 -- One call on a tape whose device was told to fail so. `Device` is answered exactly where a call came to the device
 -- and a trouble was set: the place stays and the entries before it too, and from there on stands what the trouble leaves.
@@ -55,7 +55,7 @@ abbrev pub DeviceStep : ℕ → Trouble → Tape → TapeRequest → TapeAnswer 
 DeviceStep capacity trouble t request (Fault Device) u =
     (trouble ≢ None) × ComesToDevice capacity t request × (u ≡ tape t.before (left_after trouble request t.after))
 DeviceStep capacity trouble t request (Fault OutOfMemory) u = TapeStep capacity t request (Fault OutOfMemory) u
-DeviceStep capacity trouble t request answer u = IsSpared capacity trouble t request × TapeStep capacity t request answer u
+DeviceStep capacity trouble t request answer u = IsUntroubled capacity trouble t request × TapeStep capacity t request answer u
 
 -- each of these steps is one of a tape of this capacity
 abbrev pub AreTapeSteps : ℕ → (Tape → TapeRequest → TapeAnswer → Tape → Type 0) → Type 0

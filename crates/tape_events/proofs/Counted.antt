@@ -10,16 +10,16 @@ use Rattle.tape_events.specs.Changes.{opening}
 use Rattle.tape_events.specs.Standing.{AreHeld, StandsOn}
 use Rattle.tape_events.specs.Kept.{AreLaid}
 use Rattle.tape_events.specs.Naming.{AreNamed, AreWritersLast}
-use Rattle.tape_events.specs.Headline.{IsSpared, CountedReels}
+use Rattle.tape_events.specs.Headline.{IsNotReopened, CountedReels}
 use Rattle.tape_events.specs.Written.{block_records, whole_volume}
 use Rattle.tape_events.specs.Written.{label_if, mark_if, attempt_written}
 use Rattle.tape_events.specs.Attempts.{AreLabelled, AreCountsEarned, IsEarnedBy}
 use Rattle.tape_events.specs.Sending.{AreTold}
-use Rattle.tape_events.specs.Sparing.{AreSpared}
-use Rattle.tape_events.specs.Further.{SparedReels, LabelledReels}
+use Rattle.tape_events.specs.Sparing.{AreNotReopened}
+use Rattle.tape_events.specs.Further.{ReelsNotReopened, LabelledReels}
 use Rattle.tape_events.proofs.Booked.{among_at}
 use Rattle.tape_events.proofs.LabelledThere.{stands_somewhere}
-use Rattle.tape_events.proofs.SparedAlone.{spared_alone}
+use Rattle.tape_events.proofs.NotReopenedAlone.{not_reopened_alone}
 
 -- what an attempt wrote that was counted is its volume
 written_whole : (w : World) (run : PlainRun) (payload : List (List ℕ)) (x : Count) (l : Connection) (d : Dumping) (b : Begun) → IsEarnedBy w x l d b
@@ -31,17 +31,17 @@ written_whole w run payload x l d b e =
     ∙ ap (λ n. whole_volume run payload x.volume n d.blocks) e.first
     ∙ ap (λ n. whole_volume run payload x.volume x.first n) e.count
 
-pub counted_reels : (w : World) → AreHeld w.server → AreLaid w.server → AreNamed w → AreWritersLast w → AreTold w → AreLabelled w → AreCountsEarned w → AreSpared w
+pub counted_reels : (w : World) → AreHeld w.server → AreLaid w.server → AreNamed w → AreWritersLast w → AreTold w → AreLabelled w → AreCountsEarned w → AreNotReopened w
     → CountedReels w
 counted_reels w held laid named writers told labelled earned spares x among =
     let e = earned x among in
     let p = e.3 in
     let a = labelled x.connection e.0 e.1 p.there p.dump p.label in
     let same : a.0 ≡ e.2 = same_Some a.0 e.2 (sym a.1 ∙ ap (numbered w.begun) p.run ∙ p.begun) in
-    let just : IsSpared w x → (entries : List PlainEntry) → StandsOn w.server x.reel entries
+    let just : IsNotReopened w x → (entries : List PlainEntry) → StandsOn w.server x.reel entries
     → entries ≡ whole_volume a.0.run a.0.payload x.volume x.first x.count
-    = λ spared entries stands.
-    (a.2 x.reel (p.fault, (spared.0, spared.1, spared_alone w x told writers spares.late spares.stopped among spared))).stands entries stands
+    = λ not_reopened entries stands.
+    (a.2 x.reel (p.fault, (not_reopened.0, not_reopened.1, not_reopened_alone w x told writers spares.late spares.stopped among not_reopened))).stands entries stands
     ∙ written_whole w a.0.run a.0.payload x e.0 e.1 e.2 p in
     let on = stands_somewhere w.server x.reel held laid (named.opened _ p.opened) in
     record {
@@ -50,11 +50,11 @@ counted_reels w held laid named writers told labelled earned spares x among =
       within = subst (λ (b : Begun). x.first + x.count ≤ b.run.blocks) (sym same) p.within;
       opened = p.opened;
       there = named.opened _ p.opened;
-      whole = λ spared. (subst (StandsOn w.server x.reel) (just spared on.0 on.1) on.1, just spared);
+      whole = λ not_reopened. (subst (StandsOn w.server x.reel) (just not_reopened on.0 on.1) on.1, just not_reopened);
     }
 
-pub spared_reels : (w : World) → AreTold w → AreWritersLast w → AreSpared w → SparedReels w
-spared_reels w told writers spares x y counted among spared its since = spared_alone w x told writers spares.late spares.stopped counted spared y among its since
+pub reels_not_reopened : (w : World) → AreTold w → AreWritersLast w → AreNotReopened w → ReelsNotReopened w
+reels_not_reopened w told writers spares x y counted among not_reopened its since = not_reopened_alone w x told writers spares.late spares.stopped counted not_reopened y among its since
 
 pub labelled_reels : (w : World) → AreHeld w.server → AreLaid w.server → AreNamed w → AreLabelled w → LabelledReels w
 labelled_reels w held laid named labelled k d reel has label quiet =

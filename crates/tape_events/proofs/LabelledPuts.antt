@@ -72,8 +72,8 @@ write_puts trouble holders before bytes reply after drive reel was step =
 mark_put : (trouble : Trouble) (before after : SessionView) (drive : ℕ) (reel : PlainReel) (reply : PlainReply) (answer : TapeAnswer) (t : Tape)
     → DeviceStep reel.capacity trouble reel.tape (tape_request (Op MTWEOF 1)) answer t → reply ≡ reel_reply (Op MTWEOF 1) answer → IsLeftWith before after drive reel t
     → Puts before after drive reel (Mark ∷ []) (Op MTWEOF 1) reply
-mark_put trouble before after drive reel reply Did t (spared, inl none) is left = (let clash = none.0 in absurd (omega (arith, clash)))
-mark_put trouble before after drive reel reply Did t (spared, inr some) is left =
+mark_put trouble before after drive reel reply Did t (not_reopened, inl none) is left = (let clash = none.0 in absurd (omega (arith, clash)))
+mark_put trouble before after drive reel reply Did t (not_reopened, inr some) is left =
     puts 0 is (left_as before after drive reel t (tape (reel.tape.before ++ Mark ∷ []) []) some.2 left)
 mark_put trouble before after drive reel reply (Fault faults.Device) t device is left = fails (λ d. ap (λ r. (noted_by d (Op MTWEOF 1) r).fault) is)
 mark_put trouble before after drive reel reply (Fault faults.Full) t device is left =

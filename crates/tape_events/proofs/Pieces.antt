@@ -14,7 +14,7 @@ use Rattle.dump_client.specs.declared.step.Step.{Step}
 use Rattle.dump_client.specs.declared.stage.Progress.{Progress}
 use Rattle.dump_client.specs.declared.stage.Progress.TheVariants as came
 use Rattle.dump_client.specs.declared.stage.Stage.TheVariants.{Waiting}
-use Rattle.tape_events.specs.Sending.{IsBrief}
+use Rattle.tape_events.specs.Sending.{FitsReplyReader}
 use Rattle.tape_events.proofs.SentWire.{OneReply, one_heard, brief_begins, reply_whole, reply_no_fault}
 
 -- Of these bytes, with these after them on the way: it waits on, or it heard the whole reply, and nothing is after that.
@@ -23,7 +23,7 @@ pub data HearsPiece (old : Standing) (step : Step) (reply : PlainReply) (bytes w
   whole : SpellsReply bytes reply (wanted_of step) → way ≡ [] → HearsAt old step (Reply reply) false progress new → HearsPiece old step reply bytes way progress new
 
 hearing_of : OneReply → (old new : Standing) (step : Step) (reply : PlainReply) (bytes rest way : List ℕ) (progress : Progress) (seen : Result (Option PlainReply) WireFault)
-    → IsBrief (wanted_of step) reply → reply_text reply ≡ bytes ++ way → ReplyGives (Some (wanted_of step)) bytes seen rest → Makes old step bytes seen rest progress new → HearsPiece old step reply bytes way progress new
+    → FitsReplyReader (wanted_of step) reply → reply_text reply ≡ bytes ++ way → ReplyGives (Some (wanted_of step)) bytes seen rest → Makes old step bytes seen rest progress new → HearsPiece old step reply bytes way progress new
 hearing_of g old new step reply bytes rest way progress (Ok None) brief text gives (moved, is) = waits moved is text
 hearing_of g old new step reply bytes rest way progress (Ok (Some found)) brief text gives hears =
     let all = reply_whole g (wanted_of step) (reply_text reply) bytes way rest reply found brief.spelled text gives in
@@ -34,7 +34,7 @@ hearing_of g old new step reply bytes rest way progress (Err fault) brief text g
 
 -- a piece of what is on the way was fed to it
 pub hearing : OneReply → (reader : ReplyHeld) (old new : Standing) (step : Step) (reply : PlainReply) (before fed back : List ℕ) (n : ℕ) (progress : Progress)
-    → IsBrief (wanted_of step) reply → before ++ back ≡ reply_text reply → HasFedAt (Waiting step) reader before → HasFedAt (Waiting step) reader fed → FedAt (Waiting step) old fed (take n back) progress new
+    → FitsReplyReader (wanted_of step) reply → before ++ back ≡ reply_text reply → HasFedAt (Waiting step) reader before → HasFedAt (Waiting step) reader fed → FedAt (Waiting step) old fed (take n back) progress new
     → HearsPiece old step reply (fed ++ take n back) (drop n back) progress new
 hearing g reader old new step reply before fed back n progress brief is has had (seen, rest, gives, makes) =
     let begins = brief_begins (wanted_of step) reply before back brief (sym is) in

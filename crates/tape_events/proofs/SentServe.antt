@@ -28,7 +28,7 @@ use Rattle.dump_client.specs.declared.stage.Stage.{Stage}
 use Rattle.dump_client.specs.declared.stage.Stage.TheVariants.{ToSend, Waiting}
 use Rattle.tape_events.specs.World.{Connection, Dumping, Begun, Caller, numbered}
 use Rattle.tape_events.specs.Changes.{sent_on, noted, noted_by, noted_write, noted_marks, answered}
-use Rattle.tape_events.specs.Sending.{HasDone, AreUnserved, request_in, IsPending, IsConnectionSettled, IsConnectionSent, LeadsOn, IsBrief, IsStepReply, IsAttempt, IsStepAsked, IsStepReplied, IsConnectionToldAt, IsGood}
+use Rattle.tape_events.specs.Sending.{HasDone, AreUnserved, request_in, IsPending, IsConnectionSettled, IsConnectionSent, LeadsOn, FitsReplyReader, IsStepReply, IsAttempt, IsStepAsked, IsStepReplied, IsConnectionToldAt, IsGood}
 use Rattle.tape_events.proofs.Sent.{raised_one}
 use Rattle.tape_events.proofs.SentWire.{OneReading, DroppedWrites, one_read, nothing_long, text_not_long, gives_whole, nothing_given}
 use Rattle.tape_events.proofs.SentSteps.{ReplyTexts, plain_brief, shown_brief, write_online, marks_online, look_online, rewind_first, unload_away, open_first, close_plain}
@@ -129,7 +129,7 @@ pub served_leads : ReplyTexts → (old : Standing) (payload : List (List ℕ)) (
     (session : PlainSession) (d : Dumping) (step : Step) (reply : PlainReply) → IsRun old.run → HasDone old.run (Some s) d step → d.carried + 1 < 2 ^ 64
     → SpellsRequest (request_text (request_of old.run payload d.volume d.first step)) (request_of old.run payload d.volume d.first step)
     → TroubledServeStep trouble holders (session_view library s.session) (request_of old.run payload d.volume d.first step) reply (session_view library' session)
-    → IsBrief (wanted_of step) reply × LeadsFrom (Some (side reached session)) old d (noted (request_of old.run payload d.volume d.first step) reply d) step reply
+    → FitsReplyReader (wanted_of step) reply × LeadsFrom (Some (side reached session)) old d (noted (request_of old.run payload d.volume d.first step) reply d) step reply
 served_leads t old payload trouble holders library library' s reached session d Open reply good h few spelled step =
     let r = open_first trouble holders (session_view library s.session) old.run.device reply (session_view library' session) step in
     (plain_brief t reply r.0, open_leads old s (side reached session) d old.run.device reply h few r.1)
@@ -211,7 +211,7 @@ asked_replied t g h b s l c d step bytes rest found reply reached trouble holder
       reply = on_way l.cut leads led.0;
     }
   where
-    on_way : (cut : Bool) → LeadsOn b.run (Some (side reached session)) c.at (noted found reply d) step reply → IsBrief (wanted_of step) reply
+    on_way : (cut : Bool) → LeadsOn b.run (Some (side reached session)) c.at (noted found reply d) step reply → FitsReplyReader (wanted_of step) reply
         → IsStepReply b.run (Some (side reached session)) c.at (noted found reply d) step ([] ++ sent_on cut l.back (reply_text reply))
     on_way true leads brief = inl a.back
     on_way false leads brief = inr (reply, ap (λ x. x ++ reply_text reply) a.back, brief, leads)

@@ -28,7 +28,7 @@ use Rattle.rmt_server.specs.Session.PlainSession.{Offline, Online}
 use Rattle.rmt_server.specs.TroubledServe.{TroubledServeStep, TroubledMoveStep, TroubledDoneStep}
 use Rattle.dump_run.specs.Label.{label_bytes}
 use Rattle.tape_events.specs.Standing.{IsOnlineWith}
-use Rattle.tape_events.specs.Sending.{IsBrief}
+use Rattle.tape_events.specs.Sending.{FitsReplyReader}
 use Rattle.tape_events.proofs.Called.{called}
 
 -- what a writer writes spells its request, and its reply
@@ -77,13 +77,13 @@ drive_line why = record { number = omega arith; short = omega arith; line = line
 ten_digits : (n : ℕ) → n ≤ 2147483647 → length (decimal n) ≤ 10
 ten_digits n small = length-decimal-le 10 n (omega arith) (omega arith) (omega arith)
 
-done_brief : ReplyTexts → (n : ℕ) → n ≤ 2147483647 → IsBrief Number (Done n)
+done_brief : ReplyTexts → (n : ℕ) → n ≤ 2147483647 → FitsReplyReader Number (Done n)
 done_brief g n small =
     let few = ten_digits n small in
     let size = length-append (decimal n) (line_feed ∷ []) in
     record { spelled = g (Done n) small Number tt; short = omega (arith, few, size) }
 
-error_brief : ReplyTexts → (wanted : Wanted) (n : ℕ) (text : List ℕ) → IsErrorLine n text → IsBrief wanted (Error n text)
+error_brief : ReplyTexts → (wanted : Wanted) (n : ℕ) (text : List ℕ) → IsErrorLine n text → FitsReplyReader wanted (Error n text)
 error_brief g wanted n text is =
     let small = is.number in
     let line = is.short in
@@ -92,24 +92,24 @@ error_brief g wanted n text is =
     let behind = length-append text (line_feed ∷ []) in
     record { spelled = g (Error n text) (small, omega (arith, line), is.line) wanted tt; short = omega (arith, few, line, size, behind) }
 
-pub plain_brief : ReplyTexts → (reply : PlainReply) → IsPlain reply → IsBrief Number reply
-plain_brief g reply (inl (n, small, is)) = subst (IsBrief Number) (sym is) (done_brief g n small)
-plain_brief g reply (inr (n, text, line, is)) = subst (IsBrief Number) (sym is) (error_brief g Number n text line)
+pub plain_brief : ReplyTexts → (reply : PlainReply) → IsPlain reply → FitsReplyReader Number reply
+plain_brief g reply (inl (n, small, is)) = subst (FitsReplyReader Number) (sym is) (done_brief g n small)
+plain_brief g reply (inr (n, text, line, is)) = subst (FitsReplyReader Number) (sym is) (error_brief g Number n text line)
 
 -- the bytes of a record, of as many as a label has at most, or an error with a short line
 abbrev pub IsRecordShown : PlainReply → Type 0
 IsRecordShown reply =
     ((bytes : List ℕ) × (length bytes ≤ label_bytes) × (reply ≡ Data bytes)) ⊎ ((n : ℕ) × (text : List ℕ) × IsErrorLine n text × (reply ≡ Error n text))
 
-data_brief : ReplyTexts → (bytes : List ℕ) → length bytes ≤ label_bytes → IsBrief (DataUpTo label_bytes) (Data bytes)
+data_brief : ReplyTexts → (bytes : List ℕ) → length bytes ≤ label_bytes → FitsReplyReader (DataUpTo label_bytes) (Data bytes)
 data_brief g bytes few =
     let digits = ten_digits (length bytes) (omega (arith, few)) in
     let size = length-append (decimal (length bytes)) (line_feed ∷ bytes) in
     record { spelled = g (Data bytes) (omega (arith, few)) (DataUpTo label_bytes) few; short = omega (arith, few, digits, size) }
 
-pub shown_brief : ReplyTexts → (reply : PlainReply) → IsRecordShown reply → IsBrief (DataUpTo label_bytes) reply
-shown_brief g reply (inl (bytes, few, is)) = subst (IsBrief (DataUpTo label_bytes)) (sym is) (data_brief g bytes few)
-shown_brief g reply (inr (n, text, line, is)) = subst (IsBrief (DataUpTo label_bytes)) (sym is) (error_brief g (DataUpTo label_bytes) n text line)
+pub shown_brief : ReplyTexts → (reply : PlainReply) → IsRecordShown reply → FitsReplyReader (DataUpTo label_bytes) reply
+shown_brief g reply (inl (bytes, few, is)) = subst (FitsReplyReader (DataUpTo label_bytes)) (sym is) (data_brief g bytes few)
+shown_brief g reply (inr (n, text, line, is)) = subst (FitsReplyReader (DataUpTo label_bytes)) (sym is) (error_brief g (DataUpTo label_bytes) n text line)
 
 -- the session stays online with its drive, for reading and writing
 abbrev pub StaysOnline : PlainReply → SessionView → Type 0

@@ -16,7 +16,7 @@ use Rattle.rmt_wire.specs.declared.number.Place.TheVariants as places
 use Rattle.rmt_wire.specs.RequestParts.{Gives, IsDroppedLine}
 use Rattle.rmt_wire.specs.RequestReader.{RequestHeld, held, Unread, UnreadAt, dropped_line}
 use Rattle.rmt_wire.specs.declared.fault.WireFault.{WireFault}
-use Rattle.tape_events.specs.Sending.{IsBrief}
+use Rattle.tape_events.specs.Sending.{FitsReplyReader}
 
 -- At each place a reader can give one thing only.
 abbrev pub OneReading : Type 0
@@ -236,7 +236,7 @@ letter_begins letter text [] way other is = tt
 letter_begins letter text (b ∷ bytes) way other is = let same : letter ≡ b = cc in λ bad. other (same ∙ bad)
 
 -- Of a reply that is kept whole the bytes that came so far are few, or those of no error, and a reader has room for more.
-pub brief_begins : (wanted : Wanted) (reply : PlainReply) (bytes way : List ℕ) → IsBrief wanted reply → reply_text reply ≡ bytes ++ way
+pub brief_begins : (wanted : Wanted) (reply : PlainReply) (bytes way : List ℕ) → FitsReplyReader wanted reply → reply_text reply ≡ bytes ++ way
     → ((length bytes < 255) ⊎ IsNoError bytes) × (length bytes < READER_LIMIT)
 brief_begins wanted (Data given) bytes way brief is =
     let size = ap length is in

@@ -25,7 +25,7 @@ use Rattle.tape_events.specs.Changes.{connection_of, changed, changed_from, side
 use Rattle.tape_events.specs.Steps.{Finds, carried}
 use Rattle.tape_events.specs.Kept.{IsWorldKept}
 use Rattle.tape_events.specs.Owning.{is_in_attempt}
-use Rattle.tape_events.specs.Sending.{AreUnserved, request_in, IsPending, IsAttempt, IsStepAsked, IsBrief, IsConnectionToldAt}
+use Rattle.tape_events.specs.Sending.{AreUnserved, request_in, IsPending, IsAttempt, IsStepAsked, FitsReplyReader, IsConnectionToldAt}
 use Rattle.tape_events.specs.Smooth.{IsSmooth, IsOwnConnection, IsStepUnanswered, ReelsStandAt, StandsWith, StandsBefore, Leads, Stock, stock_of, volume_slots, attempt_on}
 use Rattle.tape_events.proofs.SmoothBins.{served_bin}
 use Rattle.tape_events.proofs.Numbers.{changed_is, with_here, numbered_there, numbered_within, numbered_first}
@@ -119,7 +119,7 @@ carried_smooth g h drive w u k c l d b s step kept sm un v =
     let served : TroubledServe NoTrouble w.server.holders k (session_view w.server.library s.session) (request_in b d step) v.reply (session_view v.library v.session) v.holders
     = subst (λ r. TroubledServe NoTrouble w.server.holders k (session_view w.server.library s.session) r v.reply (session_view v.library v.session) v.holders) all.0 v.served in
     let few = (let sent = p.sent in let many = p.few in let limit : d.carried + 1 ≡ d.sent = omega (arith, sent) in subst (λ n. suc n ≤ 18446744073709551616) (sym limit) many) in
-    let brief : IsBrief (wanted_of step) v.reply
+    let brief : FitsReplyReader (wanted_of step) v.reply
     = (served_leads reply_texts (standing b.run [] Ready) b.payload NoTrouble w.server.holders w.server.library v.library s v.reached v.session d step v.reply good.run p.done few p.spelled
     served.step).0 in
     let leads : Leads drive (stock_then (stock_of w) k v.request v.library v.session v.holders) (attempt_on k b (noted v.request v.reply d) v.session) c.at step v.reply

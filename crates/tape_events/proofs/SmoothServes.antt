@@ -134,7 +134,7 @@ serve_look library capacity reply holders after step = looked (in_drive library 
   where
     answered : (answer : TapeAnswer) (t : Tape) → DeviceStep capacity NoTrouble (tape [] []) (tape_request (Read label_bytes)) answer t
         → reply ≡ reel_reply (Read label_bytes) answer → after ≡ session_view library (Online 0 Both (plain_reel t capacity)) → (reply ≡ Data []) × IsOnline library capacity (tape [] []) after
-    answered (Gave given) t (spared, (none, stays)) replies is = (replies ∙ ap Data none, is ∙ ap (λ x. session_view library (Online 0 Both (plain_reel x capacity))) stays)
+    answered (Gave given) t (not_reopened, (none, stays)) replies is = (replies ∙ ap Data none, is ∙ ap (λ x. session_view library (Online 0 Both (plain_reel x capacity))) stays)
     answered (Fault faults.Device) t device replies is = absurd (device.0 refl)
     answered (Fault faults.OutOfMemory) t device replies is = absurd device
     answered answer t device replies is = absurd device.1
@@ -171,9 +171,9 @@ serve_write library capacity before bytes reply holders after some few step =
 
     answered : (answer : TapeAnswer) (t : Tape) → DeviceStep capacity NoTrouble (tape before []) (tape_request (Write bytes)) answer t → reply ≡ reel_reply (Write bytes) answer
         → after ≡ session_view library (Online 0 Both (plain_reel t capacity)) → Writes library capacity before bytes reply after
-    answered Did t (spared, (fits, put)) replies is = wrote fits replies (is ∙ ap (λ x. session_view library (Online 0 Both (plain_reel x capacity))) put)
+    answered Did t (not_reopened, (fits, put)) replies is = wrote fits replies (is ∙ ap (λ x. session_view library (Online 0 Both (plain_reel x capacity))) put)
     answered (Fault faults.Device) t device replies is = absurd (device.0 refl)
-    answered (Fault faults.Full) t (spared, (tight, stays)) replies is = full tight replies (is ∙ ap (λ x. session_view library (Online 0 Both (plain_reel x capacity))) stays)
+    answered (Fault faults.Full) t (not_reopened, (tight, stays)) replies is = full tight replies (is ∙ ap (λ x. session_view library (Online 0 Both (plain_reel x capacity))) stays)
     answered (Fault faults.OutOfMemory) t (fits, stays) replies is =
         scarce (_, replies) (is ∙ ap (λ x. session_view library (Online 0 Both (plain_reel x capacity))) stays)
     answered answer t device replies is = absurd device.1
@@ -190,10 +190,10 @@ serve_mark library capacity before reply holders after room step = marked_by (in
     answered : (answer : TapeAnswer) (t : Tape) → DeviceStep capacity NoTrouble (tape before []) (tape_request (Op MTWEOF 1)) answer t → reply ≡ reel_reply (Op MTWEOF 1) answer
         → after ≡ session_view library (Online 0 Both (plain_reel t capacity))
         → ((reply ≡ Done 1) × IsOnline library capacity (tape (before ++ Mark ∷ []) []) after) ⊎ (IsScarce reply × IsOnline library capacity (tape before []) after)
-    answered Did t (spared, inl (none, put)) replies is = absurd (omega (arith, none))
-    answered Did t (spared, inr (some, fits, put)) replies is = inl (replies, is ∙ ap (λ x. session_view library (Online 0 Both (plain_reel x capacity))) put)
+    answered Did t (not_reopened, inl (none, put)) replies is = absurd (omega (arith, none))
+    answered Did t (not_reopened, inr (some, fits, put)) replies is = inl (replies, is ∙ ap (λ x. session_view library (Online 0 Both (plain_reel x capacity))) put)
     answered (Fault faults.Device) t device replies is = absurd (device.0 refl)
-    answered (Fault faults.Full) t (spared, (some, tight, stays)) replies is = absurd (omega (arith, room, tight))
+    answered (Fault faults.Full) t (not_reopened, (some, tight, stays)) replies is = absurd (omega (arith, room, tight))
     answered (Fault faults.OutOfMemory) t (some, fits, stays) replies is =
         inr ((_, replies), is ∙ ap (λ x. session_view library (Online 0 Both (plain_reel x capacity))) stays)
     answered answer t device replies is = absurd device.1

@@ -12,7 +12,7 @@ use Rattle.tape_events.specs.Steps.{Happens, Runs, none, one_more}
 use Rattle.tape_events.specs.Standing.{AreThere}
 use Rattle.tape_events.specs.Kept.{IsWorldKept}
 use Rattle.tape_events.specs.Headline.{NoTwoHolders, DumpdatesGained, Headline, CountedReels}
-use Rattle.tape_events.specs.Further.{SentRequests, LatchedReels, ClientsCounts, SparedReels, LabelledReels}
+use Rattle.tape_events.specs.Further.{SentRequests, LatchedReels, ClientsCounts, ReelsNotReopened, LabelledReels}
 use Rattle.tape_events.specs.Naming.{SameNames}
 use Rattle.tape_events.proofs.Numbers.{no_number}
 use Rattle.tape_events.proofs.SentWire.{OneReading, DroppedWrites, OneReply}
@@ -20,9 +20,9 @@ use Rattle.tape_events.proofs.Lawfully.{Lawfully, lawful_moved}
 use Rattle.tape_events.proofs.Owned.{Standings, owned_moved, first_owned}
 use Rattle.tape_events.proofs.ToldAfter.{first_told, told_moved}
 use Rattle.tape_events.proofs.LabelledAfter.{first_single, first_labelled, first_earned, single_moved, labelled_moved, earned_moved}
-use Rattle.tape_events.proofs.Counted.{labelled_reels, counted_reels, spared_reels}
-use Rattle.tape_events.proofs.SparedLooks.{Grounds}
-use Rattle.tape_events.proofs.SparedAfter.{first_spared, spared_moved}
+use Rattle.tape_events.proofs.Counted.{labelled_reels, counted_reels, reels_not_reopened}
+use Rattle.tape_events.proofs.NotReopenedLooks.{Grounds}
+use Rattle.tape_events.proofs.NotReopenedAfter.{first_not_reopened, not_reopened_moved}
 use Rattle.tape_events.proofs.Tidy.{tidy_moved}
 use Rattle.tape_events.proofs.Moves.{Move, happened, moved}
 use Rattle.tape_events.proofs.Held.{held_moved, side_there}
@@ -85,7 +85,7 @@ first_kept drives good = record {
   once = first_named drives good;
   opened = first_opened drives;
   writers = first_writers drives;
-  spared = first_spared drives;
+  not_reopened = first_not_reopened drives;
   readable = λ k s at. absurd (no_number k (Some s) (side_there (first_world drives).server k s at));
 }
 
@@ -109,7 +109,7 @@ grounds w k = record {
   single = k.single;
   labelled = k.labelled;
   earned = k.counted;
-  spared = k.spared;
+  not_reopened = k.not_reopened;
 }
 
 kept_moved : Laws → (w : World) (m : Move w) → IsWorldKept w → IsWorldKept (moved w m)
@@ -135,7 +135,7 @@ kept_moved g w m k =
       once = named;
       opened = opened_moved w m k.tidy k.held held laid named.once k.opened;
       writers = writers_moved w m k.opened k.writers;
-      spared = spared_moved g.reading g.dropped g.reply w m (grounds w k) k.owned k.lawful record { owned = owned; told = told; single = single; earned = earned };
+      not_reopened = not_reopened_moved g.reading g.dropped g.reply w m (grounds w k) k.owned k.lawful record { owned = owned; told = told; single = single; earned = earned };
       readable = readable_moved w m k.readable;
     }
 
@@ -158,10 +158,10 @@ pub dumpdates_gained : (w : World) → IsWorldKept w → DumpdatesGained w
 dumpdates_gained w kept = record { dates = kept.booked.dates; once = kept.booked.once; earned = kept.booked.earned }
 
 pub reels_counted : (w : World) → IsWorldKept w → CountedReels w
-reels_counted w kept = counted_reels w kept.held kept.laid kept.once kept.writers kept.told kept.labelled kept.counted kept.spared
+reels_counted w kept = counted_reels w kept.held kept.laid kept.once kept.writers kept.told kept.labelled kept.counted kept.not_reopened
 
-pub reels_spared : (w : World) → IsWorldKept w → SparedReels w
-reels_spared w kept = spared_reels w kept.told kept.writers kept.spared
+pub not_reopened_reels : (w : World) → IsWorldKept w → ReelsNotReopened w
+not_reopened_reels w kept = reels_not_reopened w kept.told kept.writers kept.not_reopened
 
 pub reels_labelled : (w : World) → IsWorldKept w → LabelledReels w
 reels_labelled w kept = labelled_reels w kept.held kept.laid kept.once kept.labelled

@@ -23,7 +23,7 @@ use Rattle.tape_events.specs.World.{World, Connection, Dumping, Begun, Caller}
 use Rattle.tape_events.specs.Changes.{side_of}
 use Rattle.tape_events.specs.Steps.{caller}
 use Rattle.tape_events.specs.Owning.{IsOwned}
-use Rattle.tape_events.specs.Sending.{GoesTo, AreCounted, LeadsOn, IsBrief, IsStepReply, IsAttempt, IsStepReplied, IsConnectionToldAt, AreTold}
+use Rattle.tape_events.specs.Sending.{GoesTo, AreCounted, LeadsOn, FitsReplyReader, IsStepReply, IsAttempt, IsStepReplied, IsConnectionToldAt, AreTold}
 use Rattle.tape_events.proofs.SentWire.{OneReply}
 use Rattle.tape_events.proofs.Pieces.{HearsPiece, waits, whole, hearing}
 use Rattle.tape_events.proofs.ToldMoves.{changed_told}
@@ -104,7 +104,7 @@ whole_stage begun o l c d step b reader new way bytes reply progress stage at ha
 -- what comes of the bytes that it heard
 hearing_told : (begun : List Begun) (o : Option ServerConnection) (l : Connection) (c : Caller) (d : Dumping) (step : Step) (b : Begun) (reader : ReplyHeld) (new : Standing)
     (bytes way : List ℕ) (reply : PlainReply) (progress : Progress) → c.at.stage ≡ Waiting step
-    → IsStepReplied b o l c d step → IsAttempt begun c d step b → IsBrief (wanted_of step) reply → LeadsOn b.run o c.at d step reply
+    → IsStepReplied b o l c d step → IsAttempt begun c d step b → FitsReplyReader (wanted_of step) reply → LeadsOn b.run o c.at d step reply
     → HearsPiece c.at step reply bytes way progress new → HasFedAt new.stage reader (unanswered new.stage bytes)
     → IsConnectionToldAt new.stage begun o (record l { back = way }) (caller c.number new reader) d
 hearing_told begun o l c d step b reader new bytes way reply progress stage replied attempt brief leads (waits moved is text) has =

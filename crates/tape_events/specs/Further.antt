@@ -13,7 +13,7 @@ use Rattle.tape_events.specs.Events.{PlainEvent}
 use Rattle.tape_events.specs.Events.PlainEvent.{ToClient}
 use Rattle.tape_events.specs.History.{counts_in}
 use Rattle.tape_events.specs.Standing.{ReelHoldsJust, IsFirstAway, IsOnlineWith, online_drive_in}
-use Rattle.tape_events.specs.Headline.{IsFamiliar, IsSpared}
+use Rattle.tape_events.specs.Headline.{IsOwnOpen, IsNotReopened}
 use Rattle.tape_events.specs.History.{AreCountedIn}
 use Rattle.tape_events.specs.Written.{attempt_written, IsQuiet, IsBeforeOffline}
 
@@ -44,17 +44,17 @@ LabelledReels w =
 
 -- As long as no foreign session opened the reel of a count since, nobody but the count's own session wrote on it since that session's
 -- open.
-abbrev pub SparedReels : World → Type 0
-SparedReels w =
-    (x : Count) (y : Writing) → Contains w.counts x → Contains w.writings y → (spared : IsSpared w x) → y.reel ≡ x.reel
-    → spared.0 ≤ y.after → y.connection ≡ x.connection
+abbrev pub ReelsNotReopened : World → Type 0
+ReelsNotReopened w =
+    (x : Count) (y : Writing) → Contains w.counts x → Contains w.writings y → (not_reopened : IsNotReopened w x) → y.reel ≡ x.reel
+    → not_reopened.0 ≤ y.after → y.connection ≡ x.connection
 
 -- What the client opens for writing in an attempt is foreign to no count of its run whose volume and first block its list has.
-abbrev pub FamiliarOpens : World → Type 0
-FamiliarOpens w =
+abbrev pub OwnOpens : World → Type 0
+OwnOpens w =
     (k i : ℕ) (c : Caller) (step : Step) (o : Opening) (x : Count) (v : VolumeCount) → w.own ≡ Some k → w.caller ≡ Some c
     → IsAtStep c.at.stage step → step ≢ Close → numbered w.opens i ≡ Some o → o.connection ≡ k → x.run ≡ c.number
-    → Contains c.at.counts v → v.volume ≡ x.volume → v.first ≡ x.first → IsFamiliar w x i o
+    → Contains c.at.counts v → v.volume ≡ x.volume → v.first ≡ x.first → IsOwnOpen w x i o
 
 -- Each volume that the client has was counted under its number. No number above those of the runs begun has counts.
 pub record ClientsCounts (w : World) : Type 0 where

@@ -13,15 +13,15 @@ use Rattle.tape_events.specs.Written.{whole_volume}
 
 -- The open for writing of this place is not foreign to the count: its session is the client's, of that run, and the list that the
 -- client had at that open has a count of that volume and first block.
-abbrev pub IsFamiliar : World → Count → ℕ → Opening → Type 0
-IsFamiliar w x m o =
+abbrev pub IsOwnOpen : World → Count → ℕ → Opening → Type 0
+IsOwnOpen w x m o =
     (d : Dumping) × HasDump w o.connection d × (d.run ≡ x.run)
     × (list : List VolumeCount) × (numbered w.lists m ≡ Some list) × HasCountOf list x.volume x.first
 
 -- No foreign session opened it since: none of the opens for writing of this reel after that of the count's connection is foreign.
-abbrev pub IsSpared : World → Count → Type 0
-IsSpared w x = (i : ℕ) × (numbered w.opens i ≡ Some (opening x.connection x.reel))
-    × ((m : ℕ) (o : Opening) → i < m → numbered w.opens m ≡ Some o → o.reel ≡ x.reel → IsFamiliar w x m o)
+abbrev pub IsNotReopened : World → Count → Type 0
+IsNotReopened w x = (i : ℕ) × (numbered w.opens i ≡ Some (opening x.connection x.reel))
+    × ((m : ℕ) (o : Opening) → i < m → numbered w.opens m ≡ Some o → o.reel ≡ x.reel → IsOwnOpen w x m o)
 
 -- The count's run was begun, and has its blocks; its connection opened the reel, and the reel is still there.
 pub record IsOnItsReel (w : World) (x : Count) : Type 0 where
@@ -30,7 +30,7 @@ pub record IsOnItsReel (w : World) (x : Count) : Type 0 where
   pub within : x.first + x.count ≤ begun.run.blocks
   pub opened : Contains w.opens (opening x.connection x.reel)
   pub there : HasReel w.server.library x.reel
-  pub whole : IsSpared w x → ReelHoldsJust w.server x.reel (whole_volume begun.run begun.payload x.volume x.first x.count)
+  pub whole : IsNotReopened w x → ReelHoldsJust w.server x.reel (whole_volume begun.run begun.payload x.volume x.first x.count)
 
 abbrev pub CountedReels : World → Type 0
 CountedReels w = (x : Count) → Contains w.counts x → IsOnItsReel w x

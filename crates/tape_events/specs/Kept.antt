@@ -17,7 +17,7 @@ use Rattle.tape_events.specs.Owning.{IsOwned}
 use Rattle.tape_events.specs.Sending.{AreTold}
 use Rattle.tape_events.specs.Attempts.{AreSingle, AreLabelled, AreCountsEarned}
 use Rattle.tape_events.specs.Naming.{AreNamed, AreOpened, AreWritersLast}
-use Rattle.tape_events.specs.Sparing.{AreSpared}
+use Rattle.tape_events.specs.Sparing.{AreNotReopened}
 use Rattle.tape_events.specs.First.{IsReadable}
 
 -- A connection of which either side is over is cut, and where the server's is, nothing is on the way to that.
@@ -82,5 +82,5 @@ pub record IsWorldKept (w : World) : Type 0 where
   pub once : AreNamed w
   pub opened : AreOpened w
   pub writers : AreWritersLast w
-  pub spared : AreSpared w
+  pub not_reopened : AreNotReopened w
   pub readable : IsReadable w

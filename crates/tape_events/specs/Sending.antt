@@ -122,14 +122,14 @@ whole_below (Data bytes) = READER_LIMIT
 whole_below reply = 255
 
 -- a reply that is kept whole by one who waits for this
-pub record IsBrief (wanted : Wanted) (reply : PlainReply) : Type 0 where
+pub record FitsReplyReader (wanted : Wanted) (reply : PlainReply) : Type 0 where
   pub spelled : SpellsReply (reply_text reply) reply wanted
   pub short : length (reply_text reply) < whole_below reply
 
 -- What the client heard and what is on the way to it are the reply to this step, or nothing, where that was lost.
 abbrev pub IsStepReply : PlainRun → Option ServerConnection → Standing → Dumping → Step → List ℕ → Type 0
 IsStepReply run o at d step bytes =
-    (bytes ≡ []) ⊎ ((reply : PlainReply) × (bytes ≡ reply_text reply) × IsBrief (wanted_of step) reply
+    (bytes ≡ []) ⊎ ((reply : PlainReply) × (bytes ≡ reply_text reply) × FitsReplyReader (wanted_of step) reply
     × LeadsOn run o at d step reply)
 
 -- the connection is that of the client's attempt

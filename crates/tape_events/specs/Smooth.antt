@@ -30,7 +30,7 @@ use Rattle.tape_events.specs.Events.PlainEvent.{StartRun, Connect, Send, ToServe
 use Rattle.tape_events.specs.First.{PlainDriveSpec}
 use Rattle.tape_events.specs.Changes.{side_of, connection_of, opening}
 use Rattle.tape_events.specs.Rows.{StandsIn}
-use Rattle.tape_events.specs.Sending.{AreUnserved, AreCounted, IsBrief}
+use Rattle.tape_events.specs.Sending.{AreUnserved, AreCounted, FitsReplyReader}
 use Rattle.tape_events.specs.Standing.{StandsOn}
 use Rattle.tape_events.specs.Written.{attempt_written}
 use Rattle.tape_events.specs.Written.{whole_volume}
@@ -216,7 +216,7 @@ pub record IsStepAnswered (drive : PlainDriveSpec) (w : World) (a : Attempt) (l 
   pub has : HasFedAt (Waiting step) c.reader fed
   pub reply : PlainReply
   pub text : fed ++ l.back ≡ reply_text reply
-  pub brief : IsBrief (wanted_of step) reply
+  pub brief : FitsReplyReader (wanted_of step) reply
   pub bin : (more : List (ReelSlot KeptReel)) × (w.server.library.bin ≡ volume_slots drive (stock_of w) ++ more)
   pub leads : Leads drive (stock_of w) a c.at step reply
 

@@ -11,7 +11,7 @@ use Rattle.dump_client.specs.declared.stage.Stage.TheVariants.{ToSend}
 use Rattle.dump_client.specs.declared.stage.Progress.{Progress}
 use Rattle.tape_events.specs.World.{World, Connection, Dumping, Caller, Count, Opening, Writing, numbered}
 use Rattle.tape_events.specs.Changes.{HasDump, connection_of, opening}
-use Rattle.tape_events.specs.Headline.{IsSpared}
+use Rattle.tape_events.specs.Headline.{IsNotReopened}
 
 -- connection k opened the count's reel for writing after the count's own
 abbrev pub HasOpenedSince : World → Count → ℕ → Type 0
@@ -29,7 +29,7 @@ AreLateWriters w = (y : Writing) (d : Dumping) → Contains w.writings y → Has
 -- While no foreign session opened the reel of a count since, whoever did was sent no more than those.
 abbrev pub AreStopped : World → Type 0
 AreStopped w =
-    (x : Count) (k : ℕ) (d : Dumping) → Contains w.counts x → IsSpared w x → HasOpenedSince w x k → HasDump w k d
+    (x : Count) (k : ℕ) (d : Dumping) → Contains w.counts x → IsNotReopened w x → HasOpenedSince w x k → HasDump w k d
     → d.sent ≤ looked_requests
 
 -- From the open of the client's own connection up to its count each open for writing found the client's list as it is.
@@ -44,10 +44,10 @@ abbrev pub HasLooked : World → Type 0
 HasLooked w =
     (k : ℕ) (l : Connection) (c : Caller) (fed : List ℕ) (progress : Progress) (new : Standing) (x : Count) → w.own ≡ Some k
     → connection_of w k ≡ Some l → w.caller ≡ Some c → HasFedAt c.at.stage c.reader fed → FedAt c.at.stage c.at fed l.back progress new
-    → new.stage ≡ ToSend (Operation RewindAgain) → Contains w.counts x → IsSpared w x → HasOpenedSince w x k → ⊥
+    → new.stage ≡ ToSend (Operation RewindAgain) → Contains w.counts x → IsNotReopened w x → HasOpenedSince w x k → ⊥
 
 -- what keeps reels of counts spared; each opening has its list
-pub record AreSpared (w : World) : Type 0 where
+pub record AreNotReopened (w : World) : Type 0 where
   pub paired : length w.lists ≡ length w.opens
   pub late : AreLateWriters w
   pub stopped : AreStopped w

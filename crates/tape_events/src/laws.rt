@@ -10,9 +10,9 @@ ghost use Rattle.tape_events.specs.Events.PlainEvent.{Serve};
 ghost use Rattle.tape_events.specs.Rows.{Possible};
 ghost use Rattle.tape_events.specs.Steps.{Runs, Happens};
 ghost use Rattle.tape_events.specs.First.{PlainDriveSpec, AreGoodDrives, first_world, IsReached};
-ghost use Rattle.tape_events.specs.Headline.{Headline, CountedReels, IsSpared, NoTwoHolders, DumpdatesGained};
+ghost use Rattle.tape_events.specs.Headline.{Headline, CountedReels, IsNotReopened, NoTwoHolders, DumpdatesGained};
 ghost use Rattle.tape_events.specs.Written.{IsAlone};
-ghost use Rattle.tape_events.specs.Further.{SentRequests, LatchedReels, SparedReels, FamiliarOpens, LabelledReels, ClientsCounts, CountsGrow};
+ghost use Rattle.tape_events.specs.Further.{SentRequests, LatchedReels, ReelsNotReopened, OwnOpens, LabelledReels, ClientsCounts, CountsGrow};
 ghost use Rattle.tape_events.specs.Standing.{AreHeld};
 ghost use Rattle.tape_events.specs.Kept.{IsWorldKept};
 ghost use Rattle.tape_events.specs.Naming.{SameNames, IsUnopenedSince};
@@ -39,7 +39,7 @@ pub fn one_run()
 ///
 /// A session is foreign to a count unless its connection is the client's, of the count's run, and the list that the client had as
 /// the open was accepted has a count of that volume and first block. So none is that opens in an attempt of the client, of which
-/// the list has them (`familiar_opens`). As long as no foreign session opened the reel of a count since, no session but the count's
+/// the list has them (`own_opens`). As long as no foreign session opened the reel of a count since, no session but the count's
 /// own wrote on it since its open. A reel that nobody opened since is spared (`unopened`), and nobody wrote on it (`unwritten`).
 ///
 /// Where the label of an attempt was accepted and no write of it met a device fault, what it wrote stands on its reel, and
@@ -64,10 +64,10 @@ pub fn kept()
     ensures headline { (w : World) → IsWorldKept w → Headline w }
     ensures holders { (w : World) → IsWorldKept w → AreHeld w.server }
     ensures no_two_holders { (w : World) → IsWorldKept w → NoTwoHolders w }
-    ensures spared_reels { (w : World) → IsWorldKept w → SparedReels w }
-    ensures unopened { (w : World) (x : Count) → IsUnopenedSince w.opens x.connection x.reel → IsSpared w x }
+    ensures reels_not_reopened { (w : World) → IsWorldKept w → ReelsNotReopened w }
+    ensures unopened { (w : World) (x : Count) → IsUnopenedSince w.opens x.connection x.reel → IsNotReopened w x }
     ensures unwritten { (w : World) (k : ℕ) (reel : List ℕ) → IsWorldKept w → IsUnopenedSince w.opens k reel → IsAlone w k reel }
-    ensures familiar_opens { (w : World) → IsWorldKept w → FamiliarOpens w }
+    ensures own_opens { (w : World) → IsWorldKept w → OwnOpens w }
     ensures labelled_reels { (w : World) → IsWorldKept w → LabelledReels w }
     ensures counted_reels { (w : World) → IsWorldKept w → CountedReels w }
     ensures dumpdates_gained { (w : World) → IsWorldKept w → DumpdatesGained w }

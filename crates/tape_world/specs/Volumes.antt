@@ -2,12 +2,12 @@
 use Rattle.std.specs.Prelude.{◌≡◌, Contains, Some}
 use Rattle.tape_events.specs.World.{World, Begun, Count, numbered}
 use Rattle.tape_events.specs.Written.{whole_volume}
-use Rattle.tape_events.specs.Headline.{IsSpared}
+use Rattle.tape_events.specs.Headline.{IsNotReopened}
 use Rattle.tape_world.specs.Entries.{entries_on}
 
 -- The entries of each reel that was counted, and that no foreign session opened for writing since, are told, and are its volume's: those
 -- of the run that was begun under the count's number.
 abbrev pub TellsVolumes : World → Type 0
 TellsVolumes w =
-    (x : Count) (b : Begun) → Contains w.counts x → numbered w.begun x.run ≡ Some b → IsSpared w x
+    (x : Count) (b : Begun) → Contains w.counts x → numbered w.begun x.run ≡ Some b → IsNotReopened w x
     → entries_on w.server x.reel ≡ Some (whole_volume b.run b.payload x.volume x.first x.count)

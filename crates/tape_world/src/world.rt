@@ -6,7 +6,7 @@ mod telling;
 ghost use Rattle.std.specs.Prelude.{◌≡◌, IfOk, map};
 ghost use Rattle.tape_events.specs.First.{AreGoodDrives, first_world, IsReached};
 ghost use Rattle.tape_events.specs.Headline.{Headline, CountedReels, NoTwoHolders, DumpdatesGained};
-ghost use Rattle.tape_events.specs.Further.{SentRequests, SparedReels, FamiliarOpens, LatchedReels, LabelledReels, ClientsCounts};
+ghost use Rattle.tape_events.specs.Further.{SentRequests, ReelsNotReopened, OwnOpens, LatchedReels, LabelledReels, ClientsCounts};
 ghost use Rattle.tape_events.specs.Standing.{AreHeld};
 ghost use Rattle.tape_events.specs.Kept.{IsWorldKept};
 ghost use Rattle.tape_world.specs.Holding.{IsEvent};
@@ -65,8 +65,8 @@ impl World {
     /// that this holds. From the accepted label of an attempt on its reel holds what its accepted writes wrote, until one of them
     /// meets a device fault or another session writes on the reel; until MTOFFL the place of its session is the reel's end. Each
     /// volume that the client has was counted under its number. As long as no foreign session opened the reel of a count since,
-    /// no session but the count's own wrote on it since its open (`spared_reels`). What the client opens for writing in an
-    /// attempt is foreign to no count of its run whose volume and first block its list has (`familiar_opens`).
+    /// no session but the count's own wrote on it since its open (`reels_not_reopened`). What the client opens for writing in an
+    /// attempt is foreign to no count of its run whose volume and first block its list has (`own_opens`).
     ///
     /// Some events made it of the first world of some drives (`reached`), and all of it follows from what stays so (`kept`):
     /// who holds the drives, where reels lie, whose openings are last, who wrote on which reel, what each attempt wrote, which
@@ -83,8 +83,8 @@ impl World {
         ensures volumes_told { TellsVolumes self.now }
         ensures dumpdates_gained { DumpdatesGained self.now }
         ensures sent_requests { SentRequests self.now }
-        ensures spared_reels { SparedReels self.now }
-        ensures familiar_opens { FamiliarOpens self.now }
+        ensures reels_not_reopened { ReelsNotReopened self.now }
+        ensures own_opens { OwnOpens self.now }
         ensures latched_reels { LatchedReels self.now }
         ensures labelled_reels { LabelledReels self.now }
         ensures clients_counts { ClientsCounts self.now }

@@ -1,8 +1,8 @@
-use Rattle.tape_events.proofs.Staying.{first_kept, kept_after, runs_kept, kept_names, headline, no_two_holders, reels_labelled, reels_counted, reels_spared, dumpdates_gained, sent_requests, latched_reels, clients_counts}
+use Rattle.tape_events.proofs.Staying.{first_kept, kept_after, runs_kept, kept_names, headline, no_two_holders, reels_labelled, reels_counted, not_reopened_reels, dumpdates_gained, sent_requests, latched_reels, clients_counts}
 use Rattle.tape_events.proofs.Counting.{counts_grow}
 use Rattle.tape_events.proofs.Steppable.{steps}
 use Rattle.tape_events.proofs.Talked.{requests, talks}
-use Rattle.tape_events.proofs.Familiar.{unopened, unwritten, familiar_opens}
+use Rattle.tape_events.proofs.OwnOpens.{unopened, unwritten, own_opens}
 use Rattle.tape_events.specs.First.{first_world}
 use Rattle.tape_events.proofs.laws.kept.Goals as goal
 
@@ -57,8 +57,8 @@ returns-clause-no_two_holders c = no_two_holders
 pub returns-clause-labelled_reels : goal.returns-clause-labelled_reels
 returns-clause-labelled_reels c = reels_labelled
 
-pub returns-clause-spared_reels : goal.returns-clause-spared_reels
-returns-clause-spared_reels c = reels_spared
+pub returns-clause-reels_not_reopened : goal.returns-clause-reels_not_reopened
+returns-clause-reels_not_reopened c = not_reopened_reels
 
 pub returns-clause-unopened : goal.returns-clause-unopened
 returns-clause-unopened c = unopened
@@ -66,8 +66,8 @@ returns-clause-unopened c = unopened
 pub returns-clause-unwritten : goal.returns-clause-unwritten
 returns-clause-unwritten c = unwritten
 
-pub returns-clause-familiar_opens : goal.returns-clause-familiar_opens
-returns-clause-familiar_opens c = familiar_opens
+pub returns-clause-own_opens : goal.returns-clause-own_opens
+returns-clause-own_opens c = own_opens
 
 pub returns-clause-counted_reels : goal.returns-clause-counted_reels
 returns-clause-counted_reels c = reels_counted

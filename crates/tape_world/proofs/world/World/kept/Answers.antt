@@ -2,7 +2,7 @@ use Rattle.std.proofs.Common.{subst}
 use Rattle.tape_events.specs.World.{World}
 use Rattle.tape_events.specs.First.{IsReached}
 use Rattle.tape_events.specs.Headline.{Headline, NoTwoHolders, CountedReels, DumpdatesGained}
-use Rattle.tape_events.specs.Further.{SentRequests, SparedReels, FamiliarOpens, LatchedReels, LabelledReels, ClientsCounts}
+use Rattle.tape_events.specs.Further.{SentRequests, ReelsNotReopened, OwnOpens, LatchedReels, LabelledReels, ClientsCounts}
 use Rattle.tape_events.specs.Kept.{IsWorldKept}
 use Rattle.tape_events.specs.Standing.{AreHeld}
 use Rattle.tape_world.specs.Volumes.{TellsVolumes}
@@ -27,11 +27,11 @@ returns-clause-dumpdates_gained c = subst DumpdatesGained c.self.view_is (c.kept
 pub returns-clause-sent_requests : goal.returns-clause-sent_requests
 returns-clause-sent_requests c = subst SentRequests c.self.view_is (c.kept.ensures.sent_requests c.self.inside.world_state (c.kept.ensures.reached c.self.inside.world_state c.self.invariant))
 
-pub returns-clause-spared_reels : goal.returns-clause-spared_reels
-returns-clause-spared_reels c = subst SparedReels c.self.view_is (c.kept.ensures.spared_reels c.self.inside.world_state (c.kept.ensures.reached c.self.inside.world_state c.self.invariant))
+pub returns-clause-reels_not_reopened : goal.returns-clause-reels_not_reopened
+returns-clause-reels_not_reopened c = subst ReelsNotReopened c.self.view_is (c.kept.ensures.reels_not_reopened c.self.inside.world_state (c.kept.ensures.reached c.self.inside.world_state c.self.invariant))
 
-pub returns-clause-familiar_opens : goal.returns-clause-familiar_opens
-returns-clause-familiar_opens c = subst FamiliarOpens c.self.view_is (c.kept.ensures.familiar_opens c.self.inside.world_state (c.kept.ensures.reached c.self.inside.world_state c.self.invariant))
+pub returns-clause-own_opens : goal.returns-clause-own_opens
+returns-clause-own_opens c = subst OwnOpens c.self.view_is (c.kept.ensures.own_opens c.self.inside.world_state (c.kept.ensures.reached c.self.inside.world_state c.self.invariant))
 
 pub returns-clause-latched_reels : goal.returns-clause-latched_reels
 returns-clause-latched_reels c = subst LatchedReels c.self.view_is (c.kept.ensures.latched_reels c.self.inside.world_state (c.kept.ensures.reached c.self.inside.world_state c.self.invariant))

@@ -3,7 +3,7 @@ use Rattle.std.proofs.Common.{◌≡◌, ℕ, ◌≤◌, List, [], ◌∷◌, �
 use Rattle.dump_run.specs.declared.count.VolumeCount.{VolumeCount}
 use Rattle.tape_events.specs.World.{World, Connection, Dumping, Count, Opening, Writing, numbered}
 use Rattle.tape_events.specs.Changes.{changed, opening, HasDump}
-use Rattle.tape_events.specs.Headline.{IsSpared}
+use Rattle.tape_events.specs.Headline.{IsNotReopened}
 use Rattle.tape_events.specs.Naming.{AreOpened, AreWritersLast}
 use Rattle.tape_events.specs.Sparing.{HasOpenedSince}
 use Rattle.tape_events.proofs.Booked.{among_at}
@@ -17,13 +17,13 @@ pub record GoesBack (w u : World) : Type 0 where
   pub lists : (m : ℕ) (o : Opening) (list : List VolumeCount) → numbered w.opens m ≡ Some o → numbered u.lists m ≡ Some list → numbered w.lists m ≡ Some list
 
 -- so the openings since that were there before were not foreign then
-pub spared_back : (w u : World) → GoesBack w u → AreOpened w → (x : Count) (spared : IsSpared u x)
-    → numbered w.opens spared.0 ≡ Some (opening x.connection x.reel) → IsSpared w x
-spared_back w u b opened x (i, at, familiar) was = (
+pub not_reopened_back : (w u : World) → GoesBack w u → AreOpened w → (x : Count) (not_reopened : IsNotReopened u x)
+    → numbered w.opens not_reopened.0 ≡ Some (opening x.connection x.reel) → IsNotReopened w x
+not_reopened_back w u b opened x (i, at, own_open) was = (
   i,
   was,
   λ m o less there its. (
-      let (d, has, run, list, listed, counts) = familiar m o less (b.opens m o there) its in
+      let (d, has, run, list, listed, counts) = own_open m o less (b.opens m o there) its in
       let e = b.dumps o.connection d has (opened.there o (among_at w.opens m o there)).1 in
       (e.0, e.1, e.2 ∙ run, list, b.lists m o list there listed, counts)),
 )
@@ -65,8 +65,8 @@ quiet_back w u s stay = record {
   lists = λ m o list there at. ap (λ ls. numbered ls m) (sym s.lists) ∙ at;
 }
 
-pub quiet_spared : (w u : World) → SameOpens w u → GoesBack w u → AreOpened w → (x : Count) → IsSpared u x → IsSpared w x
-quiet_spared w u s b opened x spared = spared_back w u b opened x spared (ap (λ os. numbered os spared.0) (sym s.opens) ∙ spared.1)
+pub quiet_not_reopened : (w u : World) → SameOpens w u → GoesBack w u → AreOpened w → (x : Count) → IsNotReopened u x → IsNotReopened w x
+quiet_not_reopened w u s b opened x not_reopened = not_reopened_back w u b opened x not_reopened (ap (λ os. numbered os not_reopened.0) (sym s.opens) ∙ not_reopened.1)
 
 pub quiet_since : (w u : World) → SameOpens w u → (x : Count) (k : ℕ) → HasOpenedSince u x k → HasOpenedSince w x k
 quiet_since w u s x k (i, m, at, less, opened) =

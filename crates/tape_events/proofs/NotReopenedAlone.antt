@@ -4,7 +4,7 @@ use Rattle.std.proofs.lemmas.Bool.Decides.{eqb_tells}
 use Rattle.std.proofs.lemmas.Option.{same_Some}
 use Rattle.tape_events.specs.World.{World, Dumping, Count, Opening, Writing, numbered}
 use Rattle.tape_events.specs.Changes.{opening, HasDump}
-use Rattle.tape_events.specs.Headline.{IsSpared}
+use Rattle.tape_events.specs.Headline.{IsNotReopened}
 use Rattle.tape_events.specs.Naming.{IsUnopenedSince, AreWritersLast}
 use Rattle.tape_events.specs.Sending.{AreTold}
 use Rattle.tape_events.specs.Sparing.{AreLateWriters, AreStopped}
@@ -19,9 +19,9 @@ few_carried w k d told has = elim ((told.each k has.0 has.1).sent d has.2) [
 ]
 
 -- A writer that opened the reel later is one of the same run, which was stopped before it could write.
-pub spared_alone : (w : World) (x : Count) → AreTold w → AreWritersLast w → AreLateWriters w → AreStopped w → Contains w.counts x → (spared : IsSpared w x)
-    → (y : Writing) → Contains w.writings y → y.reel ≡ x.reel → spared.0 ≤ y.after → y.connection ≡ x.connection
-spared_alone w x told writers late stopped counted (i, at, familiar) y among its since = by_place (writers y among)
+pub not_reopened_alone : (w : World) (x : Count) → AreTold w → AreWritersLast w → AreLateWriters w → AreStopped w → Contains w.counts x → (not_reopened : IsNotReopened w x)
+    → (y : Writing) → Contains w.writings y → y.reel ≡ x.reel → not_reopened.0 ≤ y.after → y.connection ≡ x.connection
+not_reopened_alone w x told writers late stopped counted (i, at, own_open) y among its since = by_place (writers y among)
   where
     by_place : (y.after ≤ length w.opens) × IsUnopenedSince (take y.after w.opens) y.connection y.reel → y.connection ≡ x.connection
     by_place (within, (m, there, later)) =
@@ -33,8 +33,8 @@ spared_alone w x told writers late stopped counted (i, at, familiar) y among its
           | inr (unequal, other) ↦ absurd (elim (less_or_more m i other) [
             | inl less ↦ later i (opening x.connection x.reel) less front (sym its)
             | inr more ↦ (
-                let f = familiar m (opening y.connection y.reel) more whole its in
-                let few = stopped x y.connection f.0 counted (i, at, familiar) (i, m, at, more, whole ∙ ap (λ r. Some (opening y.connection r)) its) f.1 in
+                let f = own_open m (opening y.connection y.reel) more whole its in
+                let few = stopped x y.connection f.0 counted (i, at, own_open) (i, m, at, more, whole ∙ ap (λ r. Some (opening y.connection r)) its) f.1 in
                 let many = late y f.0 among f.1 in
                 let less = few_carried w y.connection f.0 told f.1 in
                 omega (arith, few, many, less))

@@ -21,13 +21,13 @@ use Rattle.dump_client.proofs.Heard.{heard_as}
 use Rattle.dump_client.specs.declared.fault.AttemptFault.{AttemptFault}
 use Rattle.tape_events.specs.World.{World, Connection, Begun, Caller, Count}
 use Rattle.tape_events.specs.Changes.{side_of, connection_of, opening, counts_of, over_there}
-use Rattle.tape_events.specs.Headline.{IsSpared}
+use Rattle.tape_events.specs.Headline.{IsNotReopened}
 use Rattle.tape_events.specs.Kept.{HasLawful}
 use Rattle.tape_events.specs.Naming.{AreOpened, AreWritersLast}
 use Rattle.tape_events.specs.Owning.{is_in_attempt, IsOwned}
 use Rattle.tape_events.specs.Attempts.{AreSingle}
-use Rattle.tape_events.specs.Sending.{LeadsOn, IsBrief, IsStepReply, IsStepReplied, IsConnectionToldAt, AreTold}
-use Rattle.tape_events.specs.Sparing.{HasOpenedSince, AreStopped, AreListedNow, AreSpared}
+use Rattle.tape_events.specs.Sending.{LeadsOn, FitsReplyReader, IsStepReply, IsStepReplied, IsConnectionToldAt, AreTold}
+use Rattle.tape_events.specs.Sparing.{HasOpenedSince, AreStopped, AreListedNow, AreNotReopened}
 use Rattle.tape_events.specs.Steps.{caller}
 use Rattle.tape_events.proofs.Booked.{drop_front}
 use Rattle.tape_events.proofs.Numbers.{changed_is}
@@ -38,8 +38,8 @@ use Rattle.tape_events.proofs.ToldHears.{unlike_close, waits_no_more, some_way}
 use Rattle.tape_events.proofs.CountedHears.{becomes_counts}
 use Rattle.tape_events.proofs.Moves as move
 use Rattle.tape_events.proofs.Moves.{Listens, told_counts, is_over}
-use Rattle.tape_events.proofs.SparedBack.{SameOpens, DumpsStay, changed_dumps, quiet_back, quiet_spared, quiet_since}
-use Rattle.tape_events.proofs.SparedQuiet.{quiet_late, quiet_stopped}
+use Rattle.tape_events.proofs.NotReopenedBack.{SameOpens, DumpsStay, changed_dumps, quiet_back, quiet_not_reopened, quiet_since}
+use Rattle.tape_events.proofs.NotReopenedQuiet.{quiet_late, quiet_stopped}
 
 -- The client waited for the reply to this step, and heard a piece of it.
 pub record IsHearing (w : World) (t : Listens w) : Type 0 where
@@ -47,7 +47,7 @@ pub record IsHearing (w : World) (t : Listens w) : Type 0 where
   pub run : PlainRun
   pub reply : PlainReply
   pub stage : t.c.at.stage ≡ Waiting step
-  pub brief : IsBrief (wanted_of step) reply
+  pub brief : FitsReplyReader (wanted_of step) reply
   pub leads : LeadsOn run (side_of w.server t.k) t.c.at t.d step reply
   pub piece : HearsPiece t.c.at step reply (t.fed ++ take t.n t.l.back) (drop t.n t.l.back) t.progress t.at
 
@@ -155,12 +155,12 @@ before_checkpoint run volume first (z ∷ counts) c v (suc i, within, is) =
 
 -- Each list since the open of its own connection lacks the volume, so each session that opened the reel since is foreign.
 new_unopened : (w : World) (t : Listens w) → HasNewCount w t → w.own ≡ Some t.k → AreVolumes t.c.at.run 1 0 t.c.at.counts → AreSingle w → AreListedNow w
-    → (x : Count) → x ≡ new_count w t → IsSpared w x → (k : ℕ) → HasOpenedSince w x k → ⊥
-new_unopened w t new own volumes single listed x is (j, at, familiar) k (i, m, place, less, opened) =
+    → (x : Count) → x ≡ new_count w t → IsNotReopened w x → (k : ℕ) → HasOpenedSince w x k → ⊥
+new_unopened w t new own volumes single listed x is (j, at, own_open) k (i, m, place, less, opened) =
     let conn : x.connection ≡ t.k = ap (λ (z : Count). z.connection) is in
     let number = ap (λ (z : Count). z.volume) is in
     let one = (single t.k t.l t.d t.there t.dump).one j i (opening x.connection x.reel) (opening x.connection x.reel) at place conn conn in
-    let (d, has, run, list, lists, (c, among, volume, first)) = familiar m (opening k x.reel) (omega (arith, one, less)) opened refl in
+    let (d, has, run, list, lists, (c, among, volume, first)) = own_open m (opening k x.reel) (omega (arith, one, less)) opened refl in
     let same = listed t.k i m t.c new.step (opening x.connection x.reel) list own t.client (subst (λ s. IsAtStep s new.step) (sym new.stage) refl) new.other
     place conn
     (omega (arith, less)) lists in
@@ -255,13 +255,13 @@ was_at_step w t h step (whole spelled none heard) at other = went_on w t h t.at.
 
 -- of each count that is there then, whoever opened its reel since was stopped
 heard_stopped : OneReply → (w u : World) (t : Listens w) → SameOpens w u → DumpsStay w u → u.counts ≡ w.counts ++ told_counts w t → IsOwned w → HasLawful w
-    → AreTold w → AreSingle w → AreOpened w → AreSpared w → AreStopped u
-heard_stopped g w u t s stay counts owned lawful told single opened p x k d counted spared since has =
+    → AreTold w → AreSingle w → AreOpened w → AreNotReopened w → AreStopped u
+heard_stopped g w u t s stay counts owned lawful told single opened p x k d counted not_reopened since has =
     elim (counted_is w u t counts (hearing_now g w t owned told) x counted) [
-      | inl before ↦ quiet_stopped w u s stay opened p.stopped x k d before spared since has
+      | inl before ↦ quiet_stopped w u s stay opened p.stopped x k d before not_reopened since has
       | inr (new, is) ↦
           absurd (new_unopened w t new (own_listens w t owned) (lawful t.c t.client).counts single p.listed x is
-          (quiet_spared w u s (quiet_back w u s stay) opened x spared) k
+          (quiet_not_reopened w u s (quiet_back w u s stay) opened x not_reopened) k
           (quiet_since w u s x k since))
     ]
 
@@ -269,9 +269,9 @@ heard_dumps : (w : World) (t : Listens w) (on : is_over t.progress ≡ false) �
 heard_dumps w t on = changed_dumps (λ l. record l { back = drop t.n l.back }) (λ x. refl) w (move.moved w (move.hears t on)) t.k refl
 
 -- it goes on
-pub heard_spared : OneReply → (w : World) (t : Listens w) (on : is_over t.progress ≡ false) → IsOwned w → HasLawful w → AreTold w → AreSingle w → AreOpened w
-    → AreWritersLast w → AreSpared w → AreSpared (move.moved w (move.hears t on))
-heard_spared g w t on owned lawful told single opened writers p = record {
+pub heard_not_reopened : OneReply → (w : World) (t : Listens w) (on : is_over t.progress ≡ false) → IsOwned w → HasLawful w → AreTold w → AreSingle w → AreOpened w
+    → AreWritersLast w → AreNotReopened w → AreNotReopened (move.moved w (move.hears t on))
+heard_not_reopened g w t on owned lawful told single opened writers p = record {
   paired = p.paired;
   late = quiet_late w u s stay opened writers p.late;
   stopped = heard_stopped g w u t s stay refl owned lawful told single opened p;
@@ -279,17 +279,17 @@ heard_spared g w t on owned lawful told single opened writers p = record {
       let is : caller t.c.number t.at t.reader ≡ c = same_Some _ c there in
       let was = was_at_step w t h step h.piece (subst (λ (z : Caller). IsAtStep z.at.stage step) (sym is) at) other in
       p.listed k i m t.c was.step o list mine t.client was.at was.other opens its from lists ∙ sym was.counts ∙ ap (λ (z : Caller). z.at.counts) is);
-  looked = λ k l c fed progress new x mine at there had feeds goes counted spared since. elim (counted_is w u t refl h x counted) [
+  looked = λ k l c fed progress new x mine at there had feeds goes counted not_reopened since. elim (counted_is w u t refl h x counted) [
     | inl before ↦ (
         let is : caller t.c.number t.at t.reader ≡ c = same_Some _ c there in
         let back = back_is k l mine at in
         let its = heard_past w t h fed progress new h.piece (subst (λ (z : Caller). HasFedAt z.at.stage z.reader fed) (sym is) had)
         (subst (λ way. FedAt t.at.stage t.at fed way progress new) back (subst (λ (z : Caller). FedAt z.at.stage z.at fed l.back progress new) (sym is)
         feeds)) in
-        p.looked t.k t.l t.c t.fed its.0 new x own t.there t.client t.had its.1 goes before (quiet_spared w u s (quiet_back w u s stay) opened x spared)
+        p.looked t.k t.l t.c t.fed its.0 new x own t.there t.client t.had its.1 goes before (quiet_not_reopened w u s (quiet_back w u s stay) opened x not_reopened)
         (subst (HasOpenedSince w x) (same_Some k t.k (sym mine ∙ own)) since))
     | inr (new, is) ↦
-        new_unopened w t new own (lawful t.c t.client).counts single p.listed x is (quiet_spared w u s (quiet_back w u s stay) opened x spared) k
+        new_unopened w t new own (lawful t.c t.client).counts single p.listed x is (quiet_not_reopened w u s (quiet_back w u s stay) opened x not_reopened) k
         (quiet_since w u s x k since)
   ];
 }
@@ -316,14 +316,14 @@ heard_spared g w t on owned lawful told single opened writers p = record {
     ]
 
 -- its attempt is over then
-pub heard_last_spared : OneReply → (w : World) (t : Listens w) (failure : Option (ℕ × AttemptFault)) (over : is_over t.progress ≡ true) → IsOwned w
-    → HasLawful w → AreTold w → AreSingle w → AreOpened w → AreWritersLast w → AreSpared w → AreSpared (move.moved w (move.hears_last t failure over))
-heard_last_spared g w t failure over owned lawful told single opened writers p = record {
+pub heard_last_not_reopened : OneReply → (w : World) (t : Listens w) (failure : Option (ℕ × AttemptFault)) (over : is_over t.progress ≡ true) → IsOwned w
+    → HasLawful w → AreTold w → AreSingle w → AreOpened w → AreWritersLast w → AreNotReopened w → AreNotReopened (move.moved w (move.hears_last t failure over))
+heard_last_not_reopened g w t failure over owned lawful told single opened writers p = record {
   paired = p.paired;
   late = quiet_late w u s stay opened writers p.late;
   stopped = heard_stopped g w u t s stay refl owned lawful told single opened p;
   listed = λ k i m c step o list mine there at other opens its from lists. absurd cc;
-  looked = λ k l c fed progress new x mine at there had feeds goes counted spared since. absurd cc;
+  looked = λ k l c fed progress new x mine at there had feeds goes counted not_reopened since. absurd cc;
 }
   where
     u : World

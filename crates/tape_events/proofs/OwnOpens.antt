@@ -7,15 +7,15 @@ use Rattle.dump_client.specs.declared.stage.Stage.TheVariants.{ToSend, Waiting}
 use Rattle.tape_events.specs.World.{World, Connection, Dumping, Begun, Caller, Count}
 use Rattle.tape_events.specs.Changes.{side_of, HasDump}
 use Rattle.tape_events.specs.Naming.{IsUnopenedSince}
-use Rattle.tape_events.specs.Headline.{IsSpared}
+use Rattle.tape_events.specs.Headline.{IsNotReopened}
 use Rattle.tape_events.specs.Written.{IsAlone}
 use Rattle.tape_events.specs.Sending.{IsConnectionToldAt}
-use Rattle.tape_events.specs.Further.{FamiliarOpens}
+use Rattle.tape_events.specs.Further.{OwnOpens}
 use Rattle.tape_events.specs.Kept.{IsWorldKept}
 use Rattle.tape_events.proofs.Numbers.{numbered_within, numbered_there, numbered_first}
 use Rattle.tape_events.proofs.Writers.{last_alone}
 
-pub unopened : (w : World) (x : Count) → IsUnopenedSince w.opens x.connection x.reel → IsSpared w x
+pub unopened : (w : World) (x : Count) → IsUnopenedSince w.opens x.connection x.reel → IsNotReopened w x
 unopened w x (i, at, none) = (i, at, λ m o later is same. absurd (none m o later is same))
 
 pub unwritten : (w : World) (k : ℕ) (reel : List ℕ) → IsWorldKept w → IsUnopenedSince w.opens k reel → IsAlone w k reel
@@ -28,14 +28,14 @@ own_number begun w k l c d (ToSend s) (b, attempt, turn) step at = attempt.numbe
 own_number begun w k l c d (Waiting s) (b, attempt, asked) step at = attempt.number
 own_number begun w k l c d stage told step at = absurd at
 
-pub familiar_opens : (w : World) → IsWorldKept w → FamiliarOpens w
-familiar_opens w kept k i c step o x v own is at other there its run among volume first =
+pub own_opens : (w : World) → IsWorldKept w → OwnOpens w
+own_opens w kept k i c step o x v own is at other there its run among volume first =
     let ((l, d, linked, live, dump), rest) = kept.owned.own k own in
     let number = own_number w.begun w k l c d c.at.stage ((kept.told.each k l linked).own d c dump own is) step at in
     let some = numbered_first w.opens i o there in
     let within = numbered_within w.opens i o there in
-    let (list, listed) = numbered_there w.lists i some (subst (λ n. i ≤ n) (sym kept.spared.paired) within) in
-    let now = kept.spared.listed k i i c step o list own is at other there its (omega arith) listed in (
+    let (list, listed) = numbered_there w.lists i some (subst (λ n. i ≤ n) (sym kept.not_reopened.paired) within) in
+    let now = kept.not_reopened.listed k i i c step o list own is at other there its (omega arith) listed in (
       d,
       subst (λ j. HasDump w j d) (sym its) (l, linked, dump),
       number ∙ sym run,

@@ -13,19 +13,19 @@ use Rattle.dump_client.specs.declared.stage.Progress.{Progress}
 use Rattle.dump_client.specs.declared.stage.Progress.TheVariants as came
 use Rattle.tape_events.specs.World.{World, Connection, Dumping, Begun, Caller, Count}
 use Rattle.tape_events.specs.Changes.{side_of, connection_of, HasDump, noted_sent}
-use Rattle.tape_events.specs.Headline.{IsSpared}
+use Rattle.tape_events.specs.Headline.{IsNotReopened}
 use Rattle.tape_events.specs.Naming.{AreOpened}
 use Rattle.tape_events.specs.Owning.{IsOwned}
 use Rattle.tape_events.specs.Sending.{IsAttempt, IsItsTurn, IsConnectionToldAt, AreTold}
-use Rattle.tape_events.specs.Sparing.{looked_requests, HasOpenedSince, AreSpared}
+use Rattle.tape_events.specs.Sparing.{looked_requests, HasOpenedSince, AreNotReopened}
 use Rattle.tape_events.specs.Steps.{caller, next_text, sent_connection}
 use Rattle.tape_events.proofs.Numbers.{changed_is}
 use Rattle.tape_events.proofs.Sent.{steps_len, before_length, raised_one}
 use Rattle.tape_events.proofs.SentWire.{one_heard}
 use Rattle.tape_events.proofs.ToldEvents.{mapped}
 use Rattle.tape_events.proofs.Moves.{Sender, asks, moved}
-use Rattle.tape_events.proofs.SparedBack.{SameOpens, GoesBack, quiet_spared}
-use Rattle.tape_events.proofs.SparedPast.{nothing_past}
+use Rattle.tape_events.proofs.NotReopenedBack.{SameOpens, GoesBack, quiet_not_reopened}
+use Rattle.tape_events.proofs.NotReopenedPast.{nothing_past}
 
 -- the attempt that sends, or another's
 sent_dump : (w : World) (t : Sender w) (k : ℕ) (d : Dumping) → HasDump (moved w (asks t)) k d
@@ -70,14 +70,14 @@ early_steps run first next (Operation (Unload end)) other few = absurd (omega (a
 early_steps run first next Close other few = absurd (omega (arith, few))
 
 -- where the reel is that of a count it is stopped before the second rewind
-stopped_here : (w : World) (t : Sender w) (x : Count) (e : Dumping) → AreTold w → AreSpared w → HasDump w t.k e → Contains w.counts x → IsSpared w x
+stopped_here : (w : World) (t : Sender w) (x : Count) (e : Dumping) → AreTold w → AreNotReopened w → HasDump w t.k e → Contains w.counts x → IsNotReopened w x
     → HasOpenedSince w x t.k → (noted_sent e).sent ≤ looked_requests
-stopped_here w t x e told p (l, at, dump) counted spared since =
+stopped_here w t x e told p (l, at, dump) counted not_reopened since =
     let (b, attempt, turn) = its_turn w t l e told at dump in
-    let few = p.stopped x t.k e counted spared since (l, at, dump) in
+    let few = p.stopped x t.k e counted not_reopened since (l, at, dump) in
     let other : t.step ≢ Operation RewindAgain
     = λ is. p.looked t.k l t.c [] came.Send t.c.at x t.own at t.there (subst (λ s. HasFedAt s t.c.reader []) (sym t.stage) turn.fed)
-    (subst (λ s. FedAt s t.c.at [] l.back came.Send t.c.at) (sym t.stage) (inl (turn.back, refl, refl))) (t.stage ∙ ap ToSend is) counted spared since in
+    (subst (λ s. FedAt s t.c.at [] l.back came.Send t.c.at) (sym t.stage) (inl (turn.back, refl, refl))) (t.stage ∙ ap ToSend is) counted not_reopened since in
     let sent = turn.settled.sent in
     let many = turn.done.carried ∙ before_length b.run e.first (e.first + e.blocks) t.step in
     let early = early_steps b.run e.first (e.first + e.blocks) t.step other (omega (arith, few, sent, many)) in
@@ -114,8 +114,8 @@ nothing_yet w t l c fed progress new owned told at there had feeds goes =
         nothing_past now.at new t.step (Operation RewindAgain) t.reader progress t.fed refl
         (subst (λ bytes. FedAt (Waiting t.step) now.at bytes [] progress new) (sym none) on) goes
 
-pub asked_spared : (w : World) (t : Sender w) → IsOwned w → AreTold w → AreOpened w → AreSpared w → AreSpared (moved w (asks t))
-asked_spared w t owned told opened p = record {
+pub asked_not_reopened : (w : World) (t : Sender w) → IsOwned w → AreTold w → AreOpened w → AreNotReopened w → AreNotReopened (moved w (asks t))
+asked_not_reopened w t owned told opened p = record {
   paired = p.paired;
   late = λ y d among has. elim (sent_dump w t y.connection d has) [
     | inl (same, (e, was, new)) ↦ (
@@ -124,8 +124,8 @@ asked_spared w t owned told opened p = record {
         omega (arith, many, carried))
     | inr was ↦ p.late y d among was
   ];
-  stopped = λ x k d counted spared since has. (
-      let before = quiet_spared w (moved w (asks t)) (same_opens w t) (sent_back w t) opened x spared in
+  stopped = λ x k d counted not_reopened since has. (
+      let before = quiet_not_reopened w (moved w (asks t)) (same_opens w t) (sent_back w t) opened x not_reopened in
       elim (sent_dump w t k d has) [
         | inl (same, (e, was, new)) ↦
             subst (λ (z : Dumping). z.sent ≤ looked_requests) (sym new) (stopped_here w t x e told p was counted before (subst (HasOpenedSince w x) same since))
@@ -136,7 +136,7 @@ asked_spared w t owned told opened p = record {
       let its : step ≡ t.step = subst (λ (z : Caller). IsAtStep z.at.stage step) (sym is) at in
       p.listed k i m t.c t.step o list own t.there (subst (λ s. IsAtStep s t.step) (sym t.stage) refl) (λ close. other (its ∙ close)) opens mine from lists
       ∙ ap (λ (z : Caller). z.at.counts) is);
-  looked = λ k l c fed progress new x own at there had feeds goes counted spared since. (
+  looked = λ k l c fed progress new x own at there had feeds goes counted not_reopened since. (
       let same : k ≡ t.k = same_Some k t.k (sym own ∙ t.own) in
       nothing_yet w t l c fed progress new owned told (ap (connection_of (moved w (asks t))) (sym same) ∙ at) there had feeds goes);
 }

@@ -24,7 +24,7 @@ use Rattle.dump_client.specs.declared.stage.Progress.{Progress}
 use Rattle.rmt_server.specs.ServerState.{ServerConnection}
 use Rattle.tape_events.specs.World.{Connection, Dumping, Begun, Caller}
 use Rattle.tape_events.specs.History.{HasCountOf}
-use Rattle.tape_events.specs.Sending.{GoesTo, LeadsOn, IsBrief, IsStepReply, IsStepReplied}
+use Rattle.tape_events.specs.Sending.{GoesTo, LeadsOn, FitsReplyReader, IsStepReply, IsStepReplied}
 use Rattle.tape_events.proofs.SentWire.{OneReply, one_heard}
 use Rattle.tape_events.proofs.Pieces.{HearsPiece, waits, whole, hearing}
 use Rattle.tape_events.proofs.ToldHears.{over_stage}
@@ -95,13 +95,13 @@ pub record RepliesPast (run : PlainRun) (o : Option ServerConnection) (l : Conne
     Type 0 where
   pub reply : PlainReply
   pub text : l.back ≡ reply_text reply
-  pub brief : IsBrief (wanted_of step) reply
+  pub brief : FitsReplyReader (wanted_of step) reply
   pub heard : HearsAt c.at step (Reply reply) false progress new
   pub goes : GoesTo run o c.at d new next
 
 piece_past : (run : PlainRun) (o : Option ServerConnection) (l : Connection) (c : Caller) (d : Dumping) (step next : Step) (bytes way : List ℕ) (progress : Progress)
     (new : Standing) (reply : PlainReply)
-    → c.at.stage ≡ Waiting step → new.stage ≡ ToSend next → l.back ≡ reply_text reply → IsBrief (wanted_of step) reply → LeadsOn run o c.at d step reply
+    → c.at.stage ≡ Waiting step → new.stage ≡ ToSend next → l.back ≡ reply_text reply → FitsReplyReader (wanted_of step) reply → LeadsOn run o c.at d step reply
     → HearsPiece c.at step reply bytes way progress new → RepliesPast run o l c d step next progress new
 piece_past run o l c d step next bytes way progress new reply at goes text brief leads (waits moves is more) =
     let clash : Waiting step ≡ ToSend next = sym at ∙ sym (ap (λ (s : Standing). s.stage) is) ∙ goes in absurd cc

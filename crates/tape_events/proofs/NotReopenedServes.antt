@@ -12,7 +12,7 @@ use Rattle.dump_client.specs.declared.step.Step.TheVariants.{Open, Operation, Lo
 use Rattle.dump_client.specs.declared.step.TapeOp.TheVariants.{Rewind, RewindAgain, Mark, Unload}
 use Rattle.tape_events.specs.World.{World, Connection, Dumping, Begun, Count, Opening, Writing, numbered}
 use Rattle.tape_events.specs.Changes.{HasDump, opening, opened_reel, list_in, writing, reel_written, noted}
-use Rattle.tape_events.specs.Headline.{IsSpared}
+use Rattle.tape_events.specs.Headline.{IsNotReopened}
 use Rattle.tape_events.specs.Attempts.{AreSingle, AreCountsEarned}
 use Rattle.tape_events.specs.Sending.{request_in, AreTold}
 use Rattle.tape_events.specs.Sparing.{looked_requests, HasOpenedSince, AreLateWriters, AreStopped, AreListedNow}
@@ -25,8 +25,8 @@ use Rattle.tape_events.proofs.Moves.{Turn, turned}
 use Rattle.tape_events.proofs.LabelledServes.{served_dump, IsServed, served_step}
 use Rattle.tape_events.proofs.LabelledSingle.{was_placed_new, open_step, carried_more}
 use Rattle.tape_events.proofs.Writers.{writing_is}
-use Rattle.tape_events.proofs.SparedBack.{GoesBack, spared_back}
-use Rattle.tape_events.proofs.SparedLooks.{Grounds}
+use Rattle.tape_events.proofs.NotReopenedBack.{GoesBack, not_reopened_back}
+use Rattle.tape_events.proofs.NotReopenedLooks.{Grounds}
 
 -- an opening more has its list
 pub as_many : (all : List Opening) (lists : List (List VolumeCount)) (k : ℕ) (now : List VolumeCount) (opened : Option (List ℕ)) → length lists ≡ length all
@@ -133,12 +133,12 @@ few_sent w k d told has = elim ((told.each k has.0 has.1).sent d has.2) [
 
 pub served_stopped : OneReading → DroppedWrites → (w : World) (v : Turn w) → Grounds w → AreCountsEarned (turned w v) → AreSingle (turned w v)
     → AreStopped (turned w v)
-served_stopped g h w v a earned single x k d counted spared since (l, at, dump) = elim (served_dump w v k l d at dump) [
+served_stopped g h w v a earned single x k d counted not_reopened since (l, at, dump) = elim (served_dump w v k l d at dump) [
   | inl (same, (y, e, was, its, new)) ↦ (
       let sent = ap (λ (z : Dumping). z.sent) new ∙ (noted_same e v.request v.reply).sent in
       elim (served_since w v x k own since) [
         | inl earlier ↦ (
-            let few = a.spared.stopped x k e counted before earlier (y, ap (numbered w.connections) same ∙ was, its) in
+            let few = a.not_reopened.stopped x k e counted before earlier (y, ap (numbered w.connections) same ∙ was, its) in
             omega (arith, few, sent))
         | inr (here, (reel, is)) ↦ (
             let p = served_step g h w v a.told y e was its in
@@ -148,7 +148,7 @@ served_stopped g h w v a earned single x k d counted spared since (l, at, dump) 
             omega (arith, none, few, sent))
       ])
   | inr (other, was) ↦ elim (served_since w v x k own since) [
-    | inl earlier ↦ a.spared.stopped x k d counted before earlier (l, was, dump)
+    | inl earlier ↦ a.not_reopened.stopped x k d counted before earlier (l, was, dump)
     | inr (here, new) ↦ absurd (other here)
   ]
 ]
@@ -156,8 +156,8 @@ served_stopped g h w v a earned single x k d counted spared since (l, at, dump) 
     own : (i : ℕ) → numbered (turned w v).opens i ≡ Some (opening x.connection x.reel) → numbered w.opens i ≡ Some (opening x.connection x.reel)
     own i placed = own_place w v a.earned earned single x counted i placed
 
-    before : IsSpared w x
-    before = spared_back w (turned w v) (served_back w v a.spared.paired) a.opened x spared (own spared.0 spared.1)
+    before : IsNotReopened w x
+    before = not_reopened_back w (turned w v) (served_back w v a.not_reopened.paired) a.opened x not_reopened (own not_reopened.0 not_reopened.1)
 
 pub served_listed : (w : World) (v : Turn w) → length w.lists ≡ length w.opens → AreListedNow w → AreListedNow (turned w v)
 served_listed w v paired listed k i m c step o list own there at other opens mine from lists =

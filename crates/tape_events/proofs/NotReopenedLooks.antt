@@ -28,20 +28,20 @@ use Rattle.tape_events.specs.Changes.{connection_of, opening, written_reel, firs
 use Rattle.tape_events.specs.History.{HasCountOf}
 use Rattle.tape_events.specs.Standing.{AreHeld, StandsOn}
 use Rattle.tape_events.specs.Kept.{AreLaid}
-use Rattle.tape_events.specs.Headline.{IsSpared}
+use Rattle.tape_events.specs.Headline.{IsNotReopened}
 use Rattle.tape_events.specs.Written.{whole_volume}
 use Rattle.tape_events.specs.Naming.{AreNamed, AreOpened, AreWritersLast}
 use Rattle.tape_events.specs.Attempts.{AreSingle, AreLabelled, AreCountsEarned}
 use Rattle.tape_events.specs.Sending.{StandsFor, request_in, IsAttempt, AreTold}
-use Rattle.tape_events.specs.Sparing.{HasOpenedSince, AreSpared}
+use Rattle.tape_events.specs.Sparing.{HasOpenedSince, AreNotReopened}
 use Rattle.tape_events.proofs.Booked.{among_at}
 use Rattle.tape_events.proofs.Called.{called}
 use Rattle.tape_events.proofs.SentTexts.{few_volumes, label_short}
 use Rattle.tape_events.proofs.Moves.{Turn}
 use Rattle.tape_events.proofs.LabelledServes.{IsServed}
 use Rattle.tape_events.proofs.LabelledSingle.{one_reel}
-use Rattle.tape_events.proofs.SparedHears.{before_checkpoint}
-use Rattle.tape_events.proofs.SparedPast.{counted_shown}
+use Rattle.tape_events.proofs.NotReopenedHears.{before_checkpoint}
+use Rattle.tape_events.proofs.NotReopenedPast.{counted_shown}
 use Rattle.tape_events.proofs.Counted.{counted_reels}
 
 -- an error, or the first bytes of this record
@@ -93,7 +93,7 @@ pub record IsLooking (w : World) (v : Turn w) (c : Caller) (x : Count) : Type 0 
   pub attempt : IsAttempt w.begun c d Look b
   pub lawful : IsLawful c.at
   pub counted : Contains w.counts x
-  pub spared : IsSpared w x
+  pub not_reopened : IsNotReopened w x
   pub since : HasOpenedSince w x v.k
 
 -- What stays so, as far as the look rests on it.
@@ -107,7 +107,7 @@ pub record Grounds (w : World) : Type 0 where
   pub single : AreSingle w
   pub labelled : AreLabelled w
   pub earned : AreCountsEarned w
-  pub spared : AreSpared w
+  pub not_reopened : AreNotReopened w
 
 -- the label of that volume stands first on the reel, and the client has a count of it
 record IsCountedThere (w : World) (v : Turn w) (c : Caller) (x : Count) : Type 0 where
@@ -134,19 +134,19 @@ its_count : (w : World) (v : Turn w) (c : Caller) (x : Count) → Grounds w → 
     → (g.d.run ≡ x.run) × HasCountOf c.at.counts x.volume x.first
 its_count w v c x k g =
     let (i, m, place, less, opened) = g.since in
-    let (j, at, familiar) = g.spared in
+    let (j, at, own_open) = g.not_reopened in
     let e = k.earned x g.counted in
     let one = (k.single x.connection e.0 e.1 e.3.there e.3.dump).one j i (opening x.connection x.reel) (opening x.connection x.reel) at place refl refl in
-    let (d, (l, here, dump), run, list, lists, has) = familiar m (opening v.k x.reel) (omega (arith, one, less)) opened refl in
+    let (d, (l, here, dump), run, list, lists, has) = own_open m (opening v.k x.reel) (omega (arith, one, less)) opened refl in
     let connections : l ≡ g.l = same_Some l g.l (sym here ∙ g.at) in
     let dumps : d ≡ g.d = same_Some d g.d (sym dump ∙ ap (λ (y : Connection). y.dump) connections ∙ g.dump) in
-    let same = k.spared.listed v.k m m c Look (opening v.k x.reel) list g.own g.there g.waits (λ is. cc) opened refl (omega arith) lists in
+    let same = k.not_reopened.listed v.k m m c Look (opening v.k x.reel) list g.own g.there g.waits (λ is. cc) opened refl (omega arith) lists in
     (ap (λ (y : Dumping). y.run) (sym dumps) ∙ run, subst (λ cs. HasCountOf cs x.volume x.first) same has)
 
 counted_there : (w : World) (v : Turn w) (c : Caller) (x : Count) → Grounds w → IsLooking w v c x → IsCountedThere w v c x
 counted_there w v c x k g =
     let on = subst (λ s. StandsFor s v.s.session) g.look (g.served.done.stands v.s refl) in
-    let r = counted_reels w k.held k.laid k.named k.writers k.told k.labelled k.earned k.spared x g.counted in
+    let r = counted_reels w k.held k.laid k.named k.writers k.told k.labelled k.earned k.not_reopened x g.counted in
     let stands : StandsOn w.server x.reel (entries_of on.0.tape)
     = inr (v.k, v.s, v.live, (on.1.0, Both, on.0, on.1.1, its_reel w v c x k g on.1.0 on.0 on.1.1, refl)) in
     let count = its_count w v c x k g in
@@ -159,7 +159,7 @@ counted_there w v c x k g =
       reel = on.0;
       rest = _;
       online = on.1.1;
-      first = sym (ap (λ front. front ++ on.0.tape.after) on.2) ∙ (r.whole g.spared).1 (entries_of on.0.tape) stands
+      first = sym (ap (λ front. front ++ on.0.tape.after) on.2) ∙ (r.whole g.not_reopened).1 (entries_of on.0.tape) stands
           ∙ ap (λ y. whole_volume y r.begun.payload x.volume x.first x.count) run;
       has = count.1;
       few = omega (arith, within, blocks);

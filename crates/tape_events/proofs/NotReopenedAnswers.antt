@@ -22,11 +22,11 @@ use Rattle.dump_client.specs.declared.stage.Stage.TheVariants.{ToSend, Waiting}
 use Rattle.dump_client.specs.declared.stage.Progress.{Progress}
 use Rattle.tape_events.specs.World.{World, Connection, Dumping, Begun, Caller, Count, numbered}
 use Rattle.tape_events.specs.Changes.{side_of, connection_of, sent_on, opening, opened_reel, noted, answered}
-use Rattle.tape_events.specs.Headline.{IsSpared}
+use Rattle.tape_events.specs.Headline.{IsNotReopened}
 use Rattle.tape_events.specs.Kept.{HasLawful}
 use Rattle.tape_events.specs.Owning.{is_in_attempt, IsOwned}
 use Rattle.tape_events.specs.Attempts.{AreSingle, AreCountsEarned}
-use Rattle.tape_events.specs.Sending.{StandsFor, request_in, IsBrief, IsAttempt, IsStepAsked, IsStepReplied, IsConnectionToldAt, AreTold}
+use Rattle.tape_events.specs.Sending.{StandsFor, request_in, FitsReplyReader, IsAttempt, IsStepAsked, IsStepReplied, IsConnectionToldAt, AreTold}
 use Rattle.tape_events.specs.Sparing.{HasOpenedSince, HasLooked}
 use Rattle.tape_events.proofs.Numbers.{changed_is}
 use Rattle.tape_events.proofs.Sent.{steps_len, before_length}
@@ -37,10 +37,10 @@ use Rattle.tape_events.proofs.SentServe.{noted_same, nothing_there}
 use Rattle.tape_events.proofs.Moves.{Turn, turned}
 use Rattle.tape_events.proofs.LabelledServes.{IsServed, served_step}
 use Rattle.tape_events.proofs.LabelledSingle.{open_step, carried_more}
-use Rattle.tape_events.proofs.SparedBack.{spared_back}
-use Rattle.tape_events.proofs.SparedPast.{look_past, reply_past}
-use Rattle.tape_events.proofs.SparedLooks.{Grounds, look_finds}
-use Rattle.tape_events.proofs.SparedServes.{served_back, own_place, OpensNow, served_since}
+use Rattle.tape_events.proofs.NotReopenedBack.{not_reopened_back}
+use Rattle.tape_events.proofs.NotReopenedPast.{look_past, reply_past}
+use Rattle.tape_events.proofs.NotReopenedLooks.{Grounds, look_finds}
+use Rattle.tape_events.proofs.NotReopenedServes.{served_back, own_place, OpensNow, served_since}
 
 -- two requests come before the look alone
 look_step : (run : PlainRun) (first next : ℕ) (step : Step) → steps_len run first next step ≡ 2 → step ≡ Look
@@ -68,7 +68,7 @@ record IsAnswered (w : World) (v : Turn w) (c : Caller) (l : Connection) (d : Du
   carried : d.carried ≡ steps_len b.run d.first (d.first + d.blocks) step
   reply : PlainReply
   text : reply_text v.reply ≡ reply_text reply
-  brief : IsBrief (wanted_of step) reply
+  brief : FitsReplyReader (wanted_of step) reply
   heard : HearsAt c.at step (Reply reply) false progress new
   goes : new.stage ≡ ToSend (Operation RewindAgain)
   noted_three : (noted v.request v.reply d).carried ≡ 3
@@ -95,7 +95,7 @@ reply_is g w v c l d progress new a =
     (a.served.asks ∙ ap (request_in a.served.b d) is.1) v.served.step in
     let shown = look_online v.trouble w.server.holders (session_view w.server.library v.s.session) v.reply (session_view v.library v.session) on.1.0 on.0 on.1.1 served in
     let mine = shown_brief reply_texts v.reply shown.0 in
-    let its : IsBrief (DataUpTo label_bytes) a.reply = subst (λ s. IsBrief (wanted_of s) a.reply) is.0 a.brief in
+    let its : FitsReplyReader (DataUpTo label_bytes) a.reply = subst (λ s. FitsReplyReader (wanted_of s) a.reply) is.0 a.brief in
     (g (DataUpTo label_bytes) (reply_text v.reply) [] v.reply a.reply mine.spelled
     (subst (λ t. SpellsReply t a.reply (DataUpTo label_bytes)) (sym a.text ∙ sym (append-nil (reply_text v.reply))) its.spelled)).1
 
@@ -111,12 +111,12 @@ shows_both run at reply (inr (shown, data_is, counted)) bytes is none =
 
 -- so the reel is not that of a count
 answered_past : OneReply → (w : World) (v : Turn w) (c : Caller) (l : Connection) (d : Dumping) (progress : Progress) (new : Standing) (x : Count) → Grounds w
-    → HasLawful w → IsAnswered w v c l d progress new → Contains w.counts x → IsSpared w x → HasOpenedSince w x v.k ⊎ ((v.k ≡ v.k) × OpensNow w v) → ⊥
-answered_past g w v c l d progress new x k lawful a counted spared (inr (same, (reel, opened))) =
+    → HasLawful w → IsAnswered w v c l d progress new → Contains w.counts x → IsNotReopened w x → HasOpenedSince w x v.k ⊎ ((v.k ≡ v.k) × OpensNow w v) → ⊥
+answered_past g w v c l d progress new x k lawful a counted not_reopened (inr (same, (reel, opened))) =
     let first = open_step a.served.b d a.served.step v.library v.session reel (subst (λ q. opened_reel q v.library v.session ≡ Some reel) a.served.asks opened) in
     let clash : Look ≡ Open = sym (step_is w v c l d progress new a).1 ∙ first in
     cc
-answered_past g w v c l d progress new x k lawful a counted spared (inl since) =
+answered_past g w v c l d progress new x k lawful a counted not_reopened (inl since) =
     let is = step_is w v c l d progress new a in
     let heard = subst (λ s. HearsAt c.at s (Reply a.reply) false progress new) is.0 a.heard in
     let past = look_past c.at new v.reply progress (subst (λ q. HearsAt c.at Look (Reply q) false progress new) (sym (reply_is g w v c l d progress new a))
@@ -135,7 +135,7 @@ answered_past g w v c l d progress new x k lawful a counted spared (inl since) =
       attempt = subst (λ s. IsAttempt w.begun c d s a.b) is.0 a.attempt;
       lawful = lawful c a.there;
       counted = counted;
-      spared = spared;
+      not_reopened = not_reopened;
       since = since;
     }) past.0 past.1 past.2
 
@@ -159,7 +159,7 @@ record IsServedHere (w : World) (v : Turn w) (c : Caller) (l m : Connection) (d 
   back : m.back ≡ sent_on l.cut l.back (reply_text v.reply)
   goes : new.stage ≡ ToSend (Operation RewindAgain)
   counted : Contains w.counts x
-  spared : IsSpared w x
+  not_reopened : IsNotReopened w x
   since : HasOpenedSince w x v.k ⊎ ((v.k ≡ v.k) × OpensNow w v)
 
 -- its request is the one that the client waits for
@@ -189,7 +189,7 @@ asked_past g w v c l m d step b e o fed progress new x k lawful s stage attempt 
       heard = past.heard;
       goes = s.goes;
       noted_three = past.goes.done.carried;
-    } s.counted s.spared s.since
+    } s.counted s.not_reopened s.since
 
 -- at the stage where the client stands
 stage_past : DroppedWrites → OneReply → (w : World) (v : Turn w) (stage : Stage) (c : Caller) (l m : Connection) (d : Dumping) (begun : List Begun) (o : Option ServerConnection)
@@ -214,8 +214,8 @@ stage_past h g w v other c l m d begun o fed progress new x k lawful s stage ins
 own_looked : OneReading → DroppedWrites → OneReply → (w : World) (v : Turn w) (c : Caller) (y l : Connection) (fed : List ℕ) (progress : Progress) (new : Standing)
     (x : Count) → Grounds w → IsOwned w → HasLawful w → AreTold (turned w v) → w.own ≡ Some v.k → w.caller ≡ Some c → connection_of w v.k ≡ Some y
     → connection_of (turned w v) v.k ≡ Some l → l ≡ answered v.request v.reply y → HasFedAt c.at.stage c.reader fed → FedAt c.at.stage c.at fed l.back progress new
-    → new.stage ≡ ToSend (Operation RewindAgain) → Contains w.counts x → IsSpared w x → HasOpenedSince w x v.k ⊎ ((v.k ≡ v.k) × OpensNow w v) → ⊥
-own_looked r h g w v c y l fed progress new x k owned lawful told own there was at is had feeds goes counted spared since =
+    → new.stage ≡ ToSend (Operation RewindAgain) → Contains w.counts x → IsNotReopened w x → HasOpenedSince w x v.k ⊎ ((v.k ≡ v.k) × OpensNow w v) → ⊥
+own_looked r h g w v c y l fed progress new x k owned lawful told own there was at is had feeds goes counted not_reopened since =
     let mine = owned.own v.k own in
     let same : mine.0.0 ≡ y = same_Some mine.0.0 y (sym mine.0.2 ∙ was) in
     let d = mine.0.1 in
@@ -234,21 +234,21 @@ own_looked r h g w v c y l fed progress new x k owned lawful told own there was 
       back = ap (λ (z : Connection). z.back) is;
       goes = goes;
       counted = counted;
-      spared = spared;
+      not_reopened = not_reopened;
       since = since;
     } in
     stage_past h g w v c.at.stage c y l d w.begun (side_of (turned w v).server v.k) fed progress new x k lawful here refl inside before after had feeds
 
 pub served_looked : OneReading → DroppedWrites → OneReply → (w : World) (v : Turn w) → Grounds w → IsOwned w → HasLawful w → AreTold (turned w v)
     → AreCountsEarned (turned w v) → AreSingle (turned w v) → HasLooked (turned w v)
-served_looked r h g w v a owned lawful told earned single k l c fed progress new x own at there had feeds goes counted spared since =
+served_looked r h g w v a owned lawful told earned single k l c fed progress new x own at there had feeds goes counted not_reopened since =
     elim (changed_is (answered v.request v.reply) w.connections v.k k l at) [
       | inl (same, (y, was, is)) ↦
           own_looked r h g w v c y l fed progress new x a owned lawful told (own ∙ ap Some same) there was (ap (connection_of (turned w v)) (sym same) ∙ at) is had
           feeds goes counted before
           (served_since w v x v.k placed (subst (HasOpenedSince (turned w v) x) same since))
       | inr (other, on) ↦ elim (served_since w v x k placed since) [
-        | inl earlier ↦ a.spared.looked k l c fed progress new x own on there had feeds goes counted before earlier
+        | inl earlier ↦ a.not_reopened.looked k l c fed progress new x own on there had feeds goes counted before earlier
         | inr (here, opened) ↦ other here
       ]
     ]
@@ -256,5 +256,5 @@ served_looked r h g w v a owned lawful told earned single k l c fed progress new
     placed : (i : ℕ) → numbered (turned w v).opens i ≡ Some (opening x.connection x.reel) → numbered w.opens i ≡ Some (opening x.connection x.reel)
     placed i found = own_place w v a.earned earned single x counted i found
 
-    before : IsSpared w x
-    before = spared_back w (turned w v) (served_back w v a.spared.paired) a.opened x spared (placed spared.0 spared.1)
+    before : IsNotReopened w x
+    before = not_reopened_back w (turned w v) (served_back w v a.not_reopened.paired) a.opened x not_reopened (placed not_reopened.0 not_reopened.1)

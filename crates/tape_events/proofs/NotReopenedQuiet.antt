@@ -4,14 +4,14 @@ use Rattle.std.proofs.lemmas.Option.{same_Some}
 use Rattle.dump_client.specs.Standing.{FedAt}
 use Rattle.tape_events.specs.World.{World, Connection, Dumping, Caller, Count, numbered}
 use Rattle.tape_events.specs.Changes.{changed, connection_of, new_connection, HasDump}
-use Rattle.tape_events.specs.Headline.{IsSpared}
+use Rattle.tape_events.specs.Headline.{IsNotReopened}
 use Rattle.tape_events.specs.Naming.{AreOpened, AreWritersLast}
 use Rattle.tape_events.specs.Owning.{is_in_attempt, IsOwned}
-use Rattle.tape_events.specs.Sparing.{looked_requests, HasOpenedSince, AreLateWriters, AreStopped, AreSpared}
+use Rattle.tape_events.specs.Sparing.{looked_requests, HasOpenedSince, AreLateWriters, AreStopped, AreNotReopened}
 use Rattle.tape_events.specs.Steps.{client_connected, fresh}
 use Rattle.tape_events.proofs.Booked.{among_at}
 use Rattle.tape_events.proofs.Numbers.{changed_is, map_at, pushed_is, numbered_within}
-use Rattle.tape_events.proofs.SparedBack.{DumpsStay, joined_dumps, SameOpens, quiet_back, quiet_spared, quiet_since, since_there, writer_there}
+use Rattle.tape_events.proofs.NotReopenedBack.{DumpsStay, joined_dumps, SameOpens, quiet_back, quiet_not_reopened, quiet_since, since_there, writer_there}
 
 -- who wrote, and how much of its attempt was carried out
 pub quiet_late : (w u : World) → SameOpens w u → DumpsStay w u → AreOpened w → AreWritersLast w → AreLateWriters w → AreLateWriters u
@@ -21,23 +21,23 @@ quiet_late w u s stay opened writers late y d among has =
 
 -- of a count that was there
 pub quiet_stopped : (w u : World) → SameOpens w u → DumpsStay w u → AreOpened w → AreStopped w → (x : Count) (k : ℕ) (d : Dumping) → Contains w.counts x
-    → IsSpared u x → HasOpenedSince u x k → HasDump u k d → d.sent ≤ looked_requests
-quiet_stopped w u s stay opened stopped x k d counted spared since has =
+    → IsNotReopened u x → HasOpenedSince u x k → HasDump u k d → d.sent ≤ looked_requests
+quiet_stopped w u s stay opened stopped x k d counted not_reopened since has =
     let before = quiet_since w u s x k since in
-    stopped x k d counted (quiet_spared w u s (quiet_back w u s stay) opened x spared) before (stay k d has (since_there w x k opened before))
+    stopped x k d counted (quiet_not_reopened w u s (quiet_back w u s stay) opened x not_reopened) before (stay k d has (since_there w x k opened before))
 
 pub quiet_paired : (w u : World) → SameOpens w u → length w.lists ≡ length w.opens → length u.lists ≡ length u.opens
 quiet_paired w u s paired = ap length s.lists ∙ paired ∙ sym (ap length s.opens)
 
 -- no attempt is under way
-pub idle_spared : (w u : World) → SameOpens w u → DumpsStay w u → AreOpened w → AreWritersLast w → u.counts ≡ w.counts → ((k : ℕ) → u.own ≡ Some k → ⊥)
-    → AreSpared w → AreSpared u
-idle_spared w u s stay opened writers counts none p = record {
+pub idle_not_reopened : (w u : World) → SameOpens w u → DumpsStay w u → AreOpened w → AreWritersLast w → u.counts ≡ w.counts → ((k : ℕ) → u.own ≡ Some k → ⊥)
+    → AreNotReopened w → AreNotReopened u
+idle_not_reopened w u s stay opened writers counts none p = record {
   paired = quiet_paired w u s p.paired;
   late = quiet_late w u s stay opened writers p.late;
-  stopped = λ x k d counted spared since has. quiet_stopped w u s stay opened p.stopped x k d (subst (λ xs. Contains xs x) counts counted) spared since has;
+  stopped = λ x k d counted not_reopened since has. quiet_stopped w u s stay opened p.stopped x k d (subst (λ xs. Contains xs x) counts counted) not_reopened since has;
   listed = λ k i m c step o list own there at other opens mine from lists. absurd (none k own);
-  looked = λ k l c fed progress new x own on there had feeds goes counted spared since. none k own;
+  looked = λ k l c fed progress new x own on there had feeds goes counted not_reopened since. none k own;
 }
 
 -- a connection of the client's has the same on the way back
@@ -45,20 +45,20 @@ abbrev pub BacksStay : World → World → Type 0
 BacksStay w u = (k : ℕ) (l : Connection) → w.own ≡ Some k → connection_of u k ≡ Some l → (x : Connection) × (connection_of w k ≡ Some x) × (l.back ≡ x.back)
 
 -- the attempt that is under way is as it was
-pub same_spared : (w u : World) → SameOpens w u → DumpsStay w u → BacksStay w u → AreOpened w → AreWritersLast w → u.counts ≡ w.counts → u.own ≡ w.own
-    → u.caller ≡ w.caller → AreSpared w → AreSpared u
-same_spared w u s stay backs opened writers counts own caller p = record {
+pub same_not_reopened : (w u : World) → SameOpens w u → DumpsStay w u → BacksStay w u → AreOpened w → AreWritersLast w → u.counts ≡ w.counts → u.own ≡ w.own
+    → u.caller ≡ w.caller → AreNotReopened w → AreNotReopened u
+same_not_reopened w u s stay backs opened writers counts own caller p = record {
   paired = quiet_paired w u s p.paired;
   late = quiet_late w u s stay opened writers p.late;
-  stopped = λ x k d counted spared since has. quiet_stopped w u s stay opened p.stopped x k d (subst (λ xs. Contains xs x) counts counted) spared since has;
+  stopped = λ x k d counted not_reopened since has. quiet_stopped w u s stay opened p.stopped x k d (subst (λ xs. Contains xs x) counts counted) not_reopened since has;
   listed = λ k i m c step o list mine there at other opens its from lists.
       p.listed k i m c step o list (sym own ∙ mine) (sym caller ∙ there) at other (ap (λ os. numbered os i) (sym s.opens) ∙ opens) its from
       (ap (λ ls. numbered ls m) (sym s.lists) ∙ lists);
-  looked = λ k l c fed progress new x mine on there had feeds goes counted spared since. (
+  looked = λ k l c fed progress new x mine on there had feeds goes counted not_reopened since. (
       let b = backs k l (sym own ∙ mine) on in
       p.looked k b.0 c fed progress new x (sym own ∙ mine) b.1 (sym caller ∙ there) had (subst (λ way. FedAt c.at.stage c.at fed way progress new) b.2 feeds)
       goes
-      (subst (λ xs. Contains xs x) counts counted) (quiet_spared w u s (quiet_back w u s stay) opened x spared) (quiet_since w u s x k since));
+      (subst (λ xs. Contains xs x) counts counted) (quiet_not_reopened w u s (quiet_back w u s stay) opened x not_reopened) (quiet_since w u s x k since));
 }
 
 pub same_backs : (w u : World) → u.connections ≡ w.connections → BacksStay w u
@@ -96,17 +96,17 @@ strangers_backs f w u j y owned connections here stranger k l own at = elim (cha
 ]
 
 -- the client is in no attempt
-pub rested_spared : (w u : World) → SameOpens w u → DumpsStay w u → AreOpened w → AreWritersLast w → u.counts ≡ w.counts → IsOwned u → (c : Caller)
-    → u.caller ≡ Some c → is_in_attempt c.at.stage ≡ false → AreSpared w → AreSpared u
-rested_spared w u s stay opened writers counts owned c there off p =
-    idle_spared w u s stay opened writers counts (λ k own. (
+pub rested_not_reopened : (w u : World) → SameOpens w u → DumpsStay w u → AreOpened w → AreWritersLast w → u.counts ≡ w.counts → IsOwned u → (c : Caller)
+    → u.caller ≡ Some c → is_in_attempt c.at.stage ≡ false → AreNotReopened w → AreNotReopened u
+rested_not_reopened w u s stay opened writers counts owned c there off p =
+    idle_not_reopened w u s stay opened writers counts (λ k own. (
     let mine = (owned.own k own).1 in
     let inside : is_in_attempt c.at.stage ≡ true = subst (λ (z : Caller). is_in_attempt z.at.stage ≡ true) (same_Some mine.0 c (sym mine.1 ∙ there)) mine.2 in
     let clash : false ≡ true = sym off ∙ inside in cc)) p
 
 -- an attempt starts on a connection that opened nothing
-pub connected_spared : (w : World) (c : Caller) → AreOpened w → AreWritersLast w → AreSpared w → AreSpared (client_connected w c)
-connected_spared w c opened writers p = record {
+pub connected_not_reopened : (w : World) (c : Caller) → AreOpened w → AreWritersLast w → AreNotReopened w → AreNotReopened (client_connected w c)
+connected_not_reopened w c opened writers p = record {
   paired = p.paired;
   late = quiet_late w (client_connected w c) s stay opened writers p.late;
   stopped = quiet_stopped w (client_connected w c) s stay opened p.stopped;
@@ -114,7 +114,7 @@ connected_spared w c opened writers p = record {
       let few = (opened.there o (among_at w.opens i o opens)).1 in
       let new : length w.connections + 1 ≡ k = same_Some _ k own in
       absurd (omega (arith, few, new, mine)));
-  looked = λ k l d fed progress new x own at there had feeds goes counted spared since. (
+  looked = λ k l d fed progress new x own at there had feeds goes counted not_reopened since. (
       let few = since_there w x k opened since in
       let its : length w.connections + 1 ≡ k = same_Some _ k own in
       omega (arith, few, its));
