@@ -51,9 +51,9 @@ module _ (law : LyingLaw) where
   latched_lying old new d result l h none = none_left (troubled_in new.library) (troubles_of (given_by result)) (law.latched old new d result l h ∙ none)
 
   -- and a reel that is latched has none
-  pub latched_calm : (old new : ListLibrary) (d : ℕ) (reel : TroubledTape) → d < length old.library.drives → IsListStacksCall old new (Latch d (Ok reel))
+  pub latched_untroubled : (old new : ListLibrary) (d : ℕ) (reel : TroubledTape) → d < length old.library.drives → IsListStacksCall old new (Latch d (Ok reel))
       → troubled_in old.library ≡ 0 → reel.trouble ≡ NoTrouble
-  latched_calm old new d reel l h none =
+  latched_untroubled old new d reel l h none =
       unset_of reel.trouble (none_right (troubled_in new.library) (troubles_of (Some reel)) (law.latched old new d (Ok reel) l h ∙ none))
 
   -- a reel that is moved to the bin, or is not

@@ -26,7 +26,7 @@ use Rattle.rmt_server.specs.Carrying.{Operates, CarriesOut}
 use Rattle.rmt_server.specs.Memory.{MemoryState, in_memory}
 use Rattle.rmt_server.specs.TroubledServe.{with_holder, holder_of, IsOpenCause, IsTroubled, IsSetAt, IsSetFor, IsSpent, IsNextSpent, IsServedUnder}
 use Rattle.rmt_server.proofs.TroubledHolders.{opened_numbers}
-use Rattle.rmt_server.proofs.TroubledLying.{LyingLaw, latched_lying, latched_calm}
+use Rattle.rmt_server.proofs.TroubledLying.{LyingLaw, latched_lying, latched_untroubled}
 use Rattle.rmt_server.proofs.TroubledServing.{unset, set_means, drive_seen, reel_so, reel_parts, closed_lying, closed_held, closed_tells, close_so, offline_so}
 
 -- what an open answered and left, as it is seen
@@ -96,13 +96,13 @@ open_lying law device asked (Err OutOfMemory) old new library library' h call dr
 open_lying law device asked (Err NameTaken) old new library library' h call drives none = absurd call.2.made
 
 -- a reel that is opened has no trouble
-open_calm : (law : LyingLaw) (access : Access) (reply : PlainReply) (device : List ℕ) (asked : Option ℕ) (result : Result (ℕ × TroubledTape) DriveFault) (old new : ListLibrary) (library library' : TapeLibrary)
+open_untroubled : (law : LyingLaw) (access : Access) (reply : PlainReply) (device : List ℕ) (asked : Option ℕ) (result : Result (ℕ × TroubledTape) DriveFault) (old new : ListLibrary) (library library' : TapeLibrary)
     → OpenStep of_reel.holds of_reel.capacity device asked result library library' → LatchesFor in_memory old asked result new
     → length library.drives ≡ length old.library.drives → troubled_in old.library ≡ 0
     → MatchOption (reel_of (opened_by access result)) (Unit {0}) (λ r. IsSpent NoTrouble reply r.trouble)
-open_calm law access reply device asked (Ok taken) old new library library' h call drives none =
-    inl (latched_calm law old new taken.0 taken.1 (subst (λ n. taken.0 < n) drives h.1.0) call.made none)
-open_calm law access reply device asked (Err fault) old new library library' h call drives none = tt
+open_untroubled law access reply device asked (Ok taken) old new library library' h call drives none =
+    inl (latched_untroubled law old new taken.0 taken.1 (subst (λ n. taken.0 < n) drives h.1.0) call.made none)
+open_untroubled law access reply device asked (Err fault) old new library library' h call drives none = tt
 
 -- the stacks' trouble is gone where a latch met it, and else left
 open_next : (asked : Option ℕ) (result : Result (ℕ × TroubledTape) DriveFault) (reply : PlainReply) (old new : ListLibrary) → LatchesFor in_memory old asked result new
@@ -145,7 +145,7 @@ module _ (law : LyingLaw) (trouble : Trouble) (old : MemoryState) (before : Sess
           held = rw (drive_seen new.opened after.session told.session, o.opens, ← closed_numbers, ← c.kept.number) opened;
         };
         lying = open_lying law device asked result between.drives.stacks new.drives.stacks (closed before).library st.0 st.2 o.opening.call drives rest.0;
-        online = rw o.opens (open_calm law access reply device asked result between.drives.stacks new.drives.stacks (closed before).library st.0 st.2 o.opening.call drives rest.0);
+        online = rw o.opens (open_untroubled law access reply device asked result between.drives.stacks new.drives.stacks (closed before).library st.0 st.2 o.opening.call drives rest.0);
         next = subst (λ flag. IsNextSpent flag reply new.drives.stacks.trouble) rest.1 (open_next asked result reply between.drives.stacks new.drives.stacks o.opening.call e);
       }
 

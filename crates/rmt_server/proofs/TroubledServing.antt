@@ -57,9 +57,9 @@ drive_seen (Some device) session seen = seen_with device device.reel session see
 pub lays_lying : (law : LyingLaw) (old new : ListLibrary) (t : TapeLibrary) (drive : ℕ) (reel : Option TroubledTape) → IsLibrary old t → drive < length old.library.drives
     → MatchOption reel (Unit {0}) (λ r. HasLatched IsLibrary old drive) → LaysBack in_memory.stacks of_reel old drive reel new
     → MatchOption reel (Unit {0}) (λ r. r.trouble ≡ NoTrouble) → troubled_in old.library ≡ 0 → (troubled_in new.library ≡ 0) × (new.trouble ≡ old.trouble)
-lays_lying law old new t drive None tells l latched e calm none = (ap (λ (s : ListLibrary). troubled_in s.library) e ∙ none, ap (λ (s : ListLibrary). s.trouble) e)
-lays_lying law old new t drive (Some reel) tells l latched (rested, rewound, call) calm none = (
-  laid_lying law old new t drive rested l tells latched call.made none (rewound.made.counted.0 ∙ calm),
+lays_lying law old new t drive None tells l latched e untroubled none = (ap (λ (s : ListLibrary). troubled_in s.library) e ∙ none, ap (λ (s : ListLibrary). s.trouble) e)
+lays_lying law old new t drive (Some reel) tells l latched (rested, rewound, call) untroubled none = (
+  laid_lying law old new t drive rested l tells latched call.made none (rewound.made.counted.0 ∙ untroubled),
   ap (λ (s : ListLibrary). s.trouble) call.made,
 )
 
@@ -118,9 +118,9 @@ module _ (law : LyingLaw) (trouble : Trouble) (old : MemoryState) (before : Sess
   closed_by : (opened : Option (Opened TroubledTape)) (stacks : ListLibrary) → old.opened ≡ opened → LaysBackOpened in_memory.stacks of_reel old.drives.stacks opened stacks
       → MatchOption (reel_of opened) (Unit {0}) (λ r. r.trouble ≡ NoTrouble) → troubled_in old.drives.stacks.library ≡ 0
       → (troubled_in stacks.library ≡ 0) × (stacks.trouble ≡ old.drives.stacks.trouble)
-  closed_by None stacks o e calm none = (ap (λ (s : ListLibrary). troubled_in s.library) e ∙ none, ap (λ (s : ListLibrary). s.trouble) e)
-  closed_by (Some device) stacks o laid calm none =
-      lays_lying law old.drives.stacks stacks before.library device.drive device.reel tells.library (below_in device o) (latched_in device device.reel o refl) laid calm none
+  closed_by None stacks o e untroubled none = (ap (λ (s : ListLibrary). troubled_in s.library) e ∙ none, ap (λ (s : ListLibrary). s.trouble) e)
+  closed_by (Some device) stacks o laid untroubled none =
+      lays_lying law old.drives.stacks stacks before.library device.drive device.reel tells.library (below_in device o) (latched_in device device.reel o refl) laid untroubled none
 
   -- what was open is closed
   pub closed_lying : (stacks : Bool) (new : MemoryState) → IsClosed in_memory old new → IsTroubled NoTrouble stacks old
@@ -157,8 +157,8 @@ module _ (law : LyingLaw) (trouble : Trouble) (old : MemoryState) (before : Sess
   pub close_so : (reply : PlainReply) (new : MemoryState) → Closes in_memory old reply new → IsTroubled NoTrouble false old → IsServedUnder trouble old before Close reply new
   close_so reply new c set = closes_by old.opened reply new refl c set
 
-  calm_in : (device : Opened TroubledTape) (reel : TroubledTape) (stacks : Bool) → old.opened ≡ Some device → device.reel ≡ Some reel → IsTroubled NoTrouble stacks old → reel.trouble ≡ NoTrouble
-  calm_in device reel stacks o online set =
+  untroubled_in : (device : Opened TroubledTape) (reel : TroubledTape) (stacks : Bool) → old.opened ≡ Some device → device.reel ≡ Some reel → IsTroubled NoTrouble stacks old → reel.trouble ≡ NoTrouble
+  untroubled_in device reel stacks o online set =
       subst (λ l. MatchOption l (Unit {0}) (λ r. r.trouble ≡ NoTrouble)) online (subst (λ p. MatchOption (reel_of p) (Unit {0}) (λ r. r.trouble ≡ NoTrouble)) o set.online)
 
   -- a reel that was taken off its drive, or stays
@@ -189,7 +189,7 @@ module _ (law : LyingLaw) (trouble : Trouble) (old : MemoryState) (before : Sess
           held = held_same new after m.same_holds (ap drive_of m.opens ∙ sym (ap drive_of o)) told;
         };
         lying = moved_lying law old.drives.stacks new.drives.stacks before.library device.drive m.rested (Ok x) (below_in device o) tells.library
-            (latched_in device (Some reel) o online) m.call.made set.lying (m.rewound.made.counted.0 ∙ calm_in device reel (is_set trouble) o online set);
+            (latched_in device (Some reel) o online) m.call.made set.lying (m.rewound.made.counted.0 ∙ untroubled_in device reel (is_set trouble) o online set);
         online = rw m.opens tt;
         next = inl (ap (λ (x : ListLibrary). x.trouble) m.call.made.1);
       }
@@ -215,8 +215,8 @@ module _ (law : LyingLaw) (trouble : Trouble) (old : MemoryState) (before : Sess
           held = held_same new after m.same_holds (ap drive_of m.opens ∙ sym (ap drive_of o)) told;
         };
         lying = moved_lying law old.drives.stacks new.drives.stacks before.library device.drive m.rested (Err Device) (below_in device o) tells.library
-            (latched_in device (Some reel) o online) m.call.made set.lying (m.rewound.made.counted.0 ∙ calm_in device reel (is_set trouble) o online set);
-        online = rw (m.opens, off) (inl (m.rewound.made.counted.0 ∙ calm_in device reel (is_set trouble) o online set));
+            (latched_in device (Some reel) o online) m.call.made set.lying (m.rewound.made.counted.0 ∙ untroubled_in device reel (is_set trouble) o online set);
+        online = rw (m.opens, off) (inl (m.rewound.made.counted.0 ∙ untroubled_in device reel (is_set trouble) o online set));
         next = inr (m.call.made.0, ap (λ (x : ListLibrary). x.trouble) m.call.made.1, e);
       }
   taken_so device reel op count reply (Err NoSuchDrive) new o online off free e m set t held seen = absurd m.call.made

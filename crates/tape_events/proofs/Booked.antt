@@ -21,7 +21,7 @@ use Rattle.dump_client.specs.declared.stage.Stage.{Stage}
 use Rattle.dump_client.specs.declared.stage.Stage.TheVariants.{Ready, ToSend, Waiting, Asking, Finished}
 use Rattle.dump_client.specs.declared.step.Step.TheVariants.{Open}
 use Rattle.tape_events.specs.World.{World, Begun, Caller, Count, Entered, Kept, numbered}
-use Rattle.tape_events.specs.Changes.{calm, counts_of}
+use Rattle.tape_events.specs.Changes.{with_no_failure, counts_of}
 use Rattle.tape_events.specs.Rows.{IsRunEntered, MayBeKept}
 use Rattle.tape_events.specs.Steps.{kept_after, entry_of, caller, recorded}
 use Rattle.tape_events.specs.History.{volume_of, counted_if, counts_in, dates_with, dates_after}
@@ -340,10 +340,10 @@ entered_booked w c there stage not_yet lawful k =
 
 -- the client's run is kept, with its counts
 saved_booked : (w : World) (c : Caller) → w.caller ≡ Some c → MayBeKept w c → IsLawful c.at → AreBooked w
-    → AreBooked (record (calm w) { kept = Some (record { run = c.number; listed = c.at.counts }) })
+    → AreBooked (record (with_no_failure w) { kept = Some (record { run = c.number; listed = c.at.counts }) })
 saved_booked w c there may lawful k =
     let b = k.begun c there in
-    let u : World = record (calm w) { kept = Some (record { run = c.number; listed = c.at.counts }) } in
+    let u : World = record (with_no_failure w) { kept = Some (record { run = c.number; listed = c.at.counts }) } in
     let its : IsKeptRun u (record { run = c.number; listed = c.at.counts }) = record {
       begun = b.0;
       begun_as = b.1;

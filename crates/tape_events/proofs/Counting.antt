@@ -11,7 +11,7 @@ use Rattle.dump_client.specs.declared.step.Step.{Step}
 use Rattle.tape_events.specs.World.{World, Dumping, Caller, Kept}
 use Rattle.tape_events.specs.Events.{PlainEvent}
 use Rattle.tape_events.specs.Events.PlainEvent.{StartRun, Connect, Send, ToServer, Serve, ToClient, Cut, EndAtServer, EndAtClient, ServerRestart, ClientRestart, Respond, Arrange, Stranger, Says, Enter, Save}
-use Rattle.tape_events.specs.Changes.{calm, counts_of, came_to}
+use Rattle.tape_events.specs.Changes.{with_no_failure, counts_of, came_to}
 use Rattle.tape_events.specs.Further.{IsToldOf, CountsGrow}
 use Rattle.tape_events.specs.Steps.{Happens, Sends, Finds, Hears, SeesEnd, ComesBack, caller, forgotten_from}
 use Rattle.tape_events.proofs.Booked.{Goings, drop_front}
@@ -60,7 +60,7 @@ finds_counts w k trouble s (Ok None) rest u finds = absurd finds
 finds_counts w k trouble s (Ok (Some request)) rest u (reply, reached, library, session, holders, unread, served, is) = ap (λ (x : World). x.counts) is
 finds_counts w k trouble s (Err fault) rest u is = ap (λ (x : World). x.counts) is
 
-forgotten_counts : (w : World) (o : Option ℕ) (c : Option Caller) → (record (forgotten_from (calm w) o) { caller = c }).counts ≡ w.counts
+forgotten_counts : (w : World) (o : Option ℕ) (c : Option Caller) → (record (forgotten_from (with_no_failure w) o) { caller = c }).counts ≡ w.counts
 forgotten_counts w None c = refl
 forgotten_counts w (Some k) c = refl
 

@@ -30,7 +30,7 @@ use Rattle.dump_client.specs.declared.step.Step.TheVariants.{Block}
 use Rattle.tape_events.specs.World.{World, Connection, Dumping, Begun, Caller, Count, Kept, numbered, with_numbered}
 use Rattle.tape_events.specs.Events.{PlainEvent}
 use Rattle.tape_events.specs.Events.PlainEvent.{StartRun, Connect, Send, ToServer, Serve, ToClient, Cut, EndAtServer, EndAtClient, ServerRestart, ClientRestart, Respond, Arrange, Stranger, Says, Enter, Save}
-use Rattle.tape_events.specs.Changes.{changed, changed_from, side_of, connection_of, new_connection, over_there, over_here, sent_on, opened_reel, calm, given_up, joined, restarted, ended_at, counts_of, came_to}
+use Rattle.tape_events.specs.Changes.{changed, changed_from, side_of, connection_of, new_connection, over_there, over_here, sent_on, opened_reel, with_no_failure, given_up, joined, restarted, ended_at, counts_of, came_to}
 use Rattle.tape_events.specs.Owning.{is_in_attempt}
 use Rattle.tape_events.specs.Rows.{NoRun, IsRunEntered, MayBeKept}
 use Rattle.tape_events.specs.Serving.{ServerTurn}
@@ -188,7 +188,7 @@ told_counts w t = map (counts_of w t.c.number t.k) (drop (length t.c.at.counts) 
 
 -- the client heard
 abbrev heard_by : (w : World) → Listens w → World
-heard_by w t = record (calm w) {
+heard_by w t = record (with_no_failure w) {
   connections = changed (λ l. record l { back = drop t.n l.back }) w.connections t.k;
   caller = Some (caller t.c.number t.at t.reader);
   counts = w.counts ++ told_counts w t;
@@ -202,10 +202,10 @@ moved w (asks t) = asked w t.k t.c t.b.payload t.step t.reader
 moved w (fails k n c reader there stage own) = failed_read w k c reader
 moved w (reaches k n s l reached live at grows) = reached_by w k n s reached
 moved w (serves t) = turned w t
-moved w (ends k) = ended_at (calm w) k
-moved w restarts = restarted (calm w)
-moved w (cuts k) = record (calm w) { connections = changed (λ l. record l { cut = true }) w.connections k }
-moved w (talks k l t at none) = record (calm w) { connections = changed (talked t) w.connections k }
+moved w (ends k) = ended_at (with_no_failure w) k
+moved w restarts = restarted (with_no_failure w)
+moved w (cuts k) = record (with_no_failure w) { connections = changed (λ l. record l { cut = true }) w.connections k }
+moved w (talks k l t at none) = record (with_no_failure w) { connections = changed (talked t) w.connections k }
 moved w (hears t on) = heard_by w t
 moved w (hears_last t failure over) = record (given_up w t.k) {
   caller = Some (caller t.c.number t.at t.reader);
@@ -213,14 +213,14 @@ moved w (hears_last t failure over) = record (given_up w t.k) {
   failure = failure;
 }
 moved w (sees t failure) = record (given_up w t.k) { caller = Some (caller t.c.number t.at t.reader); failure = failure }
-moved w (forgets x none) = record (calm w) { caller = back_caller w x }
-moved w (gives_up x k own) = record (given_up (calm w) k) { caller = back_caller w x }
+moved w (forgets x none) = record (with_no_failure w) { caller = back_caller w x }
+moved w (gives_up x k own) = record (given_up (with_no_failure w) k) { caller = back_caller w x }
 moved w (answers c answer reader there stage) =
-    record (calm w) { caller = Some (caller c.number (standing c.at.run c.at.counts (stage_after answer)) reader); kept = kept_after answer w.kept }
-moved w (arranges d names within free) = record (calm w) { server = server (arranged w.server.library d names) w.server.holders w.server.sides }
-moved w joins = joined (calm w) None
+    record (with_no_failure w) { caller = Some (caller c.number (standing c.at.run c.at.counts (stage_after answer)) reader); kept = kept_after answer w.kept }
+moved w (arranges d names within free) = record (with_no_failure w) { server = server (arranged w.server.library d names) w.server.holders w.server.sides }
+moved w joins = joined (with_no_failure w) None
 moved w (enters c there stage not_yet) = recorded w c
-moved w (saves c there may) = record (calm w) { kept = Some (record { run = c.number; listed = c.at.counts }) }
+moved w (saves c there may) = record (with_no_failure w) { kept = Some (record { run = c.number; listed = c.at.counts }) }
 
 -- what it makes of the hall
 abbrev pub server_move : (w : World) → Move w → ServerMove w.server
@@ -345,12 +345,12 @@ carries_turn w u k trouble c = record {
 
 -- a request is carried out, or a fault ends the server's side
 finds_carries : (w : World) (k : ℕ) (trouble : Trouble) (s : ServerConnection) (found : Result (Option PlainRequest) WireFault) (bytes rest : List ℕ) (u : World) → side_of w.server k ≡ Some s
-    → Unread s.reached bytes → Gives bytes found rest → Finds w k trouble s found rest u → ServerTurn w k trouble u ⊎ (u ≡ ended_at (calm w) k)
+    → Unread s.reached bytes → Gives bytes found rest → Finds w k trouble s found rest u → ServerTurn w k trouble u ⊎ (u ≡ ended_at (with_no_failure w) k)
 finds_carries w k trouble s (Ok None) bytes rest u live unread gives finds = absurd finds
 finds_carries w k trouble s (Err fault) bytes rest u live unread gives is = inr is
 finds_carries w k trouble s (Ok (Some request)) bytes rest u live unread gives finds = inl (turn_of w k trouble s request bytes rest u live unread gives finds)
 
-pub carries : (w u : World) (k : ℕ) (trouble : Trouble) → Happens w (Serve k trouble) u → ServerTurn w k trouble u ⊎ (u ≡ ended_at (calm w) k)
+pub carries : (w u : World) (k : ℕ) (trouble : Trouble) → Happens w (Serve k trouble) u → ServerTurn w k trouble u ⊎ (u ≡ ended_at (with_no_failure w) k)
 carries w u k trouble (may, (s, found, bytes, rest, live, unread, gives, finds)) = finds_carries w k trouble s found bytes rest u live unread gives finds
 
 listens_moves : (w : World) (t : Listens w) (u : World) → u ≡ came_to (heard_by w t) t.k t.at t.progress → Moves w u
@@ -400,7 +400,7 @@ sees_moves (Some dump) w k l u at its other (c, new, reader, progress, there, en
       )
     ]
 
-forgets_moves : (w : World) (x : Back w) (o : Option ℕ) (u : World) → w.own ≡ o → u ≡ record (forgotten_from (calm w) o) { caller = back_caller w x } → Moves w u
+forgets_moves : (w : World) (x : Back w) (o : Option ℕ) (u : World) → w.own ≡ o → u ≡ record (forgotten_from (with_no_failure w) o) { caller = back_caller w x } → Moves w u
 forgets_moves w x None u own is = (forgets x own, is)
 forgets_moves w x (Some k) u own is = (gives_up x k own, is)
 

@@ -89,7 +89,7 @@ unfolding CanCall
 space_can capacity set t request count met place to from done short = elim (or_above count 0) [
   | inl none ↦ not_reopened (inr (λ comes. (let some = from comes in omega (arith, some, none))))
   | inr some ↦ elim (none_or_set set) [
-    | inl calm ↦ not_reopened (inl calm)
+    | inl with_no_failure ↦ not_reopened (inl with_no_failure)
     | inr other ↦ fails capacity set t request other.0 (to some)
   ]
 ]

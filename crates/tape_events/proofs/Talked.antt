@@ -22,7 +22,7 @@ use Rattle.dump_client.specs.declared.stage.Progress.TheVariants as moved
 use Rattle.tape_events.specs.World.{World, Connection, Dumping, Begun, Caller, numbered, Kept}
 use Rattle.tape_events.specs.Events.{PlainEvent}
 use Rattle.tape_events.specs.Events.PlainEvent.{StartRun, Connect, Send, ToServer, Serve, ToClient, Cut, EndAtServer, EndAtClient, ServerRestart, ClientRestart, Respond, Arrange, Stranger, Says, Enter, Save}
-use Rattle.tape_events.specs.Changes.{changed, side_of, new_connection, over_there, over_here, noted_sent, sent_on, came_to, calm}
+use Rattle.tape_events.specs.Changes.{changed, side_of, new_connection, over_there, over_here, noted_sent, sent_on, came_to, with_no_failure}
 use Rattle.tape_events.specs.First.{PlainDriveSpec, AreGoodDrives, first_world}
 use Rattle.tape_events.specs.Steps.{Happens, Sends, Finds, Hears, SeesEnd, Runs, none, one_more, forgotten_from, sent_connection, is_failing, fresh, ComesBack}
 use Rattle.tape_events.specs.Kept.{IsWorldKept}
@@ -168,7 +168,7 @@ sees_dumped None k w j u is = dumped_as k w u _ is (changed_dumped k w.connectio
 sees_dumped (Some dump) k w j u (c, at, reader, progress, there, cuts, has, is) =
     dumped_as k w u _ is (came_dumped k w.connections _ j at progress (changed_dumped k w.connections w.connections over_there j (λ x. refl) (same_dumped k w.connections)))
 
-forgotten_dumped : (k : ℕ) (w : World) (o : Option ℕ) → Dumped k w.connections (forgotten_from (calm w) o).connections
+forgotten_dumped : (k : ℕ) (w : World) (o : Option ℕ) → Dumped k w.connections (forgotten_from (with_no_failure w) o).connections
 forgotten_dumped k w None = same_dumped k w.connections
 forgotten_dumped k w (Some j) = changed_dumped k w.connections w.connections over_there j (λ x. refl) (same_dumped k w.connections)
 

@@ -40,8 +40,8 @@ abbrev pub HasDump : World → ℕ → Dumping → Type 0
 HasDump w k d = (l : Connection) × (connection_of w k ≡ Some l) × (l.dump ≡ Some d)
 
 -- the last event made nothing fail
-abbrev pub calm : World → World
-calm w = record w { failure = None }
+abbrev pub with_no_failure : World → World
+with_no_failure w = record w { failure = None }
 
 -- a new connection: its server's side reads from the start, and has nothing open
 abbrev pub new_connection : Option Dumping → Connection

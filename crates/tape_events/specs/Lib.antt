@@ -19,4 +19,4 @@ pub mod Attempts
 pub mod Sparing
 pub mod Serving
 pub mod Talk
-pub mod Smooth
+pub mod Faultless

@@ -30,7 +30,7 @@ use Rattle.tape_events.specs.World.{World, Connection, Dumping, Begun, Caller, K
 use Rattle.tape_events.specs.Events.{PlainEvent}
 use Rattle.tape_events.specs.Events.PlainEvent.{StartRun, Connect, Send, ToServer, Serve, ToClient, Cut, EndAtServer, EndAtClient, ServerRestart, ClientRestart, Respond, Arrange, Stranger, Says, Enter, Save}
 use Rattle.tape_events.specs.Rows.{Possible}
-use Rattle.tape_events.specs.Changes.{changed, side_of, connection_of, calm, joined, sent_on, other_left, given_up, ended_at, restarted, opened_reel, opening, list_in, reel_written, writing, answered, noted_sent, counted_from, came_to}
+use Rattle.tape_events.specs.Changes.{changed, side_of, connection_of, with_no_failure, joined, sent_on, other_left, given_up, ended_at, restarted, opened_reel, opening, list_in, reel_written, writing, answered, noted_sent, counted_from, came_to}
 
 abbrev pub caller : ℕ → Standing → ReplyHeld → Caller
 caller number at reader = record { number = number; at = at; reader = reader }
@@ -105,14 +105,14 @@ IsPushed before piece after =
 
 -- so many bytes are pushed
 abbrev pub reached_by : World → ℕ → ℕ → ServerConnection → RequestHeld → World
-reached_by w k n s reached = record (calm w) {
+reached_by w k n s reached = record (with_no_failure w) {
   server = server w.server.library w.server.holders (with_numbered w.server.sides k (Some (side reached s.session)));
   connections = changed (λ l. record l { toward = drop n l.toward }) w.connections k;
 }
 
 -- one request is carried out, and its reply is on the way back
 abbrev pub carried : World → ℕ → PlainRequest → PlainReply → RequestHeld → TapeLibrary → PlainSession → List ℕ → World
-carried w k request reply reached library session holders = record (calm w) {
+carried w k request reply reached library session holders = record (with_no_failure w) {
   server = server library holders (with_numbered w.server.sides k (Some (side reached session)));
   connections = changed (answered request reply) w.connections k;
   opens = w.opens ++ option_to_list (option_map (opening k) (opened_reel request library session));
@@ -127,12 +127,12 @@ Finds w k trouble s (Ok (Some request)) rest u =
     (reply : PlainReply) × (reached : RequestHeld) × (library : TapeLibrary) × (session : PlainSession) × (holders : List ℕ) × Unread reached rest
     × TroubledServe trouble w.server.holders k (session_view w.server.library s.session) request reply (session_view library session) holders
     × (u ≡ carried w k request reply reached library session holders)
-Finds w k trouble s (Err fault) rest u = u ≡ ended_at (calm w) k
+Finds w k trouble s (Err fault) rest u = u ≡ ended_at (with_no_failure w) k
 
 -- so many bytes are fed to the client, and what comes of that is told of its connection
 abbrev pub heard : World → ℕ → ℕ → Caller → Standing → ReplyHeld → Progress → World
 heard w k n c at reader progress =
-    came_to (counted_from (record (calm w) {
+    came_to (counted_from (record (with_no_failure w) {
       connections = changed (λ l. record l { back = drop n l.back }) w.connections k;
       caller = Some (caller c.number at reader);
     })
@@ -140,7 +140,7 @@ heard w k n c at reader progress =
 
 -- a stranger drops what reaches it
 abbrev pub Hears : Option Dumping → World → ℕ → ℕ → List ℕ → World → Type 0
-Hears None w k n piece u = u ≡ record (calm w) { connections = changed (λ l. record l { back = drop n l.back }) w.connections k }
+Hears None w k n piece u = u ≡ record (with_no_failure w) { connections = changed (λ l. record l { back = drop n l.back }) w.connections k }
 Hears (Some dump) w k n piece u =
     (c : Caller) × (fed : List ℕ) × (at : Standing) × (reader : ReplyHeld) × (progress : Progress) × (w.caller ≡ Some c)
     × HasFedAt c.at.stage c.reader fed × FedAt c.at.stage c.at fed piece progress at
@@ -148,11 +148,11 @@ Hears (Some dump) w k n piece u =
 
 -- the side that is not the server's sees the end
 abbrev pub SeesEnd : Option Dumping → World → ℕ → World → Type 0
-SeesEnd None w k u = u ≡ other_left (calm w) k
+SeesEnd None w k u = u ≡ other_left (with_no_failure w) k
 SeesEnd (Some dump) w k u =
     (c : Caller) × (at : Standing) × (reader : ReplyHeld) × (progress : Progress) × (w.caller ≡ Some c)
     × CutAt c.at.stage c.at progress at × HasFedAt at.stage reader []
-    × (u ≡ came_to (record (given_up (calm w) k) { caller = Some (caller c.number at reader) }) k at progress)
+    × (u ≡ came_to (record (given_up (with_no_failure w) k) { caller = Some (caller c.number at reader) }) k at progress)
 
 -- the client's own connection, if it has one, is over on its side
 abbrev pub forgotten_from : World → Option ℕ → World
@@ -162,10 +162,10 @@ forgotten_from w (Some k) = given_up w k
 -- The client forgets its run; or, where a run is kept, it comes back with that and with the list that is kept, finished where this
 -- covers the run.
 abbrev pub ComesBack : Option Kept → World → World → Type 0
-ComesBack None w u = u ≡ record (forgotten_from (calm w) w.own) { caller = None }
+ComesBack None w u = u ≡ record (forgotten_from (with_no_failure w) w.own) { caller = None }
 ComesBack (Some kept) w u =
     (b : Begun) × (at : Standing) × (reader : ReplyHeld) × (numbered w.begun kept.run ≡ Some b) × IsOver b.run kept.listed at
-    × (u ≡ record (forgotten_from (calm w) w.own) { caller = Some (caller kept.run at reader) })
+    × (u ≡ record (forgotten_from (with_no_failure w) w.own) { caller = Some (caller kept.run at reader) })
 
 -- an answer by which the run is given up drops what is kept
 abbrev pub kept_after : Answer → Option Kept → Option Kept
@@ -176,7 +176,7 @@ abbrev pub entry_of : PlainRun → DatesEntry
 entry_of run = record { name = run.name; level = run.level; date = run.date }
 
 abbrev pub recorded : World → Caller → World
-recorded w c = record (calm w) {
+recorded w c = record (with_no_failure w) {
   entered = w.entered ++ record { run = c.number; listed = c.at.counts } ∷ [];
   kept = None;
   dates = entered w.dates (entry_of c.at.run);
@@ -196,26 +196,26 @@ WorldStep w (Serve k trouble) u =
     (s : ServerConnection) × (found : Result (Option PlainRequest) WireFault) × (bytes : List ℕ) × (rest : List ℕ) × (side_of w.server k ≡ Some s)
     × Unread s.reached bytes × Gives bytes found rest × Finds w k trouble s found rest u
 WorldStep w (ToClient k n) u = (l : Connection) × (connection_of w k ≡ Some l) × Hears l.dump w k n (take n l.back) u
-WorldStep w (Cut k) u = u ≡ record (calm w) { connections = changed (λ l. record l { cut = true }) w.connections k }
-WorldStep w (EndAtServer k) u = u ≡ ended_at (calm w) k
+WorldStep w (Cut k) u = u ≡ record (with_no_failure w) { connections = changed (λ l. record l { cut = true }) w.connections k }
+WorldStep w (EndAtServer k) u = u ≡ ended_at (with_no_failure w) k
 WorldStep w (EndAtClient k) u = (l : Connection) × (connection_of w k ≡ Some l) × SeesEnd l.dump w k u
-WorldStep w ServerRestart u = u ≡ restarted (calm w)
+WorldStep w ServerRestart u = u ≡ restarted (with_no_failure w)
 WorldStep w ClientRestart u = ComesBack w.kept w u
 WorldStep w (Respond answer) u =
     (c : Caller) × (reader : ReplyHeld) × (w.caller ≡ Some c) × (c.at.stage ≡ Asking)
-    × (u ≡ record (calm w) {
+    × (u ≡ record (with_no_failure w) {
       caller = Some (caller c.number (standing c.at.run c.at.counts (stage_after answer)) reader);
       kept = kept_after answer w.kept;
     })
 WorldStep w (Arrange drive reels) u =
     (d : ℕ) × IsDriveNamed drive w.server.library (Some d)
-    × (u ≡ record (calm w) { server = server (arranged w.server.library d reels) w.server.holders w.server.sides })
-WorldStep w Stranger u = u ≡ joined (calm w) None
+    × (u ≡ record (with_no_failure w) { server = server (arranged w.server.library d reels) w.server.holders w.server.sides })
+WorldStep w Stranger u = u ≡ joined (with_no_failure w) None
 WorldStep w (Says k bytes) u =
-    u ≡ record (calm w) { connections = changed (λ l. record l { toward = sent_on l.cut l.toward bytes }) w.connections k }
+    u ≡ record (with_no_failure w) { connections = changed (λ l. record l { toward = sent_on l.cut l.toward bytes }) w.connections k }
 WorldStep w Enter u = (c : Caller) × (w.caller ≡ Some c) × (u ≡ recorded w c)
 WorldStep w Save u =
-    (c : Caller) × (w.caller ≡ Some c) × (u ≡ record (calm w) { kept = Some (record { run = c.number; listed = c.at.counts }) })
+    (c : Caller) × (w.caller ≡ Some c) × (u ≡ record (with_no_failure w) { kept = Some (record { run = c.number; listed = c.at.counts }) })
 
 -- the event is possible, and this is the world after it
 abbrev pub Happens : World → PlainEvent → World → Type 0

@@ -4,7 +4,7 @@ ghost use Rattle.std.specs.Prelude.{◌≡◌, ◌⊎◌, ℕ, List, ◌++◌};
 ghost use Rattle.rmt_wire.specs.Request.{PlainRequest};
 ghost use Rattle.tape.specs.declared.trouble.Trouble.{Trouble};
 ghost use Rattle.tape_events.specs.World.{World, Dumping, Count};
-ghost use Rattle.tape_events.specs.Changes.{HasDump, calm, ended_at};
+ghost use Rattle.tape_events.specs.Changes.{HasDump, with_no_failure, ended_at};
 ghost use Rattle.tape_events.specs.Events.{PlainEvent};
 ghost use Rattle.tape_events.specs.Events.PlainEvent.{Serve};
 ghost use Rattle.tape_events.specs.Rows.{Possible};
@@ -98,7 +98,7 @@ pub fn kept()
 /// It does nothing: its contract is a law of the definitions.
 pub fn one_request()
     ensures carries { (w u : World) (k : ℕ) (trouble : Trouble) → Happens w (Serve k trouble) u →
-        ServerTurn w k trouble u ⊎ (u ≡ ended_at (calm w) k) }
+        ServerTurn w k trouble u ⊎ (u ≡ ended_at (with_no_failure w) k) }
     ensures next_request { (w u : World) (k : ℕ) (t : Trouble) (c : ServerTurn w k t u) (d : Dumping) →
         IsWorldKept w → HasDump w k d → IsNextSent w d c.request }
     ensures stale_requests { (w u : World) (k : ℕ) (trouble : Trouble) (c : ServerTurn w k trouble u) → IsWorldKept w →

@@ -7,4 +7,4 @@ mod laws;
 mod order;
 
 pub use laws::{kept, one_request, one_run};
-pub use order::smooth;
+pub use order::faultless;

@@ -6,7 +6,7 @@ ghost use Rattle.tape_events.specs.Events.{PlainEvent};
 ghost use Rattle.tape_events.specs.Steps.{Runs, Happens};
 ghost use Rattle.tape_events.specs.First.{PlainDriveSpec, AreGoodDrives, first_world};
 ghost use Rattle.tape_events.specs.Kept.{IsWorldKept};
-ghost use Rattle.tape_events.specs.Smooth.{IsFaultless, AreFaultless, IsSmooth, VolumesInOrder};
+ghost use Rattle.tape_events.specs.Faultless.{IsFaultless, AreFaultless, IsFaultlessWorld, VolumesInOrder};
 
 use dump_client::same_run;
 use rmt_wire::{dropped_writes, one_reading, one_reply};
@@ -18,11 +18,11 @@ use rmt_wire::{dropped_writes, one_reading, one_reply};
 /// bin has these reels, in order.
 ///
 /// It does nothing: its contract is a law of the definitions.
-pub fn smooth()
-    ensures first { (drive : PlainDriveSpec) → IsSmooth drive (first_world (drive ∷ [])) }
-    ensures after { (drive : PlainDriveSpec) (w u : World) (event : PlainEvent) → IsWorldKept w → IsSmooth drive w →
-        IsFaultless event → Happens w event u → IsSmooth drive u }
-    ensures in_order { (drive : PlainDriveSpec) (w : World) → IsWorldKept w → IsSmooth drive w → VolumesInOrder drive w }
+pub fn faultless()
+    ensures first { (drive : PlainDriveSpec) → IsFaultlessWorld drive (first_world (drive ∷ [])) }
+    ensures after { (drive : PlainDriveSpec) (w u : World) (event : PlainEvent) → IsWorldKept w → IsFaultlessWorld drive w →
+        IsFaultless event → Happens w event u → IsFaultlessWorld drive u }
+    ensures in_order { (drive : PlainDriveSpec) (w : World) → IsWorldKept w → IsFaultlessWorld drive w → VolumesInOrder drive w }
     ensures runs { (drive : PlainDriveSpec) (events : List PlainEvent) (w : World) → AreGoodDrives (drive ∷ []) →
         AreFaultless events → Runs (first_world (drive ∷ [])) events w → VolumesInOrder drive w }
 {

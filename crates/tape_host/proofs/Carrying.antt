@@ -14,7 +14,7 @@ use Rattle.rmt_server.specs.Carrying.{IsCarriedOut}
 use Rattle.rmt_server.specs.Troubling.{with_trouble}
 use Rattle.rmt_server.specs.Memory.{MemoryState, in_memory, session_view_seen}
 use Rattle.rmt_server.specs.TroubledServe.{TroubledServe, IsTroubled, IsSetFor, set_for, with_troubles, IsServedUnder}
-use Rattle.tape_host.specs.Hosting.{IsCalmAt, IsCarried}
+use Rattle.tape_host.specs.Hosting.{IsUntroubledAt, IsCarried}
 use Rattle.tape_host.proofs.Ended.{TellsSessionView}
 
 -- what the laws of sessions say
@@ -33,12 +33,12 @@ same_drive trouble None = refl
 same_drive trouble (Some device) = refl
 
 module _ (laws : Laws) (trouble : Trouble) (request : PlainRequest) (reply : PlainReply) (reel : Trouble) (stacks : Bool) (old middle : MemoryState)
-    (placed : set_for trouble request old ≡ with_troubles reel stacks old) (calm : IsCalmAt old)
+    (placed : set_for trouble request old ≡ with_troubles reel stacks old) (untroubled : IsUntroubledAt old)
     (carried : IsCarriedOut in_memory (with_troubles reel stacks old) request reply middle) where
   under : IsServedUnder trouble (with_troubles reel stacks old) (session_view_seen old) request reply middle
-  under = laws.serves trouble (with_troubles reel stacks old) middle (session_view_seen old) request reply (laws.at reel stacks old calm.at)
-      (laws.told reel stacks old (session_view_seen old) (laws.session_view old calm.told))
-      (subst (IsSetFor trouble request) placed (laws.request trouble request old calm.calm.lying)) carried
+  under = laws.serves trouble (with_troubles reel stacks old) middle (session_view_seen old) request reply (laws.at reel stacks old untroubled.at)
+      (laws.told reel stacks old (session_view_seen old) (laws.session_view old untroubled.told))
+      (subst (IsSetFor trouble request) placed (laws.request trouble request old untroubled.untroubled.lying)) carried
 
   tells : Tells in_memory (with_troubles NoTrouble false middle) under.after
   tells = laws.told NoTrouble false middle under.after under.tells
@@ -57,10 +57,10 @@ module _ (laws : Laws) (trouble : Trouble) (request : PlainRequest) (reply : Pla
   carried_so = record {
     served = subst (λ v. TroubledServe trouble old.drives.holds.numbers old.seat.number (session_view_seen old) request reply v middle.drives.holds.numbers)
         (laws.one (with_troubles NoTrouble false middle) under.after tells) under.served;
-    calm = record {
+    untroubled = record {
       at = laws.at NoTrouble false middle carried.at;
       told = (refl, subst EachReelOnce tells.library.0 tells.library.1);
-      calm = laws.set NoTrouble false middle under.lying;
+      untroubled = laws.set NoTrouble false middle under.lying;
     };
     kept = kept;
     same_seats = carried.same_seats;

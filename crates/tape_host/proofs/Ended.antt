@@ -58,9 +58,9 @@ still_held (Some drive) d m n e x = elim (eq_or_ne d drive) [
   | inr other ↦ (grind (arith, common_steps), λ o. other (sym (some_is drive d o)))
 ]
 
-calm_reel : (reel : Option TroubledTape) → MatchOption reel (Unit {0}) (λ r. r.trouble ≡ NoTrouble) → ReelCanFail of_reel reel → ⊥
-calm_reel None calm f = f
-calm_reel (Some r) calm f = f calm
+untroubled_reel : (reel : Option TroubledTape) → MatchOption reel (Unit {0}) (λ r. r.trouble ≡ NoTrouble) → ReelCanFail of_reel reel → ⊥
+untroubled_reel None untroubled f = f
+untroubled_reel (Some r) untroubled f = f untroubled
 
 module _ (others : OthersStay) {drives drives' : MemoryDrives} {k : ℕ} {one after : MemorySessionState} (number : one.seat.number ≡ k)
     (at : IsAt in_memory (state drives one)) (at' : IsAt in_memory (state drives' after))
@@ -73,7 +73,7 @@ module _ (others : OthersStay) {drives drives' : MemoryDrives} {k : ℕ} {one af
     at = session_state_stays n s.session apart l.number l.at;
     number = l.number;
     readable = l.readable;
-    calm = l.calm;
+    untroubled = l.untroubled;
   }
 
   idle_stays : (n : ℕ) (session_state : MemorySessionState) → n ≢ k → IsIdleAt drives n session_state → IsIdleAt drives' n session_state
@@ -90,14 +90,14 @@ module _ (others : OthersStay) (session_view : TellsSessionView) (ends : EndsUnt
   live : IsLive drives k s
   live = h.live k s is
 
-  calm_before : SessionCanFail in_memory (state drives s.session) → ⊥
-  calm_before (inl (inl f)) = let q = h.quiet in absurd cc
-  calm_before (inl (inr f)) = absurd (omega (arith, f, h.lying))
-  calm_before (inr f) = calm_reel (reel_of s.session.opened) live.calm f
+  untroubled_before : SessionCanFail in_memory (state drives s.session) → ⊥
+  untroubled_before (inl (inl f)) = let q = h.quiet in absurd cc
+  untroubled_before (inl (inr f)) = absurd (omega (arith, f, h.lying))
+  untroubled_before (inr f) = untroubled_reel (reel_of s.session.opened) live.untroubled f
 
   left : IsEnded (state drives s.session) (session_view_seen (state drives s.session)) (state drives' after)
   left = ends false (state drives s.session) (state drives' after) (session_view_seen (state drives s.session)) live.at (session_view (state drives s.session) h.told)
-      record { online = live.calm; next = h.quiet; lying = h.lying } c
+      record { online = live.untroubled; next = h.quiet; lying = h.lying } c
 
   ended_live : (n : ℕ) (x : RealServerConnection) → side_at (with_side_at sides k None) n ≡ Some x → IsLive drives' n x
   ended_live n x e = elim (eq_or_ne n k) [
@@ -131,7 +131,7 @@ module _ (others : OthersStay) (session_view : TellsSessionView) (ends : EndsUnt
         (waiting_stays others live.number live.at c.at c.kept (length sides) next (side_within sides k s is).1 c.same_seats h.waiting);
     told = (refl, subst EachReelOnce left.tells.library.0 left.tells.library.1);
     paired = c.kept.same_holds ∙ h.paired ∙ sym c.kept.same_stacks;
-    quiet = false_unless drives'.stacks.trouble (λ t. calm_before (c.quiet (inl (inl t))));
+    quiet = false_unless drives'.stacks.trouble (λ t. untroubled_before (c.quiet (inl (inl t))));
     lying = left.lying;
     tidy = ended_tidy;
   }

@@ -26,7 +26,7 @@ use Rattle.tape_host.proofs.Lying.{lie_first, none_away}
 use Rattle.tape_host.proofs.Sides.{side_within, side_map, at_more}
 use Rattle.tape_host.proofs.Tidied.{joined_tidy, none_online}
 use Rattle.tape_host.specs.Lying.{AllLie, IsOnlineAt}
-use Rattle.tape_host.specs.Hosting.{MemoryDrives, MemorySessionState, seen_side, server_of, is_nothing, IsIdle, IsMade, IsCalm, IsLive, IsIdleAt, IsNextWaiting, IsHosting}
+use Rattle.tape_host.specs.Hosting.{MemoryDrives, MemorySessionState, seen_side, server_of, is_nothing, IsIdle, IsMade, IsUntroubled, IsLive, IsIdleAt, IsNextWaiting, IsHosting}
 
 -- without connections no side is live
 none_live : {S : Type 0} (k : ℕ) (s : S) → side_at [] k ≡ Some s → ⊥
@@ -126,7 +126,7 @@ seated_hosting more drives sides h seat new e number own idle =
         at = more drives s.session (drives.holds.last + 1) l.at (omega arith);
         number = l.number;
         readable = l.readable;
-        calm = l.calm;
+        untroubled = l.untroubled;
       });
       held = h.held;
       waiting = (
@@ -191,7 +191,7 @@ module _ {drives : MemoryDrives} {sides : List (Option RealServerConnection)} {s
     at = h.waiting.1.at;
     number = h.waiting.1.number ∙ sym e;
     readable = ([], h.waiting.2);
-    calm = subst IsCalm (sym h.waiting.1.idle) tt;
+    untroubled = subst IsUntroubled (sym h.waiting.1.idle) tt;
   }
 
   joined_live : (k : ℕ) (x : RealServerConnection) → side_at (sides ++ Some s ∷ []) k ≡ Some x → IsLive drives k x

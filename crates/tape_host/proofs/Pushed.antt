@@ -30,7 +30,7 @@ module _ {drives : MemoryDrives} {sides : List (Option RealServerConnection)} {n
   here = let within = side_within sides k s is in side_same sides k (Some (with_reader s reader)) within.0 within.1
 
   read_live : IsLive drives k (with_reader s reader)
-  read_live = let l = h.live k s is in record { at = l.at; number = l.number; readable = readable; calm = l.calm }
+  read_live = let l = h.live k s is in record { at = l.at; number = l.number; readable = readable; untroubled = l.untroubled }
 
   pushed_live : (n : ℕ) (x : RealServerConnection) → side_at (with_side_at sides k (Some (with_reader s reader))) n ≡ Some x → IsLive drives n x
   pushed_live n x e = elim (eq_or_ne n k) [

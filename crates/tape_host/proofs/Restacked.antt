@@ -67,15 +67,15 @@ module _ (free : LeavesFree) (elsewhere : StaysElsewhere) {drives : MemoryDrives
       → MatchResult result (λ _. library_of stacks ≡ arranged (library_of drives.stacks) d names) (λ _. library_of stacks ≡ library_of drives.stacks)
       → IsLibrary stacks (library_of stacks) → (StacksCanFail stacks → StacksCanFail drives.stacks) → IsHosting after sides next
   restacked_hosting names result order told quiet =
-      let calm : StacksCanFail drives.stacks → ⊥ = cannot drives.stacks h.quiet h.lying in
+      let untroubled : StacksCanFail drives.stacks → ⊥ = cannot drives.stacks h.quiet h.lying in
       record {
-        live = λ k s e. (let l = h.live k s e in record { at = session_state_stays s.session l.at; number = l.number; readable = l.readable; calm = l.calm });
+        live = λ k s e. (let l = h.live k s e in record { at = session_state_stays s.session l.at; number = l.number; readable = l.readable; untroubled = l.untroubled });
         held = h.held;
         waiting = waiting_stays (length sides) next h.waiting;
         told = told;
         paired = h.paired ∙ sym same;
-        quiet = false_unless stacks.trouble (λ t. calm (quiet (inl t)));
-        lying = none_unless (troubled_in stacks.library) (λ x. calm (quiet (inr x)));
+        quiet = false_unless stacks.trouble (λ t. untroubled (quiet (inl t)));
+        lying = none_unless (troubled_in stacks.library) (λ x. untroubled (quiet (inr x)));
         tidy = restacked_tidy names result order;
       }
 

@@ -18,7 +18,7 @@ use Rattle.tape_host.specs.declared.turn.Turn.{Turn}
 use Rattle.tape_host.specs.declared.turn.Turn.TheVariants as turns
 use Rattle.tape_host.specs.Servers.{Hosted, hosted, side_at, with_side_at}
 use Rattle.tape_host.specs.Turns.{TurnsAt, with_back}
-use Rattle.tape_host.specs.Hosting.{MemoryDrives, seen_side, server_of, IsLive, IsNextWaiting, IsHosting, IsCalmAt, IsCarried, TurnsSession, session_back}
+use Rattle.tape_host.specs.Hosting.{MemoryDrives, seen_side, server_of, IsLive, IsNextWaiting, IsHosting, IsUntroubledAt, IsCarried, TurnsSession, session_back}
 use Rattle.tape_host.proofs.Sides.{side_within, side_other, side_same, side_map, length_with, map_with, with_own}
 use Rattle.tape_host.specs.Lying.{LieBut, IsOnlineAt}
 use Rattle.tape_host.proofs.Tidied.{OnlineBeside, served_fits, side_tidy}
@@ -51,9 +51,9 @@ holder_after before after k d n holders l e x =
       ]
     ]
 
-pub calm_at : (drives : MemoryDrives) (sides : List (Option RealServerConnection)) (next : Next) (k : ℕ) (s : RealServerConnection) → IsHosting drives sides next → side_at sides k ≡ Some s
-    → IsCalmAt (state drives s.session)
-calm_at drives sides next k s h is = let l = h.live k s is in record { at = l.at; told = h.told; calm = record { online = l.calm; next = h.quiet; lying = h.lying } }
+pub untroubled_at : (drives : MemoryDrives) (sides : List (Option RealServerConnection)) (next : Next) (k : ℕ) (s : RealServerConnection) → IsHosting drives sides next → side_at sides k ≡ Some s
+    → IsUntroubledAt (state drives s.session)
+untroubled_at drives sides next k s h is = let l = h.live k s is in record { at = l.at; told = h.told; untroubled = record { online = l.untroubled; next = h.quiet; lying = h.lying } }
 
 module _ (others : OthersStay) {drives drives' : MemoryDrives} {sides : List (Option RealServerConnection)} {next : Next} (h : IsHosting drives sides next) (k : ℕ)
     (s after : RealServerConnection) (is : side_at sides k ≡ Some s) (readable : (bytes : List ℕ) × Unread after.reader bytes) (trouble : Trouble)
@@ -65,14 +65,14 @@ module _ (others : OthersStay) {drives drives' : MemoryDrives} {sides : List (Op
   here = let within = side_within sides k s is in side_same sides k (Some after) within.0 within.1
 
   after_live : IsLive drives' k after
-  after_live = record { at = c.calm.at; number = c.kept.number ∙ live.number; readable = readable; calm = c.calm.calm.online }
+  after_live = record { at = c.untroubled.at; number = c.kept.number ∙ live.number; readable = readable; untroubled = c.untroubled.untroubled.online }
 
   carried_live : (n : ℕ) (x : RealServerConnection) → side_at (with_side_at sides k (Some after)) n ≡ Some x → IsLive drives' n x
   carried_live n x e = elim (eq_or_ne n k) [
     | inl same ↦ (
         let found = subst (λ m. side_at (with_side_at sides k (Some after)) m ≡ Some x) same e in
         subst (λ m. IsLive drives' m x) (sym same) (subst (IsLive drives' k) (same_Some after x (sym here ∙ found)) after_live))
-    | inr apart ↦ live_stays others live.number live.at c.calm.at c.kept n x apart (h.live n x (sym (side_other sides k n (Some after) apart) ∙ e))
+    | inr apart ↦ live_stays others live.number live.at c.untroubled.at c.kept n x apart (h.live n x (sym (side_other sides k n (Some after) apart) ∙ e))
   ]
 
   -- a side stays at its place
@@ -102,11 +102,11 @@ module _ (others : OthersStay) {drives drives' : MemoryDrives} {sides : List (Op
     live = carried_live;
     held = carried_held;
     waiting = subst (λ n. IsNextWaiting drives' n next) (sym (length_with sides k (Some after)))
-        (waiting_stays others live.number live.at c.calm.at c.kept (length sides) next (side_within sides k s is).1 c.same_seats h.waiting);
-    told = c.calm.told;
+        (waiting_stays others live.number live.at c.untroubled.at c.kept (length sides) next (side_within sides k s is).1 c.same_seats h.waiting);
+    told = c.untroubled.told;
     paired = c.kept.same_holds ∙ h.paired ∙ sym c.kept.same_stacks;
-    quiet = c.calm.calm.next;
-    lying = c.calm.calm.lying;
+    quiet = c.untroubled.untroubled.next;
+    lying = c.untroubled.untroubled.lying;
     tidy = carried_tidy;
   }
 

@@ -72,15 +72,15 @@ IsMade (Seat seat) next = (next ≡ Seat seat) ⊎ ((s : RealServerConnection) �
 IsMade old next = next ≡ old
 
 -- no trouble is set for the open reel
-abbrev pub IsCalm : Option (Opened TroubledTape) → Type 0
-IsCalm opened = MatchOption (reel_of opened) (Unit {0}) (λ r. r.trouble ≡ NoTrouble)
+abbrev pub IsUntroubled : Option (Opened TroubledTape) → Type 0
+IsUntroubled opened = MatchOption (reel_of opened) (Unit {0}) (λ r. r.trouble ≡ NoTrouble)
 
 -- The drives are those of a side, whose seat has its connection's number. For its open reel no trouble is set.
 pub record IsLive (drives : MemoryDrives) (k : ℕ) (s : RealServerConnection) : Type 0 where
   pub at : IsAt in_memory (state drives s.session)
   pub number : s.session.seat.number ≡ k
   pub readable : (bytes : List ℕ) × Unread s.reader bytes
-  pub calm : IsCalm s.session.opened
+  pub untroubled : IsUntroubled s.session.opened
 
 -- the drives are those of a seat of this number, which has nothing open
 pub record IsIdleAt (drives : MemoryDrives) (k : ℕ) (session_state : MemorySessionState) : Type 0 where
@@ -107,17 +107,17 @@ pub record IsHosting (drives : MemoryDrives) (sides : List (Option RealServerCon
   pub tidy : LieBut (library_of drives.stacks) (IsOnlineAt (map (option_map seen_side) sides))
 
 -- The drives are those of a session for which no trouble is set, and each reel stands once.
-pub record IsCalmAt (x : MemoryState) : Type 0 where
+pub record IsUntroubledAt (x : MemoryState) : Type 0 where
   pub at : IsAt in_memory x
   pub told : IsLibrary x.drives.stacks (library_of x.drives.stacks)
-  pub calm : IsTroubled NoTrouble false x
+  pub untroubled : IsTroubled NoTrouble false x
 
 -- One request was carried out. It leaves the drives those of other sessions.
 pub record IsCarried (trouble : Trouble) (old : MemoryState) (request : PlainRequest) (reply : PlainReply)
     (new : MemoryState) : Type 0 where
   pub served : TroubledServe trouble old.drives.holds.numbers old.seat.number (session_view_seen old) request reply
       (session_view_seen new) new.drives.holds.numbers
-  pub calm : IsCalmAt new
+  pub untroubled : IsUntroubledAt new
   pub kept : KeepsDrives in_memory old new
   pub same_seats : new.drives.holds.last ≡ old.drives.holds.last
 

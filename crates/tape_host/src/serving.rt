@@ -10,7 +10,7 @@ ghost use Rattle.rmt_server.specs.Replies.{IsSayable};
 ghost use Rattle.rmt_server.specs.Memory.{MemoryState};
 ghost use Rattle.rmt_server.specs.TroubledServe.{with_troubles, set_for};
 ghost use Rattle.tape_host.specs.Turns.{sent_back};
-ghost use Rattle.tape_host.specs.Hosting.{IsCalmAt, CarriesBack, TurnsSession, session_back};
+ghost use Rattle.tape_host.specs.Hosting.{IsUntroubledAt, CarriesBack, TurnsSession, session_back};
 
 use crate::turn::{Carried, Turn};
 use drives::{DriveTable, ListStacks, LocalHolds};
@@ -81,7 +81,7 @@ fn carry(
     back: &mut Vec<u8>,
     lost: bool,
 ) -> Carried
-    requires calm { IsCalmAt (state drives.old session.old) }
+    requires untroubled { IsUntroubledAt (state drives.old session.old) }
     requires sayable { IsSayable (plain_request request) }
     requires room { vec_len back.old + READER_LIMIT ≤ vec_capacity back.old }
     ensures { CarriesBack trouble lost (state drives.old session.old) back.old.items (plain_request request.entry) result
@@ -108,7 +108,7 @@ pub(crate) fn take_turn(
     back: &mut Vec<u8>,
     lost: bool,
 ) -> Turn
-    requires calm { IsCalmAt (state drives.old session.old) }
+    requires untroubled { IsUntroubledAt (state drives.old session.old) }
     requires readable { (bytes : List ℕ) × Unread reader.old bytes }
     requires room { vec_len back.old + READER_LIMIT ≤ vec_capacity back.old }
     ensures { TurnsSession trouble lost (session_back reader.old (state drives.old session.old) back.old.items) result

@@ -8,7 +8,7 @@ use Rattle.dump_client.specs.declared.stage.Progress.{Progress}
 use Rattle.dump_client.specs.declared.stage.Progress.TheVariants as moved
 use Rattle.dump_client.specs.declared.fault.AttemptFault.{AttemptFault}
 use Rattle.tape_events.specs.World.{World, Connection, Dumping, Caller, numbered}
-use Rattle.tape_events.specs.Changes.{changed, changed_from, over_there, calm, other_left, given_up, came_to}
+use Rattle.tape_events.specs.Changes.{changed, changed_from, over_there, with_no_failure, other_left, given_up, came_to}
 use Rattle.tape_events.specs.Steps.{caller, forgotten_from, SeesEnd}
 use Rattle.tape_world.specs.declared.conn.Connection.{Connection as RealConnection}
 use Rattle.tape_world.specs.declared.caller.Begun.{Begun as RealBegun}
@@ -50,11 +50,11 @@ no_source begun c is = absurd cc
 
 -- the world with this client, or with none, whose own connection is over
 abbrev pub gone_from : World → Option ℕ → Option Caller → World
-gone_from w o x = record (calm w) { connections = over_own o w.connections; own = None; caller = x }
+gone_from w o x = record (with_no_failure w) { connections = over_own o w.connections; own = None; caller = x }
 
-pub forgotten_is : (w : World) (o : Option ℕ) (x : Option Caller) → w.own ≡ o → gone_from w o x ≡ record (forgotten_from (calm w) w.own) { caller = x }
-forgotten_is w None x own = ap (λ o. record (calm w) { own = o; caller = x }) (sym own) ∙ ap (λ o. record (forgotten_from (calm w) o) { caller = x }) (sym own)
-forgotten_is w (Some k) x own = ap (λ o. record (forgotten_from (calm w) o) { caller = x }) (sym own)
+pub forgotten_is : (w : World) (o : Option ℕ) (x : Option Caller) → w.own ≡ o → gone_from w o x ≡ record (forgotten_from (with_no_failure w) w.own) { caller = x }
+forgotten_is w None x own = ap (λ o. record (with_no_failure w) { own = o; caller = x }) (sym own) ∙ ap (λ o. record (forgotten_from (with_no_failure w) o) { caller = x }) (sym own)
+forgotten_is w (Some k) x own = ap (λ o. record (forgotten_from (with_no_failure w) o) { caller = x }) (sym own)
 
 pub some_caller : (w : World) (o : Option RealCaller) → w.caller ≡ option_map seen_caller o → is_some o ≡ true → (x : Caller) × (w.caller ≡ Some x)
 some_caller w None was some = absurd cc
@@ -85,13 +85,13 @@ ended w o new failure k was s clients world_state =
 
 -- the client's connection is over
 abbrev pub ended_world : World → ℕ → Option (ℕ × AttemptFault) → Option Caller → World
-ended_world w k failure caller = record (calm w) { connections = changed over_there w.connections k; own = None; caller = caller; failure = failure }
+ended_world w k failure caller = record (with_no_failure w) { connections = changed over_there w.connections k; own = None; caller = caller; failure = failure }
 
 came_is : (w : World) (k : ℕ) (x : Caller) (at : Standing) (progress : Progress)
-    → ended_world w k (failure_of at progress) (Some x) ≡ came_to (record (given_up (calm w) k) { caller = Some x }) k at progress
+    → ended_world w k (failure_of at progress) (Some x) ≡ came_to (record (given_up (with_no_failure w) k) { caller = Some x }) k at progress
 came_is w k x at (moved.Failed fault) =
-    ap (λ ls. record (calm w) { connections = ls; own = None; caller = Some x; failure = Some ((checkpoint_of at.counts).0, fault) }) (sym (over_twice w.connections k))
-came_is w k x at moved.Ended = ap (λ ls. record (calm w) { connections = ls; own = None; caller = Some x }) (sym (over_twice w.connections k))
+    ap (λ ls. record (with_no_failure w) { connections = ls; own = None; caller = Some x; failure = Some ((checkpoint_of at.counts).0, fault) }) (sym (over_twice w.connections k))
+came_is w k x at moved.Ended = ap (λ ls. record (with_no_failure w) { connections = ls; own = None; caller = Some x }) (sym (over_twice w.connections k))
 came_is w k x at moved.Waiting = refl
 came_is w k x at moved.Send = refl
 came_is w k x at moved.Idle = refl
@@ -111,7 +111,7 @@ ended_step w u k d o new failure was e is = (
       ∙ came_is w k (caller e.before.number e.after.client.at e.after.client.reader) e.after.client.at e.progress,
 )
 
-pub strangers_step : (w u : World) (k : ℕ) (dump : Option Dumping) → dump ≡ None → u ≡ other_left (calm w) k → SeesEnd dump w k u
+pub strangers_step : (w u : World) (k : ℕ) (dump : Option Dumping) → dump ≡ None → u ≡ other_left (with_no_failure w) k → SeesEnd dump w k u
 strangers_step w u k dump none is = subst (λ o. SeesEnd o w k u) (sym none) is
 
 pub clients_step : (w u : World) (k : ℕ) (dump : Option Dumping) (d : Dumping) → dump ≡ Some d → SeesEnd (Some d) w k u → SeesEnd dump w k u

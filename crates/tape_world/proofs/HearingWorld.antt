@@ -9,7 +9,7 @@ use Rattle.dump_client.specs.declared.stage.Progress.{Progress}
 use Rattle.dump_client.specs.declared.stage.Progress.TheVariants as moved
 use Rattle.dump_client.specs.declared.fault.AttemptFault.{AttemptFault}
 use Rattle.tape_events.specs.World.{World, Connection, Dumping, Caller, Count, numbered}
-use Rattle.tape_events.specs.Changes.{calm, changed, changed_from, over_there, reel_opened_by, counts_of, came_to}
+use Rattle.tape_events.specs.Changes.{with_no_failure, changed, changed_from, over_there, reel_opened_by, counts_of, came_to}
 use Rattle.tape_events.specs.Steps.{Hears, caller}
 use Rattle.tape_world.specs.declared.conn.Connection.{Connection as RealConnection}
 use Rattle.tape_world.specs.declared.caller.Caller.{Caller as RealCaller}
@@ -67,7 +67,7 @@ heard_world w k n over caller counts failure =
 
 come_is : (w : World) (k n : ℕ) (x : Caller) (counts : List Count) (at : Standing) (progress : Progress)
     → heard_world w k n (is_over progress) (Some x) counts (failure_of at progress)
-    ≡ came_to (record (calm w) { connections = changed (come_back n) w.connections k; caller = Some x; counts = counts }) k at progress
+    ≡ came_to (record (with_no_failure w) { connections = changed (come_back n) w.connections k; caller = Some x; counts = counts }) k at progress
 come_is w k n x counts at (moved.Failed fault) =
     ap (λ ls. record w { connections = ls; own = None; caller = Some x; counts = counts; failure = Some ((checkpoint_of at.counts).0, fault) }) (sym (over_back n w.connections k))
 come_is w k n x counts at moved.Ended =
@@ -106,7 +106,7 @@ heard_step w u k n dump d piece o new h some was e is =
     )
 
 pub dropped_step : (w u : World) (k n : ℕ) (dump : Option Dumping) (piece : List ℕ) → dump ≡ None
-    → u ≡ record (calm w) { connections = changed (come_back n) w.connections k } → Hears dump w k n piece u
+    → u ≡ record (with_no_failure w) { connections = changed (come_back n) w.connections k } → Hears dump w k n piece u
 dropped_step w u k n dump piece none is = subst (λ y. Hears y w k n piece u) (sym none) is
 
 -- what is seen of the counts that are kept

@@ -5,7 +5,7 @@ use Rattle.tape_events.specs.World.{World}
 use Rattle.tape_events.specs.Events.{PlainEvent}
 use Rattle.tape_events.specs.Steps.{Runs}
 use Rattle.tape_events.specs.First.{PlainDriveSpec, AreGoodDrives, first_world}
-use Rattle.tape_events.specs.Smooth.{AreFaultless, VolumesInOrder}
+use Rattle.tape_events.specs.Faultless.{AreFaultless, VolumesInOrder}
 use Rattle.tape_world.specs.Running.{LeavesInOrder}
 
 -- the law of a link without faults

@@ -16,7 +16,7 @@ use Rattle.dump_client.specs.Client.{IsPayload}
 use Rattle.dump_client.specs.declared.stage.Answer.{Answer}
 use Rattle.dump_client.specs.declared.stage.Answer.TheVariants.{Retry, Abandon}
 use Rattle.tape_events.specs.World.{World, Begun, Entered, Kept, numbered}
-use Rattle.tape_events.specs.Changes.{calm}
+use Rattle.tape_events.specs.Changes.{with_no_failure}
 use Rattle.tape_events.specs.Kept.{IsWorldKept}
 use Rattle.tape_events.specs.Rows.{IsRunEntered, MayBeKept}
 use Rattle.tape_events.specs.Steps.{ComesBack, caller, forgotten_from, kept_after}
@@ -179,10 +179,10 @@ back_payload k begun b blocks run payload at backed source same told =
 
 -- the event, by what came back
 pub back_step : (w u : World) (begun : List RealBegun) (kept : Option KeptRun) (new : Option RealCaller) → w.kept ≡ option_map seen_kept kept
-    → w.begun ≡ map seen_begun begun → ComesBackWith begun kept new → u ≡ record (forgotten_from (calm w) w.own) { caller = option_map seen_caller new }
+    → w.begun ≡ map seen_begun begun → ComesBackWith begun kept new → u ≡ record (forgotten_from (with_no_failure w) w.own) { caller = option_map seen_caller new }
     → ComesBack w.kept w u
 back_step w u begun None new is_kept is back now =
-    subst (λ o. ComesBack o w u) (sym is_kept) (now ∙ ap (λ o. record (forgotten_from (calm w) w.own) { caller = option_map seen_caller o }) back)
+    subst (λ o. ComesBack o w u) (sym is_kept) (now ∙ ap (λ o. record (forgotten_from (with_no_failure w) w.own) { caller = option_map seen_caller o }) back)
 back_step w u begun (Some k) new is_kept is (c, there, b) now =
     subst (λ o. ComesBack o w u) (sym is_kept) (
       seen_begun b.run,
@@ -190,8 +190,8 @@ back_step w u begun (Some k) new is_kept is (c, there, b) now =
       c.client.reader,
       ap (λ l. numbered l k.run) is ∙ numbered_seen begun k.run b.run b.begun_as,
       b.over,
-      now ∙ ap (λ o. record (forgotten_from (calm w) w.own) { caller = option_map seen_caller o }) there
-          ∙ ap (λ n. record (forgotten_from (calm w) w.own) { caller = Some (caller n c.client.at c.client.reader) }) b.number,
+      now ∙ ap (λ o. record (forgotten_from (with_no_failure w) w.own) { caller = option_map seen_caller o }) there
+          ∙ ap (λ n. record (forgotten_from (with_no_failure w) w.own) { caller = Some (caller n c.client.at c.client.reader) }) b.number,
     )
 
 -- the client that came back reads the payload of its run

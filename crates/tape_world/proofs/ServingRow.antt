@@ -30,7 +30,7 @@ use Rattle.dumpdates.specs.Entry.{DatesEntry}
 use Rattle.dump_run.specs.declared.count.VolumeCount.{VolumeCount}
 use Rattle.tape_events.specs.World.{World, Connection, Opening, Writing, numbered, with_numbered}
 use Rattle.tape_events.specs.Events.PlainEvent.{Serve}
-use Rattle.tape_events.specs.Changes.{calm, changed, changed_from, ended, side_of, written_reel, opened_reel, opening, list_in, writing, answered, over_here}
+use Rattle.tape_events.specs.Changes.{with_no_failure, changed, changed_from, ended, side_of, written_reel, opened_reel, opening, list_in, writing, answered, over_here}
 use Rattle.tape_events.specs.Rows.{Possible}
 use Rattle.tape_events.specs.Steps.{Happens}
 use Rattle.tape_events.specs.Standing.{AreHeld}
@@ -160,7 +160,7 @@ front_has xs n i y at =
 
 -- the world with this hall, and these connections, openings with their lists, and writings
 abbrev pub left_with : World → ServerState → List Connection → List Opening → List (List VolumeCount) → List Writing → World
-left_with w h connections opens lists writings = record (calm w) { server = h; connections = connections; opens = opens; lists = lists; writings = writings }
+left_with w h connections opens lists writings = record (with_no_failure w) { server = h; connections = connections; opens = opens; lists = lists; writings = writings }
 
 -- what a turn may have noted
 abbrev pub more_opens : World → ℕ → ServerState → Turn → List Opening

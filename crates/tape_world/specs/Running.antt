@@ -6,7 +6,7 @@ use Rattle.tape_events.specs.Events.PlainEvent.{StartRun, Connect, Send, ToServe
 use Rattle.tape_events.specs.Rows.{Possible}
 use Rattle.tape_events.specs.Steps.{Runs}
 use Rattle.tape_events.specs.First.{PlainDriveSpec, AreGoodDrives, first_world}
-use Rattle.tape_events.specs.Smooth.{AreFaultless, VolumesInOrder}
+use Rattle.tape_events.specs.Faultless.{AreFaultless, VolumesInOrder}
 use Rattle.tape_world.specs.declared.event.Event.{Event}
 use Rattle.tape_world.specs.declared.event.Event.TheVariants as lent
 use Rattle.tape_world.specs.declared.stop.EventStop.{EventStop}

@@ -7,7 +7,7 @@ use crate::event::Event;
 use crate::fault::WorldFault;
 use crate::stop::EventStop;
 use crate::world::World;
-use tape_events::smooth;
+use tape_events::faultless;
 
 /// Makes these events, one after the other. Each makes its growths in memory first.
 ///
@@ -25,7 +25,7 @@ pub fn run(world: &mut World, events: &[Event<'_>]) -> Result<(), WorldFault>
     ensures impossible { IfErr result (λ fault. IsEventRefused (map plain_event events.now) world.new fault) }
     ensures in_order { LeavesInOrder world.old (map plain_event events.now) world.new }
 {
-    smooth();
+    faultless();
     for (i, event) in events.iter().enumerate() {
         if let Err(stop) = world.make(event) {
             return Err(fault_of(stop, i));

@@ -25,7 +25,7 @@ returns c =
     let carried = subst (λ x. IsCarriedOut in_memory x request reply middle) c.set_troubles.ensures c.carry_out.follows.holds-at-none in (
       reply,
       subst (IsCarried c.args.trouble old request reply) (sym c.clear_troubles.ensures)
-          (carried_so laws c.args.trouble request reply c.place-reel.result.0 c.place-reel.result.1 old middle (c.place-reel.ensures old) c.requires.calm carried),
+          (carried_so laws c.args.trouble request reply c.place-reel.result.0 c.place-reel.result.1 old middle (c.place-reel.ensures old) c.requires.untroubled carried),
       c.new-carried.ensures,
       c.send_back.ensures,
     )

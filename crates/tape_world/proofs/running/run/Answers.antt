@@ -30,11 +30,11 @@ returns-clause-made c = all_made c.args.world.now c.loop-i.world c.args.events.n
 
 pub returns-in-Err-clause-in_order : goal.returns-in-Err-clause-in_order
 returns-in-Err-clause-in_order c =
-    some_in_order c.smooth.ensures.runs c.args.world.now c.make.new.self (map plain_event c.args.events.now) _
+    some_in_order c.faultless.ensures.runs c.args.world.now c.make.new.self (map plain_event c.args.events.now) _
     (stopped c.args.world.now c.loop-i.world c.make.new.self (map plain_event c.args.events.now) c.loop-i.i (plain_event c.index-events-i.result) c.make.result
     c.in-Err.stop c.fault_of.result (inside_map c.args.events.now c.loop-i.i c.loop-i-test.true) c.loop-i.invariant c.in-Err.is c.make.ensures c.fault_of.ensures).made
 
 pub returns-clause-in_order : goal.returns-clause-in_order
 returns-clause-in_order c =
-    all_in_order c.smooth.ensures.runs c.args.world.now c.loop-i.world (map plain_event c.args.events.now)
+    all_in_order c.faultless.ensures.runs c.args.world.now c.loop-i.world (map plain_event c.args.events.now)
     (all_made c.args.world.now c.loop-i.world c.args.events.now c.loop-i.i c.loop-i-test.false c.loop-i.invariant)

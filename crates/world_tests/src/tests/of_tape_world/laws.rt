@@ -6,7 +6,7 @@ ghost use Rattle.tape_events.specs.Kept.{IsWorldKept};
 
 use super::world::new_world;
 use std::test::Fail;
-use tape_events::{kept, one_request, one_run, smooth};
+use tape_events::{faultless, kept, one_request, one_run};
 use tape_world::{DriveSpec, World};
 
 #[test]
@@ -14,7 +14,7 @@ fn each_law_is_called(_rt: HostRuntime) {
     kept();
     one_request();
     one_run();
-    smooth();
+    faultless();
 }
 
 /// The headline, and what is kept, hold of the world that is asked.

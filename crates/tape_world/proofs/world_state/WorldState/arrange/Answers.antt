@@ -8,7 +8,7 @@ use Rattle.std.specs.List.{list_all}
 use Rattle.std.proofs.lemmas.Bool.{false≢true}
 use Rattle.drives.specs.Arranging.{is_piled}
 use Rattle.tape_world.proofs.Absent.{named_same, may_be, may_parts, if_err, if_ok}
-use Rattle.tape_events.specs.Changes.{calm}
+use Rattle.tape_events.specs.Changes.{with_no_failure}
 use Rattle.tape_events.specs.Steps.{Happens}
 use Rattle.tape_events.specs.Events.PlainEvent.{Arrange}
 use Rattle.tape_host.specs.Servers.{hosted, restacked}
@@ -18,14 +18,14 @@ use Rattle.tape_world.proofs.world_state.WorldState.arrange.Goals as goal
 
 -- the reels are laid there
 happens : (c : After-is_err) → c.is_err.result ≡ false → Happens (the_view c.self.inside) (Arrange c.args.drive.now (map (λ n. n.now) c.args.reels.now))
-    (record (calm (the_view c.self.inside)) { server = c.arrange.new.self.server })
+    (record (with_no_failure (the_view c.self.inside)) { server = c.arrange.new.self.server })
 happens c fine =
     let w = the_view c.self.inside in
     let is : c.arrange.new.self ≡ hosted (restacked c.self.inside.host.server c.in-Some.place (map (λ n. n.now) c.args.reels.now)) c.self.inside.host.ready
     = if_ok c.arrange.result _ _ c.arrange.ensures.arranged (sym c.is_err.ensures.value ∙ fine) in
     let may = may_parts c.self.inside.host.server.library c.in-Some.place (map (λ n. n.now) c.args.reels.now) (sym c.if-not-can_arrange.ensures.may) in (
       (c.in-Some.place, c.in-Some.ensures, search rules, may.0, may.1),
-      (c.in-Some.place, c.in-Some.ensures, ap (λ h. record (calm w) { server = h.server }) is),
+      (c.in-Some.place, c.in-Some.ensures, ap (λ h. record (with_no_failure w) { server = h.server }) is),
     )
 
 pub invariant_of-self-2 : goal.invariant_of-self-2
@@ -34,7 +34,7 @@ invariant_of-self-2 c =
     let same = c.kept.ensures.names w _ (Arrange c.args.drive.now (map (λ n. n.now) c.args.reels.now)) (subst IsWorldKept (sym c.self.view_is) c.requires)
     (happens (goal.at.invariant_of-self-2 c).After-is_err c.if-is_err.false) in (
       c.self.invariant.0,
-      known_after _ w (record (calm w) { server = c.arrange.new.self.server }) c.arrange.new.self.server.library same refl c.self.invariant.1,
+      known_after _ w (record (with_no_failure w) { server = c.arrange.new.self.server }) c.arrange.new.self.server.library same refl c.self.invariant.1,
     )
 
 pub returns-in_default : goal.returns-in_default
@@ -73,7 +73,7 @@ returns-then-is_err c =
 
 pub returns : goal.returns
 returns c =
-    subst (λ (v : World). Happens v (Arrange c.args.drive.now (map (λ n. n.now) c.args.reels.now)) (record (calm (the_view c.self.inside)) { server = c.arrange.new.self.server }))
+    subst (λ (v : World). Happens v (Arrange c.args.drive.now (map (λ n. n.now) c.args.reels.now)) (record (with_no_failure (the_view c.self.inside)) { server = c.arrange.new.self.server }))
     c.self.view_is (happens (goal.at.returns c).After-is_err c.if-is_err.false)
 
 pub arrange-requires-clause-free : goal.arrange-requires-clause-free

@@ -8,7 +8,7 @@ use Rattle.dump_client.specs.declared.step.Step.TheVariants.{Open}
 use Rattle.dump_client.specs.declared.stage.Stage.TheVariants.{ToSend}
 use Rattle.tape_host.specs.Servers.{joined}
 use Rattle.tape_events.specs.World.{World, Caller}
-use Rattle.tape_events.specs.Changes.{calm, new_connection}
+use Rattle.tape_events.specs.Changes.{with_no_failure, new_connection}
 use Rattle.tape_events.specs.Events.PlainEvent.{Connect}
 use Rattle.tape_events.specs.Steps.{caller, client_connected, fresh}
 use Rattle.tape_world.specs.contracts.world_state.WorldState.{the_view}
@@ -43,15 +43,15 @@ returns c =
         seen_caller i.before,
         at,
         stage,
-        ap (λ h. record (calm V) { server = h; connections = map seen_connection c.push_reserved.new.self.items; caller = option_map seen_caller c.start_attempt.new.caller; own = Some c.len.result })
+        ap (λ h. record (with_no_failure V) { server = h; connections = map seen_connection c.push_reserved.new.self.items; caller = option_map seen_caller c.start_attempt.new.caller; own = Some c.len.result })
             (ap (λ h. h.server) c.admit.ensures ∙ ap (λ h. joined h.server) c.in_ok-prepare.ensures)
-            ∙ ap (λ ls. record (calm V) { server = joined V.server; connections = ls; caller = option_map seen_caller c.start_attempt.new.caller; own = Some c.len.result })
+            ∙ ap (λ ls. record (with_no_failure V) { server = joined V.server; connections = ls; caller = option_map seen_caller c.start_attempt.new.caller; own = Some c.len.result })
             (ap (map seen_connection) (c.push_reserved.ensures.items ∙ ap (λ l. l ++ c.new.result ∷ []) c.in_ok-reserve.ensures.items)
             ∙ map-append seen_connection c.self.inside.connections.items (c.new.result ∷ [])
             ∙ ap (λ l. before ++ l ∷ []) (c.new.ensures ∙ ap (λ d. new_connection (Some d)) i.fresh))
-            ∙ ap (λ y. record (calm V) { server = joined V.server; connections = before ++ new_connection (Some (fresh (seen_caller i.before))) ∷ []; caller = y; own = Some c.len.result })
+            ∙ ap (λ y. record (with_no_failure V) { server = joined V.server; connections = before ++ new_connection (Some (fresh (seen_caller i.before))) ∷ []; caller = y; own = Some c.len.result })
             (started_caller c.self.inside.caller c.start_attempt.new.caller c.in_ok-dumping.dumping i)
-            ∙ ap (λ n. record (calm V) { server = joined V.server; connections = before ++ new_connection (Some (fresh (seen_caller i.before))) ∷ []; caller = Some x; own = Some n })
+            ∙ ap (λ n. record (with_no_failure V) { server = joined V.server; connections = before ++ new_connection (Some (fresh (seen_caller i.before))) ∷ []; caller = Some x; own = Some n })
             (number ∙ ap (λ n. n + 1) (sym (length-map c.self.inside.connections.items seen_connection)))
             ∙ ap (λ (w : World). client_connected w (seen_caller i.before)) c.self.view_is,
       ),

@@ -1,7 +1,7 @@
 use Rattle.std.proofs.Common.{refl, sym, ap, ◌∙◌}
 use Rattle.std.specs.Option.{option_copied}
 use Rattle.tape_events.specs.World.{World}
-use Rattle.tape_events.specs.Changes.{changed, calm}
+use Rattle.tape_events.specs.Changes.{changed, with_no_failure}
 use Rattle.tape_world.specs.contracts.world_state.WorldState.{the_view}
 use Rattle.tape_world.specs.Linking.{severed}
 use Rattle.tape_world.specs.Seen.{seen_connection}
@@ -29,10 +29,10 @@ returns c = (
         c.deref.ensures.value c.find.ensures (ap option_copied c.in-Some.is),
     c.if-conn.false,
   ),
-  ap (λ ls. record (calm (the_view c.self.inside)) { connections = ls })
+  ap (λ ls. record (with_no_failure (the_view c.self.inside)) { connections = ls })
       (connections_after severed c.self.inside.connections.len c.self.inside.connections.items c.deref_mut.result.now c.cut.new.connections c.args.connection c.self.inside.connections.ok.0
       c.deref_mut.ensures.value c.cut.ensures)
-      ∙ ap (λ (w : World). record (calm w) { connections = changed severed w.connections c.args.connection }) c.self.view_is,
+      ∙ ap (λ (w : World). record (with_no_failure w) { connections = changed severed w.connections c.args.connection }) c.self.view_is,
 )
 
 pub returns-in_default : goal.returns-in_default

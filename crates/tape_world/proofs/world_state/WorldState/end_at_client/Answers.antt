@@ -1,7 +1,7 @@
 use Rattle.std.proofs.Common.{rules, refl, sym, ap, subst, ◌∙◌, ◌≡◌, None, Some, option_map}
 use Rattle.std.specs.Option.{option_copied}
 use Rattle.tape_events.specs.World.{World, Dumping}
-use Rattle.tape_events.specs.Changes.{calm, other_left, over_there}
+use Rattle.tape_events.specs.Changes.{with_no_failure, other_left, over_there}
 use Rattle.tape_world.specs.Holding.{IsClients, IsOwned}
 use Rattle.tape_world.specs.contracts.world_state.WorldState.{the_view}
 use Rattle.tape_world.specs.Seen.{seen_connection, seen_caller}
@@ -23,10 +23,10 @@ returns-then-is_strangers c =
         seen_connection c.in-Some.conn.now,
         at,
         strangers_step c.args.self.now _ c.args.connection c.in-Some.conn.now.dump none
-            (ap (λ ls. record (calm (the_view c.self.inside)) { connections = ls })
+            (ap (λ ls. record (with_no_failure (the_view c.self.inside)) { connections = ls })
             (connections_after over_there c.self.inside.connections.len c.self.inside.connections.items c.deref_mut.result.now c.end_there.new.connections c.args.connection
             c.self.inside.connections.ok.0 c.deref_mut.ensures.value c.end_there.ensures)
-            ∙ ap (λ (w : World). other_left (calm w) c.args.connection) c.self.view_is),
+            ∙ ap (λ (w : World). other_left (with_no_failure w) c.args.connection) c.self.view_is),
       ),
     )
 
@@ -60,7 +60,7 @@ returns c =
         clients_step c.args.self.now _ c.args.connection c.in-Some.conn.now.dump dump.0 dump.1
             (ended_step c.args.self.now _ c.args.connection dump.0 c.self.inside.caller c.end_attempt-self-inside.new.caller c.end_attempt-self-inside.result
             (ap (λ w. w.caller) (sym c.self.view_is)) e
-            (ap (λ ls. record (calm (the_view c.self.inside)) { connections = ls; own = None; caller = option_map seen_caller c.end_attempt-self-inside.new.caller; failure = c.end_attempt-self-inside.result })
+            (ap (λ ls. record (with_no_failure (the_view c.self.inside)) { connections = ls; own = None; caller = option_map seen_caller c.end_attempt-self-inside.new.caller; failure = c.end_attempt-self-inside.result })
             (connections_after over_there c.self.inside.connections.len c.self.inside.connections.items c.deref_mut.result.now c.end_there.new.connections c.args.connection
             c.self.inside.connections.ok.0 c.deref_mut.ensures.value c.end_there.ensures)
             ∙ ap (λ (w : World). ended_world w c.args.connection c.end_attempt-self-inside.result (option_map seen_caller c.end_attempt-self-inside.new.caller)) c.self.view_is)),

@@ -2,7 +2,7 @@ use Rattle.std.proofs.Common.{arith, refl, ap, subst, sym, ◌∙◌}
 use Rattle.std.proofs.lemmas.Grind.{elements}
 use Rattle.std.specs.Option.{option_copied}
 use Rattle.tape_events.specs.World.{World}
-use Rattle.tape_events.specs.Changes.{calm, changed, ended_at, over_here}
+use Rattle.tape_events.specs.Changes.{with_no_failure, changed, ended_at, over_here}
 use Rattle.tape_events.specs.Events.PlainEvent.{EndAtServer}
 use Rattle.tape_events.specs.Rows.{Possible}
 use Rattle.tape_events.specs.Kept.{IsWorldKept}
@@ -32,7 +32,7 @@ possible c =
 pub invariant_of-self : goal.invariant_of-self
 invariant_of-self c =
     let w = the_view c.self.inside in
-    let u = ended_at (calm w) c.args.connection in
+    let u = ended_at (with_no_failure w) c.args.connection in
     let same = c.kept.ensures.names w u (EndAtServer c.args.connection) (subst IsWorldKept (sym c.self.view_is) c.requires)
     (possible (goal.at.invariant_of-self c).After-end, refl) in (
       c.self.invariant.0,
@@ -48,8 +48,8 @@ returns c =
     c.deref_mut.ensures.value c.end_here.ensures in
     let servers = ap (λ h. h.server) c.end.ensures ∙ ended_is w.server c.args.connection in (
       subst (λ (v : World). Possible v (EndAtServer c.args.connection)) c.self.view_is (possible (goal.at.returns c).After-end),
-      ap (λ ls. record (calm w) { server = c.end.new.self.server; connections = ls }) connections
-          ∙ ap (λ h. record (calm w) { server = h; connections = changed over_here w.connections c.args.connection }) servers ∙ ap (λ (v : World). ended_at (calm v) c.args.connection) c.self.view_is,
+      ap (λ ls. record (with_no_failure w) { server = c.end.new.self.server; connections = ls }) connections
+          ∙ ap (λ h. record (with_no_failure w) { server = h; connections = changed over_here w.connections c.args.connection }) servers ∙ ap (λ (v : World). ended_at (with_no_failure v) c.args.connection) c.self.view_is,
     )
 
 pub returns-then-not-conn : goal.returns-then-not-conn

@@ -5,7 +5,7 @@ use Rattle.std.proofs.lemmas.List.{map-append}
 use Rattle.dumpdates.specs.Dates.{entered}
 use Rattle.dumpdates.specs.Stored.{plain_entry}
 use Rattle.tape_events.specs.World.{World, Caller}
-use Rattle.tape_events.specs.Changes.{calm}
+use Rattle.tape_events.specs.Changes.{with_no_failure}
 use Rattle.tape_events.specs.Rows.{IsRunEntered}
 use Rattle.tape_events.specs.Steps.{recorded}
 use Rattle.tape_world.specs.contracts.world_state.WorldState.{the_view}
@@ -50,13 +50,13 @@ returns c =
       (
         seen_caller c.in-Some.caller,
         at,
-        ap (λ k. record (calm V) { entered = map seen_entered c.push_reserved.new.self.items; kept = option_map seen_kept k; dates = c.enter.new.self }) c.change_kept.ensures
-            ∙ ap (λ es. record (calm V) { entered = map seen_entered es; kept = None; dates = c.enter.new.self })
+        ap (λ k. record (with_no_failure V) { entered = map seen_entered c.push_reserved.new.self.items; kept = option_map seen_kept k; dates = c.enter.new.self }) c.change_kept.ensures
+            ∙ ap (λ es. record (with_no_failure V) { entered = map seen_entered es; kept = None; dates = c.enter.new.self })
             (c.push_reserved.ensures.items ∙ ap (λ l. l ++ c.in_ok-entered.entered ∷ []) c.in_ok-reserve.ensures.items)
-            ∙ ap (λ es. record (calm V) { entered = es; kept = None; dates = c.enter.new.self })
+            ∙ ap (λ es. record (with_no_failure V) { entered = es; kept = None; dates = c.enter.new.self })
             (map-append seen_entered items (c.in_ok-entered.entered ∷ [])
             ∙ ap (λ e. map seen_entered items ++ e ∷ []) (entered_seen c.in-Some.caller c.in_ok-entered.entered c.in_ok-entered.ensures))
-            ∙ ap (λ ds. record (calm V) { entered = map seen_entered items ++ record { run = c.in-Some.caller.number; listed = c.in-Some.caller.client.at.counts } ∷ []; kept = None; dates = ds })
+            ∙ ap (λ ds. record (with_no_failure V) { entered = map seen_entered items ++ record { run = c.in-Some.caller.number; listed = c.in-Some.caller.client.at.counts } ∷ []; kept = None; dates = ds })
             (dates ∙ ap (entered c.self.inside.dates) tells.1)
             ∙ ap (λ (w : World). recorded w (seen_caller c.in-Some.caller)) c.self.view_is,
       ),

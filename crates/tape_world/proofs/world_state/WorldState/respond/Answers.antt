@@ -1,6 +1,6 @@
 use Rattle.std.proofs.Common.{rules, sym, ap, ◌∙◌, Some, option_map, refl}
 use Rattle.tape_events.specs.World.{World}
-use Rattle.tape_events.specs.Changes.{calm}
+use Rattle.tape_events.specs.Changes.{with_no_failure}
 use Rattle.tape_events.specs.Steps.{caller, kept_after}
 use Rattle.dump_client.specs.Standing.{standing, stage_after, state_of}
 use Rattle.tape_world.specs.Seen.{seen_caller, seen_kept}
@@ -22,11 +22,11 @@ returns c =
         a.after.client.reader,
         at,
         a.asks,
-        ap (λ x. record (calm (the_view c.self.inside)) { caller = x; kept = option_map seen_kept c.drop_kept.new.kept })
+        ap (λ x. record (with_no_failure (the_view c.self.inside)) { caller = x; kept = option_map seen_kept c.drop_kept.new.kept })
             (answered_caller c.self.inside.caller c.give_answer.new.caller c.args.answer a)
-            ∙ ap (λ k. record (calm (the_view c.self.inside)) { caller = Some new; kept = k })
+            ∙ ap (λ k. record (with_no_failure (the_view c.self.inside)) { caller = Some new; kept = k })
             (ap (option_map seen_kept) c.drop_kept.ensures ∙ kept_seen c.args.answer c.self.inside.kept)
-            ∙ ap (λ (w : World). record (calm w) { caller = Some new; kept = kept_after c.args.answer w.kept }) c.self.view_is,
+            ∙ ap (λ (w : World). record (with_no_failure w) { caller = Some new; kept = kept_after c.args.answer w.kept }) c.self.view_is,
       ),
     )
 

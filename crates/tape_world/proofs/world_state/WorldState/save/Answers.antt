@@ -3,7 +3,7 @@ use Rattle.std.proofs.lemmas.Bool.{false≢true}
 use Rattle.std.proofs.lemmas.Option.{same_Some}
 use Rattle.std.proofs.Common.{subst}
 use Rattle.tape_events.specs.World.{World, Caller}
-use Rattle.tape_events.specs.Changes.{calm}
+use Rattle.tape_events.specs.Changes.{with_no_failure}
 use Rattle.tape_events.specs.Rows.{MayBeKept}
 use Rattle.tape_world.specs.contracts.world_state.WorldState.{the_view}
 use Rattle.tape_world.specs.Seen.{seen_caller, seen_entered, seen_kept}
@@ -39,8 +39,8 @@ returns c =
       (
         seen_caller x,
         at,
-        ap (λ k. record (calm (the_view c.self.inside)) { kept = option_map seen_kept k }) c.change_kept.ensures
-            ∙ ap (λ k. record (calm (the_view c.self.inside)) { kept = Some k }) (saved_seen x c.in_ok-kept.kept c.in_ok-kept.ensures)
-            ∙ ap (λ (w : World). record (calm w) { kept = Some (record { run = x.number; listed = x.client.at.counts }) }) c.self.view_is,
+        ap (λ k. record (with_no_failure (the_view c.self.inside)) { kept = option_map seen_kept k }) c.change_kept.ensures
+            ∙ ap (λ k. record (with_no_failure (the_view c.self.inside)) { kept = Some k }) (saved_seen x c.in_ok-kept.kept c.in_ok-kept.ensures)
+            ∙ ap (λ (w : World). record (with_no_failure w) { kept = Some (record { run = x.number; listed = x.client.at.counts }) }) c.self.view_is,
       ),
     )

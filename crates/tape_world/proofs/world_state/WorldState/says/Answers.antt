@@ -2,7 +2,7 @@ use Rattle.std.proofs.Common.{rules, refl, sym, ap, ◌∙◌}
 use Rattle.std.specs.Option.{option_copied, is_some}
 use Rattle.tape_events.specs.World.{World}
 use Rattle.tape_events.specs.Events.PlainEvent.{Says}
-use Rattle.tape_events.specs.Changes.{changed, calm}
+use Rattle.tape_events.specs.Changes.{changed, with_no_failure}
 use Rattle.tape_world.specs.contracts.world_state.WorldState.{the_view}
 use Rattle.tape_world.specs.Linking.{said}
 use Rattle.tape_world.specs.Seen.{seen_connection}
@@ -34,10 +34,10 @@ returns c = (
     ),
     search rules,
   ),
-  ap (λ ls. record (calm (the_view c.self.inside)) { connections = ls })
+  ap (λ ls. record (with_no_failure (the_view c.self.inside)) { connections = ls })
       (connections_after (said c.args.bytes.now) c.self.inside.connections.len c.self.inside.connections.items c.deref_mut.result.now c.send.new.connections c.args.connection
       c.self.inside.connections.ok.0 c.deref_mut.ensures.value c.in_ok-send.ensures.sent)
-      ∙ ap (λ (w : World). record (calm w) { connections = changed (said c.args.bytes.now) w.connections c.args.connection }) c.self.view_is,
+      ∙ ap (λ (w : World). record (with_no_failure w) { connections = changed (said c.args.bytes.now) w.connections c.args.connection }) c.self.view_is,
 )
 
 pub returns-in_default : goal.returns-in_default

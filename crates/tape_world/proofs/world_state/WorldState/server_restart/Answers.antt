@@ -1,7 +1,7 @@
 use Rattle.std.proofs.Common.{refl, sym, ap, subst, ◌∙◌}
 use Rattle.std.specs.Prelude.{length, map}
 use Rattle.tape_events.specs.World.{World}
-use Rattle.tape_events.specs.Changes.{calm, restarted, over_here}
+use Rattle.tape_events.specs.Changes.{with_no_failure, restarted, over_here}
 use Rattle.tape_events.specs.Events.PlainEvent.{ServerRestart}
 use Rattle.tape_events.specs.Kept.{IsWorldKept}
 use Rattle.tape_world.specs.contracts.world_state.WorldState.{the_view}
@@ -13,9 +13,9 @@ use Rattle.tape_world.proofs.world_state.WorldState.server_restart.Goals as goal
 pub invariant_of-self : goal.invariant_of-self
 invariant_of-self c =
     let w = the_view c.self.inside in
-    let same = c.kept.ensures.names w (restarted (calm w)) ServerRestart (subst IsWorldKept (sym c.self.view_is) c.requires) (tt, refl) in (
+    let same = c.kept.ensures.names w (restarted (with_no_failure w)) ServerRestart (subst IsWorldKept (sym c.self.view_is) c.requires) (tt, refl) in (
       c.self.invariant.0,
-      known_after _ w (restarted (calm w)) c.restart.new.self.server.library same
+      known_after _ w (restarted (with_no_failure w)) c.restart.new.self.server.library same
           (ap (λ h. h.server.library) c.restart.ensures ∙ ap (λ h. h.library) (all_ended_is w.server (length w.server.sides))) c.self.invariant.1,
     )
 
@@ -27,6 +27,6 @@ returns c =
     c.end_all_here.ensures in
     let servers = ap (λ h. h.server) c.restart.ensures ∙ all_ended_is w.server (length w.server.sides) in (
       tt,
-      ap (λ ls. record (calm w) { server = c.restart.new.self.server; connections = ls }) connections ∙ ap (λ h. record (calm w) { server = h; connections = map over_here w.connections }) servers
-          ∙ ap (λ (v : World). restarted (calm v)) c.self.view_is,
+      ap (λ ls. record (with_no_failure w) { server = c.restart.new.self.server; connections = ls }) connections ∙ ap (λ h. record (with_no_failure w) { server = h; connections = map over_here w.connections }) servers
+          ∙ ap (λ (v : World). restarted (with_no_failure v)) c.self.view_is,
     )

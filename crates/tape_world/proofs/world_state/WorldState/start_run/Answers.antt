@@ -1,7 +1,7 @@
 use Rattle.std.proofs.Common.{rules, ◌≡◌, ◌+◌, refl, sym, ap, subst, ◌∙◌, Some, None, map, option_map, length, ◌++◌, ◌∷◌, [], arith, ◌*◌}
 use Rattle.std.proofs.lemmas.List.{map-append, length-append, length-map}
 use Rattle.tape_events.specs.World.{World}
-use Rattle.tape_events.specs.Changes.{calm}
+use Rattle.tape_events.specs.Changes.{with_no_failure}
 use Rattle.tape_events.specs.Steps.{begun, caller}
 use Rattle.dump_run.specs.Blocks.{cut_blocks}
 use Rattle.tape_world.specs.contracts.world_state.WorldState.{the_view}
@@ -46,13 +46,13 @@ returns c =
       (c.has_no_run.ensures.0 (search rules), c.in_ok-client.ensures.run, search rules),
       (
         reader,
-        ap (λ k. record (calm (the_view c.self.inside)) { begun = map seen_begun c.begin.new.begun.items; caller = option_map seen_caller c.change_caller.new.caller; kept = option_map seen_kept k })
+        ap (λ k. record (with_no_failure (the_view c.self.inside)) { begun = map seen_begun c.begin.new.begun.items; caller = option_map seen_caller c.change_caller.new.caller; kept = option_map seen_kept k })
             c.change_kept.ensures
-            ∙ ap (λ o. record (calm V) { begun = map seen_begun c.begin.new.begun.items; caller = option_map seen_caller o }) c.change_caller.ensures
-            ∙ ap (λ bs. record (calm V) { begun = map seen_begun bs; caller = Some x }) more
-            ∙ ap (λ bs. record (calm V) { begun = bs; caller = Some x }) (map-append seen_begun c.self.inside.begun.items (b ∷ []))
-            ∙ ap (λ b. record (calm V) { begun = before ++ b ∷ []; caller = Some x }) (begun_is run c.args.payload.now b c.in_ok-client.ensures.added.2)
-            ∙ ap (λ y. record (calm V) { begun = before ++ plain_begun run blocks ∷ []; caller = Some y })
+            ∙ ap (λ o. record (with_no_failure V) { begun = map seen_begun c.begin.new.begun.items; caller = option_map seen_caller o }) c.change_caller.ensures
+            ∙ ap (λ bs. record (with_no_failure V) { begun = map seen_begun bs; caller = Some x }) more
+            ∙ ap (λ bs. record (with_no_failure V) { begun = bs; caller = Some x }) (map-append seen_begun c.self.inside.begun.items (b ∷ []))
+            ∙ ap (λ b. record (with_no_failure V) { begun = before ++ b ∷ []; caller = Some x }) (begun_is run c.args.payload.now b c.in_ok-client.ensures.added.2)
+            ∙ ap (λ y. record (with_no_failure V) { begun = before ++ plain_begun run blocks ∷ []; caller = Some y })
             (ap (λ n. caller n c.in_ok-client.client.at reader) (number ∙ ap (λ n. n + 1) (sym (length-map c.self.inside.begun.items seen_begun)))
             ∙ ap (λ at. caller (length before + 1) at reader) c.in_ok-client.ensures.made)
             ∙ ap (λ (w : World). begun w run c.args.payload.now reader) c.self.view_is,

@@ -2,7 +2,7 @@ use Rattle.std.proofs.Common.{ap, ◌∙◌, None}
 use Rattle.std.specs.Prelude.{map, ◌++◌, ◌∷◌, []}
 use Rattle.std.proofs.lemmas.List.{map-append}
 use Rattle.tape_events.specs.World.{World}
-use Rattle.tape_events.specs.Changes.{calm, joined as with_joined}
+use Rattle.tape_events.specs.Changes.{with_no_failure, joined as with_joined}
 use Rattle.tape_events.specs.Events.PlainEvent.{Stranger}
 use Rattle.tape_host.specs.Servers.{joined}
 use Rattle.tape_world.specs.contracts.world_state.WorldState.{the_view}
@@ -39,10 +39,10 @@ pub returns : goal.returns
 returns c =
     let V = the_view c.self.inside in (
       tt,
-      ap (λ h. record (calm V) { server = h; connections = map seen_connection c.push_reserved.new.self.items })
+      ap (λ h. record (with_no_failure V) { server = h; connections = map seen_connection c.push_reserved.new.self.items })
           (ap (λ h. h.server) c.admit.ensures ∙ ap (λ h. joined h.server) c.in_ok-prepare.ensures)
-          ∙ ap (λ ls. record (calm V) { server = joined V.server; connections = ls })
+          ∙ ap (λ ls. record (with_no_failure V) { server = joined V.server; connections = ls })
           (ap (map seen_connection) (c.push_reserved.ensures.items ∙ ap (λ l. l ++ c.new.result ∷ []) c.in_ok-reserve.ensures.items)
           ∙ map-append seen_connection c.self.inside.connections.items (c.new.result ∷ []) ∙ ap (λ l. V.connections ++ l ∷ []) c.new.ensures)
-          ∙ ap (λ (w : World). with_joined (calm w) None) c.self.view_is,
+          ∙ ap (λ (w : World). with_joined (with_no_failure w) None) c.self.view_is,
     )

@@ -2,7 +2,7 @@ use Rattle.std.proofs.Common.{◌∙◌, refl, sym, ap, subst, arith, map, optio
 use Rattle.std.specs.Prelude.{◌≤◌, ◌++◌, length, take, drop}
 use Rattle.std.specs.Option.{option_copied}
 use Rattle.tape_events.specs.World.{World}
-use Rattle.tape_events.specs.Changes.{calm, changed}
+use Rattle.tape_events.specs.Changes.{with_no_failure, changed}
 use Rattle.tape_events.specs.Events.PlainEvent.{ToClient}
 use Rattle.tape_events.specs.Steps.{Happens}
 use Rattle.tape_world.specs.contracts.world_state.WorldState.{the_view}
@@ -29,14 +29,14 @@ returns-then-is_none c =
     = connections_after (come_back c.args.count) c.self.inside.connections.len c.self.inside.connections.items c.deref_mut.result.now c.come_back.new.connections c.args.connection
     c.self.inside.connections.ok.0 c.deref_mut.ensures.value c.come_back.ensures in
     let u
-    = record (calm w) { connections = map seen_connection (take c.self.inside.connections.len (c.come_back.new.connections ++ drop (length c.come_back.new.connections) c.self.inside.connections.items)) } in
+    = record (with_no_failure w) { connections = map seen_connection (take c.self.inside.connections.len (c.come_back.new.connections ++ drop (length c.come_back.new.connections) c.self.inside.connections.items)) } in
     subst (λ (v : World). Happens v (ToClient c.args.connection c.args.count) u) c.self.view_is (
       (
         l,
         (there, c.if-not-conn.false),
         (omega (arith, c.if-count-eq0.false), subst (λ b. c.args.count ≤ length b) c.bytes-way.ensures c.if-way-count.false),
       ),
-      (l, there, dropped_step w u c.args.connection c.args.count l.dump (take c.args.count l.back) none (ap (λ ls. record (calm w) { connections = ls }) connections)),
+      (l, there, dropped_step w u c.args.connection c.args.count l.dump (take c.args.count l.back) none (ap (λ ls. record (with_no_failure w) { connections = ls }) connections)),
     )
 
 pub hear-heard-requires : goal.hear-heard-requires

@@ -4,7 +4,7 @@ use Rattle.std.specs.Prelude.{length, map, ◌≤◌, ◌++◌, take, drop}
 use Rattle.rmt_wire.specs.RequestReader.{Unread}
 use Rattle.std.specs.Option.{option_copied}
 use Rattle.tape_events.specs.World.{World}
-use Rattle.tape_events.specs.Changes.{calm, changed}
+use Rattle.tape_events.specs.Changes.{with_no_failure, changed}
 use Rattle.tape_events.specs.Events.PlainEvent.{ToServer}
 use Rattle.tape_events.specs.Steps.{Happens}
 use Rattle.tape_events.specs.First.{IsReadable}
@@ -39,7 +39,7 @@ returns c =
     (ap option_copied c.in-Some-find.is) in
     let l = seen_connection c.in-Some-find.conn.now in
     let u
-    = record (calm w) {
+    = record (with_no_failure w) {
       server = c.push.new.self.server;
       connections = map seen_connection (take c.self.inside.connections.len (c.arrive.new.connections ++ drop (length c.arrive.new.connections) c.self.inside.connections.items));
     } in
@@ -52,8 +52,8 @@ returns c =
         push.live,
         there,
         ((subst IsReadable (sym c.self.view_is) c.requires.readable) c.args.connection push.side_is push.live, λ bytes unread. subst (λ b. Unread push.reached (bytes ++ take c.args.count b)) c.bytes-way.ensures (push.unread bytes unread)),
-        ap (λ ls. record (calm w) { server = c.push.new.self.server; connections = ls }) connections
-            ∙ ap (λ h. record (calm w) { server = h; connections = changed (arrived c.args.count) w.connections c.args.connection }) push.server_is,
+        ap (λ ls. record (with_no_failure w) { server = c.push.new.self.server; connections = ls }) connections
+            ∙ ap (λ h. record (with_no_failure w) { server = h; connections = changed (arrived c.args.count) w.connections c.args.connection }) push.server_is,
       ),
     )
 

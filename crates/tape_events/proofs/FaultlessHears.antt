@@ -24,15 +24,15 @@ use Rattle.tape_events.specs.Kept.{IsWorldKept}
 use Rattle.tape_events.specs.Owning.{is_in_attempt}
 use Rattle.tape_events.specs.Sending.{AreUnserved, IsAttempt}
 use Rattle.tape_events.specs.Written.{whole_volume}
-use Rattle.tape_events.specs.Smooth.{Stock, stock_of, blanks, one_drive, volume_slot, volume_slots, volume_by, IsFree, IsMoved, IsOffline, IsOwnConnection, IsStepAnswered, StandsBefore, StandsThen, CountsThen, Leads, ReelsStandAt, StandsWith, FailsFaultless, IsFaultlessFailure, IsSmooth, attempt_on}
+use Rattle.tape_events.specs.Faultless.{Stock, stock_of, blanks, one_drive, volume_slot, volume_slots, volume_by, IsFree, IsMoved, IsOffline, IsOwnConnection, IsStepAnswered, StandsBefore, StandsThen, CountsThen, Leads, ReelsStandAt, StandsWith, FailsFaultless, IsFaultlessFailure, IsFaultlessWorld, attempt_on}
 use Rattle.tape_events.proofs.Numbers.{changed_is}
 use Rattle.tape_events.proofs.Booked.{Goings, drop_front}
 use Rattle.tape_events.proofs.SentWire.{OneReply}
 use Rattle.tape_events.proofs.Pieces.{HearsPiece, waits, whole, hearing}
 use Rattle.tape_events.proofs.ToldHears.{open_attempt, unlike_close, some_way}
 use Rattle.tape_events.proofs.LabelledSingle.{one_reel}
-use Rattle.tape_events.proofs.SmoothLists.{next_of, length_push, reel_is}
-use Rattle.tape_events.proofs.SmoothCarried.{changed_here, own_told}
+use Rattle.tape_events.proofs.FaultlessLists.{next_of, length_push, reel_is}
+use Rattle.tape_events.proofs.FaultlessCarried.{changed_here, own_told}
 
 -- Each connection was there; but for one, what is on the way to the server is the same.
 abbrev pub ConnectionsFrom : World → World → ℕ → Type 0
@@ -63,7 +63,7 @@ pub record Settles (drive : PlainDriveSpec) (w u : World) (k : ℕ) : Type 0 whe
   pub stands : StandsWith u.caller drive u
   pub failure : FailsFaultless drive u
 
-pub settles : (drive : PlainDriveSpec) (w u : World) (k : ℕ) → IsSmooth drive w → Settles drive w u k → IsSmooth drive u
+pub settles : (drive : PlainDriveSpec) (w u : World) (k : ℕ) → IsFaultlessWorld drive w → Settles drive w u k → IsFaultlessWorld drive u
 settles drive w u k sm v = record {
   clients = λ j y at. (let x = v.connections j y at in let d = sm.clients j x.0 x.1 in x.2 d.0 d.1);
   still = λ j y at not_own. elim (eqb_tells j k) [
@@ -95,15 +95,15 @@ back_dumps n l d is = (d, is)
 
 -- the client goes on
 goes_on : (drive : PlainDriveSpec) (w : World) (k n : ℕ) (c : Caller) (l : Connection) (d : Dumping) (b : Begun) (s : ServerConnection) (at : Standing) (reader : ReplyHeld) (progress : Progress)
-    (counts : List Count) → IsSmooth drive w → IsOwnConnection w k l d b s → (came : heard w k n c at reader progress ≡ heard w k n c at reader moved.Send)
+    (counts : List Count) → IsFaultlessWorld drive w → IsOwnConnection w k l d b s → (came : heard w k n c at reader progress ≡ heard w k n c at reader moved.Send)
     → w.counts ++ map (counts_of w c.number k) (drop (length c.at.counts) at.counts) ≡ counts
     → map (λ (x : Count). x.reel) counts ≡ take (length counts) drive.reels
     → (IsOwnConnection (heard w k n c at reader moved.Send) k (record l { back = drop n l.back }) d b s
     → ReelsStandAt at.stage drive (heard w k n c at reader moved.Send) (caller c.number at reader))
-    → IsSmooth drive (heard w k n c at reader progress)
+    → IsFaultlessWorld drive (heard w k n c at reader progress)
 goes_on drive w k n c l d b s at reader progress counts sm own came are reels stands =
     let u : World = heard w k n c at reader moved.Send in
-    subst (IsSmooth drive) (sym came) (settles drive w u k sm record {
+    subst (IsFaultlessWorld drive) (sym came) (settles drive w u k sm record {
       own = own.own;
       connections = changed_connections w u k (λ x. record x { back = drop n x.back }) refl (back_dumps n);
       sides = λ j other. refl;
@@ -123,8 +123,8 @@ goes_on drive w k n c l d b s at reader progress counts sm own came are reels st
 
 -- it goes on to a step that is not its close
 goes_to : (drive : PlainDriveSpec) (w : World) (k n : ℕ) (c : Caller) (l : Connection) (d : Dumping) (b : Begun) (s : ServerConnection) (at : Standing) (reader : ReplyHeld) (next : Step)
-    → IsSmooth drive w → IsOwnConnection w k l d b s → at.stage ≡ ToSend next → at.counts ≡ c.at.counts → StandsBefore next drive (stock_of w) k b d s.session
-    → IsSmooth drive (heard w k n c at reader moved.Send)
+    → IsFaultlessWorld drive w → IsOwnConnection w k l d b s → at.stage ≡ ToSend next → at.counts ≡ c.at.counts → StandsBefore next drive (stock_of w) k b d s.session
+    → IsFaultlessWorld drive (heard w k n c at reader moved.Send)
 goes_to drive w k n c l d b s at reader next sm own stage same stands =
     let u : World = heard w k n c at reader moved.Send in
     let counts = none_counted w c.number k c.at at same in
@@ -134,8 +134,8 @@ goes_to drive w k n c l d b s at reader next sm own stage same stands =
 
 -- it counts its volume, and goes on to its close
 counts_now : (drive : PlainDriveSpec) (w : World) (k n : ℕ) (c : Caller) (l : Connection) (d : Dumping) (b : Begun) (s : ServerConnection) (step : Step) (at : Standing) (reader : ReplyHeld)
-    → IsWorldKept w → IsSmooth drive w → IsOwnConnection w k l d b s → IsAttempt w.begun c d step b → step ≢ Close → at.stage ≡ ToSend Close
-    → at.counts ≡ counted_to c.at.counts (d.first + d.blocks) → IsMoved drive (stock_of w) k b d s.session → IsSmooth drive (heard w k n c at reader moved.Send)
+    → IsWorldKept w → IsFaultlessWorld drive w → IsOwnConnection w k l d b s → IsAttempt w.begun c d step b → step ≢ Close → at.stage ≡ ToSend Close
+    → at.counts ≡ counted_to c.at.counts (d.first + d.blocks) → IsMoved drive (stock_of w) k b d s.session → IsFaultlessWorld drive (heard w k n c at reader moved.Send)
 counts_now drive w k n c l d b s step at reader kept sm own attempt other stage counted q =
     let u : World = heard w k n c at reader moved.Send in
     let v = count_to (checkpoint_of c.at.counts) (d.first + d.blocks) in
@@ -195,9 +195,9 @@ over_connections w u k n connections j y at =
     ]
 
 -- the attempt is over
-is_over : (drive : PlainDriveSpec) (w u : World) (k n : ℕ) (l : Connection) (d : Dumping) (b : Begun) (s : ServerConnection) → IsSmooth drive w → IsOwnConnection w k l d b s
+is_over : (drive : PlainDriveSpec) (w u : World) (k n : ℕ) (l : Connection) (d : Dumping) (b : Begun) (s : ServerConnection) → IsFaultlessWorld drive w → IsOwnConnection w k l d b s
     → AreUnserved (side_of w.server k) l.toward [] → u.server ≡ w.server → u.connections ≡ changed over_there (changed (λ x. record x { back = drop n x.back }) w.connections k) k → u.begun ≡ w.begun
-    → u.counts ≡ w.counts → StandsWith u.caller drive u → FailsFaultless drive u → IsSmooth drive u
+    → u.counts ≡ w.counts → StandsWith u.caller drive u → FailsFaultless drive u → IsFaultlessWorld drive u
 is_over drive w u k n l d b s sm own served server connections begun counts stands failure = settles drive w u k sm record {
   own = own.own;
   connections = λ j y at. (let x = over_connections w u k n connections j y at in (x.0, x.1, (λ e is. (e, x.2 ∙ is)), λ other. x.3));
@@ -214,8 +214,8 @@ is_over drive w u k n l d b s sm own served server connections begun counts stan
 
 -- it failed
 has_failed : (drive : PlainDriveSpec) (w : World) (k n : ℕ) (c : Caller) (l : Connection) (d : Dumping) (b : Begun) (s : ServerConnection) (step : Step) (at : Standing) (reader : ReplyHeld) (fault : AttemptFault)
-    → IsSmooth drive w → IsOwnConnection w k l d b s → AreUnserved (side_of w.server k) l.toward [] → at.stage ≡ Asking → at.counts ≡ c.at.counts → b.run ≡ at.run
-    → IsFaultlessFailure drive.capacity b.run fault → w.server.library.bin ≡ volume_slots drive (stock_of w) → IsSmooth drive (heard w k n c at reader (moved.Failed fault))
+    → IsFaultlessWorld drive w → IsOwnConnection w k l d b s → AreUnserved (side_of w.server k) l.toward [] → at.stage ≡ Asking → at.counts ≡ c.at.counts → b.run ≡ at.run
+    → IsFaultlessFailure drive.capacity b.run fault → w.server.library.bin ≡ volume_slots drive (stock_of w) → IsFaultlessWorld drive (heard w k n c at reader (moved.Failed fault))
 has_failed drive w k n c l d b s step at reader fault sm own served stage same run why bin =
     let u : World = heard w k n c at reader (moved.Failed fault) in
     let counts = none_counted w c.number k c.at at same in
@@ -231,8 +231,8 @@ has_failed drive w k n c l d b s step at reader fault sm own served stage same r
 
 -- it ended
 has_ended : (drive : PlainDriveSpec) (w : World) (k n : ℕ) (c : Caller) (l : Connection) (d : Dumping) (b : Begun) (s : ServerConnection) (at : Standing) (reader : ReplyHeld) (stage : Stage)
-    → IsSmooth drive w → IsOwnConnection w k l d b s → AreUnserved (side_of w.server k) l.toward [] → at.stage ≡ stage → at.counts ≡ c.at.counts
-    → ((u : World) (x : Caller) → IsFree drive (stock_of u) → ReelsStandAt stage drive u x) → IsFree drive (stock_of w) → IsSmooth drive (heard w k n c at reader moved.Ended)
+    → IsFaultlessWorld drive w → IsOwnConnection w k l d b s → AreUnserved (side_of w.server k) l.toward [] → at.stage ≡ stage → at.counts ≡ c.at.counts
+    → ((u : World) (x : Caller) → IsFree drive (stock_of u) → ReelsStandAt stage drive u x) → IsFree drive (stock_of w) → IsFaultlessWorld drive (heard w k n c at reader moved.Ended)
 has_ended drive w k n c l d b s at reader stage sm own served is same stands free =
     let u : World = heard w k n c at reader moved.Ended in
     let counts = none_counted w c.number k c.at at same in
@@ -243,9 +243,9 @@ has_ended drive w k n c l d b s at reader stage sm own served is same stands fre
 
 -- by what came of it
 by_then : (drive : PlainDriveSpec) (w : World) (k n : ℕ) (c : Caller) (l : Connection) (d : Dumping) (b : Begun) (s : ServerConnection) (step : Step) (at : Standing) (reader : ReplyHeld)
-    (progress : Progress) (stage : Stage) → IsWorldKept w → IsSmooth drive w → IsOwnConnection w k l d b s → IsAttempt w.begun c d step b → AreUnserved (side_of w.server k) l.toward []
+    (progress : Progress) (stage : Stage) → IsWorldKept w → IsFaultlessWorld drive w → IsOwnConnection w k l d b s → IsAttempt w.begun c d step b → AreUnserved (side_of w.server k) l.toward []
     → ((next : Step) → at.stage ≡ ToSend next → step ≢ Close) → b.run ≡ at.run → at.stage ≡ stage → StandsThen progress stage drive (stock_of w) k b d s.session
-    → CountsThen stage c.at.counts d at.counts → IsSmooth drive (heard w k n c at reader progress)
+    → CountsThen stage c.at.counts d at.counts → IsFaultlessWorld drive (heard w k n c at reader progress)
 by_then drive w k n c l d b s step at reader moved.Send (ToSend Close) kept sm own attempt served early run is stands counts =
     counts_now drive w k n c l d b s step at reader kept sm own attempt (early Close is) is counts stands
 by_then drive w k n c l d b s step at reader moved.Send (ToSend Open) kept sm own attempt served early run is stands counts =
@@ -268,8 +268,8 @@ by_then drive w k n c l d b s step at reader progress stage kept sm own attempt 
 
 -- it waits for more
 waits_on : (drive : PlainDriveSpec) (w : World) (k n : ℕ) (c : Caller) (l : Connection) (d : Dumping) (b : Begun) (s : ServerConnection) (step : Step) (at : Standing) (reader : ReplyHeld)
-    (bytes : List ℕ) → IsSmooth drive w → IsOwnConnection w k l d b s → (a : IsStepAnswered drive w (attempt_on k b d s.session) l c step) → c.at.stage ≡ Waiting step → at ≡ c.at
-    → reply_text a.reply ≡ bytes ++ drop n l.back → HasFedAt at.stage reader (unanswered at.stage bytes) → IsSmooth drive (heard w k n c at reader moved.Waiting)
+    (bytes : List ℕ) → IsFaultlessWorld drive w → IsOwnConnection w k l d b s → (a : IsStepAnswered drive w (attempt_on k b d s.session) l c step) → c.at.stage ≡ Waiting step → at ≡ c.at
+    → reply_text a.reply ≡ bytes ++ drop n l.back → HasFedAt at.stage reader (unanswered at.stage bytes) → IsFaultlessWorld drive (heard w k n c at reader moved.Waiting)
 waits_on drive w k n c l d b s step at reader bytes sm own a was same text has =
     let u : World = heard w k n c at reader moved.Send in
     let stage : at.stage ≡ Waiting step = ap (λ (x : Standing). x.stage) same ∙ was in
@@ -296,31 +296,31 @@ waits_on drive w k n c l d b s step at reader bytes sm own a was same text has =
     ))
 
 -- by what it makes of the bytes
-hearing_smooth : (drive : PlainDriveSpec) (w : World) (k n : ℕ) (c : Caller) (l : Connection) (d : Dumping) (b : Begun) (s : ServerConnection) (step : Step) (at : Standing) (reader : ReplyHeld)
-    (bytes : List ℕ) (progress : Progress) → IsWorldKept w → IsSmooth drive w → IsOwnConnection w k l d b s → IsAttempt w.begun c d step b
+hearing_faultless : (drive : PlainDriveSpec) (w : World) (k n : ℕ) (c : Caller) (l : Connection) (d : Dumping) (b : Begun) (s : ServerConnection) (step : Step) (at : Standing) (reader : ReplyHeld)
+    (bytes : List ℕ) (progress : Progress) → IsWorldKept w → IsFaultlessWorld drive w → IsOwnConnection w k l d b s → IsAttempt w.begun c d step b
     → (a : IsStepAnswered drive w (attempt_on k b d s.session) l c step) → c.at.stage ≡ Waiting step → at.run ≡ c.at.run → HearsPiece c.at step a.reply bytes (drop n l.back) progress at
-    → HasFedAt at.stage reader (unanswered at.stage bytes) → IsSmooth drive (heard w k n c at reader progress)
-hearing_smooth drive w k n c l d b s step at reader bytes progress kept sm own attempt a was run (waits moves same text) has =
-    subst (λ p. IsSmooth drive (heard w k n c at reader p)) (sym moves) (waits_on drive w k n c l d b s step at reader bytes sm own a was same text has)
-hearing_smooth drive w k n c l d b s step at reader bytes progress kept sm own attempt a was run (whole spelled none its) has =
+    → HasFedAt at.stage reader (unanswered at.stage bytes) → IsFaultlessWorld drive (heard w k n c at reader progress)
+hearing_faultless drive w k n c l d b s step at reader bytes progress kept sm own attempt a was run (waits moves same text) has =
+    subst (λ p. IsFaultlessWorld drive (heard w k n c at reader p)) (sym moves) (waits_on drive w k n c l d b s step at reader bytes sm own a was same text has)
+hearing_faultless drive w k n c l d b s step at reader bytes progress kept sm own attempt a was run (whole spelled none its) has =
     let led = a.leads progress at its in
     by_then drive w k n c l d b s step at reader progress at.stage kept sm own attempt a.served (λ next to. unlike_close c.at at step next a.reply progress its to)
     (attempt.run ∙ sym run) refl led.0 led.1
 
 -- what reached the client that waits
-fed_smooth : OneReply → Goings → (drive : PlainDriveSpec) (w : World) (k n : ℕ) (c : Caller) (l : Connection) (d : Dumping) (b : Begun) (s : ServerConnection) (step : Step) (at : Standing)
-    (reader : ReplyHeld) (fed : List ℕ) (progress : Progress) → IsWorldKept w → IsSmooth drive w → IsOwnConnection w k l d b s → IsAttempt w.begun c d step b
+fed_faultless : OneReply → Goings → (drive : PlainDriveSpec) (w : World) (k n : ℕ) (c : Caller) (l : Connection) (d : Dumping) (b : Begun) (s : ServerConnection) (step : Step) (at : Standing)
+    (reader : ReplyHeld) (fed : List ℕ) (progress : Progress) → IsWorldKept w → IsFaultlessWorld drive w → IsOwnConnection w k l d b s → IsAttempt w.begun c d step b
     → IsStepAnswered drive w (attempt_on k b d s.session) l c step → c.at.stage ≡ Waiting step → HasFedAt (Waiting step) c.reader fed
     → FedAt c.at.stage c.at fed (take n l.back) progress at → FedAt (Waiting step) c.at fed (take n l.back) progress at
-    → HasFedAt at.stage reader (unanswered at.stage (fed ++ take n l.back)) → IsSmooth drive (heard w k n c at reader progress)
-fed_smooth g o drive w k n c l d b s step at reader fed progress kept sm own attempt a was had feeds waited has =
-    hearing_smooth drive w k n c l d b s step at reader (fed ++ take n l.back) progress kept sm own attempt a was ((o.0 c.at at fed (take n l.back) progress feeds).1.run)
+    → HasFedAt at.stage reader (unanswered at.stage (fed ++ take n l.back)) → IsFaultlessWorld drive (heard w k n c at reader progress)
+fed_faultless g o drive w k n c l d b s step at reader fed progress kept sm own attempt a was had feeds waited has =
+    hearing_faultless drive w k n c l d b s step at reader (fed ++ take n l.back) progress kept sm own attempt a was ((o.0 c.at at fed (take n l.back) progress feeds).1.run)
     (hearing g c.reader c.at at step a.reply a.fed fed l.back n progress a.brief a.text a.has had waited) has
 
 stage_hears : OneReply → Goings → (drive : PlainDriveSpec) (w : World) (k n : ℕ) (l : Connection) (c : Caller) (stage : Stage) (at : Standing) (reader : ReplyHeld) (fed : List ℕ)
-    (progress : Progress) → IsWorldKept w → IsSmooth drive w → w.caller ≡ Some c → c.at.stage ≡ stage → w.own ≡ Some k → IsTrue (is_in_attempt stage) → connection_of w k ≡ Some l
+    (progress : Progress) → IsWorldKept w → IsFaultlessWorld drive w → w.caller ≡ Some c → c.at.stage ≡ stage → w.own ≡ Some k → IsTrue (is_in_attempt stage) → connection_of w k ≡ Some l
     → 1 ≤ n → n ≤ length l.back → ReelsStandAt stage drive w c → HasFedAt c.at.stage c.reader fed → FedAt c.at.stage c.at fed (take n l.back) progress at
-    → HasFedAt at.stage reader (unanswered at.stage (fed ++ take n l.back)) → IsSmooth drive (heard w k n c at reader progress)
+    → HasFedAt at.stage reader (unanswered at.stage (fed ++ take n l.back)) → IsFaultlessWorld drive (heard w k n c at reader progress)
 stage_hears g o drive w k n l c (ToSend step) at reader fed progress kept sm there is mine under conn first within (j, x, d, b, s, own, stands) had feeds has =
     let same : j ≡ k = same_Some j k (sym own.own ∙ mine) in
     let connections : x ≡ l = same_Some x l (sym own.there ∙ ap (connection_of w) same ∙ conn) in
@@ -336,22 +336,22 @@ stage_hears g o drive w k n l c (Waiting step) at reader fed progress kept sm th
     let told = own_told w j x d b s c (Waiting step) kept own there is in
     let its : told.0 ≡ b = same_Some told.0 b (sym told.1.begun_as ∙ own.begun) in
     let pieces : FedAt c.at.stage c.at fed (take n x.back) progress at = subst (λ (y : Connection). FedAt c.at.stage c.at fed (take n y.back) progress at) (sym connections) feeds in
-    subst (λ m. IsSmooth drive (heard w m n c at reader progress)) same
-    (fed_smooth g o drive w j n c x d b s step at reader fed progress kept sm own (subst (λ y. IsAttempt w.begun c d step y) its told.1) done is
+    subst (λ m. IsFaultlessWorld drive (heard w m n c at reader progress)) same
+    (fed_faultless g o drive w j n c x d b s step at reader fed progress kept sm own (subst (λ y. IsAttempt w.begun c d step y) its told.1) done is
     (subst (λ y. HasFedAt y c.reader fed) is had) pieces (subst (λ y. FedAt y c.at fed (take n x.back) progress at) is pieces)
     (subst (λ (y : Connection). HasFedAt at.stage reader (unanswered at.stage (fed ++ take n y.back))) (sym connections) has))
 stage_hears g o drive w k n l c stage at reader fed progress kept sm there is mine under conn first within stands had feeds has = absurd cc
 
 -- Bytes reach the side that is not the server's: on this link it is the client.
-pub hears_smooth : OneReply → Goings → (dump : Option Dumping) (drive : PlainDriveSpec) (w u : World) (k n : ℕ) (l : Connection) → IsWorldKept w → IsSmooth drive w → connection_of w k ≡ Some l
-    → IsTrue l.other → l.dump ≡ dump → 1 ≤ n → n ≤ length l.back → Hears dump w k n (take n l.back) u → IsSmooth drive u
-hears_smooth g o None drive w u k n l kept sm at other dump first within hears =
+pub hears_faultless : OneReply → Goings → (dump : Option Dumping) (drive : PlainDriveSpec) (w u : World) (k n : ℕ) (l : Connection) → IsWorldKept w → IsFaultlessWorld drive w → connection_of w k ≡ Some l
+    → IsTrue l.other → l.dump ≡ dump → 1 ≤ n → n ≤ length l.back → Hears dump w k n (take n l.back) u → IsFaultlessWorld drive u
+hears_faultless g o None drive w u k n l kept sm at other dump first within hears =
     let d = sm.clients k l at in
     let clash = sym dump ∙ d.1 in absurd cc
-hears_smooth g o (Some d) drive w u k n l kept sm at other dump first within (c, fed, new, reader, progress, there, had, feeds, has, is) =
+hears_faultless g o (Some d) drive w u k n l kept sm at other dump first within (c, fed, new, reader, progress, there, had, feeds, has, is) =
     let mine : w.own ≡ Some k = kept.owned.only k (l, d, at, other, dump) in
     let client = (kept.owned.own k mine).1 in
     let same : client.0 ≡ c = same_Some client.0 c (sym client.1 ∙ there) in
-    subst (IsSmooth drive) (sym is)
+    subst (IsFaultlessWorld drive) (sym is)
     (stage_hears g o drive w k n l c c.at.stage new reader fed progress kept sm there refl mine (subst (λ (x : Caller). IsTrue (is_in_attempt x.at.stage)) same client.2) at first within
     (subst (λ x. StandsWith x drive w) there sm.stands) had feeds has)

@@ -27,7 +27,7 @@ use Rattle.rmt_server.specs.Session.PlainSession.{Idle, Offline, Online}
 use Rattle.rmt_server.specs.TroubledServe.{holder_of, TroubledServeStep, TroubledReelStep, TroubledDoneStep}
 use Rattle.dump_run.specs.Label.{label_bytes}
 use Rattle.tape_events.specs.First.{PlainDriveSpec}
-use Rattle.tape_events.specs.Smooth.{blanks, one_drive}
+use Rattle.tape_events.specs.Faultless.{blanks, one_drive}
 use Rattle.tape_events.proofs.Called.{IsLeftWith, Called, called}
 
 -- no drive or no reel

@@ -238,7 +238,7 @@ StandsWith (Some c) drive w = ReelsStandAt c.at.stage drive w c
 
 -- What stays so while no fault comes: each connection is the client's, and on all but its own nothing is unserved; the reels of
 -- the counts are the first of the opening stack, in order.
-pub record IsSmooth (drive : PlainDriveSpec) (w : World) : Type 0 where
+pub record IsFaultlessWorld (drive : PlainDriveSpec) (w : World) : Type 0 where
   pub clients : (j : ℕ) (l : Connection) → connection_of w j ≡ Some l → (d : Dumping) × (l.dump ≡ Some d)
   pub still : (j : ℕ) (l : Connection) → connection_of w j ≡ Some l → w.own ≢ Some j → AreUnserved (side_of w.server j) l.toward []
   pub reels : map (λ (x : Count). x.reel) w.counts ≡ take (length w.counts) drive.reels

@@ -26,15 +26,15 @@ use Rattle.tape_events.specs.Steps.{Finds, carried}
 use Rattle.tape_events.specs.Kept.{IsWorldKept}
 use Rattle.tape_events.specs.Owning.{is_in_attempt}
 use Rattle.tape_events.specs.Sending.{AreUnserved, request_in, IsPending, IsAttempt, IsStepAsked, FitsReplyReader, IsConnectionToldAt}
-use Rattle.tape_events.specs.Smooth.{IsSmooth, IsOwnConnection, IsStepUnanswered, ReelsStandAt, StandsWith, StandsBefore, Leads, Stock, stock_of, volume_slots, attempt_on}
-use Rattle.tape_events.proofs.SmoothBins.{served_bin}
+use Rattle.tape_events.specs.Faultless.{IsFaultlessWorld, IsOwnConnection, IsStepUnanswered, ReelsStandAt, StandsWith, StandsBefore, Leads, Stock, stock_of, volume_slots, attempt_on}
+use Rattle.tape_events.proofs.FaultlessBins.{served_bin}
 use Rattle.tape_events.proofs.Numbers.{changed_is, with_here, numbered_there, numbered_within, numbered_first}
 use Rattle.tape_events.proofs.Held.{side_there}
 use Rattle.tape_events.proofs.SentWire.{OneReading, DroppedWrites, one_read, nothing_long, text_not_long}
 use Rattle.tape_events.proofs.SentServe.{nothing_there, never_dropped, serve_pending, served_leads, noted_same}
 use Rattle.tape_events.proofs.SentTexts.{reply_texts}
 use Rattle.tape_events.proofs.ToldEvents.{turned_here, turned_beside}
-use Rattle.tape_events.proofs.SmoothSteps.{stock_then, step_leads}
+use Rattle.tape_events.proofs.FaultlessSteps.{stock_then, step_leads}
 
 pub changed_here : {X : Type 0} (f : X → X) (xs : List X) (k : ℕ) (x : X) → numbered xs k ≡ Some x → numbered (changed f xs k) k ≡ Some (f x)
 changed_here f xs k x at = ap (λ o. numbered (changed_from f xs k o) k) at ∙ with_here xs k x (f x) at
@@ -110,9 +110,9 @@ pub before_bin : (drive : PlainDriveSpec) (t : Stock) (k : ℕ) (b : Begun) (d :
 before_bin drive t k b d session Open q = ap (λ (x : TapeLibrary). x.bin) q.0.library
 before_bin drive t k b d session step q = ap (λ (x : TapeLibrary). x.bin) q.library
 
-carried_smooth : OneReading → DroppedWrites → (drive : PlainDriveSpec) (w u : World) (k : ℕ) (c : Caller) (l : Connection) (d : Dumping) (b : Begun) (s : ServerConnection) (step : Step) → IsWorldKept w → IsSmooth drive w
-    → IsStepUnanswered drive w (attempt_on k b d s.session) l step → Carries w u k c l d b s step → IsSmooth drive u
-carried_smooth g h drive w u k c l d b s step kept sm un v =
+carried_faultless : OneReading → DroppedWrites → (drive : PlainDriveSpec) (w u : World) (k : ℕ) (c : Caller) (l : Connection) (d : Dumping) (b : Begun) (s : ServerConnection) (step : Step) → IsWorldKept w → IsFaultlessWorld drive w
+    → IsStepUnanswered drive w (attempt_on k b d s.session) l step → Carries w u k c l d b s step → IsFaultlessWorld drive u
+carried_faultless g h drive w u k c l d b s step kept sm un v =
     let p = v.asked.pending in
     let all = serve_pending g h b s l.toward d step v.bytes v.rest v.request v.reply v.reached v.session p v.unread v.gives v.left in
     let good = kept.told.good d.run b v.own.begun in
@@ -167,7 +167,7 @@ carried_smooth g h drive w u k c l d b s step kept sm un v =
         leads = leads;
       },
     ) in
-    subst (IsSmooth drive) (sym v.is) record {
+    subst (IsFaultlessWorld drive) (sym v.is) record {
       clients = λ j z at. elim (changed_is (answered v.request v.reply) w.connections k j z at) [
         | inl (same, (a, was, new)) ↦ (let o = sm.clients k a was in
             (noted v.request v.reply o.0, ap (λ (m : Connection). m.dump) new ∙ ap (option_map (noted v.request v.reply)) o.1))
@@ -190,18 +190,18 @@ own_told w k l d b s c stage kept own there at =
     (subst (λ x. IsConnectionToldAt x w.begun (side_of w.server k) l c d) at ((kept.told.each k l own.there).own d c own.dump own.own there))
 
 -- the server finds something on a connection where the client waits
-found_smooth : OneReading → DroppedWrites → (drive : PlainDriveSpec) (w u : World) (k : ℕ) (c : Caller) (l : Connection) (d : Dumping) (b : Begun) (s : ServerConnection) (step : Step)
-    (found : Result (Option PlainRequest) WireFault) (bytes rest : List ℕ) → IsWorldKept w → IsSmooth drive w → w.caller ≡ Some c → c.at.stage ≡ Waiting step → IsOwnConnection w k l d b s
+found_faultless : OneReading → DroppedWrites → (drive : PlainDriveSpec) (w u : World) (k : ℕ) (c : Caller) (l : Connection) (d : Dumping) (b : Begun) (s : ServerConnection) (step : Step)
+    (found : Result (Option PlainRequest) WireFault) (bytes rest : List ℕ) → IsWorldKept w → IsFaultlessWorld drive w → w.caller ≡ Some c → c.at.stage ≡ Waiting step → IsOwnConnection w k l d b s
     → IsStepUnanswered drive w (attempt_on k b d s.session) l step → IsConnectionToldAt (Waiting step) w.begun (Some s) l c d → Unread s.reached bytes → Gives bytes found rest
-    → Finds w k NoTrouble s found rest u → IsSmooth drive u
-found_smooth g h drive w u k c l d b s step found bytes rest kept sm there stage own un (b', attempt, inr replied) unread gives finds =
+    → Finds w k NoTrouble s found rest u → IsFaultlessWorld drive u
+found_faultless g h drive w u k c l d b s step found bytes rest kept sm there stage own un (b', attempt, inr replied) unread gives finds =
     absurd (nothing_found h w u k s l.toward bytes rest found replied.settled.unserved unread gives finds)
-found_smooth g h drive w u k c l d b s step (Ok None) bytes rest kept sm there stage own un (b', attempt, inl asked) unread gives finds = absurd finds
-found_smooth g h drive w u k c l d b s step (Err fault) bytes rest kept sm there stage own un (b', attempt, inl asked) unread gives finds =
+found_faultless g h drive w u k c l d b s step (Ok None) bytes rest kept sm there stage own un (b', attempt, inl asked) unread gives finds = absurd finds
+found_faultless g h drive w u k c l d b s step (Err fault) bytes rest kept sm there stage own un (b', attempt, inl asked) unread gives finds =
     absurd (pending_no_fault g h b' s l.toward d step bytes rest fault asked.pending unread gives)
-found_smooth g h drive w u k c l d b s step (Ok (Some request)) bytes rest kept sm there stage own un (b', attempt, inl asked) unread gives (reply, reached, library, session, holders, left, served, is) =
+found_faultless g h drive w u k c l d b s step (Ok (Some request)) bytes rest kept sm there stage own un (b', attempt, inl asked) unread gives (reply, reached, library, session, holders, left, served, is) =
     let same : b' ≡ b = same_Some b' b (sym attempt.begun_as ∙ own.begun) in
-    carried_smooth g h drive w u k c l d b s step kept sm un record {
+    carried_faultless g h drive w u k c l d b s step kept sm un record {
       caller = there;
       stage = stage;
       own = own;
@@ -260,7 +260,7 @@ unserved_at drive w k s l c (Waiting step) kept live conn mine there at under (j
     }
 unserved_at drive w k s l c stage kept live conn mine there at under stands = absurd cc
 
-pub unserved_on : (drive : PlainDriveSpec) (w : World) (k : ℕ) (s : ServerConnection) (l : Connection) → IsWorldKept w → IsSmooth drive w → side_of w.server k ≡ Some s → connection_of w k ≡ Some l
+pub unserved_on : (drive : PlainDriveSpec) (w : World) (k : ℕ) (s : ServerConnection) (l : Connection) → IsWorldKept w → IsFaultlessWorld drive w → side_of w.server k ≡ Some s → connection_of w k ≡ Some l
     → Unserved drive w k s l
 unserved_on drive w k s l kept sm live conn = by_own w.own refl
   where
@@ -278,9 +278,9 @@ unserved_on drive w k s l kept sm live conn = by_own w.own refl
     ]
 
 -- the server carries a request out
-pub serve_smooth : OneReading → DroppedWrites → (drive : PlainDriveSpec) (w u : World) (k : ℕ) (s : ServerConnection) (found : Result (Option PlainRequest) WireFault) (bytes rest : List ℕ)
-    → IsWorldKept w → IsSmooth drive w → side_of w.server k ≡ Some s → Unread s.reached bytes → Gives bytes found rest → Finds w k NoTrouble s found rest u → IsSmooth drive u
-serve_smooth g h drive w u k s found bytes rest kept sm live unread gives finds =
+pub serve_faultless : OneReading → DroppedWrites → (drive : PlainDriveSpec) (w u : World) (k : ℕ) (s : ServerConnection) (found : Result (Option PlainRequest) WireFault) (bytes rest : List ℕ)
+    → IsWorldKept w → IsFaultlessWorld drive w → side_of w.server k ≡ Some s → Unread s.reached bytes → Gives bytes found rest → Finds w k NoTrouble s found rest u → IsFaultlessWorld drive u
+serve_faultless g h drive w u k s found bytes rest kept sm live unread gives finds =
     let paired = kept.tidy.paired in
     let here = side_there w.server k s live in
     let within = numbered_within w.server.sides k (Some s) here in
@@ -288,5 +288,5 @@ serve_smooth g h drive w u k s found bytes rest kept sm live unread gives finds 
     elim (unserved_on drive w k s l.0 kept sm live l.1) [
       | none_left none ↦ absurd (nothing_found h w u k s l.0.toward bytes rest found none unread gives finds)
       | one_left c step d b there at own un ↦
-          found_smooth g h drive w u k c l.0 d b s step found bytes rest kept sm there at own un (own_told w k l.0 d b s c (Waiting step) kept own there at) unread gives finds
+          found_faultless g h drive w u k c l.0 d b s step found bytes rest kept sm there at own un (own_told w k l.0 d b s c (Waiting step) kept own there at) unread gives finds
     ]

@@ -19,19 +19,19 @@ use Rattle.tape_events.specs.Steps.{Happens, Runs, none, one_more, is_failing, S
 use Rattle.tape_events.specs.Kept.{IsWorldKept, AreLaid}
 use Rattle.tape_events.specs.Standing.{AreHeld, ReelLiesIn, StandsOn}
 use Rattle.tape_events.specs.Written.{whole_volume}
-use Rattle.tape_events.specs.Smooth.{IsFaultless, AreFaultless, IsSmooth, is_between, VolumesInOrder, ReelsStandAt, StandsWith, stock_of, volume_by, volume_slot, volume_slots}
+use Rattle.tape_events.specs.Faultless.{IsFaultless, AreFaultless, IsFaultlessWorld, is_between, VolumesInOrder, ReelsStandAt, StandsWith, stock_of, volume_by, volume_slot, volume_slots}
 use Rattle.tape_events.proofs.Numbers.{no_number}
 use Rattle.tape_events.proofs.Booked.{among_at}
 use Rattle.tape_events.proofs.LabelledNames.{stands_one}
 use Rattle.tape_events.proofs.Staying.{Laws, first_kept, kept_after}
-use Rattle.tape_events.proofs.SmoothLists.{count_reel, slot_names}
-use Rattle.tape_events.proofs.SmoothBins.{Behind, same_bin}
-use Rattle.tape_events.proofs.SmoothCarried.{before_bin, serve_smooth}
-use Rattle.tape_events.proofs.SmoothHears.{hears_smooth}
-use Rattle.tape_events.proofs.SmoothEvents.{begun_smooth, connected_smooth, asked_smooth, reached_smooth}
+use Rattle.tape_events.proofs.FaultlessLists.{count_reel, slot_names}
+use Rattle.tape_events.proofs.FaultlessBins.{Behind, same_bin}
+use Rattle.tape_events.proofs.FaultlessCarried.{before_bin, serve_faultless}
+use Rattle.tape_events.proofs.FaultlessHears.{hears_faultless}
+use Rattle.tape_events.proofs.FaultlessEvents.{begun_faultless, connected_faultless, asked_faultless, reached_faultless}
 
-pub first_smooth : (drive : PlainDriveSpec) → IsSmooth drive (first_world (drive ∷ []))
-first_smooth drive = record {
+pub first_faultless : (drive : PlainDriveSpec) → IsFaultlessWorld drive (first_world (drive ∷ []))
+first_faultless drive = record {
   clients = λ j l at. absurd (no_number j l at);
   still = λ j l at not_own. absurd (no_number j l at);
   reels = refl;
@@ -39,24 +39,24 @@ first_smooth drive = record {
   failure = λ volume fault is. absurd cc;
 }
 
-pub smooth_after : Laws → (drive : PlainDriveSpec) (w u : World) (event : PlainEvent) → IsWorldKept w → IsSmooth drive w → IsFaultless event → Happens w event u → IsSmooth drive u
-smooth_after g drive w u (StartRun run payload) kept sm whole ((idle, good, size), (reader, is)) =
-    subst (IsSmooth drive) (sym is) (begun_smooth drive w run payload reader kept sm idle)
-smooth_after g drive w u Connect kept sm whole (may, (c, there, ready, is)) = subst (IsSmooth drive) (sym is) (connected_smooth drive w c kept sm there ready)
-smooth_after g drive w u (Send fails) kept sm whole (may, (c, step, k, b, there, stage, own, mine, sends)) =
+pub faultless_after : Laws → (drive : PlainDriveSpec) (w u : World) (event : PlainEvent) → IsWorldKept w → IsFaultlessWorld drive w → IsFaultless event → Happens w event u → IsFaultlessWorld drive u
+faultless_after g drive w u (StartRun run payload) kept sm whole ((idle, good, size), (reader, is)) =
+    subst (IsFaultlessWorld drive) (sym is) (begun_faultless drive w run payload reader kept sm idle)
+faultless_after g drive w u Connect kept sm whole (may, (c, there, ready, is)) = subst (IsFaultlessWorld drive) (sym is) (connected_faultless drive w c kept sm there ready)
+faultless_after g drive w u (Send fails) kept sm whole (may, (c, step, k, b, there, stage, own, mine, sends)) =
     let s : Sends false w k c b.payload step u = subst (λ f. Sends (is_failing f step) w k c b.payload step u) whole sends in
-    subst (IsSmooth drive) (sym s.2) (asked_smooth drive w k c b.payload step s.0 kept sm own there stage)
-smooth_after g drive w u (ToServer k n) kept sm whole ((s, l, live, at, part, room), (x, y, reached, here, there, grows, is)) =
+    subst (IsFaultlessWorld drive) (sym s.2) (asked_faultless drive w k c b.payload step s.0 kept sm own there stage)
+faultless_after g drive w u (ToServer k n) kept sm whole ((s, l, live, at, part, room), (x, y, reached, here, there, grows, is)) =
     let connections : l ≡ y = same_Some l y (sym at ∙ there) in
-    subst (IsSmooth drive) (sym is)
-    (reached_smooth drive w k n x y reached kept sm here there part.0 (subst (λ (z : Connection). n ≤ length z.toward) connections part.1))
-smooth_after g drive w u (Serve k trouble) kept sm whole (may, (s, found, bytes, rest, live, unread, gives, finds)) =
-    serve_smooth g.reading g.dropped drive w u k s found bytes rest kept sm live unread gives (subst (λ t. Finds w k t s found rest u) whole finds)
-smooth_after g drive w u (ToClient k n) kept sm whole ((l, (there, other), part), (y, at, hears)) =
+    subst (IsFaultlessWorld drive) (sym is)
+    (reached_faultless drive w k n x y reached kept sm here there part.0 (subst (λ (z : Connection). n ≤ length z.toward) connections part.1))
+faultless_after g drive w u (Serve k trouble) kept sm whole (may, (s, found, bytes, rest, live, unread, gives, finds)) =
+    serve_faultless g.reading g.dropped drive w u k s found bytes rest kept sm live unread gives (subst (λ t. Finds w k t s found rest u) whole finds)
+faultless_after g drive w u (ToClient k n) kept sm whole ((l, (there, other), part), (y, at, hears)) =
     let connections : l ≡ y = same_Some l y (sym there ∙ at) in
-    hears_smooth g.reply g.goings y.dump drive w u k n y kept sm at (subst (λ (z : Connection). IsTrue z.other) connections other) refl part.0
+    hears_faultless g.reply g.goings y.dump drive w u k n y kept sm at (subst (λ (z : Connection). IsTrue z.other) connections other) refl part.0
     (subst (λ (z : Connection). n ≤ length z.back) connections part.1) hears
-smooth_after g drive w u event kept sm whole happens = absurd whole
+faultless_after g drive w u event kept sm whole happens = absurd whole
 
 -- a list without faults and an event without one
 last_faultless : (events : List PlainEvent) (event : PlainEvent) → AreFaultless (events ++ event ∷ []) → AreFaultless events × IsFaultless event
@@ -64,13 +64,13 @@ last_faultless [] event whole = (tt, whole.0)
 last_faultless (e ∷ events) event whole = let on = last_faultless events event whole.1 in ((whole.0, on.0), on.1)
 
 -- after every list of events without a fault
-pub runs_smooth : Laws → (drive : PlainDriveSpec) (first w : World) (events : List PlainEvent) → IsWorldKept first → IsSmooth drive first → AreFaultless events → Runs first events w
-    → IsWorldKept w × IsSmooth drive w
-runs_smooth g drive first w events kept sm whole none = (kept, sm)
-runs_smooth g drive first w all kept sm whole (one_more {events = events} {before = before} event run happens) =
+pub runs_faultless : Laws → (drive : PlainDriveSpec) (first w : World) (events : List PlainEvent) → IsWorldKept first → IsFaultlessWorld drive first → AreFaultless events → Runs first events w
+    → IsWorldKept w × IsFaultlessWorld drive w
+runs_faultless g drive first w events kept sm whole none = (kept, sm)
+runs_faultless g drive first w all kept sm whole (one_more {events = events} {before = before} event run happens) =
     let parts = last_faultless events event whole in
-    let was = runs_smooth g drive first before events kept sm parts.0 run in
-    (kept_after g before w event was.0 happens, smooth_after g drive before w event was.0 was.1 parts.1 happens)
+    let was = runs_faultless g drive first before events kept sm parts.0 run in
+    (kept_after g before w event was.0 happens, faultless_after g drive before w event was.0 was.1 parts.1 happens)
 
 -- the reels of the counts come first in the bin
 bin_at : (drive : PlainDriveSpec) (w : World) (c : Caller) (stage : Stage) → ReelsStandAt stage drive w c → Behind (volume_slots drive (stock_of w)) w.server.library.bin
@@ -167,7 +167,7 @@ between_names drive w c Finished is free = ap (λ (x : TapeLibrary). names_of x.
 between_names drive w c stage is stands = absurd cc
 
 -- the volumes are in order
-pub in_order : (drive : PlainDriveSpec) (w : World) → IsWorldKept w → IsSmooth drive w → VolumesInOrder drive w
+pub in_order : (drive : PlainDriveSpec) (w : World) → IsWorldKept w → IsFaultlessWorld drive w → VolumesInOrder drive w
 in_order drive w kept sm = record {
   failure = sm.failure;
   reels = λ i x at. (
@@ -190,5 +190,5 @@ in_order drive w kept sm = record {
 pub runs_in_order : Laws → (drive : PlainDriveSpec) (events : List PlainEvent) (w : World) → AreGoodDrives (drive ∷ []) → AreFaultless events
     → Runs (first_world (drive ∷ [])) events w → VolumesInOrder drive w
 runs_in_order g drive events w good whole run =
-    let both = runs_smooth g drive (first_world (drive ∷ [])) w events (first_kept (drive ∷ []) good) (first_smooth drive) whole run in
+    let both = runs_faultless g drive (first_world (drive ∷ [])) w events (first_kept (drive ∷ []) good) (first_faultless drive) whole run in
     in_order drive w both.0 both.1

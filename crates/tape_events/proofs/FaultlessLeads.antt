@@ -37,10 +37,10 @@ use Rattle.tape_events.specs.Changes.{opening, noted, accepted}
 use Rattle.tape_events.specs.Sending.{HasDone, AreCounted}
 use Rattle.tape_events.specs.Written.{attempt_written, label_if, mark_if}
 use Rattle.tape_events.specs.Written.{block_records, whole_volume}
-use Rattle.tape_events.specs.Smooth.{Stock, blanks, one_drive, volume_slots, names_left, IsFree, IsLatched, IsOffline, StandsThen, CountsThen, Leads, IsFaultlessFailure, attempt_on}
+use Rattle.tape_events.specs.Faultless.{Stock, blanks, one_drive, volume_slots, names_left, IsFree, IsLatched, IsOffline, StandsThen, CountsThen, Leads, IsFaultlessFailure, attempt_on}
 use Rattle.tape_events.proofs.Sent.{raised_one}
-use Rattle.tape_events.proofs.SmoothLists.{blocks_more}
-use Rattle.tape_events.proofs.SmoothServes.{Opened, Refused, IsScarce, IsOnline, Writes, wrote, full, scarce}
+use Rattle.tape_events.proofs.FaultlessLists.{blocks_more}
+use Rattle.tape_events.proofs.FaultlessServes.{Opened, Refused, IsScarce, IsOnline, Writes, wrote, full, scarce}
 
 -- The drives, their holders and the openings once a request was carried out.
 abbrev pub then_stock : Stock → TapeLibrary → List ℕ → List Opening → Stock

@@ -22,12 +22,12 @@ use Rattle.tape_events.specs.Steps.{begun, client_connected, fresh, asked, sent_
 use Rattle.tape_events.specs.Kept.{IsWorldKept}
 use Rattle.tape_events.specs.Owning.{is_in_attempt}
 use Rattle.tape_events.specs.Sending.{AreUnserved}
-use Rattle.tape_events.specs.Smooth.{Stock, stock_of, blanks, one_drive, names_left, volume_by, volume_slot, volume_slots, IsFree, IsLatched, IsOwnConnection, StandsBefore, ReelsStandAt, StandsWith, IsSmooth}
+use Rattle.tape_events.specs.Faultless.{Stock, stock_of, blanks, one_drive, names_left, volume_by, volume_slot, volume_slots, IsFree, IsLatched, IsOwnConnection, StandsBefore, ReelsStandAt, StandsWith, IsFaultlessWorld}
 use Rattle.tape_events.proofs.Numbers.{pushed_is, numbered_more, numbered_last, numbered_there, numbered_within, numbered_first}
 use Rattle.tape_events.proofs.ToldEvents.{turned_here, turned_beside}
-use Rattle.tape_events.proofs.SmoothLists.{map_same}
-use Rattle.tape_events.proofs.SmoothCarried.{changed_here, own_told, none_left, one_left, unserved_on}
-use Rattle.tape_events.proofs.SmoothHears.{changed_connections, settles}
+use Rattle.tape_events.proofs.FaultlessLists.{map_same}
+use Rattle.tape_events.proofs.FaultlessCarried.{changed_here, own_told, none_left, one_left, unserved_on}
+use Rattle.tape_events.proofs.FaultlessHears.{changed_connections, settles}
 
 -- without a run no session has the drive
 free_stage : (drive : PlainDriveSpec) (w : World) (c : Caller) (stage : Stage) → IsTrue (is_run_done stage) → ReelsStandAt stage drive w c → IsFree drive (stock_of w)
@@ -50,9 +50,9 @@ same_volumes drive w b kept =
     let was = e.3.begun in
     ap (λ o. slot x.reel (Some (kept_reel (volume_by o x) drive.capacity))) (was ∙ sym (numbered_more w.begun (b ∷ []) x.run e.2 was))))
 
-pub begun_smooth : (drive : PlainDriveSpec) (w : World) (run : PlainRun) (payload : List ℕ) (reader : ReplyHeld) → IsWorldKept w → IsSmooth drive w → NoRun w
-    → IsSmooth drive (begun w run payload reader)
-begun_smooth drive w run payload reader kept sm none =
+pub begun_faultless : (drive : PlainDriveSpec) (w : World) (run : PlainRun) (payload : List ℕ) (reader : ReplyHeld) → IsWorldKept w → IsFaultlessWorld drive w → NoRun w
+    → IsFaultlessWorld drive (begun w run payload reader)
+begun_faultless drive w run payload reader kept sm none =
     let b : Begun = record { run = run; payload = cut_blocks run.blocks run.block_bytes payload } in
     let free = free_then drive w none sm.stands in
     record {
@@ -71,8 +71,8 @@ idle_own w c kept there ready j mine =
     let under : IsTrue (is_in_attempt Ready) = subst (λ s. IsTrue (is_in_attempt s)) ready (subst (λ (x : Caller). IsTrue (is_in_attempt x.at.stage)) same client.2) in
     cc
 
-pub connected_smooth : (drive : PlainDriveSpec) (w : World) (c : Caller) → IsWorldKept w → IsSmooth drive w → w.caller ≡ Some c → c.at.stage ≡ Ready → IsSmooth drive (client_connected w c)
-connected_smooth drive w c kept sm there ready =
+pub connected_faultless : (drive : PlainDriveSpec) (w : World) (c : Caller) → IsWorldKept w → IsFaultlessWorld drive w → w.caller ≡ Some c → c.at.stage ≡ Ready → IsFaultlessWorld drive (client_connected w c)
+connected_faultless drive w c kept sm there ready =
     let u : World = client_connected w c in
     let k = length w.connections + 1 in
     let l : Connection = new_connection (Some (fresh c)) in
@@ -132,12 +132,12 @@ sent_stands drive t k b d session Close q = q
 sent_stands drive t k b d session step q = sent_latched drive t k b d session q
 
 -- the client sends its next request
-pub asked_smooth : (drive : PlainDriveSpec) (w : World) (k : ℕ) (c : Caller) (payload : List (List ℕ)) (step : Step) (reader : ReplyHeld) → IsWorldKept w → IsSmooth drive w
-    → w.own ≡ Some k → w.caller ≡ Some c → c.at.stage ≡ ToSend step → IsSmooth drive (asked w k c payload step reader)
-asked_smooth drive w k c payload step reader kept sm mine there stage =
+pub asked_faultless : (drive : PlainDriveSpec) (w : World) (k : ℕ) (c : Caller) (payload : List (List ℕ)) (step : Step) (reader : ReplyHeld) → IsWorldKept w → IsFaultlessWorld drive w
+    → w.own ≡ Some k → w.caller ≡ Some c → c.at.stage ≡ ToSend step → IsFaultlessWorld drive (asked w k c payload step reader)
+asked_faultless drive w k c payload step reader kept sm mine there stage =
     sent_by (subst (λ x. ReelsStandAt x drive w c) stage (subst (λ o. StandsWith o drive w) there sm.stands))
   where
-    sent_by : ReelsStandAt (ToSend step) drive w c → IsSmooth drive (asked w k c payload step reader)
+    sent_by : ReelsStandAt (ToSend step) drive w c → IsFaultlessWorld drive (asked w k c payload step reader)
     sent_by (j, l, d, b, s, own, stands) =
         let u : World = asked w j c payload step reader in
         let text = next_text c payload step in
@@ -152,7 +152,7 @@ asked_smooth drive w k c payload step reader kept sm mine there stage =
           begun = own.begun;
           live = own.live;
         } in
-        subst (λ n. IsSmooth drive (asked w n c payload step reader)) same (settles drive w u j sm record {
+        subst (λ n. IsFaultlessWorld drive (asked w n c payload step reader)) same (settles drive w u j sm record {
           own = own.own;
           connections = changed_connections w u j (sent_connection text) refl (λ x e is. (noted_sent e, ap (option_map noted_sent) is));
           sides = λ i other. refl;
@@ -171,15 +171,15 @@ no_way s way n (reached, unread, is) first within =
     omega (arith, size, both, first, within)
 
 -- bytes reach the server
-pub reached_smooth : (drive : PlainDriveSpec) (w : World) (k n : ℕ) (s : ServerConnection) (l : Connection) (reached : RequestHeld) → IsWorldKept w → IsSmooth drive w → side_of w.server k ≡ Some s
-    → connection_of w k ≡ Some l → 1 ≤ n → n ≤ length l.toward → IsSmooth drive (reached_by w k n s reached)
-reached_smooth drive w k n s l reached kept sm live conn first within = elim (unserved_on drive w k s l kept sm live conn) [
+pub reached_faultless : (drive : PlainDriveSpec) (w : World) (k n : ℕ) (s : ServerConnection) (l : Connection) (reached : RequestHeld) → IsWorldKept w → IsFaultlessWorld drive w → side_of w.server k ≡ Some s
+    → connection_of w k ≡ Some l → 1 ≤ n → n ≤ length l.toward → IsFaultlessWorld drive (reached_by w k n s reached)
+reached_faultless drive w k n s l reached kept sm live conn first within = elim (unserved_on drive w k s l kept sm live conn) [
   | none_left none ↦ absurd (no_way s l.toward n none first within)
   | one_left c step d b there stage own un ↦ moved_on d b c step there stage own un.back un.stands
 ]
   where
     moved_on : (d : Dumping) (b : Begun) (c : Caller) (step : Step) → w.caller ≡ Some c → c.at.stage ≡ Waiting step → IsOwnConnection w k l d b s
-        → l.back ≡ [] → StandsBefore step drive (stock_of w) k b d s.session → IsSmooth drive (reached_by w k n s reached)
+        → l.back ≡ [] → StandsBefore step drive (stock_of w) k b d s.session → IsFaultlessWorld drive (reached_by w k n s reached)
     moved_on d b c step there stage own back stands =
         let u : World = reached_by w k n s reached in
         let z : ServerConnection = side reached s.session in

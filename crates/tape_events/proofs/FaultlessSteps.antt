@@ -27,10 +27,10 @@ use Rattle.tape_events.specs.First.{PlainDriveSpec}
 use Rattle.tape_events.specs.Changes.{opening, opened_reel, written_reel, first_name, noted}
 use Rattle.tape_events.specs.Sending.{HasDone, request_in}
 use Rattle.tape_events.specs.Written.{attempt_written}
-use Rattle.tape_events.specs.Smooth.{Stock, blanks, one_drive, names_left, volume_slots, IsLatched, IsOffline, StandsBefore, Leads, attempt_on}
+use Rattle.tape_events.specs.Faultless.{Stock, blanks, one_drive, names_left, volume_slots, IsLatched, IsOffline, StandsBefore, Leads, attempt_on}
 use Rattle.tape_events.proofs.SentTexts.{few_volumes, label_short}
-use Rattle.tape_events.proofs.SmoothServes.{IsOnline, Writes, wrote, full, scarce, serve_open, serve_rewind, serve_look, serve_write, serve_mark, serve_unload, serve_close}
-use Rattle.tape_events.proofs.SmoothLeads.{then_stock, nothing_written, opened_leads, refused_leads, rewound_leads, look_leads, again_leads, label_leads, block_leads, mark_leads, unload_leads, close_leads}
+use Rattle.tape_events.proofs.FaultlessServes.{IsOnline, Writes, wrote, full, scarce, serve_open, serve_rewind, serve_look, serve_write, serve_mark, serve_unload, serve_close}
+use Rattle.tape_events.proofs.FaultlessLeads.{then_stock, nothing_written, opened_leads, refused_leads, rewound_leads, look_leads, again_leads, label_leads, block_leads, mark_leads, unload_leads, close_leads}
 
 -- the label of a lawful client's next volume
 pub label_whole : (s : Standing) → IsLawful s → length (label s.run (checkpoint_of s.counts).0 (checkpoint_of s.counts).1) ≡ label_bytes

@@ -1,11 +1,11 @@
-use Rattle.tape_events.proofs.SmoothOrder.{first_smooth, smooth_after, in_order, runs_in_order}
-use Rattle.tape_events.proofs.order.smooth.Goals as goal
+use Rattle.tape_events.proofs.FaultlessOrder.{first_faultless, faultless_after, in_order, runs_in_order}
+use Rattle.tape_events.proofs.order.faultless.Goals as goal
 
 pub returns-clause-first : goal.returns-clause-first
-returns-clause-first c = first_smooth
+returns-clause-first c = first_faultless
 
 pub returns-clause-after : goal.returns-clause-after
-returns-clause-after c = smooth_after record {
+returns-clause-after c = faultless_after record {
   goings = (c.same_run.ensures.fed, c.same_run.ensures.cut);
   lawfully = (c.same_run.ensures.fed_lawful, c.same_run.ensures.cut_lawful, c.same_run.ensures.over_lawful);
   standings = (c.same_run.ensures.fed_stands, c.same_run.ensures.cut_stands);

@@ -9,7 +9,7 @@ use Rattle.drives.specs.TapeLibrary.{names_of}
 use Rattle.tape_events.specs.World.{Begun, Count, Opening}
 use Rattle.tape_events.specs.Changes.{opening, reel_opened_by}
 use Rattle.tape_events.specs.Written.{block_records}
-use Rattle.tape_events.specs.Smooth.{volume_slot}
+use Rattle.tape_events.specs.Faultless.{volume_slot}
 
 -- one reel further down the stack
 pub next_of : (xs : List (List ℕ)) (n : ℕ) (x : List ℕ) (ys : List (List ℕ)) → drop n xs ≡ x ∷ ys
