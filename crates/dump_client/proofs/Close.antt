@@ -4,8 +4,8 @@ use Rattle.rmt_wire.specs.Reply.{PlainReply}
 use Rattle.rmt_wire.specs.Reply.PlainReply.{Done, Data, Error}
 use Rattle.dump_run.specs.Run.{PlainRun}
 use Rattle.dump_run.specs.declared.count.VolumeCount.{VolumeCount}
-use Rattle.dump_client.specs.Position.{Heard, outcome, after_step, after_noise, after_end, after_reply}
-use Rattle.dump_client.specs.Position.Heard.{Reply, Noise, End}
+use Rattle.dump_client.specs.Position.{Received, outcome, after_step, after_noise, after_end, after_reply}
+use Rattle.dump_client.specs.Position.Received.{Reply, Noise, End}
 use Rattle.dump_client.specs.declared.step.Step.{Step}
 use Rattle.dump_client.specs.declared.step.Step.TheVariants.{Operation, Label, Block, Close}
 use Rattle.dump_client.specs.declared.step.TapeOp.TheVariants.{Mark, Unload}
@@ -15,7 +15,7 @@ use Rattle.dump_client.specs.declared.fault.AttemptFault.TheVariants.{Botched, C
 use Rattle.dump_client.proofs.Outcomes.{NotClose, led}
 
 -- at the close whatever is heard ends the attempt
-pub close_ends : (run : PlainRun) (counts : List VolumeCount) (first : ℕ) (heard : Heard) → outcome run counts first Close heard ≡ Ended
+pub close_ends : (run : PlainRun) (counts : List VolumeCount) (first : ℕ) (heard : Received) → outcome run counts first Close heard ≡ Ended
 close_ends run counts first (Reply (Done n)) = refl
 close_ends run counts first (Reply (Data bytes)) = refl
 close_ends run counts first (Reply (Error n text)) = refl

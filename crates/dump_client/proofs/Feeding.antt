@@ -4,8 +4,8 @@ use Rattle.rmt_wire.specs.Reply.{PlainReply, Wanted}
 use Rattle.rmt_wire.specs.ReplyReader as reader
 use Rattle.rmt_wire.specs.ReplyReader.{ReplyUnread}
 use Rattle.dump_client.specs.Script.{wanted_of}
-use Rattle.dump_client.specs.Position.Heard.{Reply, Noise, End}
-use Rattle.dump_client.specs.Listening.{IsReaderWaiting, IsSaid, IsListened}
+use Rattle.dump_client.specs.Position.Received.{Reply, Noise, End}
+use Rattle.dump_client.specs.Listening.{IsReaderWaiting, IsSummary, IsFeedResult}
 use Rattle.rmt_wire.specs.Request.PlainRequest.{Close as CloseDevice}
 use Rattle.dump_client.specs.Standing.{Standing, standing, checkpoint_of, IsOver, HearsAt, FedAt, CutAt, StartedAt}
 use Rattle.dump_client.specs.Client.{HasFedAt, IsIdle, unanswered, AppendedBy, AskedAt, IsPayload, ReadBy, IsScarce, LacksRoom, IsFaultAt, is_source_fault}
@@ -16,8 +16,8 @@ use Rattle.dump_client.specs.declared.fault.AttemptFault.{AttemptFault}
 use Rattle.dump_client.specs.declared.fault.AttemptFault.TheVariants.{SourceFault, OutOfMemory}
 use Rattle.dump_client.specs.declared.fault.StartFault.{StartFault}
 use Rattle.dump_client.specs.declared.fault.StartFault.TheVariants as starts
-use Rattle.dump_client.specs.declared.listen.Said.{Said}
-use Rattle.dump_client.specs.declared.listen.Listened.TheVariants as listened
+use Rattle.dump_client.specs.declared.listen.ReplySummary.{ReplySummary}
+use Rattle.dump_client.specs.declared.listen.FeedResult.TheVariants as feed_result
 use Rattle.dump_client.specs.declared.stage.Stage.{Stage}
 use Rattle.dump_client.specs.declared.stage.Stage.TheVariants.{Ready, ToSend, Waiting, Asking}
 use Rattle.dump_client.specs.declared.stage.Progress.{Progress}
@@ -59,24 +59,24 @@ start_done Ready old room new h = (refl, h)
 start_done stage old room new h = let e = h.0 in absurd cc
 
 -- a beginning of a reply
-pub fed_waits : (run : PlainRun) (counts : List VolumeCount) (old : Standing) (step : Step) (r new_reader : reader.ReplyHeld) (bytes piece : List ℕ) → Waiting step ≡ old.stage → (IsReaderWaiting (wanted_of step) r bytes → IsListened run counts (wanted_of step) (bytes ++ piece) listened.Waits new_reader)
+pub fed_waits : (run : PlainRun) (counts : List VolumeCount) (old : Standing) (step : Step) (r new_reader : reader.ReplyHeld) (bytes piece : List ℕ) → Waiting step ≡ old.stage → (IsReaderWaiting (wanted_of step) r bytes → IsFeedResult run counts (wanted_of step) (bytes ++ piece) feed_result.Waits new_reader)
     → HasFedAt old.stage r bytes → FedAt old.stage old bytes piece moved.Waiting old
 fed_waits run counts old step r new_reader bytes piece at seen h =
     subst (λ s. HasFedAt s r bytes → FedAt s old bytes piece moved.Waiting old) at
     (λ w. let l = seen w in (Ok None, bytes ++ piece, l.begun, (refl, refl))) h
 
 -- a reply
-pub fed_reply : (run : PlainRun) (counts : List VolumeCount) (old : Standing) (step : Step) (r new_reader : reader.ReplyHeld) (bytes piece : List ℕ) (said : Said) (more : Bool) (progress : Progress) (new : Standing) → Waiting step ≡ old.stage
-    → (IsReaderWaiting (wanted_of step) r bytes → IsListened run counts (wanted_of step) (bytes ++ piece) (listened.Reply said more) new_reader)
-    → ((reply : PlainReply) → IsSaid run counts reply said → HearsAt old step (Reply reply) more progress new)
+pub fed_reply : (run : PlainRun) (counts : List VolumeCount) (old : Standing) (step : Step) (r new_reader : reader.ReplyHeld) (bytes piece : List ℕ) (summary : ReplySummary) (more : Bool) (progress : Progress) (new : Standing) → Waiting step ≡ old.stage
+    → (IsReaderWaiting (wanted_of step) r bytes → IsFeedResult run counts (wanted_of step) (bytes ++ piece) (feed_result.Reply summary more) new_reader)
+    → ((reply : PlainReply) → IsSummary run counts reply summary → HearsAt old step (Reply reply) more progress new)
     → HasFedAt old.stage r bytes → FedAt old.stage old bytes piece progress new
-fed_reply run counts old step r new_reader bytes piece said more progress new at seen heard h =
+fed_reply run counts old step r new_reader bytes piece summary more progress new at seen heard h =
     subst (λ s. HasFedAt s r bytes → FedAt s old bytes piece progress new) at
     (λ w. let l = seen w in (Ok (Some l.0), l.1, l.2, subst (λ m. HearsAt old step (Reply l.0) m progress new) l.4 (heard l.0 l.3))) h
 
 -- no reply
 pub fed_noise : (run : PlainRun) (counts : List VolumeCount) (old : Standing) (step : Step) (r new_reader : reader.ReplyHeld) (bytes piece : List ℕ) (progress : Progress) (new : Standing) → Waiting step ≡ old.stage
-    → (IsReaderWaiting (wanted_of step) r bytes → IsListened run counts (wanted_of step) (bytes ++ piece) listened.Noise new_reader) → HearsAt old step Noise false progress new
+    → (IsReaderWaiting (wanted_of step) r bytes → IsFeedResult run counts (wanted_of step) (bytes ++ piece) feed_result.Noise new_reader) → HearsAt old step Noise false progress new
     → HasFedAt old.stage r bytes → FedAt old.stage old bytes piece progress new
 fed_noise run counts old step r new_reader bytes piece progress new at seen heard h =
     subst (λ s. HasFedAt s r bytes → FedAt s old bytes piece progress new) at

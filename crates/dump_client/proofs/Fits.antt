@@ -7,13 +7,13 @@ use Rattle.dump_run.specs.Run.{PlainRun}
 use Rattle.dump_run.specs.Label.{label}
 use Rattle.dump_run.specs.declared.count.VolumeCount.{VolumeCount}
 use Rattle.dump_client.specs.Script.{Wish}
-use Rattle.dump_client.specs.Position.{Heard, outcome, after_step, after_reply, after_noise, after_end}
-use Rattle.dump_client.specs.Position.Heard.{Reply, Noise, End}
+use Rattle.dump_client.specs.Position.{Received, outcome, after_step, after_reply, after_noise, after_end}
+use Rattle.dump_client.specs.Position.Received.{Reply, Noise, End}
 use Rattle.dump_client.specs.Standing.{Standing, IsAtStep, checkpoint_of}
 use Rattle.dump_client.specs.Lawful.{IsLawful, IsRunLeft, StepFits, StageFits, RoomFits, OutcomeFits}
-use Rattle.dump_client.specs.Listening.{IsSaid}
-use Rattle.dump_client.specs.declared.listen.Said.{Said}
-use Rattle.dump_client.specs.declared.listen.Said.TheVariants as said
+use Rattle.dump_client.specs.Listening.{IsSummary}
+use Rattle.dump_client.specs.declared.listen.ReplySummary.{ReplySummary}
+use Rattle.dump_client.specs.declared.listen.ReplySummary.TheVariants as summary
 use Rattle.dump_client.specs.declared.step.Step.{Step}
 use Rattle.dump_client.specs.declared.step.Step.TheVariants.{Operation, Block, Close}
 use Rattle.dump_client.specs.declared.step.TapeOp.TheVariants.{Mark, Unload}
@@ -69,7 +69,7 @@ module _ (run : PlainRun) (counts : List VolumeCount) (room : ℕ) where
       leads_fit _ (GoesOn (Operation (Mark number))) fits.0 r (full_leads run (checkpoint_of counts).1 (left_begins run counts fits.0) number more (fits.1, fits.2))
 
   -- whatever labels a record was compared with
-  outcome_fits : (had : List VolumeCount) (step : Step) (heard : Heard) → Fits step (outcome run had (checkpoint_of counts).1 step heard)
+  outcome_fits : (had : List VolumeCount) (step : Step) (heard : Received) → Fits step (outcome run had (checkpoint_of counts).1 step heard)
   outcome_fits had step heard =
       led run had (checkpoint_of counts).1 heard Fits
       (record {
@@ -92,7 +92,7 @@ at_step run counts (Waiting other) room step fits r at = subst (λ s. StepFits r
 at_step run counts stage room step fits r at = absurd at
 
 -- whatever a lawful client hears
-heard_at : (s : Standing) (had : List VolumeCount) (room : ℕ) (step : Step) (heard : Heard) → IsLawful s → RoomFits s.stage room → IsAtStep s.stage step
+heard_at : (s : Standing) (had : List VolumeCount) (room : ℕ) (step : Step) (heard : Received) → IsLawful s → RoomFits s.stage room → IsAtStep s.stage step
     → OutcomeFits s.run s.counts room (outcome s.run had (checkpoint_of s.counts).1 step heard)
 heard_at s had room step heard lawful r at =
     let fits = at_step s.run s.counts s.stage room step lawful.stage r at in outcome_fits s.run s.counts room had step heard fits.0 fits.1
@@ -114,11 +114,11 @@ end_at s room step lawful r at = heard_at s [] room step End lawful r at
 abbrev one_count : ℕ → VolumeCount
 one_count volume = record { volume = volume; first = 0; count = 0 }
 
-pub reply_said : (run : PlainRun) (s : Said) → (had : List VolumeCount) × (reply : PlainReply) × IsSaid run had reply s
-reply_said run (said.Number n) = ([], Done n, refl)
-reply_said run (said.Error n) = ([], Error n [], refl)
-reply_said run (said.Looked None) = ([], Data [], refl)
-reply_said run (said.Looked (Some volume)) =
+pub reply_summary : (run : PlainRun) (s : ReplySummary) → (had : List VolumeCount) × (reply : PlainReply) × IsSummary run had reply s
+reply_summary run (summary.Number n) = ([], Done n, refl)
+reply_summary run (summary.Error n) = ([], Error n [], refl)
+reply_summary run (summary.Looked None) = ([], Data [], refl)
+reply_summary run (summary.Looked (Some volume)) =
     let bytes = label run volume 0 in
     let same : bytes_eq bytes bytes ≡ true = (bytes_eq-Decides bytes bytes).1 refl in
     (one_count volume ∷ [], Data bytes, ap (λ b. if b then Some volume else None) (sym same))

@@ -8,7 +8,7 @@ use Rattle.dump_run.specs.Run.{PlainRun}
 use Rattle.dump_run.specs.declared.count.VolumeCount.{VolumeCount}
 use Rattle.dump_client.specs.Script.{Wish, request_of}
 use Rattle.dump_client.specs.Position.{after_reply}
-use Rattle.dump_client.specs.Position.Heard.{Reply}
+use Rattle.dump_client.specs.Position.Received.{Reply}
 use Rattle.dump_client.specs.Standing.{checkpoint_of, count_to, counted_to}
 use Rattle.dump_client.specs.Lawful.{IsRunLeft, StepFits, steps_before, counts_before, sent_before, sent_with}
 use Rattle.dump_client.specs.declared.step.Step.{Step}

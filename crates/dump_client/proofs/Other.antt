@@ -7,7 +7,7 @@ use Rattle.dump_run.specs.Label.{label_bytes}
 use Rattle.dump_run.specs.declared.count.VolumeCount.{VolumeCount}
 use Rattle.dump_client.specs.Script.{Grants, wanted_of}
 use Rattle.dump_client.specs.Position.{IsWantedAt, CanBeHeard, IsFailure, after_reply}
-use Rattle.dump_client.specs.Position.Heard.{Reply}
+use Rattle.dump_client.specs.Position.Received.{Reply}
 use Rattle.dump_client.specs.declared.step.Step.{Step}
 use Rattle.dump_client.specs.declared.step.Step.TheVariants.{Look, Block, Close}
 use Rattle.dump_client.proofs.Outcomes.{wish_of, led}

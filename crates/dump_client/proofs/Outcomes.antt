@@ -9,8 +9,8 @@ use Rattle.dump_run.specs.Label.{label_bytes}
 use Rattle.dump_run.specs.declared.count.VolumeCount.{VolumeCount}
 use Rattle.dump_client.specs.Script.{Wish, Grants, counted_label}
 use Rattle.dump_client.specs.Script.Wish.{AnyNumber, Number, NoRoom, OtherLabel, Anything}
-use Rattle.dump_client.specs.Position.{Heard, outcome, after_step, after_reply, after_label, at_end_of_reel}
-use Rattle.dump_client.specs.Position.Heard.{Reply, Noise, End}
+use Rattle.dump_client.specs.Position.{Received, outcome, after_step, after_reply, after_label, at_end_of_reel}
+use Rattle.dump_client.specs.Position.Received.{Reply, Noise, End}
 use Rattle.dump_client.specs.declared.step.Step.{Step}
 use Rattle.dump_client.specs.declared.step.Step.TheVariants.{Open, Operation, Look, Label, Block, Close}
 use Rattle.dump_client.specs.declared.step.TapeOp.TheVariants.{Mark}
@@ -30,13 +30,13 @@ wish_of run (Block number) = Number run.block_bytes
 wish_of run Close = Anything
 
 -- what is heard does the step: to the close all does
-abbrev pub Does : PlainRun → List VolumeCount → Step → Heard → Type 0
+abbrev pub Does : PlainRun → List VolumeCount → Step → Received → Type 0
 Does run counts step (Reply reply) = Grants run counts (wish_of run step) reply
 Does run counts Close heard = Unit {0}
 Does run counts step heard = ⊥
 
 -- it shows that there is no room for a block after others
-abbrev pub IsFull : PlainRun → List VolumeCount → Heard → Type 0
+abbrev pub IsFull : PlainRun → List VolumeCount → Received → Type 0
 IsFull run counts (Reply reply) = Grants run counts NoRoom reply
 IsFull run counts heard = ⊥
 
@@ -52,14 +52,14 @@ NotClose Close = ⊥
 NotClose step = Unit {0}
 
 -- This holds of each step that is done, of each block without room, and of each failure.
-pub record Table (run : PlainRun) (counts : List VolumeCount) (first : ℕ) (heard : Heard) (P : Step → Outcome → Type 0) : Type 0 where
+pub record Table (run : PlainRun) (counts : List VolumeCount) (first : ℕ) (heard : Received) (P : Step → Outcome → Type 0) : Type 0 where
   pub done : (step : Step) → Does run counts step heard → P step (after_step run first step)
   pub full : (number : ℕ) → first < number → IsFull run counts heard → P (Block number) (GoesOn (Operation (Mark number)))
   pub fails : (step : Step) (fault : AttemptFault) → CanFail step fault → P step (Fails fault)
 
 module _ (run : PlainRun) (counts : List VolumeCount) (first : ℕ) where
   -- no room for a block, and a reply to a write
-  at_end : (heard : Heard) (P : Step → Outcome → Type 0) → Table run counts first heard P → (number : ℕ) → IsFull run counts heard
+  at_end : (heard : Received) (P : Step → Outcome → Type 0) → Table run counts first heard P → (number : ℕ) → IsFull run counts heard
       → P (Block number) (at_end_of_reel first (Block number))
   at_end heard P t number full =
       less_or (P (Block number)) first number (GoesOn (Operation (Mark number))) (Fails ReelTooSmall) (λ more. t.full number more full)
@@ -97,7 +97,7 @@ module _ (run : PlainRun) (counts : List VolumeCount) (first : ℕ) where
   by_reply P (Error n text) t step = t.fails step (Refused n) tt
 
   -- what holds of each of these holds of all that can be heard
-  pub led : (heard : Heard) (P : Step → Outcome → Type 0) → Table run counts first heard P → (step : Step) → P step (outcome run counts first step heard)
+  pub led : (heard : Received) (P : Step → Outcome → Type 0) → Table run counts first heard P → (step : Step) → P step (outcome run counts first step heard)
   led (Reply reply) P t step = by_reply P reply t step
   led Noise P t Close = t.done Close tt
   led Noise P t step = t.fails step Botched tt

@@ -8,7 +8,7 @@ use Rattle.dump_client.specs.Client.{unanswered}
 use Rattle.dump_client.specs.Listening.{is_more}
 use Rattle.dump_client.specs.Script.{wanted_of}
 use Rattle.dump_client.specs.Position.{outcome, after_noise, after_end}
-use Rattle.dump_client.specs.Position.Heard.{Reply, Noise}
+use Rattle.dump_client.specs.Position.Received.{Reply, Noise}
 use Rattle.dump_client.specs.Standing.{Standing, standing, checkpoint_of, counted_to, IsOver, Becomes, HearsAt, Makes, FedAt, CutAt}
 use Rattle.dump_client.specs.declared.step.Step.{Step}
 use Rattle.dump_client.specs.declared.step.Step.TheVariants.{Close}

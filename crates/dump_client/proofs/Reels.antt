@@ -14,7 +14,7 @@ use Rattle.dump_run.specs.declared.count.VolumeCount.{VolumeCount}
 use Rattle.dump_run.proofs.FieldCut.{one_cut, lacks_decimal}
 use Rattle.dump_run.proofs.Ordering.{volumes_numbers}
 use Rattle.dump_client.specs.Script.{counted_label}
-use Rattle.dump_client.specs.Position.{IsFailure, ShowsCounted, Heard, outcome, after_step, after_label, after_reply}
+use Rattle.dump_client.specs.Position.{IsFailure, ShowsCounted, Received, outcome, after_step, after_label, after_reply}
 use Rattle.dump_client.specs.declared.step.Step.{Step}
 use Rattle.dump_client.specs.declared.step.Step.TheVariants.{Operation, Look}
 use Rattle.dump_client.specs.declared.step.TapeOp.TheVariants.{Unload}
@@ -158,7 +158,7 @@ only_look Look fault can reel = refl
 only_look step (CountedReel volume) can reel = absurd can
 only_look step fault can reel = absurd reel
 
-pub alone : (run : PlainRun) (counts : List VolumeCount) (first volume : ℕ) (step : Step) (heard : Heard) → step ≢ Look
+pub alone : (run : PlainRun) (counts : List VolumeCount) (first volume : ℕ) (step : Step) (heard : Received) → step ≢ Look
     → outcome run counts first step heard ≢ Fails (CountedReel volume)
 alone run counts first volume step heard other is =
     led run counts first heard (λ s o. s ≢ Look → IsReel o → ⊥)

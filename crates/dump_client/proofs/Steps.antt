@@ -8,7 +8,7 @@ use Rattle.dump_run.specs.declared.count.VolumeCount.{VolumeCount}
 use Rattle.dump_client.specs.Script.{Wish, Grants, IsCount, block_steps, refused_step, last_steps, first_steps, steps_of}
 use Rattle.dump_client.specs.Script.Wish.{Number, NoRoom, Anything}
 use Rattle.dump_client.specs.Position.{after_step, after_reply, block_or_mark}
-use Rattle.dump_client.specs.Position.Heard.{Reply}
+use Rattle.dump_client.specs.Position.Received.{Reply}
 use Rattle.dump_client.specs.Lawful.{blocks_from, steps_to, steps_before}
 use Rattle.dump_client.specs.Replies.{EndsAt}
 use Rattle.dump_client.specs.declared.step.Step.{Step}

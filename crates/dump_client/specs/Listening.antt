@@ -9,10 +9,10 @@ use Rattle.rmt_wire.specs.declared.fault.WireFault.{WireFault}
 use Rattle.dump_run.specs.Run.{PlainRun}
 use Rattle.dump_run.specs.declared.count.VolumeCount.{VolumeCount}
 use Rattle.dump_client.specs.Script.{counted_label}
-use Rattle.dump_client.specs.declared.listen.Said.{Said}
-use Rattle.dump_client.specs.declared.listen.Said.TheVariants as said
-use Rattle.dump_client.specs.declared.listen.Listened.{Listened}
-use Rattle.dump_client.specs.declared.listen.Listened.TheVariants.{Waits, Reply, Noise}
+use Rattle.dump_client.specs.declared.listen.ReplySummary.{ReplySummary}
+use Rattle.dump_client.specs.declared.listen.ReplySummary.TheVariants as summary
+use Rattle.dump_client.specs.declared.listen.FeedResult.{FeedResult}
+use Rattle.dump_client.specs.declared.listen.FeedResult.TheVariants.{Waits, Reply, Noise}
 
 -- these bytes came since a reply of this kind was waited for, and are a beginning of one, for the rest of which there is room
 pub record IsReaderWaiting (wanted : Wanted) (h : ReplyHeld) (bytes : List ℕ) : Type 0 where
@@ -21,29 +21,29 @@ pub record IsReaderWaiting (wanted : Wanted) (h : ReplyHeld) (bytes : List ℕ) 
   pub room : length h.kept < READER_LIMIT
 
 -- the reply without its text, and its bytes as the counted volume whose label they are
-abbrev pub IsSaid : PlainRun → List VolumeCount → PlainReply → Said → Type 0
-IsSaid run counts (Done n) (said.Number number) = number ≡ n
-IsSaid run counts (Data bytes) (said.Looked volume) = volume ≡ counted_label run counts bytes
-IsSaid run counts (Error n text) (said.Error number) = number ≡ n
-IsSaid run counts reply s = ⊥
+abbrev pub IsSummary : PlainRun → List VolumeCount → PlainReply → ReplySummary → Type 0
+IsSummary run counts (Done n) (summary.Number number) = number ≡ n
+IsSummary run counts (Data bytes) (summary.Looked volume) = volume ≡ counted_label run counts bytes
+IsSummary run counts (Error n text) (summary.Error number) = number ≡ n
+IsSummary run counts reply s = ⊥
 
 abbrev pub is_more : List ℕ → Bool
 is_more [] = false
 is_more (b ∷ bytes) = true
 
 -- what a reader answers of the bytes that it holds, and where it stands then; a fault stays, whatever follows
-abbrev pub IsReplyHeard : PlainRun → List VolumeCount → Wanted → List ℕ → Result (Option Said) WireFault → ReplyHeld → Type 0
+abbrev pub IsReplyHeard : PlainRun → List VolumeCount → Wanted → List ℕ → Result (Option ReplySummary) WireFault → ReplyHeld → Type 0
 IsReplyHeard run counts wanted bytes (Ok None) new = IsReaderWaiting wanted new bytes
 IsReplyHeard run counts wanted bytes (Ok (Some s)) new =
     (reply : PlainReply) × (rest : List ℕ) × ReplyGives (Some wanted) bytes (Ok (Some reply)) rest
-    × IsSaid run counts reply s × ReplyUnread new None rest
+    × IsSummary run counts reply s × ReplyUnread new None rest
 IsReplyHeard run counts wanted bytes (Err fault) new = (more : List ℕ) → ReplyGives (Some wanted) (bytes ++ more) (Err fault) (bytes ++ more)
 
 -- What all the bytes are that came since a reply was waited for, and where the reader stands then: a beginning of a reply; a
 -- reply first, after which none is unread where no more bytes follow; or bytes of which no beginning is a reply.
-abbrev pub IsListened : PlainRun → List VolumeCount → Wanted → List ℕ → Listened → ReplyHeld → Type 0
-IsListened run counts wanted bytes Waits new = IsReaderWaiting wanted new bytes
-IsListened run counts wanted bytes (Reply s more) new =
-    (reply : PlainReply) × (rest : List ℕ) × ReplyGives (Some wanted) bytes (Ok (Some reply)) rest × IsSaid run counts reply s × (more ≡ is_more rest)
+abbrev pub IsFeedResult : PlainRun → List VolumeCount → Wanted → List ℕ → FeedResult → ReplyHeld → Type 0
+IsFeedResult run counts wanted bytes Waits new = IsReaderWaiting wanted new bytes
+IsFeedResult run counts wanted bytes (Reply s more) new =
+    (reply : PlainReply) × (rest : List ℕ) × ReplyGives (Some wanted) bytes (Ok (Some reply)) rest × IsSummary run counts reply s × (more ≡ is_more rest)
     × (more ≡ false → ReplyUnread new None [])
-IsListened run counts wanted bytes Noise new = (fault : WireFault) × ReplyGives (Some wanted) bytes (Err fault) bytes
+IsFeedResult run counts wanted bytes Noise new = (fault : WireFault) × ReplyGives (Some wanted) bytes (Err fault) bytes

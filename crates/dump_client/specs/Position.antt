@@ -35,10 +35,10 @@ pub record CountsVolume (run : PlainRun) (payload : List (List ℕ)) (volume fir
   pub unloaded : Contains (take got sent) (Op MTOFFL 1)
 
 -- what a client hears: a reply; bytes that are none, or that nobody waits for; the end of the connection
-pub data Heard : Type 0 where
-  Reply : (reply : PlainReply) → Heard
-  Noise : Heard
-  End : Heard
+pub data Received : Type 0 where
+  Reply : (reply : PlainReply) → Received
+  Noise : Received
+  End : Received
 
 -- a block is one of the run
 abbrev pub IsBelow : PlainRun → Step → Type 0
@@ -128,7 +128,7 @@ after_reply run counts first step (Data bytes) = after_data run counts first ste
 after_reply run counts first step (Error n text) = after_error first step n
 
 -- what a client hears at a step, which it waits for the reply to or has still to send
-abbrev pub outcome : PlainRun → List VolumeCount → ℕ → Step → Heard → Outcome
+abbrev pub outcome : PlainRun → List VolumeCount → ℕ → Step → Received → Outcome
 outcome run counts first step (Reply reply) = after_reply run counts first step reply
 outcome run counts first step Noise = after_noise step
 outcome run counts first step End = after_end step

@@ -6,8 +6,8 @@ use Rattle.rmt_wire.specs.declared.fault.WireFault.{WireFault}
 use Rattle.dump_run.specs.Run.{PlainRun}
 pub use Rattle.dump_run.specs.Counts.{checkpoint_after, checkpoint_of}
 use Rattle.dump_client.specs.Script.{wanted_of}
-use Rattle.dump_client.specs.Position.{Covers, Heard, outcome}
-use Rattle.dump_client.specs.Position.Heard.{Reply, Noise, End}
+use Rattle.dump_client.specs.Position.{Covers, Received, outcome}
+use Rattle.dump_client.specs.Position.Received.{Reply, Noise, End}
 use Rattle.dump_client.specs.Listening.{is_more}
 use Rattle.dump_client.specs.declared.step.Step.{Step}
 use Rattle.dump_client.specs.declared.step.Step.TheVariants.{Open, Close}
@@ -81,7 +81,7 @@ Becomes old (Counted next) true progress new = (progress ≡ moved.Ended) × IsO
 Becomes old Ended more progress new = (progress ≡ moved.Ended) × IsOver old.run old.counts new
 
 -- it is at this step, and hears this
-abbrev pub HearsAt : Standing → Step → Heard → Bool → Progress → Standing → Type 0
+abbrev pub HearsAt : Standing → Step → Received → Bool → Progress → Standing → Type 0
 HearsAt old step heard more progress new =
     Becomes old (outcome old.run old.counts (checkpoint_of old.counts).1 step heard) more progress new
 

@@ -11,7 +11,7 @@ ghost use Rattle.dump_client.specs.Client.{HasFed, IsIdle, ResumesAs, unanswered
 ghost use Rattle.dump_client.specs.declared.stage.Stage.TheVariants as stages;
 
 use crate::ledger::Ledger;
-use crate::listen::{Listened, listen};
+use crate::listen::{FeedResult, listen};
 use crate::request::push_step;
 use crate::stage::Stage;
 use crate::step::Step;
@@ -92,7 +92,7 @@ impl<B: Blocks + Drop> Client<B> {
         ensures over { IfOk result (λ c. IsOver c.at.run c.at.counts c.at) }
         ensures given { IfOk result (λ c. c.source ≡ source) }
         ensures refused { IfErr result (HasResumeFault bytes.now) }
-        ensures comes_back { (run : PlainRun) (counts : List VolumeCount) → SpellsCheckpoint bytes.now run counts →
+        ensures resumes { (run : PlainRun) (counts : List VolumeCount) → SpellsCheckpoint bytes.now run counts →
             ResumesAs run counts result }
     {
         one_checkpoint();
@@ -223,9 +223,9 @@ impl<B: Blocks> Client<B> {
             Stage::Waiting(step) => {
                 let (run, counts) = (self.ledger.run(), self.ledger.counted());
                 match listen(&mut self.reader, run, counts, piece) {
-                    Listened::Waits => Progress::Waiting,
-                    Listened::Reply { said, more } => self.ledger.reply(step, said, more),
-                    Listened::Noise => self.ledger.noise(step),
+                    FeedResult::Waits => Progress::Waiting,
+                    FeedResult::Reply { summary, more } => self.ledger.reply(step, summary, more),
+                    FeedResult::Noise => self.ledger.noise(step),
                 }
             }
             _ => Progress::Idle,

@@ -12,8 +12,8 @@ ghost use Rattle.dump_run.specs.declared.fault.ResumeFault.{ResumeFault};
 ghost use Rattle.dump_run.specs.declared.fault.ResumeFault.TheVariants.{OutOfMemory};
 ghost use Rattle.dump_run.specs.Label.{label_bytes};
 ghost use Rattle.dump_client.specs.Script.{IsCount, steps_of, wanted_of};
-ghost use Rattle.dump_client.specs.Position.{RepliesFollow, Heard, IsWantedAt, CanBeHeard, IsFailure, FailsAsCounted, ShowsCounted, after_reply, outcome};
-ghost use Rattle.dump_client.specs.Position.Heard.{Noise, End};
+ghost use Rattle.dump_client.specs.Position.{RepliesFollow, Received, IsWantedAt, CanBeHeard, IsFailure, FailsAsCounted, ShowsCounted, after_reply, outcome};
+ghost use Rattle.dump_client.specs.Position.Received.{Noise, End};
 ghost use Rattle.dump_client.specs.Standing.{Standing, Feeds, CutAt, IsOver};
 ghost use Rattle.dump_client.specs.Client.{FeedsNext, IsShapedAs};
 ghost use Rattle.dump_client.specs.Going.{GoesOnWith, StandsAfter};
@@ -56,7 +56,7 @@ pub fn counted_reels()
         ShowsCounted run counts volume reply → IsFailure (after_reply run counts first Look reply) }
     ensures refused { (run : PlainRun) (counts : List VolumeCount) (first n : ℕ) (text : List ℕ) →
         after_reply run counts first Look (Error n text) ≡ Fails (Refused n) }
-    ensures alone { (run : PlainRun) (counts : List VolumeCount) (first volume : ℕ) (step : Step) (heard : Heard) → step ≢ Look →
+    ensures alone { (run : PlainRun) (counts : List VolumeCount) (first volume : ℕ) (step : Step) (heard : Received) → step ≢ Look →
         outcome run counts first step heard ≢ Fails (CountedReel volume) }
 {}
 
@@ -107,7 +107,7 @@ pub fn sent_in_order()
 ///
 /// It does nothing: its contract is a law of the definitions.
 pub fn after_the_count()
-    ensures close { (run : PlainRun) (counts : List VolumeCount) (first : ℕ) (heard : Heard) →
+    ensures close { (run : PlainRun) (counts : List VolumeCount) (first : ℕ) (heard : Received) →
         outcome run counts first Close heard ≡ Ended }
     ensures noise { (run : PlainRun) (counts : List VolumeCount) (first : ℕ) (step : Step) → step ≢ Close →
         outcome run counts first step Noise ≡ Fails Botched }
@@ -152,7 +152,7 @@ pub fn same_run()
 /// is resumed from it has that run and those counts, and is refused for want of memory alone.
 ///
 /// It does nothing: its contract is a law of the definitions.
-pub fn comes_back()
+pub fn resumes()
     ensures spelled { (at : Standing) → IsLawful at → SpellsCheckpoint (checkpoint_text at.run at.counts) at.run at.counts }
     ensures alone { (at : Standing) (run : PlainRun) (counts : List VolumeCount) → IsLawful at →
         SpellsCheckpoint (checkpoint_text at.run at.counts) run counts → (run ≡ at.run) × (counts ≡ at.counts) }

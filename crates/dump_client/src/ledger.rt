@@ -4,8 +4,8 @@ ghost use Rattle.rmt_wire.specs.Reply.{PlainReply};
 ghost use Rattle.rmt_wire.specs.ReplyReader as readers;
 ghost use Rattle.rmt_wire.specs.ReplyReader.{ReplyUnread};
 ghost use Rattle.dump_client.specs.Client.{HasFedAt, unanswered};
-ghost use Rattle.dump_client.specs.Listening.{IsSaid};
-ghost use Rattle.dump_client.specs.Position.Heard.{Reply, Noise, End};
+ghost use Rattle.dump_client.specs.Listening.{IsSummary};
+ghost use Rattle.dump_client.specs.Position.Received.{Reply, Noise, End};
 ghost use Rattle.dump_run.specs.Run.{IsRun};
 ghost use Rattle.dump_client.specs.Standing.{standing, checkpoint_of, StartedAt, AnsweredAt, HearsAt, Becomes, IsOver, IsAtStep};
 ghost use Rattle.dump_client.specs.Lawful.{IsLawful, AreVolumes, IsRunLeft, StageFits, OutcomeFits, RoomFits};
@@ -14,7 +14,7 @@ ghost use Rattle.dump_client.specs.declared.stage.Progress.TheVariants as moved;
 ghost use Rattle.dump_client.specs.declared.outcome.Outcome.TheVariants as outcomes;
 
 use crate::count::{checkpoint, covers};
-use crate::listen::Said;
+use crate::listen::ReplySummary;
 use crate::outcome::{Outcome, after_end, after_noise, after_reply};
 use crate::stage::Stage;
 use crate::step::Step;
@@ -139,11 +139,11 @@ impl Ledger {
 
     /// Hears a reply to a step. `more` says that bytes follow it.
     #[tactic(auto, using(crate::proofs::Fits::reply_at))]
-    pub(crate) fn reply(&mut self, step: Step, said: Said, more: bool) -> Progress
+    pub(crate) fn reply(&mut self, step: Step, summary: ReplySummary, more: bool) -> Progress
         requires at { IsAtStep self.old.at.stage step }
         requires lawful { IsLawful self.old.at }
         requires room { RoomFits self.old.at.stage self.old.room }
-        ensures heard { (reply : PlainReply) → IsSaid self.old.at.run self.old.at.counts reply said →
+        ensures heard { (reply : PlainReply) → IsSummary self.old.at.run self.old.at.counts reply summary →
             HearsAt self.old.at step (Reply reply) more result self.new.at }
         ensures slots { self.new.room + length self.new.at.counts ≡ self.old.room + length self.old.at.counts }
         ensures fed { (reader : readers.ReplyHeld) (bytes : List ℕ) → (more ≡ false → ReplyUnread reader None []) →
@@ -151,7 +151,7 @@ impl Ledger {
         ensures same_run { self.new.at.run ≡ self.old.at.run }
     {
         let (_, first) = self.checkpoint();
-        let outcome = after_reply(&self.run, first, step, said);
+        let outcome = after_reply(&self.run, first, step, summary);
         self.come_to(outcome, more)
     }
 

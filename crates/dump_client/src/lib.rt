@@ -24,7 +24,7 @@ pub use dump_run::{
 };
 pub use fault::{AttemptFault, StartFault};
 pub use laws::{
-    after_the_count, comes_back, counted_reels, fed_in_pieces, granted_replies, lawful_positions,
+    after_the_count, counted_reels, fed_in_pieces, granted_replies, lawful_positions, resumes,
     same_run, sent_in_order, short_requests, wanted_replies,
 };
 pub use stage::{Answer, Progress, State};

@@ -4,7 +4,7 @@ ghost use Rattle.rmt_wire.specs.Lent.{plain_reply};
 ghost use Rattle.rmt_wire.specs.Reply.{Wanted};
 ghost use Rattle.rmt_wire.specs.ReplyReader.{ReplyUnread};
 ghost use Rattle.dump_client.specs.Script as script;
-ghost use Rattle.dump_client.specs.Listening.{IsReaderWaiting, IsSaid, IsReplyHeard, IsListened};
+ghost use Rattle.dump_client.specs.Listening.{IsReaderWaiting, IsSummary, IsReplyHeard, IsFeedResult};
 
 use crate::{Run, VolumeCount};
 use dump_run::label;
@@ -12,7 +12,7 @@ use rmt_wire::{Reply, ReplyReader, WireFault};
 
 /// A reply without its text and its bytes: what a client looks at.
 #[derive(Clone, Copy)]
-pub(crate) enum Said {
+pub(crate) enum ReplySummary {
     /// The number that an operation answers.
     Number(u32),
     /// Bytes of a record came: the counted volume whose label they are, if they are one.
@@ -23,11 +23,11 @@ pub(crate) enum Said {
 
 /// What bytes came to where a reply is waited for.
 #[derive(Clone, Copy)]
-pub(crate) enum Listened {
+pub(crate) enum FeedResult {
     /// They are a beginning of a reply.
     Waits,
     /// A reply, and whether more bytes follow it.
-    Reply { said: Said, more: bool },
+    Reply { summary: ReplySummary, more: bool },
     /// They begin no reply.
     Noise,
 }
@@ -45,13 +45,13 @@ fn counted_label(run: &Run, counts: &[VolumeCount], bytes: &[u8]) -> Option<u32>
 }
 
 /// A reply without its text and its bytes, to a client of this run with these counts.
-fn without_text(reply: Reply<'_>, run: &Run, counts: &[VolumeCount]) -> Said
-    ensures { IsSaid run.now counts.now (plain_reply reply.entry) result }
+fn without_text(reply: Reply<'_>, run: &Run, counts: &[VolumeCount]) -> ReplySummary
+    ensures { IsSummary run.now counts.now (plain_reply reply.entry) result }
 {
     match reply {
-        Reply::Done { number } => Said::Number(number),
-        Reply::Data { bytes } => Said::Looked(counted_label(run, counts, bytes)),
-        Reply::Error { number, .. } => Said::Error(number),
+        Reply::Done { number } => ReplySummary::Number(number),
+        Reply::Data { bytes } => ReplySummary::Looked(counted_label(run, counts, bytes)),
+        Reply::Error { number, .. } => ReplySummary::Error(number),
     }
 }
 
@@ -60,7 +60,7 @@ fn hear(
     reader: &mut ReplyReader,
     run: &Run,
     counts: &[VolumeCount],
-) -> Result<Option<Said>, WireFault>
+) -> Result<Option<ReplySummary>, WireFault>
     ensures heard { (wanted : Wanted) (bytes : List ℕ) → ReplyUnread reader.old (Some wanted) bytes →
         IsReplyHeard run.now counts.now wanted bytes result reader.new }
 {
@@ -81,22 +81,22 @@ pub(crate) fn listen(
     run: &Run,
     counts: &[VolumeCount],
     piece: &[u8],
-) -> Listened
+) -> FeedResult
     requires waiting { (wanted : Wanted) × (bytes : List ℕ) × IsReaderWaiting wanted reader.old bytes }
-    ensures listened { (wanted : Wanted) (bytes : List ℕ) → IsReaderWaiting wanted reader.old bytes →
-        IsListened run.now counts.now wanted (bytes ++ piece.now) result reader.new }
+    ensures feed_result { (wanted : Wanted) (bytes : List ℕ) → IsReaderWaiting wanted reader.old bytes →
+        IsFeedResult run.now counts.now wanted (bytes ++ piece.now) result reader.new }
 {
     let mut at = 0;
     while at < piece.len() {
         at += reader.push(&piece[at..]);
         match hear(reader, run, counts) {
             Ok(None) => {}
-            Ok(Some(said)) => {
+            Ok(Some(summary)) => {
                 let more = !reader.is_empty() || at < piece.len();
-                return Listened::Reply { said, more };
+                return FeedResult::Reply { summary, more };
             }
-            Err(_) => return Listened::Noise,
+            Err(_) => return FeedResult::Noise,
         }
     }
-    Listened::Waits
+    FeedResult::Waits
 }

@@ -1,13 +1,13 @@
 //! What comes next in an attempt.
 ghost use Rattle.std.specs.Prelude.{◌≡◌, ◌<◌, ℕ, List};
 ghost use Rattle.rmt_wire.specs.Reply.{PlainReply};
-ghost use Rattle.dump_client.specs.Listening.{IsSaid};
+ghost use Rattle.dump_client.specs.Listening.{IsSummary};
 ghost use Rattle.dump_client.specs.Position as spec;
 ghost use Rattle.dump_client.specs.Script.{counted_label};
 ghost use Rattle.dump_run.specs.declared.count.VolumeCount.{VolumeCount};
 ghost use Rattle.dump_run.specs.Run.{IsRun};
 
-use crate::listen::Said;
+use crate::listen::ReplySummary;
 use crate::step::{Step, TapeOp};
 use crate::{AttemptFault, Run};
 use dump_run::LABEL_BYTES;
@@ -129,16 +129,16 @@ fn after_data(run: &Run, first: u32, step: Step, counted: Option<u32>) -> Outcom
 }
 
 /// What follows a reply.
-pub(crate) fn after_reply(run: &Run, first: u32, step: Step, said: Said) -> Outcome
+pub(crate) fn after_reply(run: &Run, first: u32, step: Step, summary: ReplySummary) -> Outcome
     requires run { IsRun run.now }
     requires block { spec.IsBelow run.now step }
-    ensures { (counts : List VolumeCount) (reply : PlainReply) → IsSaid run.now counts reply said →
+    ensures { (counts : List VolumeCount) (reply : PlainReply) → IsSummary run.now counts reply summary →
         result ≡ spec.after_reply run.now counts first step reply }
 {
-    match said {
-        Said::Number(n) => after_number(run, first, step, n),
-        Said::Looked(counted) => after_data(run, first, step, counted),
-        Said::Error(n) => after_error(first, step, n),
+    match summary {
+        ReplySummary::Number(n) => after_number(run, first, step, n),
+        ReplySummary::Looked(counted) => after_data(run, first, step, counted),
+        ReplySummary::Error(n) => after_error(first, step, n),
     }
 }
 

@@ -11,7 +11,7 @@ use Rattle.dump_client.specs.declared.step.Step.TheVariants.{Close}
 use Rattle.dump_client.specs.declared.stage.Stage.{Stage}
 use Rattle.dump_client.specs.declared.stage.Stage.TheVariants.{ToSend, Waiting}
 use Rattle.dump_client.specs.declared.stage.Progress.{Progress}
-use Rattle.dump_client.proofs.Heard.{HeardAs, has_failed, goes_to, has_counted, has_ended, counted_last, heard_as}
+use Rattle.dump_client.proofs.Received.{HeardAs, has_failed, goes_to, has_counted, has_ended, counted_last, heard_as}
 use Rattle.tape_events.specs.World.{Connection, Dumping, Begun, Caller}
 use Rattle.tape_events.specs.Sending.{GoesTo, LeadsOn, IsStepReply, IsAttempt, IsStepReplied, IsConnectionToldAt}
 use Rattle.tape_events.proofs.SentWire.{OneReply}

@@ -13,7 +13,7 @@ use Rattle.dump_run.specs.Label.{label}
 use Rattle.dump_run.specs.declared.count.VolumeCount.{VolumeCount}
 use Rattle.dump_client.specs.Script.{counted_label, wanted_of}
 use Rattle.dump_client.specs.Position.{after_label, after_noise}
-use Rattle.dump_client.specs.Position.Heard.{Reply}
+use Rattle.dump_client.specs.Position.Received.{Reply}
 use Rattle.dump_client.specs.Standing.{Standing, standing, checkpoint_of, Becomes, HearsAt, FedAt, Makes}
 use Rattle.dump_client.specs.Client.{HasFedAt}
 use Rattle.dump_client.specs.declared.step.Step.{Step}

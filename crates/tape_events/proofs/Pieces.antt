@@ -6,7 +6,7 @@ use Rattle.rmt_wire.specs.ReplyParts.{ReplyGives}
 use Rattle.rmt_wire.specs.ReplyReader.{ReplyHeld}
 use Rattle.rmt_wire.specs.declared.fault.WireFault.{WireFault}
 use Rattle.dump_client.specs.Script.{wanted_of}
-use Rattle.dump_client.specs.Position.Heard.{Reply}
+use Rattle.dump_client.specs.Position.Received.{Reply}
 use Rattle.dump_client.specs.Standing.{Standing, HearsAt, FedAt, Makes}
 use Rattle.dump_client.specs.Listening.{is_more}
 use Rattle.dump_client.specs.Client.{HasFedAt}

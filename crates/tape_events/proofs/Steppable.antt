@@ -18,7 +18,7 @@ use Rattle.dump_client.specs.declared.stage.Progress.{Progress}
 use Rattle.dump_client.specs.declared.stage.Stage.{Stage}
 use Rattle.dump_client.specs.declared.stage.Stage.TheVariants.{ToSend, Waiting}
 use Rattle.dump_client.specs.declared.step.Step.{Step}
-use Rattle.dump_client.proofs.Heard.{over_can}
+use Rattle.dump_client.proofs.Received.{over_can}
 use Rattle.tape_events.specs.World.{World, Connection, Dumping, Caller, Kept}
 use Rattle.tape_events.specs.Events.{PlainEvent}
 use Rattle.tape_events.specs.Events.PlainEvent.{StartRun, Connect, Send, ToServer, Serve, ToClient, EndAtClient, ClientRestart, Respond, Arrange, Enter, Save}

@@ -20,7 +20,7 @@ use Rattle.dump_client.specs.declared.stage.Progress.TheVariants as moved
 use Rattle.dump_client.specs.declared.stage.Stage.{Stage}
 use Rattle.dump_client.specs.declared.stage.Stage.TheVariants.{ToSend, Waiting}
 use Rattle.dump_client.specs.declared.step.Step.{Step}
-use Rattle.dump_client.proofs.Heard.{IsAtRest, outcome_can}
+use Rattle.dump_client.proofs.Received.{IsAtRest, outcome_can}
 use Rattle.tape_events.specs.Owning.{is_in_attempt}
 use Rattle.tape_events.proofs.SentWire.{DroppedWrites, no_more_kept}
 

@@ -8,7 +8,7 @@ use Rattle.rmt_wire.specs.ReplyReader.{ReplyHeld}
 use Rattle.rmt_server.specs.ServerState.{ServerConnection}
 use Rattle.dump_run.specs.Run.{PlainRun}
 use Rattle.dump_client.specs.Script.{wanted_of}
-use Rattle.dump_client.specs.Position.Heard.{Reply}
+use Rattle.dump_client.specs.Position.Received.{Reply}
 use Rattle.dump_client.specs.Standing.{Standing, checkpoint_of, count_to, counted_to, HearsAt, FedAt, IsOver}
 use Rattle.dump_client.specs.Lawful.{attempt_at}
 use Rattle.dump_client.specs.Client.{HasFedAt, unanswered}
@@ -18,7 +18,7 @@ use Rattle.dump_client.specs.declared.step.Step.TheVariants.{Close}
 use Rattle.dump_client.specs.declared.stage.Stage.{Stage}
 use Rattle.dump_client.specs.declared.stage.Stage.TheVariants.{Ready, ToSend, Waiting, Asking, Finished}
 use Rattle.dump_client.specs.declared.stage.Progress.{Progress}
-use Rattle.dump_client.proofs.Heard.{HeardAs, has_failed, goes_to, has_counted, has_ended, counted_last, heard_as}
+use Rattle.dump_client.proofs.Received.{HeardAs, has_failed, goes_to, has_counted, has_ended, counted_last, heard_as}
 use Rattle.tape_events.specs.World.{World, Connection, Dumping, Begun, Caller}
 use Rattle.tape_events.specs.Changes.{side_of}
 use Rattle.tape_events.specs.Steps.{caller}

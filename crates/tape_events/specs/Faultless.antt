@@ -11,7 +11,7 @@ use Rattle.rmt_server.specs.Session.PlainSession.{Idle, Offline, Online}
 use Rattle.rmt_server.specs.declared.access.Access.TheVariants.{Both}
 use Rattle.dump_run.specs.Run.{PlainRun}
 use Rattle.dump_run.specs.Label.{label_bytes}
-use Rattle.dump_client.specs.Position.Heard.{Reply}
+use Rattle.dump_client.specs.Position.Received.{Reply}
 use Rattle.dump_client.specs.Script.{wanted_of}
 use Rattle.dump_client.specs.Standing.{Standing, HearsAt}
 use Rattle.dump_client.specs.Client.{HasFedAt}

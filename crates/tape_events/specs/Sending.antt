@@ -12,7 +12,7 @@ use Rattle.rmt_server.specs.Session.PlainSession.{Idle, Offline}
 use Rattle.rmt_server.specs.declared.access.Access.TheVariants.{Both}
 use Rattle.dump_run.specs.Run.{PlainRun, IsRun}
 use Rattle.dump_client.specs.Script.{request_of, wanted_of}
-use Rattle.dump_client.specs.Position.Heard.{Reply}
+use Rattle.dump_client.specs.Position.Received.{Reply}
 use Rattle.dump_client.specs.Standing.{Standing, HearsAt, counted_to}
 use Rattle.dump_client.specs.Lawful.{steps_before, attempt_at}
 use Rattle.dump_client.specs.Client.{HasFedAt}

@@ -17,7 +17,7 @@ use Rattle.dump_client.specs.declared.stage.Stage.{Stage}
 use Rattle.dump_client.specs.declared.stage.Stage.TheVariants.{Ready, ToSend, Waiting, Asking, Finished, Abandoned}
 use Rattle.dump_client.specs.declared.stage.Progress.{Progress}
 use Rattle.dump_client.specs.declared.stage.Progress.TheVariants as moved
-use Rattle.dump_client.proofs.Heard.{HeardAs, has_failed, goes_to, has_counted, has_ended, counted_last, heard_as}
+use Rattle.dump_client.proofs.Received.{HeardAs, has_failed, goes_to, has_counted, has_ended, counted_last, heard_as}
 use Rattle.tape_events.specs.Changes.{reel_opened_by}
 use Rattle.tape_world.specs.declared.history.Opening.{Opening as RealOpening}
 use Rattle.tape_world.specs.Seen.{name_at, seen_opening}

@@ -37,8 +37,8 @@ loop-at-preserved c =
 
 pub returns-then-not-is_empty : goal.returns-then-not-is_empty
 returns-then-not-is_empty c = record {
-  listened = λ wanted bytes u.
-      reply_then c.args.run.now c.args.counts.now wanted bytes c.args.piece.now (c.loop-at.at + c.push-at.result) c.hear.result c.in-Ok-Some.said c.hear.new.reader c.is_empty.result
+  feed_result = λ wanted bytes u.
+      reply_then c.args.run.now c.args.counts.now wanted bytes c.args.piece.now (c.loop-at.at + c.push-at.result) c.hear.result c.in-Ok-Some.summary c.hear.new.reader c.is_empty.result
       (so_far c.args.run.now c.args.counts.now wanted bytes c.args.piece.now _ c.loop-at.at c.push-at.result c.hear.result c.hear.new.reader (take_rest c.args.piece.now c.loop-at.at)
       (c.hear.ensures.heard wanted _ (c.push-at.ensures.unread _ _ (c.loop-at.invariant.2 wanted bytes u).unread)))
       (c.in-Ok-Some.is ∙ ap Ok c.in-Ok-Some.field-0-is) (λ rest held. c.is_empty.ensures.value _ rest held) c.if-not-is_empty.true;
@@ -46,8 +46,8 @@ returns-then-not-is_empty c = record {
 
 pub returns-else-not-is_empty : goal.returns-else-not-is_empty
 returns-else-not-is_empty c = record {
-  listened = λ wanted bytes u.
-      reply_last c.args.run.now c.args.counts.now wanted bytes c.args.piece.now (c.loop-at.at + c.push-at.result) c.hear.result c.in-Ok-Some.said c.hear.new.reader c.is_empty.result
+  feed_result = λ wanted bytes u.
+      reply_last c.args.run.now c.args.counts.now wanted bytes c.args.piece.now (c.loop-at.at + c.push-at.result) c.hear.result c.in-Ok-Some.summary c.hear.new.reader c.is_empty.result
       (so_far c.args.run.now c.args.counts.now wanted bytes c.args.piece.now _ c.loop-at.at c.push-at.result c.hear.result c.hear.new.reader (take_rest c.args.piece.now c.loop-at.at)
       (c.hear.ensures.heard wanted _ (c.push-at.ensures.unread _ _ (c.loop-at.invariant.2 wanted bytes u).unread)))
       (c.in-Ok-Some.is ∙ ap Ok c.in-Ok-Some.field-0-is) (λ rest held. c.is_empty.ensures.value _ rest held) c.if-not-is_empty.false;
@@ -55,7 +55,7 @@ returns-else-not-is_empty c = record {
 
 pub returns-in-Err : goal.returns-in-Err
 returns-in-Err c = record {
-  listened = λ wanted bytes u.
+  feed_result = λ wanted bytes u.
       noise c.args.run.now c.args.counts.now wanted bytes c.args.piece.now (c.loop-at.at + c.push-at.result) c.hear.result c.in-Err.field-0 c.hear.new.reader
       (so_far c.args.run.now c.args.counts.now wanted bytes c.args.piece.now _ c.loop-at.at c.push-at.result c.hear.result c.hear.new.reader (take_rest c.args.piece.now c.loop-at.at)
       (c.hear.ensures.heard wanted _ (c.push-at.ensures.unread _ _ (c.loop-at.invariant.2 wanted bytes u).unread))) c.in-Err.is;
@@ -66,6 +66,6 @@ loop-at-init c = (omega arith, c.requires.waiting, λ wanted bytes u. subst (IsR
 
 pub returns : goal.returns
 returns c = record {
-  listened = λ wanted bytes u.
+  feed_result = λ wanted bytes u.
       subst (λ l. IsReaderWaiting wanted c.loop-at.reader (bytes ++ l)) (take_all c.loop-at.at c.args.piece.now c.loop-at-test.false) (c.loop-at.invariant.2 wanted bytes u);
 }

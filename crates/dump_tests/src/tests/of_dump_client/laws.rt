@@ -1,7 +1,7 @@
 //! The laws are functions, too: they can be called.
 
 use dump_client::{
-    after_the_count, comes_back, fed_in_pieces, granted_replies, lawful_positions, same_run,
+    after_the_count, fed_in_pieces, granted_replies, lawful_positions, resumes, same_run,
     sent_in_order, wanted_replies,
 };
 
@@ -12,7 +12,7 @@ fn laws_are_called() {
     lawful_positions();
     sent_in_order();
     after_the_count();
-    comes_back();
+    resumes();
     fed_in_pieces();
     same_run();
 }

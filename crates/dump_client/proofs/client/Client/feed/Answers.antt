@@ -1,7 +1,7 @@
 use Rattle.std.proofs.Common.{arith, rules, List, ℕ, [], ◌++◌, sym, subst}
 use Rattle.std.proofs.lemmas.Grind.{common_steps}
 use Rattle.dump_client.specs.Script.{wanted_of}
-use Rattle.dump_client.specs.Listening.{IsSaid}
+use Rattle.dump_client.specs.Listening.{IsSummary}
 use Rattle.dump_client.specs.Standing.{FedAt}
 use Rattle.dump_client.specs.Client.{HasFed, HasFedAt, IsPayload, unanswered}
 use Rattle.dump_client.specs.declared.stage.Progress.TheVariants as moved
@@ -13,37 +13,37 @@ invariant_of-self-in-Waits g c =
     let fed = c.self.invariant.1 in
     let waits = waiting_at c.self.inside.ledger.at.stage c.in-Waiting.step c.self.inside.reader fed.0 c.in-Waiting.ensures.value fed.1 in (
       c.self.invariant.0,
-      (fed.0 ++ c.args.piece.now, fed_at_waiting c.self.inside.ledger.at.stage c.in-Waiting.step c.listen.new.reader (fed.0 ++ c.args.piece.now) c.in-Waiting.ensures.value (c.in-Waits.ensures.listened (wanted_of c.in-Waiting.step) fed.0 waits)),
+      (fed.0 ++ c.args.piece.now, fed_at_waiting c.self.inside.ledger.at.stage c.in-Waiting.step c.listen.new.reader (fed.0 ++ c.args.piece.now) c.in-Waiting.ensures.value (c.in-Waits.ensures.feed_result (wanted_of c.in-Waiting.step) fed.0 waits)),
     )
 
 pub invariant_of-self-in-Reply : goal.invariant_of-self-in-Reply
 invariant_of-self-in-Reply g c =
     let fed = c.self.invariant.1 in
     let waits = waiting_at c.self.inside.ledger.at.stage c.in-Waiting.step c.self.inside.reader fed.0 c.in-Waiting.ensures.value fed.1 in
-    let listened = c.in-Reply.ensures.listened (wanted_of c.in-Waiting.step) fed.0 waits in (
+    let feed_result = c.in-Reply.ensures.feed_result (wanted_of c.in-Waiting.step) fed.0 waits in (
       subst (λ r. (payload : List (List ℕ)) → g.B.Blocks.holds c.self.inside.source payload → IsPayload r payload) (sym c.reply.ensures.same_run) c.self.invariant.0,
-      (unanswered c.reply.new.self.at.stage fed.0, c.reply.ensures.fed c.listen.new.reader fed.0 listened.5),
+      (unanswered c.reply.new.self.at.stage fed.0, c.reply.ensures.fed c.listen.new.reader fed.0 feed_result.5),
     )
 
 pub returns-in-Waits-clause-moved : goal.returns-in-Waits-clause-moved
 returns-in-Waits-clause-moved g c =
     subst (λ h. (bytes : List ℕ) → HasFed h bytes → FedAt h.at.stage h.at bytes c.args.piece.now moved.Waiting c.self.inside.ledger.at) c.self.view_is
-    (λ bytes k. fed_waits c.run-run.result.now c.counted-counts.result.now c.self.inside.ledger.at c.in-Waiting.step c.self.inside.reader c.listen.new.reader bytes c.args.piece.now c.in-Waiting.ensures.value (c.in-Waits.ensures.listened (wanted_of c.in-Waiting.step) bytes) k)
+    (λ bytes k. fed_waits c.run-run.result.now c.counted-counts.result.now c.self.inside.ledger.at c.in-Waiting.step c.self.inside.reader c.listen.new.reader bytes c.args.piece.now c.in-Waiting.ensures.value (c.in-Waits.ensures.feed_result (wanted_of c.in-Waiting.step) bytes) k)
 
 pub returns-in-Reply-clause-moved : goal.returns-in-Reply-clause-moved
 returns-in-Reply-clause-moved g c =
     subst (λ h. (bytes : List ℕ) → HasFed h bytes → FedAt h.at.stage h.at bytes c.args.piece.now c.reply.result c.reply.new.self.at) c.self.view_is
-    (λ bytes k. fed_reply c.run-run.result.now c.counted-counts.result.now c.self.inside.ledger.at c.in-Waiting.step c.self.inside.reader c.listen.new.reader bytes c.args.piece.now c.in-Reply.said c.in-Reply.more c.reply.result c.reply.new.self.at
-    c.in-Waiting.ensures.value (c.in-Reply.ensures.listened (wanted_of c.in-Waiting.step) bytes)
-    (λ reply said. c.reply.ensures.heard reply
-    (subst (λ r. IsSaid r c.self.inside.ledger.at.counts reply c.in-Reply.said) c.run-run.ensures
-    (subst (λ l. IsSaid c.run-run.result.now l reply c.in-Reply.said) c.counted-counts.ensures said))) k)
+    (λ bytes k. fed_reply c.run-run.result.now c.counted-counts.result.now c.self.inside.ledger.at c.in-Waiting.step c.self.inside.reader c.listen.new.reader bytes c.args.piece.now c.in-Reply.summary c.in-Reply.more c.reply.result c.reply.new.self.at
+    c.in-Waiting.ensures.value (c.in-Reply.ensures.feed_result (wanted_of c.in-Waiting.step) bytes)
+    (λ reply summary. c.reply.ensures.heard reply
+    (subst (λ r. IsSummary r c.self.inside.ledger.at.counts reply c.in-Reply.summary) c.run-run.ensures
+    (subst (λ l. IsSummary c.run-run.result.now l reply c.in-Reply.summary) c.counted-counts.ensures summary))) k)
 
 pub returns-in-Noise-clause-moved : goal.returns-in-Noise-clause-moved
 returns-in-Noise-clause-moved g c =
     subst (λ h. (bytes : List ℕ) → HasFed h bytes → FedAt h.at.stage h.at bytes c.args.piece.now c.noise-in-Noise.result c.noise-in-Noise.new.self.at) c.self.view_is
     (λ bytes k. fed_noise c.run-run.result.now c.counted-counts.result.now c.self.inside.ledger.at c.in-Waiting.step c.self.inside.reader c.listen.new.reader bytes c.args.piece.now c.noise-in-Noise.result c.noise-in-Noise.new.self.at
-    c.in-Waiting.ensures.value (c.in-Noise.ensures.listened (wanted_of c.in-Waiting.step) bytes) c.noise-in-Noise.ensures.heard k)
+    c.in-Waiting.ensures.value (c.in-Noise.ensures.feed_result (wanted_of c.in-Waiting.step) bytes) c.noise-in-Noise.ensures.heard k)
 
 pub returns-in-ToSend-clause-moved : goal.returns-in-ToSend-clause-moved
 returns-in-ToSend-clause-moved g c = grind (arith, common_steps)
@@ -78,8 +78,8 @@ returns-in-Reply-clause-fed g c =
     subst (λ h. (bytes : List ℕ) → HasFed h bytes → HasFedAt stage c.listen.new.reader (unanswered stage (bytes ++ c.args.piece.now))) c.self.view_is
     (λ bytes k.
     let waits = waiting_at c.self.inside.ledger.at.stage c.in-Waiting.step c.self.inside.reader bytes c.in-Waiting.ensures.value k in
-    let listened = c.in-Reply.ensures.listened (wanted_of c.in-Waiting.step) bytes waits in
-    c.reply.ensures.fed c.listen.new.reader (bytes ++ c.args.piece.now) listened.5)
+    let feed_result = c.in-Reply.ensures.feed_result (wanted_of c.in-Waiting.step) bytes waits in
+    c.reply.ensures.fed c.listen.new.reader (bytes ++ c.args.piece.now) feed_result.5)
 
 pub returns-in-Waits-clause-fed : goal.returns-in-Waits-clause-fed
 returns-in-Waits-clause-fed g c =
@@ -87,4 +87,4 @@ returns-in-Waits-clause-fed g c =
     subst (λ h. (bytes : List ℕ) → HasFed h bytes → HasFedAt stage c.listen.new.reader (unanswered stage (bytes ++ c.args.piece.now))) c.self.view_is
     (λ bytes k.
     let waits = waiting_at stage c.in-Waiting.step c.self.inside.reader bytes c.in-Waiting.ensures.value k in
-    unanswered_waiting stage c.in-Waiting.step c.listen.new.reader (bytes ++ c.args.piece.now) c.in-Waiting.ensures.value (c.in-Waits.ensures.listened (wanted_of c.in-Waiting.step) bytes waits))
+    unanswered_waiting stage c.in-Waiting.step c.listen.new.reader (bytes ++ c.args.piece.now) c.in-Waiting.ensures.value (c.in-Waits.ensures.feed_result (wanted_of c.in-Waiting.step) bytes waits))

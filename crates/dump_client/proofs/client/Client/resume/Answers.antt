@@ -3,8 +3,8 @@ use Rattle.dump_run.specs.Checkpoint.{SpellsCheckpoint}
 use Rattle.dump_client.proofs.Feeding.{over_is}
 use Rattle.dump_client.proofs.client.Client.resume.Goals as goal
 
-pub returns-in-Ok-clause-comes_back : goal.returns-in-Ok-clause-comes_back
-returns-in-Ok-clause-comes_back g c run counts is =
+pub returns-in-Ok-clause-resumes : goal.returns-in-Ok-clause-resumes
+returns-in-Ok-clause-resumes g c run counts is =
     let bytes = c.args.bytes.now in
     let its = c.in_ok-run.field-0.run in
     let listed = c.in_ok-run.field-0.counts.items in

@@ -2,13 +2,13 @@ use Rattle.std.proofs.Common.{sym, ◌∙◌, ap, subst}
 use Rattle.dump_client.specs.Lawful.{OutcomeFits}
 use Rattle.dump_client.specs.Position.{after_reply}
 use Rattle.dump_client.specs.Standing.{checkpoint_of}
-use Rattle.dump_client.proofs.Fits.{reply_at, reply_said}
+use Rattle.dump_client.proofs.Fits.{reply_at, reply_summary}
 use Rattle.dump_client.proofs.ledger.Ledger.reply.Goals as goal
 
 pub come_to-requires : goal.come_to-requires
 come_to-requires c =
     let at = c.args.self.now.at in
-    let heard = reply_said c.self.inside.run c.args.said in
+    let heard = reply_summary c.self.inside.run c.args.summary in
     let led =
     c.after_reply-outcome.ensures heard.0 heard.1 heard.2
     ∙ ap (λ p. after_reply c.self.inside.run heard.0 p.1 c.args.step heard.1) c.checkpoint-first.ensures

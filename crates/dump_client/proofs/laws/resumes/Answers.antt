@@ -2,7 +2,7 @@ use Rattle.std.proofs.Common.{refl}
 use Rattle.dump_run.specs.Checkpoint.{SpellsCheckpoint, checkpoint_text}
 use Rattle.dump_client.specs.Standing.{Standing}
 use Rattle.dump_client.specs.Lawful.{IsLawful}
-use Rattle.dump_client.proofs.laws.comes_back.Goals as goal
+use Rattle.dump_client.proofs.laws.resumes.Goals as goal
 
 spelled : (at : Standing) → IsLawful at → SpellsCheckpoint (checkpoint_text at.run at.counts) at.run at.counts
 spelled at lawful = record { text = refl; limits = lawful.run; in_order = lawful.counts }
