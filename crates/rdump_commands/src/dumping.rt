@@ -159,7 +159,7 @@ fn end_kept<R: System, B: Blocks, W: Write>(
         },
         Conclusion::Complete => remove(rt, line, file, COMPLETE),
         Conclusion::Abandoned => remove(rt, line, file, ABNORMAL),
-        Conclusion::Untold => ABNORMAL,
+        Conclusion::PrintFailed => ABNORMAL,
         Conclusion::Unkept => tell_unkept(rt, line, file.failure()),
     }
 }

@@ -21,7 +21,7 @@ pub(crate) fn drive_reel<R: ListSystem>(
     let mut tally = ReelTally::new();
     match read_drive(rt.alloc(), &mut peer, device.as_bytes(), &mut tally) {
         Ok(None) => Ok(Some(reel_of(rt, device, tally, Source::Drive)?)),
-        Ok(Some(why)) => Ok(Some(reel_of(rt, device, tally, Source::Untold(why))?)),
+        Ok(Some(why)) => Ok(Some(reel_of(rt, device, tally, Source::Undetermined(why))?)),
         Err(ReadFault::OutOfMemory) => Err(AllocError),
         Err(fault) => {
             tell_fault(rt, to, fault, &peer);

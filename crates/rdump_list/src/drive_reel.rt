@@ -4,7 +4,7 @@
 ghost use Rattle.rmt_wire.specs.Number.{IsLine};
 
 use crate::spacing::{Stop, can_space, next_record, no_reply, rewind, space};
-use crate::untold::Untold;
+use crate::undetermined::Undetermined;
 use rdump_talk::{KeptReply, Peer, PeerCaller, ReadFault, VolumeRequest};
 use reel_check::{Holding, ReelTally};
 use rmt_wire::fcntl::O_RDONLY;
@@ -21,7 +21,7 @@ pub(crate) fn read_drive<P: Peer>(
     peer: &mut P,
     device: &[u8],
     tally: &mut ReelTally,
-) -> Result<Option<Untold>, ReadFault>
+) -> Result<Option<Undetermined>, ReadFault>
     requires { IsLine device.now }
 {
     let Ok(mut caller) = PeerCaller::new(alloc) else {
@@ -34,7 +34,7 @@ pub(crate) fn read_drive<P: Peer>(
     peer.hang_up();
     match told {
         Ok(()) => Ok(None),
-        Err(Stop::Untold(why)) => Ok(Some(why)),
+        Err(Stop::Undetermined(why)) => Ok(Some(why)),
         Err(Stop::Fault(fault)) => Err(fault),
     }
 }
@@ -104,7 +104,7 @@ fn read_records<P: Peer>(
             return Ok(());
         }
     }
-    Err(Stop::Untold(Untold::TooManyRecords))
+    Err(Stop::Undetermined(Undetermined::TooManyRecords))
 }
 
 /// The first read gave nothing: a mark comes first, where one is gone over. Else the reel may be empty.
@@ -115,7 +115,7 @@ fn look_for_mark<P: Peer>(
 ) -> Result<(), Stop> {
     rewind(caller, peer)?;
     if !can_space(caller, peer, MTFSF)? {
-        return Err(Stop::Untold(Untold::NoRecord));
+        return Err(Stop::Undetermined(Undetermined::NoRecord));
     }
     tally.mark();
     Ok(())
@@ -147,7 +147,7 @@ fn look_after<P: Peer>(
 fn go_after_mark<P: Peer>(caller: &mut PeerCaller, peer: &mut P, records: u64) -> Result<(), Stop> {
     rewind(caller, peer)?;
     if records > u64::from(NUMBER_LIMIT) {
-        return Err(Stop::Untold(Untold::TooManyRecords));
+        return Err(Stop::Undetermined(Undetermined::TooManyRecords));
     }
     space(caller, peer, MTFSR, records as u32)?;
     space(caller, peer, MTFSF, 1)

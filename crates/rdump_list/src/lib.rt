@@ -20,7 +20,7 @@ mod reel;
 mod spacing;
 mod status;
 mod system;
-mod untold;
+mod undetermined;
 mod words;
 
 pub use list_command::run_ls;

@@ -18,7 +18,7 @@ pub(crate) fn push_line(text: &mut Vec<u8>, reel: &ListedReel) -> Result<(), All
             push_drive(text, reel)?;
             push_words(text, &reel.contents)?;
         }
-        Source::Untold(why) => {
+        Source::Undetermined(why) => {
             push_drive(text, reel)?;
             why.push(text)?;
         }

@@ -1,5 +1,5 @@
 //! A reel that is listed.
-use crate::untold::Untold;
+use crate::undetermined::Undetermined;
 use crate::words::is_whole;
 use reel_check::{Holding, ReelContents, Volume, VolumeEnd};
 
@@ -11,7 +11,7 @@ pub(crate) enum Source {
     /// It lies on a drive: its bytes are not told, and of what is no volume nothing is counted.
     Drive,
     /// It lies on a drive, and could not be told for this reason. Its contents are what was read of it.
-    Untold(Untold),
+    Undetermined(Undetermined),
 }
 
 /// A reel that is listed. It keeps one label.
@@ -38,7 +38,7 @@ impl ListedReel {
     pub(crate) fn is_whole(&self) -> bool {
         match self.source {
             Source::File | Source::Drive => is_whole(&self.contents),
-            Source::Untold(_) => false,
+            Source::Undetermined(_) => false,
         }
     }
 

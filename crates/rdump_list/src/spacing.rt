@@ -3,7 +3,7 @@ ghost use Rattle.std.specs.Prelude.{◌≤◌};
 ghost use Rattle.rmt_wire.specs.declared.limits.TheConstants.{NUMBER_LIMIT};
 ghost use Rattle.rmt_wire.specs.declared.mtio.TheConstants.{MTNOP};
 
-use crate::untold::{Asked, Untold};
+use crate::undetermined::{Asked, Undetermined};
 use rdump_talk::{CallFault, KeptReply, Peer, PeerCaller, ReadFault};
 use rmt_wire::mtio::MTREW;
 use rmt_wire::{RECORD_LIMIT, Request};
@@ -12,7 +12,7 @@ use rmt_wire::{RECORD_LIMIT, Request};
 #[derive(Clone, Copy)]
 pub(crate) enum Stop {
     /// It could not be, for this reason, and the session goes on.
-    Untold(Untold),
+    Undetermined(Undetermined),
     /// The session ended, or could not be had.
     Fault(ReadFault),
 }
@@ -94,5 +94,5 @@ pub(crate) fn next_record<P: Peer>(caller: &mut PeerCaller, peer: &mut P) -> Res
 
 /// What was asked was refused.
 fn refused(asked: Asked, number: u32) -> Stop {
-    Stop::Untold(Untold::Refused { asked, number })
+    Stop::Undetermined(Undetermined::Refused { asked, number })
 }

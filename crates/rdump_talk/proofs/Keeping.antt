@@ -28,11 +28,11 @@ kept_last kept texts at e h = subst (λ q. IsPutLast q texts) e h
 kept_conclusion : (whole : Bool) (at : Standing) (last : List ℕ) (end : Conclusion) → IsConclusion whole at last end → IsKeptConclusion whole at last end
 kept_conclusion true at last ends.Complete h = h
 kept_conclusion true at last ends.Abandoned h = h
-kept_conclusion true at last ends.Untold h = h
+kept_conclusion true at last ends.PrintFailed h = h
 kept_conclusion true at last ends.Unkept h = absurd h
 kept_conclusion false at last ends.Complete h = h
 kept_conclusion false at last ends.Abandoned h = h
-kept_conclusion false at last ends.Untold h = h
+kept_conclusion false at last ends.PrintFailed h = h
 kept_conclusion false at last ends.Unkept h = absurd h
 
 module _ {K : Type 0} (puts : K → List (List ℕ) → Type 0) where

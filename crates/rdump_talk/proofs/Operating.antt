@@ -60,9 +60,9 @@ module _ {P : Type 0} (tells : P → List Passed → Type 0) (device : List ℕ)
 
   module _ {W : Type 0} (contents : W → Option (List ℕ)) where
     -- no reply is told
-    pub untold : (p q : P) (out : Counting W) (result : Result KeptReply CallFault) (fault : CallFault) → result ≡ Err fault → IsOperationReply (next_of device op count) tells p q (told_reply result) → IsPrinted contents [] out out true
+    pub print_failed : (p q : P) (out : Counting W) (result : Result KeptReply CallFault) (fault : CallFault) → result ≡ Err fault → IsOperationReply (next_of device op count) tells p q (told_reply result) → IsPrinted contents [] out out true
         → IsOperated (stream_kind tells contents) device op count (stream_ends p out) (stream_ends q out) 3
-    untold p q out result fault is h nothing =
+    print_failed p q out result fault is h nothing =
         let w = subst (λ r. IsOperationReply (next_of device op count) tells p q (told_reply r)) is h in
         record {
           replies = w.0;

@@ -81,11 +81,11 @@ finished_stage Abandoned state e h = cc
 pub not_finished : (stage : Stage) (state : State) → state ≡ state_of stage → ¬ (state ≡ told.Finished) → stage ≢ Finished
 not_finished stage state e h same = h (e ∙ ap state_of same)
 
-pub last_complete : (whole : Bool) (at : Standing) (end : Conclusion) → at.stage ≡ Finished → end ≡ (if whole then ends.Complete else ends.Untold) → IsConclusion whole at (complete_line at.counts) end
+pub last_complete : (whole : Bool) (at : Standing) (end : Conclusion) → at.stage ≡ Finished → end ≡ (if whole then ends.Complete else ends.PrintFailed) → IsConclusion whole at (complete_line at.counts) end
 last_complete true at end h e = subst (IsConclusion true at (complete_line at.counts)) (sym e) (h, refl)
 last_complete false at end h e = subst (IsConclusion false at (complete_line at.counts)) (sym e) tt
 
-pub last_abandoned : (whole : Bool) (at : Standing) (end : Conclusion) → at.stage ≢ Finished → end ≡ (if whole then ends.Abandoned else ends.Untold) → IsConclusion whole at abandoned_line end
+pub last_abandoned : (whole : Bool) (at : Standing) (end : Conclusion) → at.stage ≢ Finished → end ≡ (if whole then ends.Abandoned else ends.PrintFailed) → IsConclusion whole at abandoned_line end
 last_abandoned true at end h e = subst (IsConclusion true at abandoned_line) (sym e) (h, refl)
 last_abandoned false at end h e = subst (IsConclusion false at abandoned_line) (sym e) tt
 
@@ -93,9 +93,9 @@ last_abandoned false at end h e = subst (IsConclusion false at abandoned_line) (
 last_of : (whole : Bool) (at : Standing) (last : List ℕ) (end : Conclusion) → IsConclusion whole at last end → IsLast whole at last (conclusion_status end)
 last_of true at last ends.Complete h = inl (h.0, h.1, refl)
 last_of true at last ends.Abandoned h = inr (h.0, h.1, refl)
-last_of true at last ends.Untold h = absurd h
+last_of true at last ends.PrintFailed h = absurd h
 last_of true at last ends.Unkept h = absurd h
-last_of false at last ends.Untold h = refl
+last_of false at last ends.PrintFailed h = refl
 last_of false at last ends.Complete h = absurd h
 last_of false at last ends.Abandoned h = absurd h
 last_of false at last ends.Unkept h = absurd h
@@ -103,7 +103,7 @@ last_of false at last ends.Unkept h = absurd h
 module _ {W : Type 0} (contents : W → Option (List ℕ)) where
   -- a part that was cut short
   pub cut_short : (first : List VolumeCount) (at : Standing) (out out' : Counting W) (text : List ℕ) → DumpLines first at.counts text
-      → IsPrinted contents text out out' false → IsConcluded contents first at out out' ends.Untold
+      → IsPrinted contents text out out' false → IsConcluded contents first at out out' ends.PrintFailed
   cut_short first at out out' text lines printed = record {
     text = text;
     last = [];

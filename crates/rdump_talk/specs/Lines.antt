@@ -9,7 +9,7 @@ use Rattle.dump_client.specs.declared.fault.AttemptFault.TheVariants.{Refused, B
 use Rattle.dump_client.specs.declared.stage.Stage.TheVariants.{Finished}
 use Rattle.rmt_wire.specs.Print.{IsPrinted}
 use Rattle.rdump_talk.specs.declared.conclusion.Conclusion.{Conclusion}
-use Rattle.rdump_talk.specs.declared.conclusion.Conclusion.TheVariants.{Complete, Abandoned, Untold}
+use Rattle.rdump_talk.specs.declared.conclusion.Conclusion.TheVariants.{Complete, Abandoned, PrintFailed}
 
 -- a volume that is counted: its number, how many blocks it has, and the first
 abbrev pub count_line : VolumeCount → List ℕ
@@ -88,7 +88,7 @@ pub record IsDumped {W : Type 0} (contents : W → Option (List ℕ)) (first : L
 abbrev pub IsConclusion : Bool → Standing → List ℕ → Conclusion → Type 0
 IsConclusion true at last Complete = (at.stage ≡ Finished) × (last ≡ complete_line at.counts)
 IsConclusion true at last Abandoned = (at.stage ≢ Finished) × (last ≡ abandoned_line)
-IsConclusion false at last Untold = ⊤
+IsConclusion false at last PrintFailed = ⊤
 IsConclusion whole at last end = ⊥
 
 -- what a dump prints, from these counts on up to where the client stands, and how it ends

@@ -16,7 +16,7 @@ pub enum Conclusion {
     /// The operator gave it up, and all was printed.
     Abandoned,
     /// A line could not be printed.
-    Untold,
+    PrintFailed,
     /// The checkpoint could not be kept.
     Unkept,
 }

@@ -107,7 +107,7 @@ fn try_volume<B: Blocks, P: Peer, R: Read, W: Write>(
     let before = volumes(client);
     let attempted = attempt(client, peer, text);
     if !print_since(client, before, out) {
-        return Some(Conclusion::Untold);
+        return Some(Conclusion::PrintFailed);
     }
     report(client, attempted, operator, out)
 }
@@ -145,7 +145,7 @@ fn tell<B: Blocks, W: Write>(
     if print_failure(client, fault, out) {
         None
     } else {
-        Some(Conclusion::Untold)
+        Some(Conclusion::PrintFailed)
     }
 }
 
@@ -161,7 +161,7 @@ fn ask_here<B: Blocks, R: Read, W: Write>(
     ensures { IsRound W.contents client.now.at.counts client.now.at out.old out.new result }
 {
     if !print_text(out, lines) {
-        return Some(Conclusion::Untold);
+        return Some(Conclusion::PrintFailed);
     }
     if says_yes(operator) {
         return None;
@@ -242,9 +242,13 @@ pub(crate) fn finish<B: Blocks, W: Write>(client: &Client<B>, out: &mut Counted<
 
 /// How a dump ended that ended so, where that was printed.
 fn ended(printed: bool, end: Conclusion) -> Conclusion
-    ensures { result ≡ (if printed then end else ends.Untold) }
+    ensures { result ≡ (if printed then end else ends.PrintFailed) }
 {
-    if printed { end } else { Conclusion::Untold }
+    if printed {
+        end
+    } else {
+        Conclusion::PrintFailed
+    }
 }
 
 /// The last line of a dump that is complete.

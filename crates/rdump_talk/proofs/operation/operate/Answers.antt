@@ -1,10 +1,10 @@
-use Rattle.rdump_talk.proofs.Operating.{untold, told_then_closed}
+use Rattle.rdump_talk.proofs.Operating.{print_failed, told_then_closed}
 use Rattle.rdump_talk.proofs.Printed.{nothing_printed}
 use Rattle.rdump_talk.proofs.operation.operate.Goals as goal
 
 pub returns-in_default : goal.returns-in_default
 returns-in_default g c =
-    untold g.P.Peer.tells c.args.device.now c.args.op c.args.count g.W.Write.contents c.args.peer.now c.ask.new.peer c.args.out.now c.ask.result c.in_default.field-0 c.in_default.is c.ask.ensures (nothing_printed g.W.Write.contents c.args.out.now)
+    print_failed g.P.Peer.tells c.args.device.now c.args.op c.args.count g.W.Write.contents c.args.peer.now c.ask.new.peer c.args.out.now c.ask.result c.in_default.field-0 c.in_default.is c.ask.ensures (nothing_printed g.W.Write.contents c.args.out.now)
 
 pub returns : goal.returns
 returns g c =

@@ -15,7 +15,7 @@ pub(crate) enum Asked {
 
 /// Why a reel on a drive could not be told.
 #[derive(Clone, Copy)]
-pub(crate) enum Untold {
+pub(crate) enum Undetermined {
     /// Nothing could be read, and no mark be gone over: the reel may be empty, and its device may have failed.
     NoRecord,
     /// An answer was this error, which may be a fault of the device.
@@ -24,19 +24,19 @@ pub(crate) enum Untold {
     TooManyRecords,
 }
 
-impl Untold {
+impl Undetermined {
     /// Appends it.
     pub(crate) fn push(self, text: &mut Vec<u8>) -> Result<(), AllocError> {
         text.extend_from_slice(b"cannot be told: ")?;
         match self {
-            Untold::NoRecord => {
+            Undetermined::NoRecord => {
                 text.extend_from_slice(b"no record is read, and spacing is refused")
             }
-            Untold::Refused { asked, number } => {
+            Undetermined::Refused { asked, number } => {
                 text.extend_from_slice(words_of(asked))?;
                 push_count(text, b" was answered with E", u64::from(number), b"")
             }
-            Untold::TooManyRecords => text.extend_from_slice(b"it has too many records"),
+            Undetermined::TooManyRecords => text.extend_from_slice(b"it has too many records"),
         }
     }
 }
