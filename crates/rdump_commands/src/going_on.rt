@@ -11,8 +11,8 @@ use crate::dumping::run_kept;
 use crate::fault::{FAILED, refuse_run, say, tell, tell_failed, tell_no_memory};
 use dump_client::{Blocks, Client, ResumeFault, Run};
 use rdump_files::{
-    ComebackFault, FileFailed, PayloadFile, ProgressLine, ReplacedFile, WholeFile, come_back,
-    dumper_of, run_of,
+    FileFailed, PayloadFile, ProgressLine, ReplacedFile, ResumedDumpFault, WholeFile, dumper_of,
+    resume_dump, run_of,
 };
 use rdump_words::DumpLine;
 use std::io::{self, Write};
@@ -101,10 +101,10 @@ fn dump_on<R: System, M: Medium + Drop, T: Write + Copy + Drop>(
     let path = line.checkpoint.unwrap_or("");
     let dates = match Run::spelled(rt.alloc(), bytes) {
         Ok(kept) => dates_of(&kept),
-        Err(fault) => return refuse_checkpoint(rt, path, ComebackFault::Unread(fault)),
+        Err(fault) => return refuse_checkpoint(rt, path, ResumedDumpFault::Unread(fault)),
     };
     let gauge = terminal.map(|it| ProgressLine::new(rt, it));
-    match come_back(rt.alloc(), run, bytes, payload, gauge) {
+    match resume_dump(rt.alloc(), run, bytes, payload, gauge) {
         Ok(mut client) => {
             let blocks = Some(run.blocks());
             dump_told(rt, line, start, dates, blocks, &mut client, file, terminal)
@@ -167,16 +167,16 @@ fn tell_going_on<R: System, B: Blocks>(
 }
 
 /// Tells why no dump goes on from the checkpoint at this path, and answers the status.
-fn refuse_checkpoint<R: System>(rt: &R, path: &str, fault: ComebackFault) -> u8
+fn refuse_checkpoint<R: System>(rt: &R, path: &str, fault: ResumedDumpFault) -> u8
     ensures { result ≡ 1 }
 {
     match fault {
-        ComebackFault::Unread(ResumeFault::OutOfMemory) => tell_no_memory(rt),
-        ComebackFault::Unread(fault) => {
+        ResumedDumpFault::Unread(ResumeFault::OutOfMemory) => tell_no_memory(rt),
+        ResumedDumpFault::Unread(fault) => {
             let _ = println!(rt; "{fault}");
             say(rt, path, "it is no checkpoint")
         }
-        ComebackFault::OfAnother => {
+        ResumedDumpFault::OfAnother => {
             let _ = println!(rt; "checkpoint is of another dump");
             say(
                 rt,

@@ -8,9 +8,9 @@ pub use hold_table::{HoldSeat, HoldTable, TableHand};
 pub use memory_peer::MemoryPeer;
 pub use rdump_commands::{rdump, run_client, run_dates, run_dump, run_mt, run_read, run_words};
 pub use rdump_files::{
-    Clearing, ComebackFault, DumpEnd, DumperFault, FileFailed, Gauge, PayloadFile, ProgressLine,
-    ReplacedFile, Shown, UpdateFault, WholeFile, base_date, come_back, date_text, dates,
-    dump_and_update, dumper, dumper_of, enter_dump, named_file, read_or_empty, read_steady, run_of,
+    Clearing, DumpEnd, DumperFault, FileFailed, Gauge, PayloadFile, ProgressLine, ReplacedFile,
+    ResumedDumpFault, Shown, UpdateFault, WholeFile, base_date, date_text, dates, dump_and_update,
+    dumper, dumper_of, enter_dump, named_file, read_or_empty, read_steady, resume_dump, run_of,
     seconds_now, update,
 };
 pub use rdump_list::{ListSystem, is_whole, push_words, run_ls};

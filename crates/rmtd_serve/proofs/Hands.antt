@@ -11,7 +11,7 @@ use Rattle.hold_table.specs.Seats.{TableSeat, table_seat, IsSeatAt}
 use Rattle.rmt_wire.specs.Counted.{Counting}
 use Rattle.rmt_server.specs.State.{State, drive_of}
 use Rattle.rmt_server.specs.Stream.{streams, streams_kind}
-use Rattle.rmtd_serve.specs.Seating.{KeepsSeats, ComesBack}
+use Rattle.rmtd_serve.specs.Seating.{KeepsSeats, IsSeatReturned}
 
 is_one : (n : ℕ) → (n ≡ 1) ⊎ (n ≢ 1)
 is_one n = grind arith
@@ -40,7 +40,7 @@ pub record IsBack {S R : Type 0} (drives : S → ℕ) (start : State TableHand S
 
 pub seat_comes_back : {S R In Out : Type 0} (s : StacksPromise S R) (r : ReelPromise R) (remaining : In → Option (List ℕ)) (contents : Out → Option (List ℕ))
     (start : State TableHand S TableSeat R) {input input' : Counting In} {output output' : Counting Out} {seat : TableSeat} {stacks : S}
-    → ComesBack (kinds of_hand s r) (streams_kind remaining contents) start (streams input output) (streams input' output') seat stacks
+    → IsSeatReturned (kinds of_hand s r) (streams_kind remaining contents) start (streams input output) (streams input' output') seat stacks
     → IsBack s.drives start seat stacks
 seat_comes_back s r remaining contents start {seat = seat} {stacks} back =
     let afresh = back.2 in

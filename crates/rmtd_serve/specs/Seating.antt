@@ -40,9 +40,9 @@ pub record IsServedAfresh {H S Seat R In Out : Type 0} (k : Kinds H Seat S R) (k
   pub kept : KeepsSeats k start finish
 
 -- the same with the stacks alone, however the streams ended
-abbrev pub ComesBack : {H S Seat R In Out : Type 0} → Kinds H Seat S R → StreamsKind In Out → State H S Seat R
+abbrev pub IsSeatReturned : {H S Seat R In Out : Type 0} → Kinds H Seat S R → StreamsKind In Out → State H S Seat R
     → Streams In Out → Streams In Out → Seat → S → Type 0
-ComesBack {H} {S} {Seat} {R} k kind start old new seat stacks =
+IsSeatReturned {H} {S} {Seat} {R} k kind start old new seat stacks =
     (ending : Option Served) × (drives : DriveTable H S Seat R)
     × IsServedAfresh k kind start old new drives seat ending × (stacks ≡ drives.stacks)
 
@@ -60,4 +60,4 @@ ServesAfresh k input output old new ending =
 abbrev pub GivesBack : {In Out H S Seat R : Type 0} → Kinds H Seat S R → ReadPromise In → WritePromise Out
     → Serving (Counting In) Out H S Seat R → Streams In Out → Seat × S → Type 0
 GivesBack k input output old new back =
-    ComesBack k (streams_kind input.remaining output.contents) old.state (streams_of old) new back.0 back.1
+    IsSeatReturned k (streams_kind input.remaining output.contents) old.state (streams_of old) new back.0 back.1

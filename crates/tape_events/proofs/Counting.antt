@@ -13,7 +13,7 @@ use Rattle.tape_events.specs.Events.{PlainEvent}
 use Rattle.tape_events.specs.Events.PlainEvent.{StartRun, Connect, Send, ToServer, Serve, ToClient, Cut, EndAtServer, EndAtClient, ServerRestart, ClientRestart, Respond, Arrange, Stranger, Says, Enter, Save}
 use Rattle.tape_events.specs.Changes.{with_no_failure, counts_of, came_to}
 use Rattle.tape_events.specs.Further.{IsToldOf, CountsGrow}
-use Rattle.tape_events.specs.Steps.{Happens, Sends, Finds, Hears, SeesEnd, ComesBack, caller, forgotten_from}
+use Rattle.tape_events.specs.Steps.{Happens, Sends, Finds, Hears, SeesEnd, ResumesRun, caller, forgotten_from}
 use Rattle.tape_events.proofs.Booked.{Goings, drop_front}
 
 came_counts : (w : World) (k : ℕ) (at : Standing) (progress : Progress) → (came_to w k at progress).counts ≡ w.counts
@@ -64,7 +64,7 @@ forgotten_counts : (w : World) (o : Option ℕ) (c : Option Caller) → (record 
 forgotten_counts w None c = refl
 forgotten_counts w (Some k) c = refl
 
-back_counts : (w : World) (o : Option Kept) (u : World) → ComesBack o w u → u.counts ≡ w.counts
+back_counts : (w : World) (o : Option Kept) (u : World) → ResumesRun o w u → u.counts ≡ w.counts
 back_counts w None u is = ap (λ (x : World). x.counts) is ∙ forgotten_counts w w.own None
 back_counts w (Some z) u (b, at, reader, begun, over, is) = ap (λ (x : World). x.counts) is ∙ forgotten_counts w w.own (Some (caller z.run at reader))
 

@@ -34,7 +34,7 @@ use Rattle.tape_events.specs.Changes.{changed, changed_from, side_of, connection
 use Rattle.tape_events.specs.Owning.{is_in_attempt}
 use Rattle.tape_events.specs.Rows.{NoRun, IsRunEntered, MayBeKept}
 use Rattle.tape_events.specs.Serving.{ServerTurn}
-use Rattle.tape_events.specs.Steps.{Happens, Sends, Finds, Hears, SeesEnd, IsPushed, begun, client_connected, is_failing, failed_read, asked, reached_by, carried, forgotten_from, kept_after, ComesBack, recorded, caller}
+use Rattle.tape_events.specs.Steps.{Happens, Sends, Finds, Hears, SeesEnd, IsPushed, begun, client_connected, is_failing, failed_read, asked, reached_by, carried, forgotten_from, kept_after, ResumesRun, recorded, caller}
 use Rattle.tape_events.proofs.Numbers.{with_here, with_twice, less_or_more, length_changed, numbered_more}
 use Rattle.tape_events.proofs.NamedRequests.{step_comes}
 use Rattle.tape_events.proofs.ServerMoves as server_moves
@@ -404,7 +404,7 @@ forgets_moves : (w : World) (x : Back w) (o : Option ℕ) (u : World) → w.own 
 forgets_moves w x None u own is = (forgets x own, is)
 forgets_moves w x (Some k) u own is = (gives_up x k own, is)
 
-back_moves : (w : World) (o : Option Kept) (u : World) → w.kept ≡ o → ComesBack o w u → Moves w u
+back_moves : (w : World) (o : Option Kept) (u : World) → w.kept ≡ o → ResumesRun o w u → Moves w u
 back_moves w None u kept is = forgets_moves w (gone kept) w.own u refl is
 back_moves w (Some z) u kept (b, at, reader, begun, over, is) = forgets_moves w (comes z b at reader kept begun over) w.own u refl is
 

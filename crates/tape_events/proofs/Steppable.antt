@@ -27,7 +27,7 @@ use Rattle.tape_events.specs.Kept.{IsWorldKept}
 use Rattle.tape_events.specs.Owning.{is_in_attempt}
 use Rattle.tape_events.specs.Rows.{Possible}
 use Rattle.tape_events.specs.Sending.{IsConnectionToldAt}
-use Rattle.tape_events.specs.Steps.{Happens, Sends, Finds, Hears, SeesEnd, ComesBack, is_failing}
+use Rattle.tape_events.specs.Steps.{Happens, Sends, Finds, Hears, SeesEnd, ResumesRun, is_failing}
 use Rattle.tape_events.proofs.SentWire.{DroppedWrites, brief_begins}
 use Rattle.tape_events.proofs.StepsHeard.{SomeAnswer, cut_can, waits_can, asks_can, held_can, pushed_can}
 use Rattle.tape_events.proofs.StepsServed.{serve_can}
@@ -121,7 +121,7 @@ sees_can w k l (Some d) is kept at other =
     (_, (c, h.1, reply_held None [], h.0, there, h.2, h.3.none, refl))
 
 -- a client comes back with what is kept, finished where that covers the run
-back_can : (w : World) (o : Option Kept) → w.kept ≡ o → IsWorldKept w → (u : World) × ComesBack o w u
+back_can : (w : World) (o : Option Kept) → w.kept ≡ o → IsWorldKept w → (u : World) × ResumesRun o w u
 back_can w None is kept = (_, refl)
 back_can w (Some z) is kept =
     let q = kept.booked.kept z is in

@@ -24,7 +24,7 @@ use Rattle.tape_events.specs.Events.{PlainEvent}
 use Rattle.tape_events.specs.Events.PlainEvent.{StartRun, Connect, Send, ToServer, Serve, ToClient, Cut, EndAtServer, EndAtClient, ServerRestart, ClientRestart, Respond, Arrange, Stranger, Says, Enter, Save}
 use Rattle.tape_events.specs.Changes.{changed, side_of, new_connection, over_there, over_here, noted_sent, sent_on, came_to, with_no_failure}
 use Rattle.tape_events.specs.First.{PlainDriveSpec, AreGoodDrives, first_world}
-use Rattle.tape_events.specs.Steps.{Happens, Sends, Finds, Hears, SeesEnd, Runs, none, one_more, forgotten_from, sent_connection, is_failing, fresh, ComesBack}
+use Rattle.tape_events.specs.Steps.{Happens, Sends, Finds, Hears, SeesEnd, Runs, none, one_more, forgotten_from, sent_connection, is_failing, fresh, ResumesRun}
 use Rattle.tape_events.specs.Kept.{IsWorldKept}
 use Rattle.tape_events.specs.Sending.{is_labelled, VolumeHasBlocks, request_in, IsAttempt, IsItsTurn, IsConnectionToldAt}
 use Rattle.tape_events.specs.Serving.{ServerTurn, IsNextSent}
@@ -172,7 +172,7 @@ forgotten_dumped : (k : ℕ) (w : World) (o : Option ℕ) → Dumped k w.connect
 forgotten_dumped k w None = same_dumped k w.connections
 forgotten_dumped k w (Some j) = changed_dumped k w.connections w.connections over_there j (λ x. refl) (same_dumped k w.connections)
 
-back_dumped : (k : ℕ) (w : World) (o : Option Kept) (u : World) → ComesBack o w u → Dumped k w.connections u.connections
+back_dumped : (k : ℕ) (w : World) (o : Option Kept) (u : World) → ResumesRun o w u → Dumped k w.connections u.connections
 back_dumped k w None u is = dumped_as k w u _ is (forgotten_dumped k w w.own)
 back_dumped k w (Some z) u (b, at, reader, begun, over, is) = dumped_as k w u _ is (forgotten_dumped k w w.own)
 

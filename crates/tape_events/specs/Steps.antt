@@ -161,9 +161,9 @@ forgotten_from w (Some k) = given_up w k
 
 -- The client forgets its run; or, where a run is kept, it comes back with that and with the list that is kept, finished where this
 -- covers the run.
-abbrev pub ComesBack : Option Kept → World → World → Type 0
-ComesBack None w u = u ≡ record (forgotten_from (with_no_failure w) w.own) { caller = None }
-ComesBack (Some kept) w u =
+abbrev pub ResumesRun : Option Kept → World → World → Type 0
+ResumesRun None w u = u ≡ record (forgotten_from (with_no_failure w) w.own) { caller = None }
+ResumesRun (Some kept) w u =
     (b : Begun) × (at : Standing) × (reader : ReplyHeld) × (numbered w.begun kept.run ≡ Some b) × IsOver b.run kept.listed at
     × (u ≡ record (forgotten_from (with_no_failure w) w.own) { caller = Some (caller kept.run at reader) })
 
@@ -200,7 +200,7 @@ WorldStep w (Cut k) u = u ≡ record (with_no_failure w) { connections = changed
 WorldStep w (EndAtServer k) u = u ≡ ended_at (with_no_failure w) k
 WorldStep w (EndAtClient k) u = (l : Connection) × (connection_of w k ≡ Some l) × SeesEnd l.dump w k u
 WorldStep w ServerRestart u = u ≡ restarted (with_no_failure w)
-WorldStep w ClientRestart u = ComesBack w.kept w u
+WorldStep w ClientRestart u = ResumesRun w.kept w u
 WorldStep w (Respond answer) u =
     (c : Caller) × (reader : ReplyHeld) × (w.caller ≡ Some c) × (c.at.stage ≡ Asking)
     × (u ≡ record (with_no_failure w) {

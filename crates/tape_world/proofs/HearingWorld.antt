@@ -18,7 +18,7 @@ use Rattle.tape_world.specs.declared.world_state.hearing.PieceHeard.{PieceHeard}
 use Rattle.tape_world.specs.Seen.{seen_caller, seen_count, seen_connection, name_at}
 use Rattle.tape_world.specs.Holding.{is_in_attempt, IsClients, IsOwned}
 use Rattle.tape_world.specs.Calling.{failure_of}
-use Rattle.tape_world.specs.Hearing.{come_back, heard_on, own_after, is_over, IsAttempting, HasHeard, count_in}
+use Rattle.tape_world.specs.Hearing.{deliver_back, heard_on, own_after, is_over, IsAttempting, HasHeard, count_in}
 
 -- a number of a connection that is there is within
 get_within : (xs : List Connection) (i : ℕ) (x : Connection) → slice_get xs i ≡ Some x → suc i ≤ length xs
@@ -50,14 +50,14 @@ get_set (w ∷ xs) zero x y at = refl
 get_set (w ∷ xs) (suc i) x y at = get_set xs i x y at
 
 over_from : (n : ℕ) (xs : List Connection) (k : ℕ) (o : Option Connection) → numbered xs k ≡ o
-    → changed over_there (changed_from (come_back n) xs k o) k ≡ changed_from over_there xs k o
+    → changed over_there (changed_from (deliver_back n) xs k o) k ≡ changed_from over_there xs k o
 over_from n xs k None is = ap (changed_from over_there xs k) is
 over_from n xs zero (Some x) is = absurd cc
 over_from n xs (suc i) (Some x) is =
-    ap (changed_from over_there (slice_set xs i (come_back n x)) (suc i)) (get_set xs i x (come_back n x) is)
-    ∙ set-set xs i (come_back n x) (over_there x)
+    ap (changed_from over_there (slice_set xs i (deliver_back n x)) (suc i)) (get_set xs i x (deliver_back n x) is)
+    ∙ set-set xs i (deliver_back n x) (over_there x)
 
-over_back : (n : ℕ) (xs : List Connection) (k : ℕ) → changed over_there (changed (come_back n) xs k) k ≡ changed over_there xs k
+over_back : (n : ℕ) (xs : List Connection) (k : ℕ) → changed over_there (changed (deliver_back n) xs k) k ≡ changed over_there xs k
 over_back n xs k = over_from n xs k (numbered xs k) refl
 
 -- the world after the client heard so many bytes
@@ -67,7 +67,7 @@ heard_world w k n over caller counts failure =
 
 come_is : (w : World) (k n : ℕ) (x : Caller) (counts : List Count) (at : Standing) (progress : Progress)
     → heard_world w k n (is_over progress) (Some x) counts (failure_of at progress)
-    ≡ came_to (record (with_no_failure w) { connections = changed (come_back n) w.connections k; caller = Some x; counts = counts }) k at progress
+    ≡ came_to (record (with_no_failure w) { connections = changed (deliver_back n) w.connections k; caller = Some x; counts = counts }) k at progress
 come_is w k n x counts at (moved.Failed fault) =
     ap (λ ls. record w { connections = ls; own = None; caller = Some x; counts = counts; failure = Some ((checkpoint_of at.counts).0, fault) }) (sym (over_back n w.connections k))
 come_is w k n x counts at moved.Ended =
@@ -106,7 +106,7 @@ heard_step w u k n dump d piece o new h some was e is =
     )
 
 pub dropped_step : (w u : World) (k n : ℕ) (dump : Option Dumping) (piece : List ℕ) → dump ≡ None
-    → u ≡ record (with_no_failure w) { connections = changed (come_back n) w.connections k } → Hears dump w k n piece u
+    → u ≡ record (with_no_failure w) { connections = changed (deliver_back n) w.connections k } → Hears dump w k n piece u
 dropped_step w u k n dump piece none is = subst (λ y. Hears y w k n piece u) (sym none) is
 
 -- what is seen of the counts that are kept

@@ -19,14 +19,14 @@ use Rattle.tape_events.specs.World.{World, Begun, Entered, Kept, numbered}
 use Rattle.tape_events.specs.Changes.{with_no_failure}
 use Rattle.tape_events.specs.Kept.{IsWorldKept}
 use Rattle.tape_events.specs.Rows.{IsRunEntered, MayBeKept}
-use Rattle.tape_events.specs.Steps.{ComesBack, caller, forgotten_from, kept_after}
+use Rattle.tape_events.specs.Steps.{ResumesRun, caller, forgotten_from, kept_after}
 use Rattle.tape_world.specs.declared.history.Entered.{Entered as RealEntered}
 use Rattle.tape_world.specs.declared.caller.Begun.{Begun as RealBegun}
 use Rattle.tape_world.specs.declared.caller.Caller.{Caller as RealCaller}
 use Rattle.tape_world.specs.declared.caller.KeptRun.{KeptRun}
 use Rattle.tape_world.specs.Calling.{IsBegunWith}
 use Rattle.tape_world.specs.Holding.{IsBacked, IsSourced}
-use Rattle.tape_world.specs.Saving.{ComesBackWith, IsEntryOf, IsKeptOf, MayKeep, kept_then}
+use Rattle.tape_world.specs.Saving.{ResumesRunWith, IsEntryOf, IsKeptOf, MayKeep, kept_then}
 use Rattle.tape_world.specs.Seen.{seen_begun, seen_caller, seen_entered, seen_kept}
 use Rattle.tape_world.proofs.Linked.{numbered_at}
 
@@ -179,12 +179,12 @@ back_payload k begun b blocks run payload at backed source same told =
 
 -- the event, by what came back
 pub back_step : (w u : World) (begun : List RealBegun) (kept : Option KeptRun) (new : Option RealCaller) → w.kept ≡ option_map seen_kept kept
-    → w.begun ≡ map seen_begun begun → ComesBackWith begun kept new → u ≡ record (forgotten_from (with_no_failure w) w.own) { caller = option_map seen_caller new }
-    → ComesBack w.kept w u
+    → w.begun ≡ map seen_begun begun → ResumesRunWith begun kept new → u ≡ record (forgotten_from (with_no_failure w) w.own) { caller = option_map seen_caller new }
+    → ResumesRun w.kept w u
 back_step w u begun None new is_kept is back now =
-    subst (λ o. ComesBack o w u) (sym is_kept) (now ∙ ap (λ o. record (forgotten_from (with_no_failure w) w.own) { caller = option_map seen_caller o }) back)
+    subst (λ o. ResumesRun o w u) (sym is_kept) (now ∙ ap (λ o. record (forgotten_from (with_no_failure w) w.own) { caller = option_map seen_caller o }) back)
 back_step w u begun (Some k) new is_kept is (c, there, b) now =
-    subst (λ o. ComesBack o w u) (sym is_kept) (
+    subst (λ o. ResumesRun o w u) (sym is_kept) (
       seen_begun b.run,
       c.client.at,
       c.client.reader,
@@ -195,7 +195,7 @@ back_step w u begun (Some k) new is_kept is (c, there, b) now =
     )
 
 -- the client that came back reads the payload of its run
-pub back_sourced : (begun : List RealBegun) (kept : Option KeptRun) (new : Option RealCaller) → ComesBackWith begun kept new → IsSourced begun new
+pub back_sourced : (begun : List RealBegun) (kept : Option KeptRun) (new : Option RealCaller) → ResumesRunWith begun kept new → IsSourced begun new
 back_sourced begun None new back c at = let clash = sym back ∙ at in absurd cc
 back_sourced begun (Some k) new (x, there, b) c at =
     let same : x ≡ c = same_Some x c (sym there ∙ at) in (

@@ -14,8 +14,8 @@ use Rattle.tape_world.specs.declared.caller.Caller.{Caller}
 use Rattle.tape_world.specs.declared.world_state.hearing.PieceHeard.{PieceHeard}
 
 -- so many of the bytes on the way back arrived
-abbrev pub come_back : ℕ → Connection → Connection
-come_back n l = record l { back = drop n l.back }
+abbrev pub deliver_back : ℕ → Connection → Connection
+deliver_back n l = record l { back = drop n l.back }
 
 -- the attempt is over
 abbrev pub is_over : Progress → Bool
@@ -26,7 +26,7 @@ is_over progress = false
 -- so many of the bytes on the way to the client arrived; where its attempt is over, so is the connection on its side
 abbrev pub heard_on : Bool → ℕ → Connection → Connection
 heard_on true n l = over_there l
-heard_on false n l = come_back n l
+heard_on false n l = deliver_back n l
 
 abbrev pub own_after : Bool → Option ℕ → Option ℕ
 own_after true own = None

@@ -43,6 +43,6 @@ pub record IsBackWith (begun : List Begun) (k : KeptRun) (c : Caller) : Type 0 w
   pub failures : ℕ
   pub source : c.client.source ≡ listed run.payload.blocks false failures
 
-abbrev pub ComesBackWith : List Begun → Option KeptRun → Option Caller → Type 0
-ComesBackWith begun None new = new ≡ None
-ComesBackWith begun (Some k) new = (c : Caller) × (new ≡ Some c) × IsBackWith begun k c
+abbrev pub ResumesRunWith : List Begun → Option KeptRun → Option Caller → Type 0
+ResumesRunWith begun None new = new ≡ None
+ResumesRunWith begun (Some k) new = (c : Caller) × (new ≡ Some c) × IsBackWith begun k c

@@ -6,7 +6,7 @@ ghost use Rattle.tape_events.specs.Changes.{changed, new_connection, over_here, 
 ghost use Rattle.tape_world.specs.Seen.{seen_connection};
 ghost use Rattle.tape_events.specs.Steps.{sent_connection};
 ghost use Rattle.tape_world.specs.Linking.{severed, said, arrived};
-ghost use Rattle.tape_world.specs.Hearing.{come_back};
+ghost use Rattle.tape_world.specs.Hearing.{deliver_back};
 ghost use Rattle.tape_world.specs.Serving.{noted_turn};
 
 use crate::direction::Direction;
@@ -191,10 +191,10 @@ pub(crate) fn arrive(connections: &mut [Connection], connection: usize, count: u
 }
 
 /// So many of the bytes on the way back, on the connection of this number, which is there, arrived.
-pub(crate) fn come_back(connections: &mut [Connection], connection: usize, count: usize)
+pub(crate) fn deliver_back(connections: &mut [Connection], connection: usize, count: usize)
     requires first { 1 ≤ connection }
     requires last { connection ≤ length connections.old }
-    ensures { map seen_connection connections.new ≡ changed (come_back count) (map seen_connection connections.old) connection }
+    ensures { map seen_connection connections.new ≡ changed (deliver_back count) (map seen_connection connections.old) connection }
 {
     connections[connection - 1].back.pass(count);
 }

@@ -7,7 +7,7 @@ use super::lines::{EMPTY, FULL, LAST};
 use super::progress::Seen;
 use dump_client::ResumeFault;
 use rdump_commands::run_words;
-use rdump_files::{ComebackFault, ReplacedFile, WholeFile, come_back, run_of};
+use rdump_files::{ReplacedFile, ResumedDumpFault, WholeFile, resume_dump, run_of};
 use rdump_talk::{Conclusion, Keeper, dump_kept};
 use rmt_wire::Counted;
 use std::alloc::Global;
@@ -149,13 +149,15 @@ fn checkpoints_that_are_kept(rt: HostRuntime) {
 }
 
 /// What comes back of these bytes: the volumes and the blocks that are counted.
-fn comes_back(alloc: Global, bytes: &[u8]) -> Option<Result<(usize, u32), ComebackFault>> {
+fn comes_back(alloc: Global, bytes: &[u8]) -> Option<Result<(usize, u32), ResumedDumpFault>> {
     let payload = payload(alloc, TWO_BYTES)?;
     let run = run_of(&line(TWO_BYTES), 0, 0, &payload).ok()?;
-    Some(match come_back(alloc, &run, bytes, payload, Seen::new()) {
-        Ok(client) => Ok((client.counted().len(), client.checkpoint().1)),
-        Err(fault) => Err(fault),
-    })
+    Some(
+        match resume_dump(alloc, &run, bytes, payload, Seen::new()) {
+            Ok(client) => Ok((client.counted().len(), client.checkpoint().1)),
+            Err(fault) => Err(fault),
+        },
+    )
 }
 
 /// The text of another level, of no run, and of counts out of order.
@@ -166,16 +168,16 @@ const TWICE: &[u8] =
     b"rdump 1\ndevice /dev/st0\nfs /usr\nlevel 1\ndate 951868800\nsince 951782400\nblock 2\nblocks 3\ncounted 1 0 2\ncounted 1 0 2\n";
 
 /// Bytes, and what comes back of them.
-static TEXTS: [(&[u8], Result<(usize, u32), ComebackFault>); 6] = [
+static TEXTS: [(&[u8], Result<(usize, u32), ResumedDumpFault>); 6] = [
     (NONE, Ok((0, 0))),
     (ONE, Ok((1, 2))),
     (BOTH, Ok((2, 3))),
-    (b"", Err(ComebackFault::Unread(ResumeFault::BadLine(1)))),
+    (b"", Err(ResumedDumpFault::Unread(ResumeFault::BadLine(1)))),
     (
         TWICE,
-        Err(ComebackFault::Unread(ResumeFault::NotInOrder(10))),
+        Err(ResumedDumpFault::Unread(ResumeFault::NotInOrder(10))),
     ),
-    (ANOTHER, Err(ComebackFault::OfAnother)),
+    (ANOTHER, Err(ResumedDumpFault::OfAnother)),
 ];
 
 #[test]

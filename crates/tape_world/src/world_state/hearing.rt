@@ -122,7 +122,7 @@ fn settle(
     ensures own { own.new ≡ own_after is_over own.old }
 {
     if !is_over {
-        conn::come_back(connections, connection, count);
+        conn::deliver_back(connections, connection, count);
         return;
     }
     conn::end_there(connections, connection);
@@ -143,7 +143,7 @@ impl WorldState {
             return Err(EventStop::NotPossible);
         }
         if conn.dump.is_none() {
-            conn::come_back(&mut self.connections, connection, count);
+            conn::deliver_back(&mut self.connections, connection, count);
             self.history.failure = None;
             return Ok(());
         }

@@ -5,7 +5,7 @@ ghost use Rattle.tape_events.specs.Events.PlainEvent.{ClientRestart, Save};
 ghost use Rattle.tape_events.specs.Kept.{IsWorldKept};
 ghost use Rattle.tape_world.specs.Calling.{IsPlaced, over_own};
 ghost use Rattle.tape_world.specs.Holding.{IsBacked, IsEvent};
-ghost use Rattle.tape_world.specs.Saving.{ComesBackWith, IsKeptOf, MayKeep, kept_then};
+ghost use Rattle.tape_world.specs.Saving.{ResumesRunWith, IsKeptOf, MayKeep, kept_then};
 ghost use Rattle.tape_world.specs.Seen.{seen_connection};
 
 use super::WorldState;
@@ -64,13 +64,13 @@ fn may_keep(caller: &Caller, entered: &[Entered]) -> bool
 /// The client that what is kept brings back. None where nothing is kept.
 ///
 /// Fails only where memory is refused.
-fn come_back(
+fn resume_run(
     alloc: Global,
     kept: &Option<KeptRun>,
     begun: &[Begun],
 ) -> Result<Option<Caller>, AllocError>
     requires { IsBacked begun.now kept.now }
-    ensures { IfOk result (ComesBackWith begun.now kept.now) }
+    ensures { IfOk result (ResumesRunWith begun.now kept.now) }
 {
     let Some(kept) = kept else {
         return Ok(None);
@@ -124,7 +124,7 @@ impl WorldState {
         if self.caller.is_none() {
             return Err(EventStop::NotPossible);
         }
-        let caller = come_back(self.alloc, &self.kept, &self.begun)?;
+        let caller = resume_run(self.alloc, &self.kept, &self.begun)?;
         end_own(&mut self.connections, self.own);
         self.own = None;
         change_caller(&mut self.caller, caller);

@@ -6,7 +6,7 @@ use Rattle.tape_events.specs.Changes.{with_no_failure, changed}
 use Rattle.tape_events.specs.Events.PlainEvent.{ToClient}
 use Rattle.tape_events.specs.Steps.{Happens}
 use Rattle.tape_world.specs.contracts.world_state.WorldState.{the_view}
-use Rattle.tape_world.specs.Hearing.{come_back, heard_on, HasHeard}
+use Rattle.tape_world.specs.Hearing.{deliver_back, heard_on, HasHeard}
 use Rattle.tape_world.specs.Holding.{IsOwned}
 use Rattle.tape_world.specs.Seen.{book_names, seen_caller, seen_count, seen_connection}
 use Rattle.tape_world.proofs.Clients.{sourced_same, not_both}
@@ -26,10 +26,10 @@ returns-then-is_none c =
     c.find.ensures (ap option_copied c.in-Some.is) in
     let none = none_left c.in-Some.conn.now.dump c.if-is_none.ensures in
     let connections
-    = connections_after (come_back c.args.count) c.self.inside.connections.len c.self.inside.connections.items c.deref_mut.result.now c.come_back.new.connections c.args.connection
-    c.self.inside.connections.ok.0 c.deref_mut.ensures.value c.come_back.ensures in
+    = connections_after (deliver_back c.args.count) c.self.inside.connections.len c.self.inside.connections.items c.deref_mut.result.now c.deliver_back.new.connections c.args.connection
+    c.self.inside.connections.ok.0 c.deref_mut.ensures.value c.deliver_back.ensures in
     let u
-    = record (with_no_failure w) { connections = map seen_connection (take c.self.inside.connections.len (c.come_back.new.connections ++ drop (length c.come_back.new.connections) c.self.inside.connections.items)) } in
+    = record (with_no_failure w) { connections = map seen_connection (take c.self.inside.connections.len (c.deliver_back.new.connections ++ drop (length c.deliver_back.new.connections) c.self.inside.connections.items)) } in
     subst (λ (v : World). Happens v (ToClient c.args.connection c.args.count) u) c.self.view_is (
       (
         l,
@@ -110,12 +110,12 @@ pub settle-requires-clause-first : goal.settle-requires-clause-first
 settle-requires-clause-first c = connection_first c.deref.result.now c.args.connection (option_copied c.find.result) c.in-Some.conn.now c.find.ensures
     (ap option_copied c.in-Some.is)
 
-pub come_back-requires-clause-first : goal.come_back-requires-clause-first
-come_back-requires-clause-first c = connection_first c.deref.result.now c.args.connection (option_copied c.find.result) c.in-Some.conn.now c.find.ensures
+pub deliver_back-requires-clause-first : goal.deliver_back-requires-clause-first
+deliver_back-requires-clause-first c = connection_first c.deref.result.now c.args.connection (option_copied c.find.result) c.in-Some.conn.now c.find.ensures
     (ap option_copied c.in-Some.is)
 
-pub come_back-requires-clause-last : goal.come_back-requires-clause-last
-come_back-requires-clause-last c =
+pub deliver_back-requires-clause-last : goal.deliver_back-requires-clause-last
+deliver_back-requires-clause-last c =
     connection_within c.deref.result.now c.deref_mut.result.now c.args.connection (option_copied c.find.result) c.in-Some.conn.now
     (c.deref.ensures.value ∙ sym c.deref_mut.ensures.value) c.find.ensures (ap option_copied c.in-Some.is)
 

@@ -4,9 +4,9 @@ use Rattle.dump_run.specs.Checkpoint.{SpellsCheckpoint}
 use Rattle.dump_client.specs.Standing.{IsOver}
 use Rattle.tape_world.specs.declared.caller.Begun.{Begun}
 use Rattle.tape_world.specs.Holding.{IsBacked}
-use Rattle.tape_world.specs.Saving.{ComesBackWith}
+use Rattle.tape_world.specs.Saving.{ResumesRunWith}
 use Rattle.tape_world.proofs.Saving.{at_index, back_payload}
-use Rattle.tape_world.proofs.world_state.saving.come_back.Goals as goal
+use Rattle.tape_world.proofs.world_state.saving.resume_run.Goals as goal
 
 -- the blocks that are given to the client are those of the run that is kept
 same_blocks : (c : goal.After-deref) → c.trouble.new.self.blocks ≡ (c.requires.text c.in-Some.kept c.in-Some.is).0.payload.blocks
@@ -32,7 +32,7 @@ returns-in-Ok c =
     let same = c.in-Ok.ensures.comes_back its.0.run k.counts.items kept in
     let index = at_index c.args.begun.now k.run its.0 c.index-begun-kept.result its.1 c.index-begun-kept.is in
     let at = c.in-Ok.client.at in
-    subst (λ o. ComesBackWith c.args.begun.now o (Some record { number = k.run; client = c.in-Ok.client })) (sym c.in-Some.is) (
+    subst (λ o. ResumesRunWith c.args.begun.now o (Some record { number = k.run; client = c.in-Ok.client })) (sym c.in-Some.is) (
       record { number = k.run; client = c.in-Ok.client },
       refl,
       record {

@@ -1,7 +1,7 @@
 use Rattle.std.proofs.Common.{subst}
 use Rattle.dump_client.specs.Client.{IsPayload}
 use Rattle.rdump_files.proofs.Payloads.{of_one_dump, runs_payload}
-use Rattle.rdump_files.proofs.comeback.come_back.Goals as goal
+use Rattle.rdump_files.proofs.resumed_dump.resume_dump.Goals as goal
 
 pub resume-requires : goal.resume-requires
 resume-requires g c = λ run counts blocks spelled held.

@@ -4,7 +4,7 @@ ghost use Rattle.dump_client.specs.Standing.{IsOver};
 ghost use Rattle.dump_run.specs.Checkpoint.{SpellsCheckpoint};
 ghost use Rattle.dump_run.specs.Run.{AreOfOneDump};
 ghost use Rattle.rdump_files.specs.Payload.{IsRunsPayload};
-ghost use Rattle.rdump_files.specs.Comeback.{IsComebackFault};
+ghost use Rattle.rdump_files.specs.ResumedDump.{IsResumedDumpFault};
 
 use crate::{Gauge, PayloadFile, Shown};
 use dump_client::{Client, ResumeFault, Run};
@@ -14,7 +14,7 @@ use tape::Medium;
 
 /// Why no client comes back from a checkpoint.
 #[derive(Clone, Copy, Debug, PartialEq, Eq)]
-pub enum ComebackFault {
+pub enum ResumedDumpFault {
     /// The bytes are no checkpoint, or memory was refused.
     Unread(ResumeFault),
     /// It is of another dump.
@@ -27,27 +27,27 @@ pub enum ComebackFault {
 ///
 /// Answers `Unread` with the first line at fault where the bytes are no checkpoint, or where memory is refused, and `OfAnother`
 /// where it is of another dump.
-pub fn come_back<M: Medium + Drop, G: Gauge + Drop>(
+pub fn resume_dump<M: Medium + Drop, G: Gauge + Drop>(
     alloc: Global,
     run: &Run,
     bytes: &[u8],
     payload: PayloadFile<M>,
     mut gauge: G,
-) -> Result<Client<Shown<PayloadFile<M>, G>>, ComebackFault>
+) -> Result<Client<Shown<PayloadFile<M>, G>>, ResumedDumpFault>
     requires { IsRunsPayload run.now payload }
     ensures spelled { IfOk result (λ c. SpellsCheckpoint bytes.now c.at.run c.at.counts) }
     ensures same_dump { IfOk result (λ c. AreOfOneDump c.at.run run.now) }
     ensures over { IfOk result (λ c. IsOver c.at.run c.at.counts c.at) }
     ensures source { IfOk result (λ c. c.source ≡ payload) }
-    ensures refused { IfErr result (IsComebackFault bytes.now run.now) }
+    ensures refused { IfErr result (IsResumedDumpFault bytes.now run.now) }
 {
     one_checkpoint();
     let kept = match Run::spelled(alloc, bytes) {
         Ok(kept) => kept,
-        Err(fault) => return Err(ComebackFault::Unread(fault)),
+        Err(fault) => return Err(ResumedDumpFault::Unread(fault)),
     };
     if !kept.is_same_dump(run) {
-        return Err(ComebackFault::OfAnother);
+        return Err(ResumedDumpFault::OfAnother);
     }
     gauge.begin(kept.blocks());
     let source = Shown {
@@ -56,6 +56,6 @@ pub fn come_back<M: Medium + Drop, G: Gauge + Drop>(
     };
     match Client::resume(alloc, bytes, source) {
         Ok(client) => Ok(client),
-        Err(fault) => Err(ComebackFault::Unread(fault)),
+        Err(fault) => Err(ResumedDumpFault::Unread(fault)),
     }
 }

@@ -3,11 +3,11 @@ use Rattle.std.specs.Prelude.{ℕ, List}
 use Rattle.dump_run.specs.Checkpoint.{HasResumeFault, SpellsCheckpoint}
 use Rattle.dump_run.specs.Run.{PlainRun, AreOfOneDump}
 use Rattle.dump_run.specs.declared.count.VolumeCount.{VolumeCount}
-use Rattle.rdump_files.specs.declared.comeback.ComebackFault.{ComebackFault}
-use Rattle.rdump_files.specs.declared.comeback.ComebackFault.TheVariants.{Unread, OfAnother}
+use Rattle.rdump_files.specs.declared.resumed_dump.ResumedDumpFault.{ResumedDumpFault}
+use Rattle.rdump_files.specs.declared.resumed_dump.ResumedDumpFault.TheVariants.{Unread, OfAnother}
 
 -- why none comes back: the bytes are no checkpoint, or it is of another dump than this run
-abbrev pub IsComebackFault : List ℕ → PlainRun → ComebackFault → Type 0
-IsComebackFault bytes run (Unread fault) = HasResumeFault bytes fault
-IsComebackFault bytes run OfAnother =
+abbrev pub IsResumedDumpFault : List ℕ → PlainRun → ResumedDumpFault → Type 0
+IsResumedDumpFault bytes run (Unread fault) = HasResumeFault bytes fault
+IsResumedDumpFault bytes run OfAnother =
     (kept : PlainRun) × (counts : List VolumeCount) × SpellsCheckpoint bytes kept counts × (AreOfOneDump kept run → ⊥)
