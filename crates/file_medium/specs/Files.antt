@@ -6,7 +6,7 @@ use Rattle.tape.specs.Medium.{MediumKind, medium_kind}
 -- also one that failed, and nothing of its bytes
 pub record FileCount : Type 0 where
   pub failures : ℕ
-  pub beginnings : ℕ
+  pub truncations : ℕ
   pub written : Bool
 
 -- any call of a file can fail

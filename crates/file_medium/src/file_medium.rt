@@ -26,7 +26,7 @@ pub struct FileMedium {
     len: Option<u64>,
     window: Option<Window>,
     failed: Option<FailedCall>,
-    beginnings: u64,
+    truncations: u64,
     is_read_only: bool,
     is_written: bool,
 }
@@ -48,7 +48,7 @@ impl Model for FileMedium {
 
     ghost Value = { FileCount };
 
-    ghost view = { λ m. record { failures = unwrap_or (option_map (λ f. raised f.before) m.failed) 0; beginnings = m.beginnings; written = m.is_written } };
+    ghost view = { λ m. record { failures = unwrap_or (option_map (λ f. raised f.before) m.failed) 0; truncations = m.truncations; written = m.is_written } };
 }
 
 impl FileMedium {
@@ -57,7 +57,7 @@ impl FileMedium {
     /// A file that is added to has to be open to append (`OpenOptions::append`): its bytes are written where it ends.
     pub fn new(file: File) -> FileMedium
         ensures count { result.failures ≡ 0 }
-        ensures begun { result.beginnings ≡ 0 }
+        ensures begun { result.truncations ≡ 0 }
         ensures unwritten { result.written ≡ false }
     {
         FileMedium {
@@ -65,7 +65,7 @@ impl FileMedium {
             len: None,
             window: None,
             failed: None,
-            beginnings: 0,
+            truncations: 0,
             is_read_only: false,
             is_written: false,
         }
@@ -75,7 +75,7 @@ impl FileMedium {
     /// for the reason that the reel may only be read.
     pub fn read_only(file: File) -> FileMedium
         ensures count { result.failures ≡ 0 }
-        ensures begun { result.beginnings ≡ 0 }
+        ensures begun { result.truncations ≡ 0 }
         ensures unwritten { result.written ≡ false }
     {
         let mut medium = FileMedium::new(file);
@@ -89,10 +89,10 @@ impl FileMedium {
     }
 
     /// How often the file was cut to nothing, by cuts that went well. It stays at the greatest `u64`.
-    pub fn beginnings(&self) -> u64
-        ensures { result ≡ self.now.beginnings }
+    pub fn truncations(&self) -> u64
+        ensures { result ≡ self.now.truncations }
     {
-        self.beginnings
+        self.truncations
     }
 
     /// Whether it was written to or cut, or was to be: an append or a cut was asked for, also one that failed.
@@ -139,9 +139,9 @@ impl FileMedium {
 
     /// Counts a cut to nothing.
     fn begin(&mut self)
-        ensures { self.new ≡ record self.old { beginnings = raised self.old.beginnings } }
+        ensures { self.new ≡ record self.old { truncations = raised self.old.truncations } }
     {
-        self.beginnings = self.beginnings.saturating_add(1);
+        self.truncations = self.truncations.saturating_add(1);
     }
 
     /// Fails where the file may only be read.
@@ -280,7 +280,7 @@ impl Medium for FileMedium {
 
     fn cut(&mut self, len: u64) -> Result<(), MediumFailed>
         ensures call { IsMediumCall file_kind self.old (Cut len result) self.new }
-        ensures begun { OnOk result (len ≡ 0 → self.new ≡ record self.old { beginnings = raised self.old.beginnings; written = true }) }
+        ensures begun { OnOk result (len ≡ 0 → self.new ≡ record self.old { truncations = raised self.old.truncations; written = true }) }
         ensures same { OnOk result (len ≢ 0 → self.new ≡ record self.old { written = true }) }
         ensures failed { OnErr result (self.new ≡ record self.old { failures = raised self.old.failures; written = true }) }
     {

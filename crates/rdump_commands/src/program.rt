@@ -5,7 +5,7 @@ ghost use Rattle.rdump_commands.specs.Status.{IsHelpStatus, IsStatus};
 use crate::fault::{FAILED, tell, tell_no_memory, unwritten};
 use crate::{System, run_dates, run_dump, run_mt, run_read};
 use clap::error::ErrorKind;
-use file_medium::take_places;
+use file_medium::reserve_std_fds;
 use printable::PlainLines;
 use rdump_list::run_ls;
 use rdump_words::{RdumpLine, rdump_words};
@@ -24,7 +24,7 @@ use std::io::{self, Write};
 pub fn rdump<R: System, T: Write + Copy + Drop>(rt: &R, terminal: Option<T>) -> u8
     ensures { IsStatus result }
 {
-    take_places(rt);
+    reserve_std_fds(rt);
     match words(rt) {
         Ok(words) => run_words(rt, words.as_slice(), terminal),
         Err(error) => tell(rt, "the words could not be read", error),

@@ -41,11 +41,11 @@ with_latched s d latched = record s { rows = slice_set s.rows d (folder_row (row
 
 -- a sync failed at drive d, of a file that had been cut to nothing so often
 abbrev pub with_failed : FolderLibrary → ℕ → ℕ → FolderLibrary
-with_failed s d beginnings = record s { rows = slice_set s.rows d (record (row_at s d) { failed = Some beginnings }) }
+with_failed s d truncations = record s { rows = slice_set s.rows d (record (row_at s d) { failed = Some truncations }) }
 
 -- no sync has failed at drive d since its file was last cut to nothing
 abbrev pub IsSyncable : FolderLibrary → ℕ → FileCount → Type 0
-IsSyncable s d file = (row_at s d).failed ≢ Some file.beginnings
+IsSyncable s d file = (row_at s d).failed ≢ Some file.truncations
 
 -- the device failed once more
 abbrev pub after_fault : FolderLibrary → FolderLibrary
@@ -68,7 +68,7 @@ IsFolderRefused old _ new = ⊥
 
 -- no call of the file has failed, and it was not cut to nothing, nor written to, nor to be
 abbrev pub IsUntouched : FileCount → Type 0
-IsUntouched file = (file.failures ≡ 0) × (file.beginnings ≡ 0) × (file.written ≡ false)
+IsUntouched file = (file.failures ≡ 0) × (file.truncations ≡ 0) × (file.written ≡ false)
 
 -- A reel was latched where none was, at its beginning and with the capacity, on a file that is untouched. It is not only where one
 -- is latched or none was found, for want of memory, which change nothing, and where the device failed, which is counted.
@@ -83,7 +83,7 @@ IsFolderLatch old d (Err fault) new = ((row_at old d).latched ≡ false) × IsFo
 -- name is taken, which changes nothing, and where the device failed, which is counted: a sync that failed is noted.
 abbrev pub IsFolderMove : {U : Type 0} → FolderLibrary → ℕ → FileCount → Result U DriveFault → FolderLibrary → Type 0
 IsFolderMove old d file (Ok done) new = ((row_at old d).latched ≡ true) × IsSyncable old d file × (new ≡ with_latched old d false)
-IsFolderMove old d file (Err Device) new = (new ≡ after_fault old) ⊎ (new ≡ after_fault (with_failed old d file.beginnings))
+IsFolderMove old d file (Err Device) new = (new ≡ after_fault old) ⊎ (new ≡ after_fault (with_failed old d file.truncations))
 IsFolderMove old d file (Err NameTaken) new = ((row_at old d).latched ≡ true) × IsSyncable old d file × (new ≡ old)
 IsFolderMove old d file (Err _) new = ⊥
 

@@ -14,10 +14,10 @@ Makes told old new steps = Steps told old new (λ before after. after ≡ before
 -- Why a file that was cut to nothing so often could not be synced: a sync had failed since it was, and nothing was asked; or
 -- its sync failed, which is noted.
 abbrev pub IsUnsynced : ℕ → Option ℕ → Option ℕ → List FileStep → List FileStep → Type 0
-IsUnsynced beginnings failed noted before after =
-    ((failed ≡ Some beginnings) × (after ≡ before)) ⊎ ((noted ≡ Some beginnings) × (after ≡ before ++ Sync false ∷ []))
+IsUnsynced truncations failed noted before after =
+    ((failed ≡ Some truncations) × (after ≡ before)) ⊎ ((noted ≡ Some truncations) × (after ≡ before ++ Sync false ∷ []))
 
 -- Why it was left where it is: it could not be synced, or the move was refused, after a sync that went well.
 abbrev pub IsLeft : ℕ → Option ℕ → Option ℕ → List FileStep → List FileStep → Type 0
-IsLeft beginnings failed noted before after =
-    IsUnsynced beginnings failed noted before after ⊎ (after ≡ before ++ Sync true ∷ Move false ∷ [])
+IsLeft truncations failed noted before after =
+    IsUnsynced truncations failed noted before after ⊎ (after ≡ before ++ Sync true ∷ Move false ∷ [])

@@ -21,14 +21,14 @@ pub trait MovableFile {
     ghost told: { Self → List FileStep → Type 0 };
 
     /// How often it was cut to nothing.
-    ghost beginnings: { Self → ℕ };
+    ghost truncations: { Self → ℕ };
 
     /// Whether it was written to or cut since it was opened, or was to be.
     ghost written: { Self → Bool };
 
     /// How often it was cut to nothing.
-    fn beginnings(&self) -> u64
-        ensures { result ≡ beginnings self.now };
+    fn truncations(&self) -> u64
+        ensures { result ≡ truncations self.now };
 
     /// Whether it was written to or cut since it was opened, or was to be: a write that failed counts.
     fn is_written(&self) -> bool
@@ -37,7 +37,7 @@ pub trait MovableFile {
     /// Writes to the device what the system keeps of it.
     fn sync(&mut self) -> Result<(), Self::Refusal>
         ensures step { Makes told self.old self.new (Sync (is_ok result) ∷ []) }
-        ensures same { beginnings self.new ≡ beginnings self.old };
+        ensures same { truncations self.new ≡ truncations self.old };
 
     /// Moves it to the other folder. What is answered says whether it lies there.
     fn rename(&mut self) -> Result<Self::Moved, Self::Refusal>
@@ -54,7 +54,7 @@ pub struct Syncs<E: Copy> {
 #[derive(Clone, Copy)]
 struct FailedSync<E: Copy> {
     /// How often the file had been cut to nothing.
-    beginnings: u64,
+    truncations: u64,
     /// Why it failed.
     reason: E,
 }
@@ -65,7 +65,7 @@ impl<E: Copy> Model for Syncs<E> {
 
     ghost Value = { Option ℕ };
 
-    ghost view = { λ s. option_map (λ f. f.beginnings) s.failed };
+    ghost view = { λ s. option_map (λ f. f.truncations) s.failed };
 }
 
 impl<E: Copy> Syncs<E> {
@@ -81,22 +81,25 @@ impl<E: Copy> Syncs<E> {
     /// Answers why that one failed, or this one. The system tells once what it could not write, so a sync after one that
     /// failed would say nothing of it.
     pub fn sync<F: MovableFile<Refusal = E>>(&mut self, file: &mut F) -> Result<(), E>
-        ensures again { self.old ≡ Some (F.beginnings file.old) → IsErr result }
-        ensures noted { MatchResult result (λ _. self.new ≡ self.old) (λ _. self.new ≡ Some (F.beginnings file.old)) }
+        ensures again { self.old ≡ Some (F.truncations file.old) → IsErr result }
+        ensures noted { MatchResult result (λ _. self.new ≡ self.old) (λ _. self.new ≡ Some (F.truncations file.old)) }
         ensures done { IfOk result (λ _. Makes F.told file.old file.new (Sync true ∷ [])) }
-        ensures refused { OnErr result (Steps F.told file.old file.new (IsUnsynced (F.beginnings file.old) self.old self.new)) }
-        ensures same { F.beginnings file.new ≡ F.beginnings file.old }
+        ensures refused { OnErr result (Steps F.told file.old file.new (IsUnsynced (F.truncations file.old) self.old self.new)) }
+        ensures same { F.truncations file.new ≡ F.truncations file.old }
     {
-        let beginnings = file.beginnings();
+        let truncations = file.truncations();
         if let Some(failed) = &self.failed
-            && failed.beginnings == beginnings
+            && failed.truncations == truncations
         {
             return Err(failed.reason);
         }
         match file.sync() {
             Ok(()) => Ok(()),
             Err(reason) => {
-                self.failed = Some(FailedSync { beginnings, reason });
+                self.failed = Some(FailedSync {
+                    truncations,
+                    reason,
+                });
                 Err(reason)
             }
         }
@@ -112,10 +115,10 @@ pub fn take_offline<F: MovableFile>(
     syncs: &mut Syncs<F::Refusal>,
 ) -> Result<F::Moved, F::Refusal>
     ensures done { IfOk result (λ _. Makes F.told file.old file.new (Sync true ∷ Move true ∷ [])) }
-    ensures refused { OnErr result (Steps F.told file.old file.new (IsLeft (F.beginnings file.old) syncs.old syncs.new)) }
-    ensures again { syncs.old ≡ Some (F.beginnings file.old) → IsErr result }
+    ensures refused { OnErr result (Steps F.told file.old file.new (IsLeft (F.truncations file.old) syncs.old syncs.new)) }
+    ensures again { syncs.old ≡ Some (F.truncations file.old) → IsErr result }
     ensures noted { MatchResult result (λ _. syncs.new ≡ syncs.old)
-        (λ _. (syncs.new ≡ syncs.old) ⊎ (syncs.new ≡ Some (F.beginnings file.old))) }
+        (λ _. (syncs.new ≡ syncs.old) ⊎ (syncs.new ≡ Some (F.truncations file.old))) }
 {
     syncs.sync(file)?;
     file.rename()
@@ -131,10 +134,10 @@ pub fn sync_at_close<F: MovableFile>(
 ) -> Result<bool, F::Refusal>
     ensures written { F.written file.old ≡ true → MatchResult result
         (λ synced. (synced ≡ true) × Makes F.told file.old file.new (Sync true ∷ []))
-        (λ _. Steps F.told file.old file.new (IsUnsynced (F.beginnings file.old) syncs.old syncs.new)) }
+        (λ _. Steps F.told file.old file.new (IsUnsynced (F.truncations file.old) syncs.old syncs.new)) }
     ensures unwritten { F.written file.old ≡ false → (result ≡ Ok false) × (file.new ≡ file.old) × (syncs.new ≡ syncs.old) }
-    ensures again { F.written file.old ≡ true → syncs.old ≡ Some (F.beginnings file.old) → IsErr result }
-    ensures noted { MatchResult result (λ _. syncs.new ≡ syncs.old) (λ _. syncs.new ≡ Some (F.beginnings file.old)) }
+    ensures again { F.written file.old ≡ true → syncs.old ≡ Some (F.truncations file.old) → IsErr result }
+    ensures noted { MatchResult result (λ _. syncs.new ≡ syncs.old) (λ _. syncs.new ≡ Some (F.truncations file.old)) }
 {
     if !file.is_written() {
         return Ok(false);

@@ -19,7 +19,7 @@ use crate::{MemoryServer, TapeServer, exit_status, run_stdio, serve_connections}
 use clap::Error;
 use clap::error::ErrorKind;
 use drives::Stacks;
-use file_medium::take_places;
+use file_medium::reserve_std_fds;
 use printable::{PlainLines, plain};
 use reel_files::{FolderStacks, FolderSystem, Log};
 use rmt_wire::Counted;
@@ -71,14 +71,14 @@ pub fn start<R: System, I: Read, O: Write>(
         (streams input.old output.old) (streams input.new output.new)) }
     ensures failed { OnErr result (AreUntouched (streams input.old output.old) (streams input.new output.new)) }
 {
-    match begin_by_args(rt, input, output) {
+    match run_process(rt, input, output) {
         Ok(begun) => Ok(begun),
         Err(error) => tell(rt, NOT_STARTED, error),
     }
 }
 
 /// Reads the words of the program, and does what they ask until connections are served at once.
-fn begin_by_args<R: System, I: Read, O: Write>(
+fn run_process<R: System, I: Read, O: Write>(
     rt: &R,
     input: &mut Counted<I>,
     output: &mut Counted<O>,
@@ -88,7 +88,7 @@ fn begin_by_args<R: System, I: Read, O: Write>(
     ensures failed { OnErr result (AreUntouched (streams input.old output.old) (streams input.new output.new)) }
 {
     match words(rt) {
-        Ok(words) => begin_with(rt, words.as_slice(), input, output),
+        Ok(words) => run_arguments(rt, words.as_slice(), input, output),
         Err(error) => tell(rt, "the words could not be read", error),
     }
 }
@@ -103,7 +103,7 @@ fn words<R: Env + AllocGlobal>(rt: &R) -> io::Result<Vec<String>> {
 }
 
 /// Does what these words ask until connections are served at once.
-fn begin_with<R: System, I: Read, O: Write>(
+fn run_arguments<R: System, I: Read, O: Write>(
     rt: &R,
     words: &[String],
     input: &mut Counted<I>,
@@ -151,15 +151,15 @@ pub fn begin<R: System, I: Read, O: Write>(
         (streams input.old output.old) (streams input.new output.new)) }
     ensures failed { OnErr result (AreUntouched (streams input.old output.old) (streams input.new output.new)) }
 {
-    take_places(rt);
+    reserve_std_fds(rt);
     match server_line(rt.alloc(), words) {
-        Ok(line) => follow(rt, &line, input, output),
+        Ok(line) => serve_line(rt, &line, input, output),
         Err(error) => refuse(rt, error),
     }
 }
 
 /// Serves as the line says, but for connections at drives in folders: it tells what is left to do.
-fn follow<R: System, I: Read, O: Write>(
+fn serve_line<R: System, I: Read, O: Write>(
     rt: &R,
     line: &ServerLine<'_>,
     input: &mut Counted<I>,
@@ -174,7 +174,7 @@ fn follow<R: System, I: Read, O: Write>(
     if let Some(bin) = line.bin
         && !line.drives.is_empty()
     {
-        return follow_in_folders(rt, line, bin, start, input, output);
+        return serve_line_in_folders(rt, line, bin, start, input, output);
     }
     let Some(address) = line.listen else {
         warn_of_bin(rt, line, start)?;
@@ -190,7 +190,7 @@ fn follow<R: System, I: Read, O: Write>(
 /// Serves the streams at drives whose reels are files in folders, or makes ready for connections. A folder that cannot be used
 /// is told before anything is read. What goes wrong while the streams are served is told on standard error, where that is not
 /// the stream that has the answers.
-fn follow_in_folders<R: System, I: Read, O: Write>(
+fn serve_line_in_folders<R: System, I: Read, O: Write>(
     rt: &R,
     line: &ServerLine<'_>,
     bin: &str,

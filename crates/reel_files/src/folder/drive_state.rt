@@ -194,9 +194,9 @@ impl FolderDriveState {
         medium: &FileMedium,
     ) -> Result<Moved, Refusal>
         ensures latched { IfOk result (λ _. self.old.latched ≡ true) }
-        ensures again { IfOk result (λ _. self.old.failed ≢ Some medium.now.beginnings) }
+        ensures again { IfOk result (λ _. self.old.failed ≢ Some medium.now.truncations) }
         ensures noted { MatchResult result (λ _. self.new ≡ self.old)
-            (λ _. (self.new ≡ self.old) ⊎ (self.new ≡ record self.old { failed = Some medium.now.beginnings })) }
+            (λ _. (self.new ≡ self.old) ⊎ (self.new ≡ record self.old { failed = Some medium.now.truncations })) }
     {
         let stack = self.folder.as_str();
         let Some(file) = &self.latched else {

@@ -42,12 +42,12 @@ impl<R: FolderSystem> MovableFile for Latched<'_, R> {
 
     ghost told = { λ _ _. ⊥ };
 
-    ghost beginnings = { λ f. f.medium.now.beginnings };
+    ghost truncations = { λ f. f.medium.now.truncations };
 
     ghost written = { λ f. f.medium.now.written };
 
-    fn beginnings(&self) -> u64 {
-        self.medium.beginnings()
+    fn truncations(&self) -> u64 {
+        self.medium.truncations()
     }
 
     fn is_written(&self) -> bool {

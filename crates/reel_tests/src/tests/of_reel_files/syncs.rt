@@ -28,12 +28,12 @@ impl MovableFile for Failing {
 
     ghost told = { λ _ _. ⊥ };
 
-    ghost beginnings = { λ f. f.reel.medium.beginnings };
+    ghost truncations = { λ f. f.reel.medium.truncations };
 
     ghost written = { λ f. f.reel.medium.written };
 
-    fn beginnings(&self) -> u64 {
-        self.reel.medium().beginnings()
+    fn truncations(&self) -> u64 {
+        self.reel.medium().truncations()
     }
 
     fn is_written(&self) -> bool {

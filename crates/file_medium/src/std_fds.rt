@@ -11,7 +11,7 @@ const PLACES: i32 = 3;
 /// connection would get that place, and what is written to the stream would go into it.
 ///
 /// What has the place is the folder `/`, which can neither be written to nor read as a file. Where `/` can't be opened the places stay free.
-pub fn take_places<R: Files<File = File>>(rt: &R) {
+pub fn reserve_std_fds<R: Files<File = File>>(rt: &R) {
     for _ in 0..PLACES {
         match fs::open(rt, "/") {
             Ok(folder) if folder.as_raw_fd() < PLACES => {
