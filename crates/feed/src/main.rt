@@ -15,7 +15,7 @@ const WRONG: u8 = 1;
 
 /// What is fed, how often, and in pieces of how many bytes.
 #[derive(Drop)]
-struct Words {
+struct Arguments {
     kind: Kind,
     count: u32,
     piece: usize,
@@ -23,13 +23,13 @@ struct Words {
 }
 
 /// The three words `KIND COUNT PIECE`, if they are that.
-fn words_of(rt: &HostRuntime) -> io::Result<Option<Words>> {
-    let mut words = env::args(rt)?.skip(1);
+fn arguments_of(rt: &HostRuntime) -> io::Result<Option<Arguments>> {
+    let mut arguments = env::args(rt)?.skip(1);
     let (Some(kind), Some(count), Some(piece), None) = (
-        words.next(),
-        words.next(),
-        words.next(),
-        words.next(),
+        arguments.next(),
+        arguments.next(),
+        arguments.next(),
+        arguments.next(),
     ) else {
         return Ok(None);
     };
@@ -37,7 +37,7 @@ fn words_of(rt: &HostRuntime) -> io::Result<Option<Words>> {
     let count = count.as_str().parse::<u32>().ok();
     let piece = piece.as_str().parse::<usize>().ok();
     match (kind, count, piece) {
-        (Some(kind), Some(count), Some(piece)) if piece > 0 => Ok(Some(Words {
+        (Some(kind), Some(count), Some(piece)) if piece > 0 => Ok(Some(Arguments {
             kind,
             count,
             piece,
@@ -48,7 +48,7 @@ fn words_of(rt: &HostRuntime) -> io::Result<Option<Words>> {
 
 /// Feeds a reader as the words say. With other words it ends with status 1.
 fn main(rt: HostRuntime) -> io::Result<ExitCode> {
-    let Some(Words { kind, count, piece }) = words_of(&rt)? else {
+    let Some(Arguments { kind, count, piece }) = arguments_of(&rt)? else {
         return Ok(ExitCode::from(WRONG));
     };
     let is_fed = feed(rt.alloc(), kind, count, piece)?;

@@ -1,5 +1,6 @@
 //! Words, streams served, dumps, volumes that are read back, operations and dumpdates files, against what was written by hand.
 
+mod arguments;
 mod checkpoints;
 mod commands;
 mod dates;
@@ -23,7 +24,6 @@ mod startup;
 mod store;
 mod streams;
 mod volumes;
-mod words;
 
 use std::process::Abort;
 

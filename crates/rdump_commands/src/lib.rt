@@ -1,7 +1,7 @@
 //! What `rdump` does: reads its words, and dumps a payload, reads volumes back, lists reels, does one operation at a drive, or asks
 //! a dumpdates file. Each answers the exit status; what is at fault is told on the way.
 //!
-//! `rdump` is all of it, and `run_words` the same for words that are given. Each command is a call of its own: `run_dump`,
+//! `rdump` is all of it, and `run_arguments` the same for words that are given. Each command is a call of its own: `run_dump`,
 //! `run_read`, `run_mt`, `run_dates`, and `run_ls` of `rdump_list`. `run_client` is a dump from its client on. What they use of the
 //! runtime is `System`.
 #![tactic(auto)]
@@ -35,6 +35,6 @@ pub use dates_command::run_dates;
 pub use dump_command::run_dump;
 pub use dumping::run_client;
 pub use mt_command::run_mt;
-pub use program::{rdump, run_words};
+pub use program::{rdump, run_arguments};
 pub use read_command::run_read;
 pub use system::System;

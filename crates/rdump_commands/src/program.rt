@@ -25,31 +25,31 @@ pub fn rdump<R: System, T: Write + Copy + Drop>(rt: &R, terminal: Option<T>) -> 
     ensures { IsStatus result }
 {
     reserve_std_fds(rt);
-    match words(rt) {
-        Ok(words) => run_words(rt, words.as_slice(), terminal),
+    match arguments(rt) {
+        Ok(arguments) => run_arguments(rt, arguments.as_slice(), terminal),
         Err(error) => tell(rt, "the words could not be read", error),
     }
 }
 
 /// The words of the process, its own name first. Each growth that is refused is answered.
-fn words<R: System>(rt: &R) -> io::Result<Vec<String>> {
-    let mut words = Vec::new(rt.alloc());
-    for word in env::args(rt)? {
-        words.push(word)?;
+fn arguments<R: System>(rt: &R) -> io::Result<Vec<String>> {
+    let mut arguments = Vec::new(rt.alloc());
+    for argument in env::args(rt)? {
+        arguments.push(argument)?;
     }
-    Ok(words)
+    Ok(arguments)
 }
 
 /// Does what these words ask, of which the first is the name of the program itself, and answers the status, both as `rdump`
 /// does.
-pub fn run_words<R: System, S: AsStr, T: Write + Copy + Drop>(
+pub fn run_arguments<R: System, S: AsStr, T: Write + Copy + Drop>(
     rt: &R,
-    words: &[S],
+    arguments: &[S],
     terminal: Option<T>,
 ) -> u8
     ensures { IsStatus result }
 {
-    match rdump_words(rt.alloc(), words) {
+    match rdump_words(rt.alloc(), arguments) {
         Ok(RdumpLine::Dump(line)) => run_dump(rt, &line, terminal),
         Ok(RdumpLine::Read(line)) => run_read(rt, line),
         Ok(RdumpLine::List(line)) => run_ls(rt, line),

@@ -1,7 +1,7 @@
 -- What the words of `rdump` may ask. Public contracts cite it.
 use Rattle.std.specs.Prelude.{◌≤◌, ◌<◌, ℕ, Option, None, Some, IfSome, IsSome, IsTrue, ⊤, length}
 use Rattle.std.specs.Borrow.{Bor}
-use Rattle.clap.specs.Words.{Text}
+use Rattle.clap.specs.Arguments.{Text}
 use Rattle.dumpdates.specs.Entry.{IsName}
 use Rattle.dump_run.specs.Run.{IsDevice}
 use Rattle.rdump_address.specs.Address.{HasPort}

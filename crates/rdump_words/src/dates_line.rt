@@ -3,9 +3,9 @@ ghost use Rattle.std.specs.Prelude.{◌≡◌, ◌↔◌, ℕ, ◌≤◌, ◌+�
 ghost use Rattle.dumpdates.specs.Entry.{IsName};
 ghost use Rattle.rdump_words.specs.Rdump.{IsDatesAsked, IsRdumpLine};
 
-use crate::fault::WordFault;
+use crate::argument::{ArgumentSpec, Form, value_in};
+use crate::fault::ArgumentFault;
 use crate::rdump_line::RdumpLine;
-use crate::word::{Form, Word, value_in};
 use clap::ArgMatches;
 use dumpdates::Entry;
 
@@ -20,7 +20,7 @@ const BAD_LEVEL: &str = "invalid value for '--level <LEVEL>': a level is one dig
 const ONE_ALONE: &str = "--name and --level are given together or not at all";
 
 /// The line of `rdump dates` that clap's matches say.
-pub(crate) fn dates_in<'a>(matches: &ArgMatches<'a>) -> Result<RdumpLine<'a>, WordFault>
+pub(crate) fn dates_in<'a>(matches: &ArgMatches<'a>) -> Result<RdumpLine<'a>, ArgumentFault>
     ensures { IfOk result IsRdumpLine }
 {
     match asked(matches.get_str("name"), matches.get_str("level")) {
@@ -33,27 +33,30 @@ pub(crate) fn dates_in<'a>(matches: &ArgMatches<'a>) -> Result<RdumpLine<'a>, Wo
 }
 
 /// The name and the level that are asked for by these words, and what is wrong with them where no entry has such.
-fn asked<'a>(name: Option<&'a str>, level: Option<&str>) -> Result<Option<(&'a str, u8)>, WordFault>
+fn asked<'a>(
+    name: Option<&'a str>,
+    level: Option<&str>,
+) -> Result<Option<(&'a str, u8)>, ArgumentFault>
     ensures { IfOk result IsDatesAsked }
 {
     let (name, level) = match (name, level) {
         (None, None) => return Ok(None),
         (Some(name), Some(level)) => (name, level),
-        _ => return Err(WordFault::Missing(ONE_ALONE)),
+        _ => return Err(ArgumentFault::Missing(ONE_ALONE)),
     };
     match level_of(level) {
-        None => Err(WordFault::Value(BAD_LEVEL)),
+        None => Err(ArgumentFault::Value(BAD_LEVEL)),
         Some(level) if is_name(name) => Ok(Some((name, level))),
-        Some(_) => Err(WordFault::Value(BAD_NAME)),
+        Some(_) => Err(ArgumentFault::Value(BAD_NAME)),
     }
 }
 
 /// The level that a word says, which is one digit and nothing else.
-fn level_of(word: &str) -> Option<u8>
-    ensures value { IfSome result (λ n. (n ≤ 9) × (word.now ≡ (48 + n) ∷ [])) }
-    ensures given { (n : ℕ) → n ≤ 9 → word.now ≡ (48 + n) ∷ [] → IsSome result }
+fn level_of(argument: &str) -> Option<u8>
+    ensures value { IfSome result (λ n. (n ≤ 9) × (argument.now ≡ (48 + n) ∷ [])) }
+    ensures given { (n : ℕ) → n ≤ 9 → argument.now ≡ (48 + n) ∷ [] → IsSome result }
 {
-    match word.as_bytes() {
+    match argument.as_bytes() {
         [digit @ b'0'..=b'9'] => Some(*digit - b'0'),
         _ => None,
     }
@@ -67,22 +70,22 @@ fn is_name(name: &str) -> bool
 }
 
 /// The words of `rdump dates`.
-pub(crate) static DATES_WORDS: [Word; 3] = [
-    Word {
+pub(crate) static DATES_WORDS: [ArgumentSpec; 3] = [
+    ArgumentSpec {
         name: "file",
         value: "FILE",
         help: "The dumpdates file",
         form: Form::Required,
         missing: "--file is required",
     },
-    Word {
+    ArgumentSpec {
         name: "name",
         value: "NAME",
         help: "Ask for the base date of a dump of this file system",
         form: Form::With("level"),
         missing: "",
     },
-    Word {
+    ArgumentSpec {
         name: "level",
         value: "LEVEL",
         help: "The level of that dump, one digit",

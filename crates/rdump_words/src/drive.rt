@@ -3,8 +3,8 @@ ghost use Rattle.std.specs.Prelude.{IfOk};
 ghost use Rattle.dump_run.specs.Run.{IsDevice};
 ghost use Rattle.rdump_address.specs.Address.{HasPort};
 
-use crate::fault::WordFault;
-use crate::word::value_in;
+use crate::argument::value_in;
+use crate::fault::ArgumentFault;
 use clap::ArgMatches;
 use rdump_address::is_address;
 use rmt_wire::argument::is_device;
@@ -18,38 +18,41 @@ const BAD_DEVICE: &str =
     "invalid value for '--device <DEVICE>': a device is 1 to 255 bytes of one line";
 
 /// The address of the server and the device of the drive, which are required.
-pub(crate) fn drive_in<'a>(matches: &ArgMatches<'a>) -> Result<(&'a str, &'a str), WordFault>
+pub(crate) fn drive_in<'a>(matches: &ArgMatches<'a>) -> Result<(&'a str, &'a str), ArgumentFault>
     ensures { IfOk result (λ drive. HasPort drive.0.now × IsDevice drive.1.now) }
 {
     drive_of(value_in(matches, "to"), value_in(matches, "device"))
 }
 
 /// The address of a server and the device of a drive, which these texts say.
-pub(crate) fn drive_of<'a>(to: &'a str, device: &'a str) -> Result<(&'a str, &'a str), WordFault>
+pub(crate) fn drive_of<'a>(
+    to: &'a str,
+    device: &'a str,
+) -> Result<(&'a str, &'a str), ArgumentFault>
     ensures { IfOk result (λ drive. HasPort drive.0.now × IsDevice drive.1.now) }
 {
     let to = address_of(to)?;
     if is_device(device.as_bytes()) {
         Ok((to, device))
     } else {
-        Err(WordFault::Value(BAD_DEVICE))
+        Err(ArgumentFault::Value(BAD_DEVICE))
     }
 }
 
 /// The address of the server, which has a host and a port.
-pub(crate) fn address_in<'a>(matches: &ArgMatches<'a>) -> Result<&'a str, WordFault>
+pub(crate) fn address_in<'a>(matches: &ArgMatches<'a>) -> Result<&'a str, ArgumentFault>
     ensures { IfOk result (λ address. HasPort address.now) }
 {
     address_of(value_in(matches, "to"))
 }
 
 /// The address that a text says, which has a host and a port.
-fn address_of<'a>(text: &'a str) -> Result<&'a str, WordFault>
+fn address_of<'a>(text: &'a str) -> Result<&'a str, ArgumentFault>
     ensures { IfOk result (λ address. HasPort address.now) }
 {
     if is_address(text) {
         Ok(text)
     } else {
-        Err(WordFault::Value(BAD_ADDRESS))
+        Err(ArgumentFault::Value(BAD_ADDRESS))
     }
 }

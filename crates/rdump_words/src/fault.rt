@@ -3,7 +3,7 @@ use clap::error::ErrorKind;
 
 /// What is wrong with words that clap takes.
 #[derive(Clone, Copy)]
-pub(crate) enum WordFault {
+pub(crate) enum ArgumentFault {
     /// No command is given.
     NoCommand,
     /// A word is missing.
@@ -16,22 +16,24 @@ pub(crate) enum WordFault {
     OutOfMemory,
 }
 
-impl WordFault {
+impl ArgumentFault {
     pub(crate) fn kind(self) -> ErrorKind {
         match self {
-            WordFault::NoCommand => ErrorKind::MissingSubcommand,
-            WordFault::Missing(_) => ErrorKind::MissingRequiredArgument,
-            WordFault::Value(_) => ErrorKind::ValueValidation,
-            WordFault::Conflict(_) => ErrorKind::ArgumentConflict,
-            WordFault::OutOfMemory => ErrorKind::OutOfMemory,
+            ArgumentFault::NoCommand => ErrorKind::MissingSubcommand,
+            ArgumentFault::Missing(_) => ErrorKind::MissingRequiredArgument,
+            ArgumentFault::Value(_) => ErrorKind::ValueValidation,
+            ArgumentFault::Conflict(_) => ErrorKind::ArgumentConflict,
+            ArgumentFault::OutOfMemory => ErrorKind::OutOfMemory,
         }
     }
 
     pub(crate) fn text(self) -> &'static str {
         match self {
-            WordFault::NoCommand => "a command is required",
-            WordFault::Missing(text) | WordFault::Value(text) | WordFault::Conflict(text) => text,
-            WordFault::OutOfMemory => "out of memory",
+            ArgumentFault::NoCommand => "a command is required",
+            ArgumentFault::Missing(text)
+            | ArgumentFault::Value(text)
+            | ArgumentFault::Conflict(text) => text,
+            ArgumentFault::OutOfMemory => "out of memory",
         }
     }
 }

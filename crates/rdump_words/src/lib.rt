@@ -2,6 +2,7 @@
 //! (`dump_error`).
 #![tactic(auto)]
 
+mod argument;
 mod dates_line;
 mod drive;
 mod fault;
@@ -10,7 +11,6 @@ mod rdump_line;
 mod read_line;
 mod run_line;
 mod tape_line;
-mod word;
 
 pub use list_line::{ListLine, ListedReels};
 pub use rdump_line::{RdumpLine, dump_error, rdump_words};

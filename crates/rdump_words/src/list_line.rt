@@ -2,9 +2,9 @@
 ghost use Rattle.std.specs.Prelude.{◌≤◌, ◌<◌, ◌≡◌, IfOk, IfSome, IsSome, length};
 ghost use Rattle.rdump_words.specs.Rdump.{IsListLine, IsListedReels};
 
+use crate::argument::{ArgumentSpec, Form};
 use crate::drive::drive_of;
-use crate::fault::WordFault;
-use crate::word::{Form, Word};
+use crate::fault::ArgumentFault;
 use clap::ArgMatches;
 use rmt_wire::NUMBER_LIMIT;
 use rmt_wire::argument::number_of;
@@ -56,7 +56,7 @@ const BAD_BLOCKS: &str =
 pub(crate) fn list_in<'a>(
     alloc: Global,
     matches: &ArgMatches<'a>,
-) -> Result<ListLine<'a>, WordFault>
+) -> Result<ListLine<'a>, ArgumentFault>
     ensures { IfOk result IsListLine }
 {
     let dumpdates = matches.get_str("dumpdates");
@@ -72,21 +72,21 @@ pub(crate) fn list_in<'a>(
 }
 
 /// The number of blocks that a text says, if one is given, where this is the dumpdates file.
-fn blocks_of(text: Option<&str>, dumpdates: Option<&str>) -> Result<Option<u64>, WordFault>
+fn blocks_of(text: Option<&str>, dumpdates: Option<&str>) -> Result<Option<u64>, ArgumentFault>
     ensures { IfOk result (λ blocks. IfSome blocks (λ n. (n ≤ NUMBER_LIMIT) × IsSome dumpdates.entry)) }
 {
     match (text, dumpdates) {
         (None, _) => Ok(None),
-        (Some(_), None) => Err(WordFault::Missing(BLOCKS_ALONE)),
+        (Some(_), None) => Err(ArgumentFault::Missing(BLOCKS_ALONE)),
         (Some(text), Some(_)) => match number_of(text) {
             Some(blocks) if blocks <= u64::from(NUMBER_LIMIT) => Ok(Some(blocks)),
-            _ => Err(WordFault::Value(BAD_BLOCKS)),
+            _ => Err(ArgumentFault::Value(BAD_BLOCKS)),
         },
     }
 }
 
 /// The reels that clap's matches name.
-fn reels_in<'a>(alloc: Global, matches: &ArgMatches<'a>) -> Result<ListedReels<'a>, WordFault>
+fn reels_in<'a>(alloc: Global, matches: &ArgMatches<'a>) -> Result<ListedReels<'a>, ArgumentFault>
     ensures { IfOk result IsListedReels }
 {
     let drive = (matches.get_str("to"), matches.get_str("device"));
@@ -101,20 +101,20 @@ fn reels_of<'a>(
     alloc: Global,
     paths: &[&'a str],
     drive: (Option<&'a str>, Option<&'a str>),
-) -> Result<ListedReels<'a>, WordFault>
+) -> Result<ListedReels<'a>, ArgumentFault>
     ensures { IfOk result IsListedReels }
 {
     match (paths.is_empty(), drive) {
         (true, (Some(to), Some(device))) => drive_reel(to, device),
-        (true, (None, None)) => Err(WordFault::Missing(NO_REEL)),
-        (true, _) => Err(WordFault::Missing(HALF_A_DRIVE)),
+        (true, (None, None)) => Err(ArgumentFault::Missing(NO_REEL)),
+        (true, _) => Err(ArgumentFault::Missing(HALF_A_DRIVE)),
         (false, (None, None)) => path_reels(alloc, paths),
-        (false, _) => Err(WordFault::Conflict(BOTH_KINDS)),
+        (false, _) => Err(ArgumentFault::Conflict(BOTH_KINDS)),
     }
 }
 
 /// The first reel of a drive at this server.
-fn drive_reel<'a>(to: &'a str, device: &'a str) -> Result<ListedReels<'a>, WordFault>
+fn drive_reel<'a>(to: &'a str, device: &'a str) -> Result<ListedReels<'a>, ArgumentFault>
     ensures { IfOk result IsListedReels }
 {
     let (to, device) = drive_of(to, device)?;
@@ -122,43 +122,43 @@ fn drive_reel<'a>(to: &'a str, device: &'a str) -> Result<ListedReels<'a>, WordF
 }
 
 /// The reels at these paths.
-fn path_reels<'a>(alloc: Global, paths: &[&'a str]) -> Result<ListedReels<'a>, WordFault>
+fn path_reels<'a>(alloc: Global, paths: &[&'a str]) -> Result<ListedReels<'a>, ArgumentFault>
     requires { 0 < length paths.now }
     ensures { IfOk result IsListedReels }
 {
     match Vec::from_slice(alloc, paths) {
         Ok(paths) => Ok(ListedReels::Paths(paths)),
-        Err(_) => Err(WordFault::OutOfMemory),
+        Err(_) => Err(ArgumentFault::OutOfMemory),
     }
 }
 
 /// The words of `rdump ls`.
-pub(crate) static LIST_WORDS: [Word; 5] = [
-    Word {
+pub(crate) static LIST_WORDS: [ArgumentSpec; 5] = [
+    ArgumentSpec {
         name: "path",
         value: "FILE|FOLDER",
         help: "A record file, or a folder of record files",
         form: Form::Many,
         missing: "",
     },
-    Word {
+    ArgumentSpec {
         form: Form::With("device"),
         missing: "",
-        ..Word::TO
+        ..ArgumentSpec::TO
     },
-    Word {
+    ArgumentSpec {
         form: Form::With("to"),
         missing: "",
-        ..Word::DEVICE
+        ..ArgumentSpec::DEVICE
     },
-    Word {
+    ArgumentSpec {
         name: "dumpdates",
         value: "FILE",
         help: "Tell of each dump of this dumpdates file which of its volumes are there",
         form: Form::Optional,
         missing: "",
     },
-    Word {
+    ArgumentSpec {
         name: "blocks",
         value: "N",
         help: "Of how many blocks each of these dumps is, 0 to 2147483647",

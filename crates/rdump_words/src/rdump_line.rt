@@ -5,13 +5,13 @@ ghost use Rattle.clap.specs.Values.{kind_of};
 ghost use Rattle.clap.specs.declared.error.kind.ErrorKind.TheVariants.{ValueValidation};
 ghost use Rattle.rdump_words.specs.Rdump.{IsRdumpLine};
 
+use crate::argument::{ArgumentSpec, args_of, check_given, push_command};
 use crate::dates_line::{DATES_WORDS, dates_in};
-use crate::fault::WordFault;
+use crate::fault::ArgumentFault;
 use crate::list_line::{LIST_WORDS, ListLine, list_in};
 use crate::read_line::{READ_WORDS, ReadLine, read_in};
 use crate::run_line::{DUMP_WORDS, DumpLine, dump_in};
 use crate::tape_line::{MT_WORDS, MtLine, mt_in};
-use crate::word::{Word, args_of, check_given, push_command};
 use clap::error::ErrorKind;
 use clap::{ArgMatches, Command, Error};
 use std::alloc::{AllocError, Global};
@@ -48,11 +48,11 @@ pub enum RdumpLine<'a> {
 ///
 /// Answers an error where the words are bad, or ask for help or the version, or memory is refused; its kind tells which,
 /// and its text is meant for the user.
-pub fn rdump_words<'a, S: AsStr>(alloc: Global, words: &'a [S]) -> Result<RdumpLine<'a>, Error>
+pub fn rdump_words<'a, S: AsStr>(alloc: Global, arguments: &'a [S]) -> Result<RdumpLine<'a>, Error>
     ensures { IfOk result IsRdumpLine }
 {
     match rdump_command(alloc) {
-        Ok(mut rdump) => line_of(alloc, &mut rdump, words),
+        Ok(mut rdump) => line_of(alloc, &mut rdump, arguments),
         Err(refused) => Err(refused.into()),
     }
 }
@@ -61,11 +61,11 @@ pub fn rdump_words<'a, S: AsStr>(alloc: Global, words: &'a [S]) -> Result<RdumpL
 fn line_of<'a, S: AsStr>(
     alloc: Global,
     rdump: &mut Command<'a>,
-    words: &'a [S],
+    arguments: &'a [S],
 ) -> Result<RdumpLine<'a>, Error>
     ensures { IfOk result IsRdumpLine }
 {
-    match rdump.try_get_matches_from_mut(words) {
+    match rdump.try_get_matches_from_mut(arguments) {
         Ok(matches) => matched(alloc, &matches),
         Err(error) => Err(error),
     }
@@ -102,7 +102,7 @@ pub fn dump_error(alloc: Global, text: &str) -> Result<Error, AllocError>
 fn error_of(alloc: Global, name: &str, kind: ErrorKind, text: &str) -> Result<Error, AllocError>
     ensures { IfOk result (λ error. kind_of error ≡ kind) }
 {
-    let args = args_of(alloc, words_of(name))?;
+    let args = args_of(alloc, arguments_of(name))?;
     let mut command = Command::new(alloc, whole_name(name)).args(args)?;
     command.error(kind, text)
 }
@@ -120,15 +120,15 @@ fn whole_name(name: &str) -> &'static str {
 }
 
 /// The line that clap's matches say.
-fn line_in<'a>(alloc: Global, matches: &ArgMatches<'a>) -> Result<RdumpLine<'a>, WordFault>
+fn line_in<'a>(alloc: Global, matches: &ArgMatches<'a>) -> Result<RdumpLine<'a>, ArgumentFault>
     ensures { IfOk result IsRdumpLine }
 {
     match matches.subcommand() {
-        Some((name, given)) => match check_given(given, words_of(name)) {
+        Some((name, given)) => match check_given(given, arguments_of(name)) {
             Ok(()) => named_in(alloc, name, given),
             Err(fault) => Err(fault),
         },
-        None => Err(WordFault::NoCommand),
+        None => Err(ArgumentFault::NoCommand),
     }
 }
 
@@ -137,7 +137,7 @@ fn named_in<'a>(
     alloc: Global,
     name: &str,
     matches: &ArgMatches<'a>,
-) -> Result<RdumpLine<'a>, WordFault>
+) -> Result<RdumpLine<'a>, ArgumentFault>
     ensures { IfOk result IsRdumpLine }
 {
     match name {
@@ -146,7 +146,7 @@ fn named_in<'a>(
         "ls" => list_in(alloc, matches).map(RdumpLine::List),
         "mt" => mt_in(matches).map(RdumpLine::Mt),
         "dates" => dates_in(matches),
-        _ => Err(WordFault::NoCommand),
+        _ => Err(ArgumentFault::NoCommand),
     }
 }
 
@@ -171,7 +171,7 @@ fn named<'a>(alloc: Global) -> Command<'a> {
 fn commands<'a>(alloc: Global) -> Result<Vec<Command<'a>>, AllocError> {
     let mut commands = Vec::new(alloc);
     for said in &COMMANDS {
-        push_command(alloc, *said, words_of(said.0), &mut commands)?;
+        push_command(alloc, *said, arguments_of(said.0), &mut commands)?;
     }
     Ok(commands)
 }
@@ -201,7 +201,7 @@ static COMMANDS: [(&str, &str); 5] = [
 ];
 
 /// The words of the command of this name.
-fn words_of(name: &str) -> &'static [Word] {
+fn arguments_of(name: &str) -> &'static [ArgumentSpec] {
     match name {
         "dump" => &DUMP_WORDS,
         "read" => &READ_WORDS,

@@ -4,9 +4,9 @@ ghost use Rattle.rdump_address.specs.Address.{HasPort};
 ghost use Rattle.rdump_words.specs.Rdump.{IsReadLine};
 ghost use Rattle.rmt_wire.specs.declared.argument.TheConstants.{ARGUMENT_LIMIT};
 
+use crate::argument::{ArgumentSpec, Form, is_given, value_in};
 use crate::drive::drive_in;
-use crate::fault::WordFault;
-use crate::word::{Form, Word, is_given, value_in};
+use crate::fault::ArgumentFault;
 use clap::ArgMatches;
 use rmt_wire::argument::number_of;
 
@@ -34,7 +34,7 @@ const BAD_LENGTH: &str =
     "invalid value for '--length <BYTES>': a length is 0 to 9223372036854775807, in digits";
 
 /// What clap's matches ask of `rdump read`.
-pub(crate) fn read_in<'a>(matches: &ArgMatches<'a>) -> Result<ReadLine<'a>, WordFault>
+pub(crate) fn read_in<'a>(matches: &ArgMatches<'a>) -> Result<ReadLine<'a>, ArgumentFault>
     ensures { IfOk result (λ line. IsReadLine line × HasPort line.to.now) }
 {
     let (to, device) = drive_in(matches)?;
@@ -58,7 +58,7 @@ fn has_places(all: bool, place: bool) -> bool
 }
 
 /// The length that a text says, if one is given.
-fn length_of(text: Option<&str>) -> Result<Option<u64>, WordFault>
+fn length_of(text: Option<&str>) -> Result<Option<u64>, ArgumentFault>
     ensures { IfOk result (λ length. IfSome length (λ n. n ≤ ARGUMENT_LIMIT)) }
 {
     let Some(text) = text else {
@@ -66,36 +66,36 @@ fn length_of(text: Option<&str>) -> Result<Option<u64>, WordFault>
     };
     match number_of(text) {
         Some(length) => Ok(Some(length)),
-        None => Err(WordFault::Value(BAD_LENGTH)),
+        None => Err(ArgumentFault::Value(BAD_LENGTH)),
     }
 }
 
 /// The words of `rdump read`.
-pub(crate) static READ_WORDS: [Word; 6] = [
-    Word::TO,
-    Word::DEVICE,
-    Word {
+pub(crate) static READ_WORDS: [ArgumentSpec; 6] = [
+    ArgumentSpec::TO,
+    ArgumentSpec::DEVICE,
+    ArgumentSpec {
         name: "out",
         value: "FILE",
         help: "What the blocks are written to",
         form: Form::Required,
         missing: "--out is required",
     },
-    Word {
+    ArgumentSpec {
         name: "place",
         value: "",
         help: "Write each block at its place in the dump, and never empty the file",
         form: Form::Flag,
         missing: "",
     },
-    Word {
+    ArgumentSpec {
         name: "all",
         value: "",
         help: "Read all volumes of the stack, each to its place, and take each reel to the bin",
         form: Form::Flag,
         missing: "",
     },
-    Word {
+    ArgumentSpec {
         name: "length",
         value: "BYTES",
         help: "Cut the file to this length at the end",

@@ -4,9 +4,9 @@ ghost use Rattle.rdump_address.specs.Address.{HasPort};
 ghost use Rattle.rdump_words.specs.Rdump.{IsDumpLine};
 ghost use Rattle.rmt_wire.specs.declared.argument.TheConstants.{ARGUMENT_LIMIT};
 
+use crate::argument::{ArgumentSpec, Form, is_given, value_in};
 use crate::drive::address_in;
-use crate::fault::WordFault;
-use crate::word::{Form, Word, is_given, value_in};
+use crate::fault::ArgumentFault;
 use clap::ArgMatches;
 use rmt_wire::argument::number_of;
 
@@ -50,7 +50,7 @@ const BAD_DATE: &str =
     "invalid value for '--date <SECONDS>': a date is 0 to 253402300799, in digits";
 
 /// What clap's matches ask of `rdump dump`.
-pub(crate) fn dump_in<'a>(matches: &ArgMatches<'a>) -> Result<DumpLine<'a>, WordFault>
+pub(crate) fn dump_in<'a>(matches: &ArgMatches<'a>) -> Result<DumpLine<'a>, ArgumentFault>
     ensures { IfOk result (λ line. IsDumpLine line × HasPort line.to.now) }
 {
     let to = address_in(matches)?;
@@ -81,19 +81,19 @@ fn numbers_in(
     level: &str,
     block: &str,
     date: Option<&str>,
-) -> Result<(u64, u64, Option<u64>), WordFault>
+) -> Result<(u64, u64, Option<u64>), ArgumentFault>
     ensures { IfOk result (λ found. (found.0 ≤ ARGUMENT_LIMIT) × (found.1 ≤ ARGUMENT_LIMIT)
         × IfSome found.2 (λ n. n ≤ ARGUMENT_LIMIT)) }
 {
     let Some(level) = number_of(level) else {
-        return Err(WordFault::Value(BAD_LEVEL));
+        return Err(ArgumentFault::Value(BAD_LEVEL));
     };
     let Some(block) = number_of(block) else {
-        return Err(WordFault::Value(BAD_BLOCK));
+        return Err(ArgumentFault::Value(BAD_BLOCK));
     };
     match date_in(date) {
         Some(date) => Ok((level, block, date)),
-        None => Err(WordFault::Value(BAD_DATE)),
+        None => Err(ArgumentFault::Value(BAD_DATE)),
     }
 }
 
@@ -108,66 +108,66 @@ fn date_in(text: Option<&str>) -> Option<Option<u64>>
 }
 
 /// The words of `rdump dump`.
-pub(crate) static DUMP_WORDS: [Word; 11] = [
-    Word::TO,
-    Word::DEVICE,
-    Word {
+pub(crate) static DUMP_WORDS: [ArgumentSpec; 11] = [
+    ArgumentSpec::TO,
+    ArgumentSpec::DEVICE,
+    ArgumentSpec {
         name: "fs",
         value: "NAME",
         help: "The name of the file system",
         form: Form::Required,
         missing: "--fs is required",
     },
-    Word {
+    ArgumentSpec {
         name: "level",
         value: "LEVEL",
         help: "The level of the dump, 0 to 9",
         form: Form::Required,
         missing: "--level is required",
     },
-    Word {
+    ArgumentSpec {
         name: "payload",
         value: "FILE",
         help: "What is dumped",
         form: Form::Required,
         missing: "--payload is required",
     },
-    Word {
+    ArgumentSpec {
         name: "block",
         value: "BYTES",
         help: "The size of a block, 1 to 262144",
         form: Form::Required,
         missing: "--block is required",
     },
-    Word {
+    ArgumentSpec {
         name: "dumpdates",
         value: "FILE",
         help: "The dumpdates file; a missing one is empty",
         form: Form::Required,
         missing: "--dumpdates is required",
     },
-    Word {
+    ArgumentSpec {
         name: "date",
         value: "SECONDS",
         help: "The date of the dump in seconds since 1970 [default: the clock's]",
         form: Form::Optional,
         missing: "",
     },
-    Word {
+    ArgumentSpec {
         name: "checkpoint",
         value: "FILE",
         help: "Keep there what is counted; where it is there, go on from it",
         form: Form::Optional,
         missing: "",
     },
-    Word {
+    ArgumentSpec {
         name: "update",
         value: "",
         help: "Enter the dump in the dumpdates file once it is complete",
         form: Form::Flag,
         missing: "",
     },
-    Word {
+    ArgumentSpec {
         name: "protect",
         value: "",
         help: "Write on no reel that another dump, or anyone else, has written",

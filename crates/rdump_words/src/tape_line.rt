@@ -3,9 +3,9 @@ ghost use Rattle.std.specs.Prelude.{◌≤◌, IfOk, IfSome};
 ghost use Rattle.rdump_address.specs.Address.{HasPort};
 ghost use Rattle.rdump_words.specs.Rdump.{IsMtLine};
 
+use crate::argument::{ArgumentSpec, Form, value_in};
 use crate::drive::drive_in;
-use crate::fault::WordFault;
-use crate::word::{Form, Word, value_in};
+use crate::fault::ArgumentFault;
 use clap::ArgMatches;
 use rmt_wire::NUMBER_LIMIT;
 use rmt_wire::argument::number_of;
@@ -32,7 +32,7 @@ const BAD_OP: &str =
 const BAD_COUNT: &str = "invalid value for '<COUNT>': a count is 0 to 2147483647 in digits";
 
 /// What clap's matches ask of `rdump mt`.
-pub(crate) fn mt_in<'a>(matches: &ArgMatches<'a>) -> Result<MtLine<'a>, WordFault>
+pub(crate) fn mt_in<'a>(matches: &ArgMatches<'a>) -> Result<MtLine<'a>, ArgumentFault>
     ensures { IfOk result (λ line. IsMtLine line × HasPort line.to.now) }
 {
     let (to, device) = drive_in(matches)?;
@@ -48,23 +48,23 @@ pub(crate) fn mt_in<'a>(matches: &ArgMatches<'a>) -> Result<MtLine<'a>, WordFaul
 }
 
 /// The operation that a word says, and the count that a text says.
-fn operation_of(op: &str, count: &str) -> Result<(u32, u32), WordFault>
+fn operation_of(op: &str, count: &str) -> Result<(u32, u32), ArgumentFault>
     ensures { IfOk result (λ found. (found.0 ≤ MTNOP) × (found.1 ≤ NUMBER_LIMIT)) }
 {
     let Some(op) = op_of(op) else {
-        return Err(WordFault::Value(BAD_OP));
+        return Err(ArgumentFault::Value(BAD_OP));
     };
     match count_of(count) {
         Some(count) => Ok((op, count)),
-        None => Err(WordFault::Value(BAD_COUNT)),
+        None => Err(ArgumentFault::Value(BAD_COUNT)),
     }
 }
 
 /// The number of an operation (mtio), by its word in mt(1).
-fn op_of(word: &str) -> Option<u32>
+fn op_of(argument: &str) -> Option<u32>
     ensures { IfSome result (λ op. op ≤ MTNOP) }
 {
-    match word {
+    match argument {
         "weof" => Some(MTWEOF),
         "fsf" => Some(MTFSF),
         "bsf" => Some(MTBSF),
@@ -89,17 +89,17 @@ fn count_of(text: &str) -> Option<u32>
 }
 
 /// The words of `rdump mt`.
-pub(crate) static MT_WORDS: [Word; 4] = [
-    Word::TO,
-    Word::DEVICE,
-    Word {
+pub(crate) static MT_WORDS: [ArgumentSpec; 4] = [
+    ArgumentSpec::TO,
+    ArgumentSpec::DEVICE,
+    ArgumentSpec {
         name: "op",
         value: "OP",
         help: "weof, fsf, bsf, fsr, bsr, rewind, offline or nop",
         form: Form::Place,
         missing: "<OP> is required",
     },
-    Word {
+    ArgumentSpec {
         name: "count",
         value: "COUNT",
         help: "How many times, 0 to 2147483647",

@@ -74,10 +74,10 @@ module _ {S R : Type 0} (s : StacksPromise S R) (r : ReelPromise R) (number : �
   closed_at old new (free, mine) c = (
     λ d l. (
         let before = subst (λ n. d < n) c.kept.same_holds l in
-        let word = c.told d (slice_index old.drives.holds.numbers d) (before, refl) in
+        let argument = c.told d (slice_index old.drives.holds.numbers d) (before, refl) in
         elim (after_close (drive_of old.opened) number d (slice_index old.drives.holds.numbers d) (free d before)) [
-          | inl e ↦ inl (word.1 ∙ e)
-          | inr e ↦ inr (word.1 ∙ e)
+          | inl e ↦ inl (argument.1 ∙ e)
+          | inr e ↦ inr (argument.1 ∙ e)
         ]),
     c.kept.number ∙ mine,
   )
@@ -89,10 +89,10 @@ module _ {S R : Type 0} (s : StacksPromise S R) (r : ReelPromise R) (number : �
   opened_at old (Some access) device reply new (free, mine) (result, e, o) = (
     λ d l. (
         let before = subst (λ n. d < n) o.kept.same_holds l in
-        let word = o.opening.told d (slice_index old.drives.holds.numbers d) (before, refl) in
+        let argument = o.opening.told d (slice_index old.drives.holds.numbers d) (before, refl) in
         elim (after_open result number d (slice_index old.drives.holds.numbers d) (free d before)) [
-          | inl f ↦ inl (word.1 ∙ ap (λ n. word_after_open result n d (slice_index old.drives.holds.numbers d)) mine ∙ f)
-          | inr f ↦ inr (word.1 ∙ ap (λ n. word_after_open result n d (slice_index old.drives.holds.numbers d)) mine ∙ f)
+          | inl f ↦ inl (argument.1 ∙ ap (λ n. word_after_open result n d (slice_index old.drives.holds.numbers d)) mine ∙ f)
+          | inr f ↦ inr (argument.1 ∙ ap (λ n. word_after_open result n d (slice_index old.drives.holds.numbers d)) mine ∙ f)
         ]),
     o.kept.number ∙ mine,
   )

@@ -2,8 +2,8 @@
 use Rattle.std.specs.Prelude.{ℕ, false, List, map}
 use Rattle.reel_files.specs.Folders.{FolderLibrary, folder_row, folder_library}
 use Rattle.rmtd_words.specs.Drive.{plain_drive}
-use Rattle.rmtd_words.specs.declared.drive_word.DriveWord.{DriveWord}
+use Rattle.rmtd_words.specs.declared.drive_argument.DriveArgument.{DriveArgument}
 
 -- no reel is latched at any, and the device never failed
-abbrev pub stacks_of : List DriveWord → List ℕ → ℕ → FolderLibrary
-stacks_of words bin capacity = folder_library (map (λ d. folder_row d.device d.folder false) (map plain_drive words)) bin capacity 0
+abbrev pub stacks_of : List DriveArgument → List ℕ → ℕ → FolderLibrary
+stacks_of arguments bin capacity = folder_library (map (λ d. folder_row d.device d.folder false) (map plain_drive arguments)) bin capacity 0

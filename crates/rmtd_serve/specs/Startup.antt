@@ -2,7 +2,7 @@
 use Rattle.std.specs.Prelude.{◌≡◌, ℕ, ◌<◌, List, [], length, Option, Some, None, IsSome, All, option_map, unwrap_or}
 use Rattle.std.specs.declared.clone.Clone.{Ghosts as ClonePromise}
 use Rattle.std.specs.declared.io.traits.Read.{Ghosts as ReadPromise}
-use Rattle.clap.specs.Words.{Text}
+use Rattle.clap.specs.Arguments.{Text}
 use Rattle.rmt_server.specs.declared.stream.Served.{Served}
 use Rattle.rmt_server.specs.Stream.{Exchange, Streams, StreamsKind, AreRead}
 use Rattle.reel_files.specs.Folders.{FolderLibrary}
@@ -46,27 +46,27 @@ pub record IsListenerSetupOf (line : ServerLine) (left drives : ℕ) (stacks : L
 abbrev pub ListensOrEnds : {R Dir : Type 0} {reads : ReadPromise Dir} {clones : ClonePromise R} → ServerLine → Begun R Dir reads clones
     → Type 0
 ListensOrEnds line (End status) = status ≡ 1
-ListensOrEnds line (Serve listener listener_setup) = IsListenerSetupOf line listener_setup.left listener_setup.table.words listener_setup.stacks.items
+ListensOrEnds line (Serve listener listener_setup) = IsListenerSetupOf line listener_setup.left listener_setup.table.arguments listener_setup.stacks.items
 
 -- what was done of a line, and what is left
 abbrev pub IsDone : {In Out R Dir : Type 0} {reads : ReadPromise Dir} {clones : ClonePromise R} → StreamsKind In Out
     → ServerLine → Streams In Out → Streams In Out → Begun R Dir reads clones → Type 0
 IsDone kind line old new (End status) = EndsLine kind line old new status
 IsDone kind line old new (Serve listener listener_setup) =
-    AreUntouched old new × IsSome line.listen × IsListenerSetupOf line listener_setup.left listener_setup.table.words listener_setup.stacks.items
+    AreUntouched old new × IsSome line.listen × IsListenerSetupOf line listener_setup.left listener_setup.table.arguments listener_setup.stacks.items
 
 -- What was done of words, and what is left: what their line asks; or clap's help or version was told, and the status is 0; or
 -- the words are wrong, or memory was refused, and it is 1.
 pub data IsBegun {In Out R Dir : Type 0} {reads : ReadPromise Dir} {clones : ClonePromise R} (kind : StreamsKind In Out)
-    (words : List Text) (old new : Streams In Out) (begun : Begun R Dir reads clones) : Type 0 where
-  followed : (line : ServerLine) → IsLineOf words line → IsDone kind line old new begun
-      → IsBegun kind words old new begun
-  shown : AskToBeShown words → AreUntouched old new → begun ≡ End 0
-      → IsBegun kind words old new begun
+    (arguments : List Text) (old new : Streams In Out) (begun : Begun R Dir reads clones) : Type 0 where
+  followed : (line : ServerLine) → IsLineOf arguments line → IsDone kind line old new begun
+      → IsBegun kind arguments old new begun
+  shown : AskToBeShown arguments → AreUntouched old new → begun ≡ End 0
+      → IsBegun kind arguments old new begun
   refused : AreUntouched old new → begun ≡ End 1
-      → IsBegun kind words old new begun
+      → IsBegun kind arguments old new begun
 
 -- the same of some words: no clause says which those of the program are
 abbrev pub IsStarted : {In Out R Dir : Type 0} {reads : ReadPromise Dir} {clones : ClonePromise R} → StreamsKind In Out
     → Streams In Out → Streams In Out → Begun R Dir reads clones → Type 0
-IsStarted kind old new begun = (words : List Text) × IsBegun kind words old new begun
+IsStarted kind old new begun = (arguments : List Text) × IsBegun kind arguments old new begun

@@ -9,7 +9,7 @@ use crate::error_log::ErrorLog;
 use crate::line_start::LineStart;
 use hold_table::SEAT_LIMIT;
 use reel_files::{FolderDrive, FolderStacks, FolderSystem, Log, NoLog};
-use rmtd_words::DriveWord;
+use rmtd_words::DriveArgument;
 use std::alloc::{AllocError, Global};
 
 /// The stacks of these drives and the bin, in their folders. Each reel takes so many bytes. It reads no folder, and fails only
@@ -18,49 +18,49 @@ use std::alloc::{AllocError, Global};
 /// There are from 1 to `DRIVE_LIMIT` of them.
 pub fn folder_stacks<R: FolderSystem>(
     rt: R,
-    words: &[DriveWord<'_>],
+    arguments: &[DriveArgument<'_>],
     bin: &str,
     capacity: u64,
 ) -> Result<FolderStacks<R, NoLog>, AllocError>
-    requires some { 1 ≤ length words.now }
-    requires few { length words.now ≤ DRIVE_LIMIT }
-    ensures named { IfOk result (λ s. s ≡ stacks_of words.now bin.now capacity) }
-    ensures count { IfOk result (λ s. length s.rows ≡ length words.now) }
+    requires some { 1 ≤ length arguments.now }
+    requires few { length arguments.now ≤ DRIVE_LIMIT }
+    ensures named { IfOk result (λ s. s ≡ stacks_of arguments.now bin.now capacity) }
+    ensures count { IfOk result (λ s. length s.rows ≡ length arguments.now) }
 {
-    logged_stacks(rt, words, bin, capacity, NoLog)
+    logged_stacks(rt, arguments, bin, capacity, NoLog)
 }
 
 /// The same with a log of what they do.
 pub(crate) fn logged_stacks<R: FolderSystem, L: Log + Drop>(
     rt: R,
-    words: &[DriveWord<'_>],
+    arguments: &[DriveArgument<'_>],
     bin: &str,
     capacity: u64,
     log: L,
 ) -> Result<FolderStacks<R, L>, AllocError>
-    requires some { 1 ≤ length words.now }
-    requires few { length words.now ≤ DRIVE_LIMIT }
-    ensures named { IfOk result (λ s. s ≡ stacks_of words.now bin.now capacity) }
-    ensures count { IfOk result (λ s. length s.rows ≡ length words.now) }
+    requires some { 1 ≤ length arguments.now }
+    requires few { length arguments.now ≤ DRIVE_LIMIT }
+    ensures named { IfOk result (λ s. s ≡ stacks_of arguments.now bin.now capacity) }
+    ensures count { IfOk result (λ s. length s.rows ≡ length arguments.now) }
 {
-    let drives = folder_drives(rt.alloc(), words)?;
+    let drives = folder_drives(rt.alloc(), arguments)?;
     FolderStacks::with_log(rt, &drives, bin, capacity, log)
 }
 
 /// The drives of these words, by name and folder.
 fn folder_drives<'a>(
     alloc: Global,
-    words: &[DriveWord<'a>],
+    arguments: &[DriveArgument<'a>],
 ) -> Result<Vec<FolderDrive<'a>>, AllocError>
     ensures named { IfOk result (λ drives. map (λ d. folder_row d.name.now d.folder.now false) drives.items
-        ≡ map (λ d. folder_row d.device d.folder false) (map plain_drive words.now)) }
-    ensures count { IfOk result (λ drives. length drives.items ≡ length words.now) }
+        ≡ map (λ d. folder_row d.device d.folder false) (map plain_drive arguments.now)) }
+    ensures count { IfOk result (λ drives. length drives.items ≡ length arguments.now) }
 {
     let mut drives = Vec::new(alloc);
-    for word in words {
+    for argument in arguments {
         drives.push(FolderDrive {
-            name: word.device,
-            folder: word.folder,
+            name: argument.device,
+            folder: argument.folder,
         })?;
     }
     Ok(drives)
@@ -73,21 +73,21 @@ fn folder_drives<'a>(
 /// There are from 1 to `DRIVE_LIMIT` drives.
 pub fn seat_stacks<R: FolderSystem + Eprint>(
     rt: R,
-    words: &[DriveWord<'_>],
+    arguments: &[DriveArgument<'_>],
     bin: &str,
     capacity: u64,
     start: LineStart,
 ) -> Result<Vec<FolderStacks<R, ErrorLog<R>>>, AllocError>
-    requires some { 1 ≤ length words.now }
-    requires few { length words.now ≤ DRIVE_LIMIT }
+    requires some { 1 ≤ length arguments.now }
+    requires few { length arguments.now ≤ DRIVE_LIMIT }
     ensures count { IfOk result (λ all. length all.items ≡ SEAT_LIMIT) }
-    ensures drives { IfOk result (λ all. All (λ s. length s.rows ≡ length words.now) all.items) }
-    ensures named { IfOk result (λ all. All (λ s. s ≡ stacks_of words.now bin.now capacity) all.items) }
+    ensures drives { IfOk result (λ all. All (λ s. length s.rows ≡ length arguments.now) all.items) }
+    ensures named { IfOk result (λ all. All (λ s. s ≡ stacks_of arguments.now bin.now capacity) all.items) }
 {
     let mut all = Vec::with_capacity(rt.alloc(), SEAT_LIMIT)?;
     'seats: while all.len() < SEAT_LIMIT {
         let seat = all.len() + 1;
-        all.push(stacks_at(&rt, words, bin, capacity, seat, start)?)?;
+        all.push(stacks_at(&rt, arguments, bin, capacity, seat, start)?)?;
     }
     Ok(all)
 }
@@ -95,21 +95,21 @@ pub fn seat_stacks<R: FolderSystem + Eprint>(
 /// The stacks of the seat of that number.
 fn stacks_at<R: FolderSystem + Eprint>(
     rt: &R,
-    words: &[DriveWord<'_>],
+    arguments: &[DriveArgument<'_>],
     bin: &str,
     capacity: u64,
     seat: usize,
     start: LineStart,
 ) -> Result<FolderStacks<R, ErrorLog<R>>, AllocError>
-    requires some { 1 ≤ length words.now }
-    requires few { length words.now ≤ DRIVE_LIMIT }
-    ensures named { IfOk result (λ s. s ≡ stacks_of words.now bin.now capacity) }
-    ensures count { IfOk result (λ s. length s.rows ≡ length words.now) }
+    requires some { 1 ≤ length arguments.now }
+    requires few { length arguments.now ≤ DRIVE_LIMIT }
+    ensures named { IfOk result (λ s. s ≡ stacks_of arguments.now bin.now capacity) }
+    ensures count { IfOk result (λ s. length s.rows ≡ length arguments.now) }
 {
     let log = ErrorLog {
         rt: rt.clone()?,
         seat: Some(seat),
         start,
     };
-    logged_stacks(rt.clone()?, words, bin, capacity, log)
+    logged_stacks(rt.clone()?, arguments, bin, capacity, log)
 }

@@ -1,6 +1,6 @@
 //! The start of `rmtd`: its words are read, and what they ask is done, until connections are served at once.
 ghost use Rattle.std.specs.Prelude.{◌≡◌, ◌⊎◌, ◌≤◌, Some, None, IfOk, OnErr, length, map, option_map};
-ghost use Rattle.clap.specs.Words.{kind_of};
+ghost use Rattle.clap.specs.Arguments.{kind_of};
 ghost use Rattle.drives.specs.declared.holds.TheConstants.{DRIVE_LIMIT};
 ghost use Rattle.rmtd_words.specs.Drive.{KeepsDriveRules, plain_drive};
 ghost use Rattle.rmtd_words.specs.Rmtd.{IsShown};
@@ -87,25 +87,25 @@ fn run_process<R: System, I: Read, O: Write>(
         (streams input.old output.old) (streams input.new output.new)) }
     ensures failed { OnErr result (AreUntouched (streams input.old output.old) (streams input.new output.new)) }
 {
-    match words(rt) {
-        Ok(words) => run_arguments(rt, words.as_slice(), input, output),
+    match arguments(rt) {
+        Ok(arguments) => run_arguments(rt, arguments.as_slice(), input, output),
         Err(error) => tell(rt, "the words could not be read", error),
     }
 }
 
 /// The words that the program was called with, its own name first.
-fn words<R: Env + AllocGlobal>(rt: &R) -> io::Result<Vec<String>> {
-    let mut words = Vec::new(rt.alloc());
-    for word in env::args(rt)? {
-        words.push(word)?;
+fn arguments<R: Env + AllocGlobal>(rt: &R) -> io::Result<Vec<String>> {
+    let mut arguments = Vec::new(rt.alloc());
+    for argument in env::args(rt)? {
+        arguments.push(argument)?;
     }
-    Ok(words)
+    Ok(arguments)
 }
 
 /// Does what these words ask until connections are served at once.
 fn run_arguments<R: System, I: Read, O: Write>(
     rt: &R,
-    words: &[String],
+    arguments: &[String],
     input: &mut Counted<I>,
     output: &mut Counted<O>,
 ) -> io::Result<Begun<R>>
@@ -113,15 +113,15 @@ fn run_arguments<R: System, I: Read, O: Write>(
         (streams input.old output.old) (streams input.new output.new)) }
     ensures failed { OnErr result (AreUntouched (streams input.old output.old) (streams input.new output.new)) }
 {
-    let lent = lent(rt.alloc(), words)?;
+    let lent = lent(rt.alloc(), arguments)?;
     begin(rt, lent.as_slice(), input, output)
 }
 
 /// The same words, lent.
-fn lent(alloc: Global, words: &[String]) -> Result<Vec<&str>, AllocError> {
+fn lent(alloc: Global, arguments: &[String]) -> Result<Vec<&str>, AllocError> {
     let mut lent = Vec::new(alloc);
-    for word in words {
-        lent.push(word.as_str())?;
+    for argument in arguments {
+        lent.push(argument.as_str())?;
     }
     Ok(lent)
 }
@@ -142,17 +142,17 @@ fn lent(alloc: Global, words: &[String]) -> Result<Vec<&str>, AllocError> {
 /// Nothing that is opened here or later has the place of a standard stream.
 pub fn begin<R: System, I: Read, O: Write>(
     rt: &R,
-    words: &[&str],
+    arguments: &[&str],
     input: &mut Counted<I>,
     output: &mut Counted<O>,
 ) -> io::Result<Begun<R>>
     ensures begun { IfOk result
-        (IsBegun (streams_kind I.remaining O.contents) (map (λ s. s.now) words.now)
+        (IsBegun (streams_kind I.remaining O.contents) (map (λ s. s.now) arguments.now)
         (streams input.old output.old) (streams input.new output.new)) }
     ensures failed { OnErr result (AreUntouched (streams input.old output.old) (streams input.new output.new)) }
 {
     reserve_std_fds(rt);
-    match server_line(rt.alloc(), words) {
+    match server_line(rt.alloc(), arguments) {
         Ok(line) => serve_line(rt, &line, input, output),
         Err(error) => refuse(rt, error),
     }

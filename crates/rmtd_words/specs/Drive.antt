@@ -3,16 +3,16 @@ use Rattle.std.specs.Prelude.{◌≤◌, ◌<◌, ◌==◌, ◌≢◌, ℕ, Opti
 use Rattle.std.specs.Borrow.{Bor}
 use Rattle.std.specs.Int.{IsInRange}
 use Rattle.std.specs.List.{All, AllPairs, before_first, after_first}
-use Rattle.clap.specs.Words.{Text}
+use Rattle.clap.specs.Arguments.{Text}
 use Rattle.rmt_wire.specs.Number.{HasNoLineFeed}
-use Rattle.rmtd_words.specs.declared.drive_word.DriveWord.{DriveWord}
+use Rattle.rmtd_words.specs.declared.drive_argument.DriveArgument.{DriveArgument}
 
 -- what clients name a drive by, and the folder of its stack
 pub record PlainDrive : Type 0 where
   pub device : Text
   pub folder : Text
 
-abbrev pub plain_drive : DriveWord → PlainDrive
+abbrev pub plain_drive : DriveArgument → PlainDrive
 plain_drive d = record { device = d.device.now; folder = d.folder.now }
 
 abbrev pub equals_sign : ℕ
@@ -20,14 +20,14 @@ equals_sign = 61
 
 -- what stands before the first `=` of a word, and what stands after it: nothing where there is no `=`
 abbrev pub split_of : Text → PlainDrive
-split_of word = record {
-  device = before_first (λ b. b == equals_sign) word;
-  folder = after_first (λ b. b == equals_sign) word;
+split_of argument = record {
+  device = before_first (λ b. b == equals_sign) argument;
+  folder = after_first (λ b. b == equals_sign) argument;
 }
 
 -- the drives that words say, in order
 abbrev pub drives_said : List (Bor Text) → List PlainDrive
-drives_said words = map split_of (map (λ s. s.now) words)
+drives_said arguments = map split_of (map (λ s. s.now) arguments)
 
 -- the device is 1 to 255 bytes of one line, and the folder is not empty
 abbrev pub IsDrive : PlainDrive → Type 0

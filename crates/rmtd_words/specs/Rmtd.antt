@@ -3,7 +3,7 @@ use Rattle.std.specs.Prelude.{◌≡◌, ◌⊎◌, ℕ, ◌&&◌, ◌||◌, Boo
 use Rattle.std.specs.Option.{option_map_or}
 use Rattle.std.specs.Str.{bytes_eq}
 use Rattle.std.specs.Str.Parse.{digits_value}
-use Rattle.clap.specs.Words.{App, Row, Rule, Text, IsAmong, Kinds, all_of, fault_of, first_of, matches_of, new_app, new_rule, with_rule}
+use Rattle.clap.specs.Arguments.{App, Row, Rule, Text, IsAmong, Kinds, all_of, fault_of, first_of, matches_of, new_app, new_rule, with_rule}
 use Rattle.clap.specs.declared.builder.action.ArgAction.TheVariants.{Set, SetTrue, Append}
 use Rattle.clap.specs.declared.error.kind.ErrorKind.{ErrorKind}
 use Rattle.clap.specs.declared.error.kind.ErrorKind.TheVariants.{DisplayHelp, DisplayVersion}
@@ -20,8 +20,8 @@ abbrev pub option_rule : Text → Rule
 option_rule name = record (new_rule name) { long = Some name; value_names = 1; action = Some Set }
 
 -- each word that is no option
-abbrev pub words_rule : Text → Rule
-words_rule name = record (new_rule name) { value_names = 1; action = Some Append }
+abbrev pub arguments_rule : Text → Rule
+arguments_rule name = record (new_rule name) { value_names = 1; action = Some Append }
 
 -- a command that knows its version, as clap's own `--version` prints it
 abbrev pub with_version : App → App
@@ -37,15 +37,15 @@ app_with_limits = with_rule (with_rule app_with_ways (option_rule (codes "capaci
 
 -- the command `rmtd`
 unfoldable pub app : App
-app = with_rule (with_rule app_with_limits (option_rule (codes "bin"))) (words_rule (codes "drive"))
+app = with_rule (with_rule app_with_limits (option_rule (codes "bin"))) (arguments_rule (codes "drive"))
 
 -- clap's matches of the words
 unfoldable pub matches_in : List Text → List Row
-matches_in words = matches_of app words
+matches_in arguments = matches_of app arguments
 
 -- the kinds of error with which clap refuses the words
 unfoldable pub faults_in : List Text → Kinds
-faults_in words = fault_of app words
+faults_in arguments = fault_of app arguments
 
 -- the values of clap's matches
 abbrev pub has_stdio : List Row → Bool
@@ -58,12 +58,12 @@ abbrev pub bin_in : List Row → Option Text
 bin_in rows = first_of (codes "bin") rows
 
 -- the words that are no options
-abbrev pub words_in : List Row → List Text
-words_in rows = unwrap_or (all_of (codes "drive") rows) []
+abbrev pub arguments_in : List Row → List Text
+arguments_in rows = unwrap_or (all_of (codes "drive") rows) []
 
 -- each of them, split at its first `=`
 abbrev pub drives_in : List Row → List PlainDrive
-drives_in rows = map split_of (words_in rows)
+drives_in rows = map split_of (arguments_in rows)
 
 -- just one of --stdio and --listen
 abbrev pub is_one_way : Bool → Bool → Bool
@@ -106,13 +106,13 @@ pub record IsLineIn (rows : List Row) (line : ServerLine) : Type 0 where
   pub drive_rules : KeepsDriveRules (bin_in rows) (drives_in rows)
 
 -- clap takes the words, and the line says what its matches of them say
-pub record IsLineOf (words : List Text) (line : ServerLine) : Type 0 where
-  pub says : IsLineIn (matches_in words) line
-  pub taken : faults_in words ≡ []
+pub record IsLineOf (arguments : List Text) (line : ServerLine) : Type 0 where
+  pub says : IsLineIn (matches_in arguments) line
+  pub taken : faults_in arguments ≡ []
 
 -- clap refuses the words, or their matches break a rule
-abbrev pub AreBadWords : List Text → Type 0
-AreBadWords words = faults_in words ≡ [] → ¬ (KeepsRules (matches_in words))
+abbrev pub AreBadArguments : List Text → Type 0
+AreBadArguments arguments = faults_in arguments ≡ [] → ¬ (KeepsRules (matches_in arguments))
 
 -- an error of this kind is clap's help or its version
 abbrev pub IsShown : ErrorKind → Type 0
@@ -120,4 +120,4 @@ IsShown kind = (kind ≡ DisplayHelp) ⊎ (kind ≡ DisplayVersion)
 
 -- clap answers the words with its help or its version
 abbrev pub AskToBeShown : List Text → Type 0
-AskToBeShown words = (kind : ErrorKind) × IsShown kind × IsAmong kind (faults_in words)
+AskToBeShown arguments = (kind : ErrorKind) × IsShown kind × IsAmong kind (faults_in arguments)

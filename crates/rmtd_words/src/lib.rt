@@ -2,9 +2,9 @@
 //! which answers clap's text for the user in place of the fault.
 #![tactic(auto)]
 
-mod drive_word;
+mod drive_argument;
 mod rmtd_line;
 mod wrong;
 
-pub use drive_word::DriveWord;
+pub use drive_argument::DriveArgument;
 pub use rmtd_line::{LineFault, ServerLine, server_line, server_words};

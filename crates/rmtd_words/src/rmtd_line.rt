@@ -1,11 +1,11 @@
 //! The words of `rmtd`.
 
 ghost use Rattle.std.specs.Prelude.{◌≡◌, map, codes, false, [], IfOk, IfErr, IsErrOf, MatchOption, MatchResult, option_map};
-ghost use Rattle.clap.specs.Words.{App, HasKind, app_of, first_of, found_of, kind_of, new_app, rows_of, rule_of, with_rule};
+ghost use Rattle.clap.specs.Arguments.{App, HasKind, app_of, first_of, found_of, kind_of, new_app, rows_of, rule_of, with_rule};
 ghost use Rattle.rmtd_words.specs.Drive.{plain_drive, split_of};
-ghost use Rattle.rmtd_words.specs.Rmtd.{app, app_with_limits, app_with_ways, words_in, words_rule, faults_in, flag_rule, has_stdio, matches_in, option_rule, with_version, AreBadWords, AskToBeShown, IsLineIn, IsLineOf, IsShown, KeepsRules, ReadsCapacity, ReadsConnections, IsNumberIfGiven};
+ghost use Rattle.rmtd_words.specs.Rmtd.{app, app_with_limits, app_with_ways, arguments_in, arguments_rule, faults_in, flag_rule, has_stdio, matches_in, option_rule, with_version, AreBadArguments, AskToBeShown, IsLineIn, IsLineOf, IsShown, KeepsRules, ReadsCapacity, ReadsConnections, IsNumberIfGiven};
 
-use crate::drive_word::{DriveWord, check_drives, drives_of};
+use crate::drive_argument::{DriveArgument, check_drives, drives_of};
 use crate::wrong::Wrong;
 use clap::error::ErrorKind;
 use clap::{Arg, ArgAction, ArgMatches, Command, Error};
@@ -30,7 +30,7 @@ pub struct ServerLine<'a> {
     pub bin: Option<&'a str>,
     /// The drives whose stacks are folders, in the order of their words: at most 64, with distinct devices. With none
     /// there is one drive in memory.
-    pub drives: Vec<DriveWord<'a>>,
+    pub drives: Vec<DriveArgument<'a>>,
 }
 
 /// Why there is no line.
@@ -49,11 +49,14 @@ pub enum LineFault {
 /// `--capacity` it is 1048576 bytes. A word `DEVICE=DIR` is a drive: the device ends before the first `=` and is 1 to
 /// 255 bytes of one line, and the rest is a folder, not empty. There are at most 64, no two of one device, and
 /// `--bin` is given where there is one.
-pub fn server_words<'a>(alloc: Global, words: &'a [&'a str]) -> Result<ServerLine<'a>, LineFault>
-    ensures line { IfOk result (IsLineOf (map (λ s. s.now) words.entry.now)) }
-    ensures refused { IsErrOf result LineFault.BadWords → AreBadWords (map (λ s. s.now) words.entry.now) }
+pub fn server_words<'a>(
+    alloc: Global,
+    arguments: &'a [&'a str],
+) -> Result<ServerLine<'a>, LineFault>
+    ensures line { IfOk result (IsLineOf (map (λ s. s.now) arguments.entry.now)) }
+    ensures refused { IsErrOf result LineFault.BadWords → AreBadArguments (map (λ s. s.now) arguments.entry.now) }
 {
-    match server_line(alloc, words) {
+    match server_line(alloc, arguments) {
         Ok(line) => Ok(line),
         Err(error) => Err(fault_from(&error)),
     }
@@ -62,15 +65,15 @@ pub fn server_words<'a>(alloc: Global, words: &'a [&'a str]) -> Result<ServerLin
 /// The same, with clap's text for the user in place of the fault: what is wrong with the words, or the help or the
 /// version where they ask for it, and only then. Where memory was refused its kind is `OutOfMemory`. Where clap refuses the
 /// words it is of a kind with which clap does.
-pub fn server_line<'a>(alloc: Global, words: &'a [&'a str]) -> Result<ServerLine<'a>, Error>
-    ensures line { IfOk result (IsLineOf (map (λ s. s.now) words.entry.now)) }
-    ensures refused { IfErr result (λ e. ¬ (kind_of e ≡ ErrorKind.OutOfMemory) → AreBadWords (map (λ s. s.now) words.entry.now)) }
-    ensures shown { IfErr result (λ e. IsShown (kind_of e) → AskToBeShown (map (λ s. s.now) words.entry.now)) }
-    ensures kinds { IfErr result (λ e. ¬ (faults_in (map (λ s. s.now) words.entry.now) ≡ [])
-        → HasKind (faults_in (map (λ s. s.now) words.entry.now)) e) }
+pub fn server_line<'a>(alloc: Global, arguments: &'a [&'a str]) -> Result<ServerLine<'a>, Error>
+    ensures line { IfOk result (IsLineOf (map (λ s. s.now) arguments.entry.now)) }
+    ensures refused { IfErr result (λ e. ¬ (kind_of e ≡ ErrorKind.OutOfMemory) → AreBadArguments (map (λ s. s.now) arguments.entry.now)) }
+    ensures shown { IfErr result (λ e. IsShown (kind_of e) → AskToBeShown (map (λ s. s.now) arguments.entry.now)) }
+    ensures kinds { IfErr result (λ e. ¬ (faults_in (map (λ s. s.now) arguments.entry.now) ≡ [])
+        → HasKind (faults_in (map (λ s. s.now) arguments.entry.now)) e) }
 {
     match command(alloc) {
-        Ok(mut rmtd) => line_by(alloc, &mut rmtd, words),
+        Ok(mut rmtd) => line_by(alloc, &mut rmtd, arguments),
         Err(refused) => Err(refused.into()),
     }
 }
@@ -79,16 +82,16 @@ pub fn server_line<'a>(alloc: Global, words: &'a [&'a str]) -> Result<ServerLine
 fn line_by<'a>(
     alloc: Global,
     rmtd: &mut Command<'a>,
-    words: &'a [&'a str],
+    arguments: &'a [&'a str],
 ) -> Result<ServerLine<'a>, Error>
     requires { app_of rmtd.old ≡ app }
-    ensures line { IfOk result (IsLineOf (map (λ s. s.now) words.entry.now)) }
-    ensures refused { IfErr result (λ e. ¬ (kind_of e ≡ ErrorKind.OutOfMemory) → AreBadWords (map (λ s. s.now) words.entry.now)) }
-    ensures shown { IfErr result (λ e. IsShown (kind_of e) → AskToBeShown (map (λ s. s.now) words.entry.now)) }
-    ensures kinds { IfErr result (λ e. ¬ (faults_in (map (λ s. s.now) words.entry.now) ≡ [])
-        → HasKind (faults_in (map (λ s. s.now) words.entry.now)) e) }
+    ensures line { IfOk result (IsLineOf (map (λ s. s.now) arguments.entry.now)) }
+    ensures refused { IfErr result (λ e. ¬ (kind_of e ≡ ErrorKind.OutOfMemory) → AreBadArguments (map (λ s. s.now) arguments.entry.now)) }
+    ensures shown { IfErr result (λ e. IsShown (kind_of e) → AskToBeShown (map (λ s. s.now) arguments.entry.now)) }
+    ensures kinds { IfErr result (λ e. ¬ (faults_in (map (λ s. s.now) arguments.entry.now) ≡ [])
+        → HasKind (faults_in (map (λ s. s.now) arguments.entry.now)) e) }
 {
-    let matches = matched(rmtd, words)?;
+    let matches = matched(rmtd, arguments)?;
     line_or_refusal(alloc, rmtd, &matches)
 }
 
@@ -109,15 +112,15 @@ fn line_or_refusal<'a>(
 }
 
 /// What clap makes of the words.
-fn matched<'a>(rmtd: &mut Command<'a>, words: &'a [&'a str]) -> Result<ArgMatches<'a>, Error>
+fn matched<'a>(rmtd: &mut Command<'a>, arguments: &'a [&'a str]) -> Result<ArgMatches<'a>, Error>
     requires { app_of rmtd.old ≡ app }
-    ensures rows { IfOk result (λ m. rows_of (found_of m) ≡ matches_in (map (λ s. s.now) words.entry.now)) }
-    ensures taken { IfOk result (λ _. faults_in (map (λ s. s.now) words.entry.now) ≡ []) }
-    ensures refused { IfErr result (λ e. ¬ (kind_of e ≡ ErrorKind.OutOfMemory) → ¬ (faults_in (map (λ s. s.now) words.entry.now) ≡ [])) }
-    ensures shown { IfErr result (λ e. IsShown (kind_of e) → AskToBeShown (map (λ s. s.now) words.entry.now)) }
-    ensures kinds { IfErr result (HasKind (faults_in (map (λ s. s.now) words.entry.now))) }
+    ensures rows { IfOk result (λ m. rows_of (found_of m) ≡ matches_in (map (λ s. s.now) arguments.entry.now)) }
+    ensures taken { IfOk result (λ _. faults_in (map (λ s. s.now) arguments.entry.now) ≡ []) }
+    ensures refused { IfErr result (λ e. ¬ (kind_of e ≡ ErrorKind.OutOfMemory) → ¬ (faults_in (map (λ s. s.now) arguments.entry.now) ≡ [])) }
+    ensures shown { IfErr result (λ e. IsShown (kind_of e) → AskToBeShown (map (λ s. s.now) arguments.entry.now)) }
+    ensures kinds { IfErr result (HasKind (faults_in (map (λ s. s.now) arguments.entry.now))) }
 {
-    rmtd.try_get_matches_from_mut(words)
+    rmtd.try_get_matches_from_mut(arguments)
 }
 
 /// What a user is told of words that clap takes and that break a rule.
@@ -146,7 +149,7 @@ fn line_of<'a>(
     ensures { IfOk result (λ read. MatchResult read (IsLineIn (rows_of (found_of matches.now)))
         (λ _. ¬ (KeepsRules (rows_of (found_of matches.now))))) }
 {
-    let given = drive_words(alloc, matches)?;
+    let given = drive_arguments(alloc, matches)?;
     let drives = drives_of(alloc, given.as_slice())?;
     Ok(line_in(matches, given.as_slice(), drives))
 }
@@ -155,9 +158,9 @@ fn line_of<'a>(
 fn line_in<'a>(
     matches: &ArgMatches<'a>,
     given: &[&'a str],
-    drives: Vec<DriveWord<'a>>,
+    drives: Vec<DriveArgument<'a>>,
 ) -> Result<ServerLine<'a>, Wrong<'a>>
-    requires given { map (λ s. s.now) given.now ≡ words_in (rows_of (found_of matches.now)) }
+    requires given { map (λ s. s.now) given.now ≡ arguments_in (rows_of (found_of matches.now)) }
     requires drives { map plain_drive drives.items ≡ map split_of (map (λ s. s.now) given.now) }
     ensures { MatchResult result (IsLineIn (rows_of (found_of matches.now))) (λ _. ¬ (KeepsRules (rows_of (found_of matches.now)))) }
 {
@@ -204,8 +207,8 @@ fn text_of<'a>(matches: &ArgMatches<'a>, id: &str) -> Option<&'a str>
 }
 
 /// The words that are no options, in order.
-fn drive_words<'a>(alloc: Global, matches: &ArgMatches<'a>) -> Result<Vec<&'a str>, AllocError>
-    ensures { IfOk result (λ v. map (λ s. s.now) v.items ≡ words_in (rows_of (found_of matches.now))) }
+fn drive_arguments<'a>(alloc: Global, matches: &ArgMatches<'a>) -> Result<Vec<&'a str>, AllocError>
+    ensures { IfOk result (λ v. map (λ s. s.now) v.items ≡ arguments_in (rows_of (found_of matches.now))) }
 {
     match matches.get_strs("drive") {
         Some(given) => Vec::from_slice(alloc, given),
@@ -319,7 +322,7 @@ fn valued<'a>(alloc: Global, name: &'a str, value: &'a str, help: &'a str) -> Ar
 
 /// The words that are no options, as often as one is given.
 fn drives<'a>(alloc: Global) -> Arg<'a>
-    ensures rule { rule_of result ≡ words_rule (codes "drive") }
+    ensures rule { rule_of result ≡ arguments_rule (codes "drive") }
     ensures local { result.global ≡ false }
 {
     Arg::new(alloc, "drive")

@@ -55,23 +55,31 @@ impl Wrong<'_> {
                 "",
                 "",
             ),
-            Wrong::NoBin(word) => ("the drive '", word, "' is given, and --bin <DIR> is not"),
-            Wrong::TooMany(word) => ("unexpected drive '", word, "': there are at most 64"),
-            Wrong::Drive(word) => (
+            Wrong::NoBin(argument) => (
+                "the drive '",
+                argument,
+                "' is given, and --bin <DIR> is not",
+            ),
+            Wrong::TooMany(argument) => ("unexpected drive '", argument, "': there are at most 64"),
+            Wrong::Drive(argument) => (
                 "invalid drive '",
-                word,
+                argument,
                 "': it is DEVICE=DIR, with a device of 1 to 255 bytes of one line, and a folder",
             ),
-            Wrong::Again(word) => ("invalid drive '", word, "': its device is named before"),
+            Wrong::Again(argument) => (
+                "invalid drive '",
+                argument,
+                "': its device is named before",
+            ),
         }
     }
 }
 
 impl fmt::Display for Wrong<'_> {
     fn fmt<W: fmt::Write>(&self, f: &mut fmt::Formatter<W>) -> fmt::Result {
-        let (before, word, after) = self.parts();
+        let (before, argument, after) = self.parts();
         f.write_str(before)?;
-        f.write_str(word)?;
+        f.write_str(argument)?;
         f.write_str(after)
     }
 }

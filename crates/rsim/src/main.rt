@@ -12,9 +12,9 @@ const FAILED: u8 = 1;
 /// Does what the words ask, and ends with its status.
 fn main(rt: HostRuntime) -> ExitCode {
     let mut out = Counted::new(rt.stdout());
-    let status = match words(&rt) {
+    let status = match arguments(&rt) {
         // An error could not be told.
-        Ok(words) => rsim(&rt, &words, &mut out).unwrap_or(FAILED),
+        Ok(arguments) => rsim(&rt, &arguments, &mut out).unwrap_or(FAILED),
         Err(error) => {
             let _ = eprintln!(rt; "rsim: the words could not be read: {error}");
             FAILED
@@ -24,10 +24,10 @@ fn main(rt: HostRuntime) -> ExitCode {
 }
 
 /// The words that the program was called with, its own name first. Each growth that is refused is answered.
-fn words(rt: &HostRuntime) -> io::Result<Vec<String>> {
-    let mut words = Vec::new(rt.alloc());
-    for word in env::args(rt)? {
-        words.push(word)?;
+fn arguments(rt: &HostRuntime) -> io::Result<Vec<String>> {
+    let mut arguments = Vec::new(rt.alloc());
+    for argument in env::args(rt)? {
+        arguments.push(argument)?;
     }
-    Ok(words)
+    Ok(arguments)
 }

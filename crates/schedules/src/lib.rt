@@ -3,6 +3,7 @@
 //! `schedule` runs one in a world of its own, and prints what came of it. `rsim` is what the program does with its words.
 #![tactic(auto)]
 
+mod arguments;
 mod byte_count;
 mod cut;
 mod drive_line;
@@ -19,7 +20,6 @@ mod program;
 mod report;
 mod running;
 mod setup;
-mod words;
 
 pub use program::rsim;
 pub use running::schedule;

@@ -78,7 +78,7 @@ pub(crate) fn read_command(text: &[u8]) -> Option<ScheduleLine<'_>> {
 
 /// What a command says with the fields that it takes.
 fn read_words<'a>(fields: &mut LineFields<'a>) -> Option<ScheduleLine<'a>> {
-    match fields.word()? {
+    match fields.argument()? {
         "drive" => read_drive(fields),
         "run" => read_run(fields),
         "arrange" => read_arrange(fields),
@@ -104,7 +104,7 @@ fn read_drive<'a>(fields: &mut LineFields<'a>) -> Option<ScheduleLine<'a>> {
 
 /// A run: its device, the name of the file system, and its numbers.
 fn read_run<'a>(fields: &mut LineFields<'a>) -> Option<ScheduleLine<'a>> {
-    match (fields.device(), fields.word(), read_numbers(fields)) {
+    match (fields.device(), fields.argument(), read_numbers(fields)) {
         (Some(device), Some(name), Some(numbers)) => Some(ScheduleLine::Run {
             device,
             name,
@@ -218,7 +218,7 @@ fn answer_of(command: &str) -> Option<Act> {
 
 /// A send whose read fails, as `fault` says.
 fn read_send(fields: &mut LineFields<'_>) -> Option<Act> {
-    if fields.word()? != "fault" {
+    if fields.argument()? != "fault" {
         return None;
     }
     let event = Event::Send { fails: true };
@@ -241,7 +241,7 @@ fn read_trouble(fields: &mut LineFields<'_>) -> Option<Trouble> {
     if fields.is_over() {
         return Some(Trouble::None);
     }
-    match fields.word()? {
+    match fields.argument()? {
         "kept" => Some(Trouble::Kept),
         "lost" => Some(Trouble::Lost),
         "written" => Some(Trouble::Written(written_of(fields.number()?))),

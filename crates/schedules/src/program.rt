@@ -2,8 +2,8 @@
 ghost use Rattle.std.specs.Prelude.{◌≡◌, ◌⊎◌, OnErr, IfOk};
 ghost use Rattle.schedules.specs.Ending.{IsRsim};
 
+use crate::arguments::file_in;
 use crate::running::schedule;
-use crate::words::file_in;
 use clap::error::ErrorKind;
 use rmt_wire::Counted;
 use std::io::Write;
@@ -22,15 +22,15 @@ const FAILED: u8 = 1;
 /// It fails only where memory for the words is refused, and where nothing can be told on standard error. No schedule is run then.
 pub fn rsim<R: Files + Print + Eprint + AllocGlobal, W: Write>(
     rt: &R,
-    words: &[String],
+    arguments: &[String],
     out: &mut Counted<W>,
 ) -> io::Result<u8>
     ensures ended { IfOk result (λ status. IsRsim W.contents out.old status out.new) }
     ensures failed { OnErr result (out.new ≡ out.old) }
 {
     let mut lent = Vec::new(rt.alloc());
-    for word in words {
-        lent.push(word.as_str())?;
+    for argument in arguments {
+        lent.push(argument.as_str())?;
     }
     match file_in(rt.alloc(), lent.as_slice()) {
         Ok(file) => run_file(rt, file, out),

@@ -129,10 +129,10 @@ fn push_stack(text: &mut Vec<u8>, world: &World, device: &[u8]) -> Result<(), Al
 }
 
 /// Appends a word and the names of reels, to the end of a line.
-fn push_names(text: &mut Vec<u8>, word: &str, reels: &[ListedReel]) -> Result<(), AllocError>
-    ensures { OnOk result (text.new.items ≡ text.old.items ++ word.now ++ names_text (names_of reels.now) ++ codes "\n") }
+fn push_names(text: &mut Vec<u8>, argument: &str, reels: &[ListedReel]) -> Result<(), AllocError>
+    ensures { OnOk result (text.new.items ≡ text.old.items ++ argument.now ++ names_text (names_of reels.now) ++ codes "\n") }
 {
-    push_text(text, word)?;
+    push_text(text, argument)?;
     for reel in reels {
         push_name(text, reel.name())?;
     }

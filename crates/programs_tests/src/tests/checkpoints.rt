@@ -6,7 +6,7 @@ use super::fixture::{PayloadDumper, TWO_BYTES, client, line, payload};
 use super::lines::{EMPTY, FULL, LAST};
 use super::progress::Seen;
 use dump_client::ResumeFault;
-use rdump_commands::run_words;
+use rdump_commands::run_arguments;
 use rdump_files::{ReplacedFile, ResumedDumpFault, WholeFile, resume_dump, run_of};
 use rdump_talk::{Conclusion, Keeper, dump_kept};
 use rmt_wire::Counted;
@@ -225,7 +225,7 @@ static STARTS: [(&[u8], u8, bool); 4] = [
 /// Whether that comes of a dump with such a file.
 fn starts_so(rt: &HostRuntime, text: &[u8], status: u8, stays: bool) -> Result<bool, Fail> {
     fs::write(rt, "checkpoint", text)?;
-    let ended = run_words(rt, &WORDS, NO_TERMINAL);
+    let ended = run_arguments(rt, &WORDS, NO_TERMINAL);
     let is_left = fs::exists(rt, "checkpoint")?;
     if is_left {
         fs::remove_file(rt, "checkpoint")?;

@@ -3,7 +3,7 @@
 use super::check_row;
 use super::fixture::{TWO_BYTES, client, line};
 use super::store::OLD;
-use rdump_commands::{rdump, run_client, run_dates, run_dump, run_mt, run_read, run_words};
+use rdump_commands::{rdump, run_arguments, run_client, run_dates, run_dump, run_mt, run_read};
 use rdump_words::{MtLine, ReadLine};
 use std::fs;
 use std::io::Stderr;
@@ -35,11 +35,11 @@ static ROWS: [Row; 5] = [
 
 /// Whether these words end with that status.
 fn ends_so(rt: &HostRuntime, row: &Row) -> bool {
-    run_words(rt, row.0, NO_TERMINAL) == row.1
+    run_arguments(rt, row.0, NO_TERMINAL) == row.1
 }
 
 #[test]
-fn statuses_of_words(rt: HostRuntime) {
+fn statuses_of_arguments(rt: HostRuntime) {
     for (at, row) in ROWS.iter().enumerate() {
         check_row(&rt, at, ends_so(&rt, row));
     }
@@ -47,7 +47,7 @@ fn statuses_of_words(rt: HostRuntime) {
 
 /// The words of the process that runs the tests are none of `rdump`.
 #[test]
-fn words_of_another_program(rt: HostRuntime) {
+fn arguments_of_another_program(rt: HostRuntime) {
     assert!(rt; rdump(&rt, NO_TERMINAL) == 1);
 }
 

@@ -2,23 +2,23 @@
 
 use drives::Stacks;
 use rmtd_serve::{LineStart, folder_stacks, seat_stacks};
-use rmtd_words::DriveWord;
+use rmtd_words::DriveArgument;
 use std::alloc::AllocError;
 
 /// Two drives, whose folders are not there.
-static WORDS: [DriveWord<'static>; 2] = [
-    DriveWord {
+static WORDS: [DriveArgument<'static>; 2] = [
+    DriveArgument {
         device: "/dev/st0",
         folder: "none/st0",
     },
-    DriveWord {
+    DriveArgument {
         device: "tape",
         folder: "none/tape",
     },
 ];
 
 #[test]
-fn stacks_have_the_drives_of_the_words(rt: HostRuntime) -> Result<(), AllocError> {
+fn stacks_have_the_drives_of_the_arguments(rt: HostRuntime) -> Result<(), AllocError> {
     let stacks = folder_stacks(rt, &WORDS, "none/bin", 100)?;
     assert!(rt; stacks.drive(b"tape") == Some(1));
     Ok(())

@@ -64,9 +64,9 @@ fn is_said(alloc: Global, row: &Row) -> Result<bool, AllocError> {
     let Ok(contents) = check_reel(&mut medium, &mut [0; 100]) else {
         return Ok(false);
     };
-    let mut words = Vec::new(alloc);
-    push_words(&mut words, &contents)?;
-    Ok(words.as_slice() == row.2.as_bytes() && is_whole(&contents) == row.3)
+    let mut arguments = Vec::new(alloc);
+    push_words(&mut arguments, &contents)?;
+    Ok(arguments.as_slice() == row.2.as_bytes() && is_whole(&contents) == row.3)
 }
 
 #[test]

@@ -35,16 +35,16 @@ static ROWS: [Row; 7] = [
 
 /// Whether a start is done as the row says.
 fn is_done<R: System>(rt: &R, row: &Row) -> bool {
-    let (words, sent, status, wanted) = *row;
+    let (arguments, sent, status, wanted) = *row;
     let mut taken = Vec::new(rt.alloc());
     let mut input = Counted::new(sent);
     let mut output = Counted::new(&mut taken);
-    let begun = begin(rt, words, &mut input, &mut output);
+    let begun = begin(rt, arguments, &mut input, &mut output);
     matches!(begun, Ok(Begun::End(ended)) if ended == status) && taken.as_slice() == wanted
 }
 
 #[test]
-fn words_are_followed(rt: HostRuntime) {
+fn arguments_are_followed(rt: HostRuntime) {
     let _system: (Option<File>, Option<TcpListener>, Option<TcpStream>) = (None, None, None);
     for (at, row) in ROWS.iter().enumerate() {
         super::check_row(&rt, at, is_done(&rt, row));
@@ -61,9 +61,14 @@ static FOLDERS: [&str; 5] = [
 ];
 
 /// How many connections these words leave to serve.
-fn left_by<R: System>(rt: &R, words: &[&str]) -> io::Result<u64> {
+fn left_by<R: System>(rt: &R, arguments: &[&str]) -> io::Result<u64> {
     let mut output = Counted::new(Vec::new(rt.alloc()));
-    let begun = begin(rt, words, &mut Counted::new(b"C\n".as_slice()), &mut output)?;
+    let begun = begin(
+        rt,
+        arguments,
+        &mut Counted::new(b"C\n".as_slice()),
+        &mut output,
+    )?;
     Ok(match &begun {
         Begun::Serve(_, listener_setup) => listener_setup.left,
         Begun::End(_) => 0,
@@ -86,7 +91,7 @@ fn is_refused<R: System + Env>(rt: &R) -> io::Result<bool> {
 }
 
 #[test]
-fn a_start_by_other_words_ends(rt: HostRuntime) -> io::Result<()> {
+fn a_start_by_other_arguments_ends(rt: HostRuntime) -> io::Result<()> {
     let _system: (Option<File>, Option<TcpListener>, Option<TcpStream>) = (None, None, None);
     assert!(rt; is_refused(&rt)?);
     Ok(())

@@ -8,13 +8,13 @@ pub seats-preserved : goal.seats-preserved
 seats-preserved g c =
     let made = c.in_ok-stacks_at.field-0 in
     let before = c.seats.all.items in
-    let counted = All-push (λ s. length s.rows ≡ length c.args.words.now) before made c.seats.invariant.1 c.in_ok-stacks_at.ensures.count in
-    let named = All-push (λ s. s ≡ stacks_of c.args.words.now c.args.bin.now c.args.capacity) before made c.seats.invariant.2
+    let counted = All-push (λ s. length s.rows ≡ length c.args.arguments.now) before made c.seats.invariant.1 c.in_ok-stacks_at.ensures.count in
+    let named = All-push (λ s. s ≡ stacks_of c.args.arguments.now c.args.bin.now c.args.capacity) before made c.seats.invariant.2
     c.in_ok-stacks_at.ensures.named in
     let few : length c.push.new.self.items ≤ SEAT_LIMIT = search rules in (
       few,
-      subst (All (λ s. length s.rows ≡ length c.args.words.now)) (sym c.in_ok-push.ensures.items) counted,
-      subst (All (λ s. s ≡ stacks_of c.args.words.now c.args.bin.now c.args.capacity)) (sym c.in_ok-push.ensures.items) named,
+      subst (All (λ s. length s.rows ≡ length c.args.arguments.now)) (sym c.in_ok-push.ensures.items) counted,
+      subst (All (λ s. s ≡ stacks_of c.args.arguments.now c.args.bin.now c.args.capacity)) (sym c.in_ok-push.ensures.items) named,
     )
 
 pub returns-clause-count : goal.returns-clause-count

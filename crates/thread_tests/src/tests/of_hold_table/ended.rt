@@ -19,7 +19,7 @@ fn take_beside(
 ) -> (HoldSeat, HoldSeat, Taken)
     requires one { IsSeatAt table.now one }
     requires other { IsSeatAt table.now other }
-    requires drive { drive < table.now.words }
+    requires drive { drive < table.now.arguments }
     ensures one { IsSeatAt table.now result.0 }
     ensures other { result.1 ≡ other }
     ensures found { found_by result.2 ≡ other.view.number → IsTrue (has other.view drive) ⊎ (2 ≤ other.made) }
@@ -44,7 +44,7 @@ fn words_agree_with_the_seats(rt: HostRuntime) -> Result<(), Fail> {
     let mut seats = Vec::with_capacity(rt.alloc(), 2)?;
     seats.push_reserved(first);
     seats.push_reserved(second);
-    let words = table.close(seats);
-    assert!(rt; words[0] == 1 && words[1] == 2 && words[2] == 0);
+    let arguments = table.close(seats);
+    assert!(rt; arguments[0] == 1 && arguments[1] == 2 && arguments[2] == 0);
     Ok(())
 }

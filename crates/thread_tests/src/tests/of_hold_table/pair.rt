@@ -15,7 +15,7 @@ pub(crate) fn two_seats(
 ) -> Result<(HoldTable, HoldSeat, HoldSeat), Fail>
     requires some { 1 ≤ drives }
     requires few { drives ≤ 64 }
-    ensures drives { IfOk result (λ made. made.0.words ≡ drives) }
+    ensures drives { IfOk result (λ made. made.0.arguments ≡ drives) }
     ensures first { IfOk result (λ made. IsSeatAt made.0 made.1 × HoldsJust made.1.view None) }
     ensures second { IfOk result (λ made. IsSeatAt made.0 made.2 × HoldsJust made.2.view None) }
 {

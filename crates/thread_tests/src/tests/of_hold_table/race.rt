@@ -17,7 +17,7 @@ const TRIES: u32 = 2000;
 /// that the seat was not alone or did not see itself there. Returns the seat.
 fn race(table: &HoldTable, mut seat: HoldSeat, inside: &AtomicU64, faults: &AtomicU64) -> HoldSeat
     requires seat { IsSeatAt table.now seat }
-    requires drives { 0 < table.now.words }
+    requires drives { 0 < table.now.arguments }
     ensures { IsSeatAt table.now result }
 {
     for _ in 0..TRIES {
@@ -41,7 +41,7 @@ fn race_in_threads<R: Threads + Sync>(
     faults: &AtomicU64,
 ) -> Result<Vec<HoldSeat>, Fail>
     requires seats { All (λ s. IsSeatAt table.now s × HoldsJust s.view None) seats.items }
-    requires drives { 0 < table.now.words }
+    requires drives { 0 < table.now.arguments }
     ensures { IfOk result (λ seats. All (λ s. IsSeatAt table.now s) seats.items) }
 {
     let inside = AtomicU64::new(0);
@@ -49,7 +49,7 @@ fn race_in_threads<R: Threads + Sync>(
         rt,
         seats,
         &|seat: HoldSeat| -> HoldSeat
-            requires { IsSeatAt table.now seat × (0 < table.now.words) }
+            requires { IsSeatAt table.now seat × (0 < table.now.arguments) }
             ensures { IsSeatAt table.entry.now result }
         { race(table, seat, &inside, faults) },
     )?;
@@ -64,7 +64,7 @@ fn no_two_have_a_drive_at_once(rt: HostRuntime) -> Result<(), Fail> {
     let faults = AtomicU64::new(0);
     let seats = race_in_threads(&rt, &table, seats, &faults)?;
     assert!(rt; seats.len() == 32 && faults.load(Ordering::SeqCst) == 0);
-    let words = table.close(seats);
-    assert!(rt; words.iter().all(|word| *word == 0));
+    let arguments = table.close(seats);
+    assert!(rt; arguments.iter().all(|argument| *argument == 0));
     Ok(())
 }

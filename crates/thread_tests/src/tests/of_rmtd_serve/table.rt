@@ -14,7 +14,7 @@ use std::thread::Threads;
 
 /// A table of the drives `/dev/st0` and `/dev/st1`.
 pub(crate) fn two_words(alloc: Global) -> Result<(HoldTable, Vec<HoldSeat>), Fail>
-    ensures drives { IfOk result (λ made. made.0.words ≡ 2) }
+    ensures drives { IfOk result (λ made. made.0.arguments ≡ 2) }
     ensures count { IfOk result (λ made. length made.1.items ≡ 32) }
     ensures idle { IfOk result (λ made. All (λ s. IsSeatAt made.0 s × HoldsJust s.view None) made.1.items) }
 {
@@ -63,8 +63,8 @@ pub(crate) fn serve_pairs<R: Threads + Wait + Sync, I: Incoming + Drop>(
     let stacks = all_stacks(alloc)?;
     let (pairs, seats) = serve_many(rt, alloc, pairs, &table, seats, stacks);
     let are_back = seats.len() == 32;
-    let words = close_table(table, seats);
-    if !are_back || words.iter().any(|word| *word != 0) {
+    let arguments = close_table(table, seats);
+    if !are_back || arguments.iter().any(|argument| *argument != 0) {
         return Err(Fail::new("a drive is held at the end, or a seat is lost"));
     }
     Ok(pairs)

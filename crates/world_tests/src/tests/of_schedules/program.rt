@@ -18,12 +18,12 @@ fn new_path(rt: &HostRuntime) -> Result<String, Fail> {
 
 /// What is printed, and the status, where this file is the word of `rsim`.
 fn ended_on(rt: &HostRuntime, path: &str) -> Result<(Vec<u8>, u8), Fail> {
-    let mut words = Vec::new(rt.alloc());
-    words.push(String::from_str(rt.alloc(), "rsim")?)?;
-    words.push(String::from_str(rt.alloc(), path)?)?;
+    let mut arguments = Vec::new(rt.alloc());
+    arguments.push(String::from_str(rt.alloc(), "rsim")?)?;
+    arguments.push(String::from_str(rt.alloc(), path)?)?;
     let mut printed = Vec::new(rt.alloc());
     let mut out = Counted::new(&mut printed);
-    let status = rsim(rt, &words, &mut out)?;
+    let status = rsim(rt, &arguments, &mut out)?;
     Ok((printed, status))
 }
 

@@ -7,8 +7,8 @@ use std::alloc::{AllocError, Global};
 ///
 /// Else clap's text for the user: what is wrong with the words, or the help or the version where they ask for it. Where
 /// memory was refused its kind is `OutOfMemory`.
-pub(crate) fn file_in<'a>(alloc: Global, words: &'a [&'a str]) -> Result<&'a str, Error> {
-    let matches = command(alloc)?.try_get_matches_from(words)?;
+pub(crate) fn file_in<'a>(alloc: Global, arguments: &'a [&'a str]) -> Result<&'a str, Error> {
+    let matches = command(alloc)?.try_get_matches_from(arguments)?;
     Ok(matches.get_str("file").unwrap_or(""))
 }
 

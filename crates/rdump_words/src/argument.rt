@@ -1,5 +1,5 @@
 //! The words of a command, and the command that takes them.
-use crate::fault::WordFault;
+use crate::fault::ArgumentFault;
 use clap::{Arg, ArgAction, ArgMatches, Command};
 use std::alloc::{AllocError, Global};
 
@@ -22,7 +22,7 @@ pub(crate) enum Form {
 
 /// A word of a command.
 #[derive(Clone, Copy)]
-pub(crate) struct Word {
+pub(crate) struct ArgumentSpec {
     /// The word without its dashes.
     pub name: &'static str,
     /// What stands for its value in the help.
@@ -35,9 +35,9 @@ pub(crate) struct Word {
     pub missing: &'static str,
 }
 
-impl Word {
+impl ArgumentSpec {
     /// The server.
-    pub const TO: Word = Word {
+    pub const TO: ArgumentSpec = ArgumentSpec {
         name: "to",
         value: "ADDRESS",
         help: "The server: a host and a port",
@@ -46,7 +46,7 @@ impl Word {
     };
 
     /// The drive.
-    pub const DEVICE: Word = Word {
+    pub const DEVICE: ArgumentSpec = ArgumentSpec {
         name: "device",
         value: "DEVICE",
         help: "The drive at the server",
@@ -67,65 +67,72 @@ impl Word {
 pub(crate) fn push_command<'a>(
     alloc: Global,
     (name, about): (&'static str, &'static str),
-    words: &[Word],
+    arguments: &[ArgumentSpec],
     commands: &mut Vec<Command<'a>>,
 ) -> Result<(), AllocError> {
-    match args_of(alloc, words) {
+    match args_of(alloc, arguments) {
         Ok(args) => push(commands, Command::new(alloc, name).about(about).args(args)),
         Err(refused) => Err(refused),
     }
 }
 
 /// What clap knows of these words, in order.
-pub(crate) fn args_of<'a>(alloc: Global, words: &[Word]) -> Result<Vec<Arg<'a>>, AllocError> {
+pub(crate) fn args_of<'a>(
+    alloc: Global,
+    arguments: &[ArgumentSpec],
+) -> Result<Vec<Arg<'a>>, AllocError> {
     let mut args = Vec::new(alloc);
-    for word in words {
-        push_arg(alloc, word, &mut args)?;
+    for argument in arguments {
+        push_arg(alloc, argument, &mut args)?;
     }
     Ok(args)
 }
 
 /// Adds what clap knows of a word.
-fn push_arg<'a>(alloc: Global, word: &Word, args: &mut Vec<Arg<'a>>) -> Result<(), AllocError> {
-    match word.form {
-        Form::With(other) => push(args, option(alloc, word).requires_arg(other)),
-        _ => push(args, Ok(arg_of(alloc, word))),
+fn push_arg<'a>(
+    alloc: Global,
+    argument: &ArgumentSpec,
+    args: &mut Vec<Arg<'a>>,
+) -> Result<(), AllocError> {
+    match argument.form {
+        Form::With(other) => push(args, option(alloc, argument).requires_arg(other)),
+        _ => push(args, Ok(arg_of(alloc, argument))),
     }
 }
 
 /// What clap knows of a word that needs no other.
-fn arg_of<'a>(alloc: Global, word: &Word) -> Arg<'a> {
-    match word.form {
-        Form::Flag => flag(alloc, word),
-        Form::Place => valued(alloc, word),
-        Form::Many => valued(alloc, word).action(ArgAction::Append),
-        _ => option(alloc, word),
+fn arg_of<'a>(alloc: Global, argument: &ArgumentSpec) -> Arg<'a> {
+    match argument.form {
+        Form::Flag => flag(alloc, argument),
+        Form::Place => valued(alloc, argument),
+        Form::Many => valued(alloc, argument).action(ArgAction::Append),
+        _ => option(alloc, argument),
     }
 }
 
 /// `--NAME VALUE`.
-fn option<'a>(alloc: Global, word: &Word) -> Arg<'a> {
-    valued(alloc, word).long(word.name)
+fn option<'a>(alloc: Global, argument: &ArgumentSpec) -> Arg<'a> {
+    valued(alloc, argument).long(argument.name)
 }
 
 /// `--NAME`.
-fn flag<'a>(alloc: Global, word: &Word) -> Arg<'a> {
-    plain(alloc, word)
-        .long(word.name)
+fn flag<'a>(alloc: Global, argument: &ArgumentSpec) -> Arg<'a> {
+    plain(alloc, argument)
+        .long(argument.name)
         .action(ArgAction::SetTrue)
 }
 
 /// A word that has a value.
-fn valued<'a>(alloc: Global, word: &Word) -> Arg<'a> {
-    plain(alloc, word)
-        .value_name(word.value)
-        .required(word.is_required())
+fn valued<'a>(alloc: Global, argument: &ArgumentSpec) -> Arg<'a> {
+    plain(alloc, argument)
+        .value_name(argument.value)
+        .required(argument.is_required())
         .action(ArgAction::Set)
 }
 
 /// A word, with what the help says of it.
-fn plain<'a>(alloc: Global, word: &Word) -> Arg<'a> {
-    Arg::new(alloc, word.name).help(word.help)
+fn plain<'a>(alloc: Global, argument: &ArgumentSpec) -> Arg<'a> {
+    Arg::new(alloc, argument.name).help(argument.help)
 }
 
 /// Adds an item to a vector, where there is one.
@@ -137,10 +144,13 @@ fn push<T: Drop>(items: &mut Vec<T>, item: Result<T, AllocError>) -> Result<(), 
 }
 
 /// What is wrong where one of these words is required and not given.
-pub(crate) fn check_given(matches: &ArgMatches<'_>, words: &[Word]) -> Result<(), WordFault> {
-    for word in words {
-        if word.is_required() && matches.get_str(word.name).is_none() {
-            return Err(WordFault::Missing(word.missing));
+pub(crate) fn check_given(
+    matches: &ArgMatches<'_>,
+    arguments: &[ArgumentSpec],
+) -> Result<(), ArgumentFault> {
+    for argument in arguments {
+        if argument.is_required() && matches.get_str(argument.name).is_none() {
+            return Err(ArgumentFault::Missing(argument.missing));
         }
     }
     Ok(())

@@ -1,8 +1,8 @@
 use Rattle.std.proofs.Common.{rules, codes, ap, map, List, ℕ, Bor, ◌∙◌}
 use Rattle.std.proofs.lemmas.Result.{IfOk-weaker}
-use Rattle.clap.specs.Words.{found_of}
+use Rattle.clap.specs.Arguments.{found_of}
 use Rattle.clap.proofs.WalkLemmas.{raw_values-rows}
-use Rattle.rmtd_words.proofs.rmtd_line.drive_words.Goals as goal
+use Rattle.rmtd_words.proofs.rmtd_line.drive_arguments.Goals as goal
 
 pub returns-in-Some : goal.returns-in-Some
 returns-in-Some c =

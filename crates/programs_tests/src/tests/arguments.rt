@@ -109,9 +109,9 @@ static ROWS: [Row; 9] = [
 ];
 
 #[test]
-fn words_of_the_client(rt: HostRuntime) {
-    for (words, wanted) in &ROWS {
-        let read = rdump_words(rt.alloc(), words);
+fn arguments_of_the_client(rt: HostRuntime) {
+    for (arguments, wanted) in &ROWS {
+        let read = rdump_words(rt.alloc(), arguments);
         assert!(rt; is_shown(rt.alloc(), &read, wanted));
     }
 }
@@ -160,8 +160,8 @@ static REFUSED: [Row; 8] = [
 ];
 
 /// Whether words are refused, and this is told first.
-fn is_told(alloc: Global, words: &'static [&'static str], wanted: &str) -> bool {
-    let Err(error) = rdump_words(alloc, words) else {
+fn is_told(alloc: Global, arguments: &'static [&'static str], wanted: &str) -> bool {
+    let Err(error) = rdump_words(alloc, arguments) else {
         return false;
     };
     match format!(in alloc; "{error}") {
@@ -171,9 +171,9 @@ fn is_told(alloc: Global, words: &'static [&'static str], wanted: &str) -> bool 
 }
 
 #[test]
-fn words_that_break_a_rule(rt: HostRuntime) {
-    for (words, wanted) in &REFUSED {
-        assert!(rt; is_told(rt.alloc(), words, wanted));
+fn arguments_that_break_a_rule(rt: HostRuntime) {
+    for (arguments, wanted) in &REFUSED {
+        assert!(rt; is_told(rt.alloc(), arguments, wanted));
     }
 }
 
@@ -195,10 +195,10 @@ static ADDRESSES: [&str; 12] = [
 
 /// Whether the words of a read at this address are refused.
 fn is_refused(alloc: Global, address: &str) -> bool {
-    let words = [
+    let arguments = [
         "rdump", "read", "--to", address, "--device", "d", "--out", "o",
     ];
-    rdump_words(alloc, &words).is_err()
+    rdump_words(alloc, &arguments).is_err()
 }
 
 #[test]
@@ -231,7 +231,7 @@ static DRIVE: [&str; 7] = [
 ];
 
 #[test]
-fn words_of_the_server(rt: HostRuntime) {
+fn arguments_of_the_server(rt: HostRuntime) {
     let read = server_line(rt.alloc(), &DRIVE);
     let wanted =
         "Ok(ServerLine { stdio: false, listen: Some(\"127.0.0.1:0\"), capacity: 9223372036854775807, connections: Some(7), bin: Some(\"/bin\"), drives: [DriveWord { device: \"/dev/st0\", folder: \"/srv/a=b\" }] })";
@@ -242,7 +242,7 @@ fn words_of_the_server(rt: HostRuntime) {
 static STDIO: [&str; 2] = ["rmtd", "--stdio"];
 
 #[test]
-fn words_and_what_they_say(rt: HostRuntime) {
+fn arguments_and_what_they_say(rt: HostRuntime) {
     let read = server_words(rt.alloc(), &STDIO);
     let wanted =
         "Ok(ServerLine { stdio: true, listen: None, capacity: 1048576, connections: None, bin: None, drives: [] })";
