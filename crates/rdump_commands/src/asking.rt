@@ -23,7 +23,7 @@ impl<I: Read, T: Write> Asking<I, T> {
     }
 
     /// Tells what may be said, where a line begins.
-    fn tell(&mut self) {
+    fn report(&mut self) {
         if !self.is_at_line {
             return;
         }
@@ -36,7 +36,7 @@ impl<I: Read, T: Write> Asking<I, T> {
 
 impl<I: Read, T: Write> Read for Asking<I, T> {
     fn read(&mut self, buf: &mut [u8]) -> io::Result<usize> {
-        self.tell();
+        self.report();
         let count = self.input.read(buf)?;
         self.is_at_line = buf[..count].ends_with(b"\n");
         Ok(count)

@@ -2,7 +2,7 @@
 ghost use Rattle.rdump_commands.specs.Status.{IsDatesStatus};
 
 use crate::System;
-use crate::fault::{FAILED, NO_DUMPDATES, ended, say, tell};
+use crate::fault::{FAILED, NO_DUMPDATES, ended, report, say};
 use dumpdates::{Dates, DatesFault};
 use rdump_files::dates;
 use rmt_wire::Counted;
@@ -19,7 +19,7 @@ pub fn run_dates<R: System>(rt: &R, file: &str, asked: Option<(&str, u8)>) -> u8
 {
     let bytes = match fs::read(rt, file) {
         Ok(bytes) => bytes,
-        Err(error) => return tell(rt, file, error),
+        Err(error) => return report(rt, file, error),
     };
     let mut out = Counted::new(io::writer(rt));
     let status = dates(rt.alloc(), &bytes, asked, &mut out);

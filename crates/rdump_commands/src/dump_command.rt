@@ -3,10 +3,10 @@ ghost use Rattle.std.specs.Prelude.{◌≡◌, IfErr, IfSome};
 ghost use Rattle.rdump_commands.specs.Status.{IsStatus};
 
 use crate::System;
-use crate::dump_end::tell_end;
+use crate::dump_end::report_end;
 use crate::dump_start::{DumpStart, refuse_files, refuse_stranger};
 use crate::dumping::run_printed;
-use crate::fault::{FAILED, NO_DUMPDATES, refuse_run, say, tell, tell_no_memory};
+use crate::fault::{FAILED, NO_DUMPDATES, refuse_run, report, report_no_memory, say};
 use crate::going_on::dump_from;
 use dump_client::{Blocks, Client};
 use dumpdates::DatesFault;
@@ -43,7 +43,7 @@ pub fn run_dump<R: System, T: Write + Copy + Drop>(
 {
     match DumpStart::open(rt, line.payload) {
         Ok((file, mut start)) => dump_opened(rt, line, file, &mut start, terminal),
-        Err(error) => tell(rt, line.payload, error),
+        Err(error) => report(rt, line.payload, error),
     }
 }
 
@@ -65,7 +65,7 @@ fn dump_opened<R: System, T: Write + Copy + Drop>(
             dump_medium(rt, line, MemoryMedium::from_bytes(bytes), start, terminal)
         }
         Ok(None) => say(rt, line.payload, "its length changed while it was read"),
-        Err(error) => tell(rt, line.payload, error),
+        Err(error) => report(rt, line.payload, error),
     }
 }
 
@@ -101,7 +101,7 @@ fn since_of<R: System>(rt: &R, line: &DumpLine<'_>, start: &mut DumpStart) -> Re
     }
     match read_or_empty(rt, rt.alloc(), path) {
         Ok(file) => since_in(rt, line, start, &file),
-        Err(error) => Err(tell(rt, path, error)),
+        Err(error) => Err(report(rt, path, error)),
     }
 }
 
@@ -185,7 +185,7 @@ fn dump_at<R: System, M: Medium + Drop, T: Write + Copy + Drop>(
     match dumper(rt.alloc(), line, dates.date, dates.since, payload, gauge) {
         Ok(mut client) => dump_alone(rt, line, start, dates, &mut client, terminal),
         Err(DumperFault::Run(fault)) => refuse_run(rt, line, dates.date, fault),
-        Err(DumperFault::OutOfMemory) => tell_no_memory(rt),
+        Err(DumperFault::OutOfMemory) => report_no_memory(rt),
     }
 }
 
@@ -208,12 +208,12 @@ fn dump_alone<R: System, B: Blocks, T: Write + Copy + Drop>(
 ) -> u8
     ensures { IsStatus result }
 {
-    if let Err(error) = tell_first(rt, line, start, dates, terminal.is_some()) {
-        return tell(rt, line.dumpdates, error);
+    if let Err(error) = report_first(rt, line, start, dates, terminal.is_some()) {
+        return report(rt, line.dumpdates, error);
     }
     let dumped = run_printed(rt, &dated(line, dates.date), client, terminal);
     if dumped.is_printed && client.finished().is_some() {
-        tell_end(rt, line, start, client);
+        report_end(rt, line, start, client);
     }
     dumped.status
 }
@@ -231,7 +231,7 @@ pub(crate) struct RunDates {
 /// date is to be replaced, and where the dump could not be entered now, why.
 ///
 /// It fails only where memory is refused.
-pub(crate) fn tell_first<R: System>(
+pub(crate) fn report_first<R: System>(
     rt: &R,
     line: &DumpLine<'_>,
     start: &DumpStart,
@@ -239,14 +239,14 @@ pub(crate) fn tell_first<R: System>(
     is_at_terminal: bool,
 ) -> io::Result<()> {
     if is_at_terminal {
-        tell_since(rt, dates.since)?;
+        report_since(rt, dates.since)?;
     }
     if dates.since > dates.date {
-        tell_late(rt, dates.since)?;
+        report_late(rt, dates.since)?;
     }
     if line.update {
         if start.replaced > dates.date {
-            tell_replaced(rt, line, start.replaced)?;
+            report_replaced(rt, line, start.replaced)?;
         }
         warn(rt, line.dumpdates)?;
     }
@@ -254,7 +254,7 @@ pub(crate) fn tell_first<R: System>(
 }
 
 /// Tells that the dump is to replace an entry of this date, which is after its own. It fails only where memory is refused.
-fn tell_replaced<R: System>(rt: &R, line: &DumpLine<'_>, replaced: u64) -> io::Result<()> {
+fn report_replaced<R: System>(rt: &R, line: &DumpLine<'_>, replaced: u64) -> io::Result<()> {
     let date = text_of(rt, replaced)?;
     let (path, name, level) = (plain(line.dumpdates), plain(line.fs), line.level);
     let _ = eprintln!(rt;
@@ -264,7 +264,7 @@ fn tell_replaced<R: System>(rt: &R, line: &DumpLine<'_>, replaced: u64) -> io::R
 }
 
 /// Tells from which date on a block counts as new. It fails only where memory is refused.
-fn tell_since<R: System>(rt: &R, since: u64) -> io::Result<()> {
+fn report_since<R: System>(rt: &R, since: u64) -> io::Result<()> {
     if since == 0 {
         let _ = eprintln!(rt; "since the epoch: every block counts as new");
         return Ok(());
@@ -275,7 +275,7 @@ fn tell_since<R: System>(rt: &R, since: u64) -> io::Result<()> {
 }
 
 /// Tells that the base date is after the date of the dump. It fails only where memory is refused.
-fn tell_late<R: System>(rt: &R, since: u64) -> io::Result<()> {
+fn report_late<R: System>(rt: &R, since: u64) -> io::Result<()> {
     let date = text_of(rt, since)?;
     let _ = eprintln!(rt; "rdump: the base date, {date}, is after the date of this dump");
     Ok(())

@@ -12,7 +12,7 @@ use std::io::{self, ErrorKind};
 use std::time::{SystemTime, UNIX_EPOCH};
 
 /// Tells of a dump that is complete what a restore needs, and whether its payload changed.
-pub(crate) fn tell_end<R: System, B: Blocks>(
+pub(crate) fn report_end<R: System, B: Blocks>(
     rt: &R,
     line: &DumpLine<'_>,
     start: &DumpStart,
@@ -25,12 +25,12 @@ pub(crate) fn tell_end<R: System, B: Blocks>(
         "to restore: {blocks} blocks, {bytes} bytes: rdump read --to {to} --device {device} --out FILE --all --place --length {bytes}"
     );
     if let Some(look) = &start.look {
-        tell_change(rt, line.payload, look);
+        report_change(rt, line.payload, look);
     }
 }
 
 /// Tells what changed of a payload since its dump began, if anything did.
-fn tell_change<R: Eprint>(rt: &R, path: &str, look: &PayloadLook) {
+fn report_change<R: Eprint>(rt: &R, path: &str, look: &PayloadLook) {
     let path = plain(path);
     let _ = match look.change() {
         Ok(None) => Ok(()),
@@ -51,7 +51,7 @@ fn tell_change<R: Eprint>(rt: &R, path: &str, look: &PayloadLook) {
 }
 
 /// Tells that a payload was written to after the checkpoint at this path, if it was. It fails only where memory is refused.
-pub(crate) fn tell_younger<R: System>(
+pub(crate) fn report_younger<R: System>(
     rt: &R,
     line: &DumpLine<'_>,
     start: &DumpStart,
@@ -62,13 +62,13 @@ pub(crate) fn tell_younger<R: System>(
         return Ok(());
     };
     match look.modified() {
-        Some(written) if written > kept => tell_times(rt, line.payload, written, path, kept),
+        Some(written) if written > kept => report_times(rt, line.payload, written, path, kept),
         _ => Ok(()),
     }
 }
 
 /// Tells when the payload at this path was written to, and when the checkpoint was. It fails only where memory is refused.
-fn tell_times<R: System>(
+fn report_times<R: System>(
     rt: &R,
     payload: &str,
     written: SystemTime,

@@ -2,7 +2,7 @@
 ghost use Rattle.std.specs.Prelude.{◌≡◌, IfSome};
 
 use crate::System;
-use crate::fault::{FAILED, say, tell, tell_no_memory};
+use crate::fault::{FAILED, report, report_no_memory, say};
 use dumpdates::{Dates, DatesFault};
 use printable::plain;
 use rdump_files::{DumpFile, DumpFiles, OneFile, PayloadLook, ReplacedFile, open_payload};
@@ -59,7 +59,7 @@ impl DumpStart {
                 self.replaced = date;
                 None
             }
-            Err(_) => Some(tell_no_memory(rt)),
+            Err(_) => Some(report_no_memory(rt)),
         }
     }
 }
@@ -97,7 +97,7 @@ pub(crate) fn refuse_files<R: System>(
     match added {
         Ok(None) => None,
         Ok(Some(one)) => Some(refuse_one(rt, line, path, one)),
-        Err(error) => Some(tell(rt, path, error)),
+        Err(error) => Some(report(rt, path, error)),
     }
 }
 
@@ -135,6 +135,6 @@ pub(crate) fn refuse_stranger<R: System>(
             new.as_str(),
             "it is not one that rdump left: it is not touched",
         )),
-        Err(error) => Some(tell(rt, path, error)),
+        Err(error) => Some(report(rt, path, error)),
     }
 }

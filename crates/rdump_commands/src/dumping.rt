@@ -6,10 +6,10 @@ ghost use Rattle.rdump_commands.specs.Status.{IsDumpStatus, IsEndStatus};
 
 use crate::System;
 use crate::asking::Asking;
-use crate::dump_end::tell_end;
+use crate::dump_end::report_end;
 use crate::dump_start::DumpStart;
-use crate::fault::{ABNORMAL, NO_DUMPDATES, ended, tell_failed};
-use crate::told_peer::ToldPeer;
+use crate::fault::{ABNORMAL, NO_DUMPDATES, ended, report_failed};
+use crate::reporting_peer::ReportingPeer;
 use dump_client::{Blocks, Client};
 use dumpdates::DatesFault;
 use printable::plain;
@@ -57,7 +57,7 @@ pub(crate) fn run_printed<R: System, B: Blocks, T: Write + Copy + Drop>(
 ) -> Dumped
     ensures { IsDumpStatus client.new.at result.status }
 {
-    let mut peer = ToldPeer::new(rt, line, terminal);
+    let mut peer = ReportingPeer::new(rt, line, terminal);
     let mut operator = Asking::new(rt.reader(), terminal);
     let mut out = Counted::new(Clearing {
         lines: io::writer(rt),
@@ -104,7 +104,7 @@ fn dump_entered<R: System, B: Blocks, P: Peer, I: Read, W: Write>(
     let mut file = ReplacedFile::new(rt, rt.alloc(), dumpdates);
     let end = dump_and_update(rt.alloc(), client, peer, operator, out, &mut file);
     if let Some(fault) = end.fault {
-        tell_unentered(rt, dumpdates, fault, file.failure());
+        report_unentered(rt, dumpdates, fault, file.failure());
     }
     end.status
 }
@@ -125,7 +125,7 @@ pub(crate) fn run_kept<R: System, B: Blocks, T: Write + Copy + Drop>(
 ) -> u8
     ensures { IsDumpStatus client.new.at result }
 {
-    let mut peer = ToldPeer::new(rt, line, terminal);
+    let mut peer = ReportingPeer::new(rt, line, terminal);
     let mut operator = Asking::new(rt.reader(), terminal);
     let mut out = Counted::new(Clearing {
         lines: io::writer(rt),
@@ -134,7 +134,7 @@ pub(crate) fn run_kept<R: System, B: Blocks, T: Write + Copy + Drop>(
     let end = dump_kept(rt.alloc(), client, &mut peer, &mut operator, &mut out, file);
     let status = end_kept(rt, line, client, end, &mut out, file);
     if end == Conclusion::Complete {
-        tell_end(rt, line, start, client);
+        report_end(rt, line, start, client);
     }
     let failures = out.failures();
     ended(rt, failures, status)
@@ -160,7 +160,7 @@ fn end_kept<R: System, B: Blocks, W: Write>(
         Conclusion::Complete => remove(rt, line, file, COMPLETE),
         Conclusion::Abandoned => remove(rt, line, file, ABNORMAL),
         Conclusion::PrintFailed => ABNORMAL,
-        Conclusion::Unkept => tell_unkept(rt, line, file.failure()),
+        Conclusion::Unkept => report_unkept(rt, line, file.failure()),
     }
 }
 
@@ -170,7 +170,7 @@ fn remove<R: System>(rt: &R, line: &DumpLine<'_>, file: &mut ReplacedFile<'_, R>
 {
     match file.remove() {
         Ok(()) => status,
-        Err(FileFailed) => tell_left(rt, checkpoint_of(line), file.failure()),
+        Err(FileFailed) => report_left(rt, checkpoint_of(line), file.failure()),
     }
 }
 
@@ -180,7 +180,7 @@ fn checkpoint_of<'a>(line: &DumpLine<'a>) -> &'a str {
 }
 
 /// Tells that a checkpoint file could not be removed, by the system's reason, and answers the status.
-fn tell_left<R: Eprint>(rt: &R, path: &str, failure: Option<&io::Error>) -> u8
+fn report_left<R: Eprint>(rt: &R, path: &str, failure: Option<&io::Error>) -> u8
     ensures { result ≡ 3 }
 {
     let path = plain(path);
@@ -196,12 +196,12 @@ fn tell_left<R: Eprint>(rt: &R, path: &str, failure: Option<&io::Error>) -> u8
 }
 
 /// Tells why a checkpoint could not be kept, by the system's reason where the file failed, and answers the status.
-fn tell_unkept<R: Eprint>(rt: &R, line: &DumpLine<'_>, failure: Option<&io::Error>) -> u8
+fn report_unkept<R: Eprint>(rt: &R, line: &DumpLine<'_>, failure: Option<&io::Error>) -> u8
     ensures { result ≡ 3 }
 {
     let path = checkpoint_of(line);
     match failure {
-        Some(error) => tell_failed(rt, path, error, ABNORMAL),
+        Some(error) => report_failed(rt, path, error, ABNORMAL),
         None => {
             let path = plain(path);
             let _ = eprintln!(rt; "rdump: {path}: out of memory");
@@ -222,7 +222,7 @@ fn enter<R: System, B: Blocks, W: Write>(
     let mut file = ReplacedFile::new(rt, rt.alloc(), dumpdates);
     let end = enter_dump(rt.alloc(), client, out, &mut file);
     if let Some(fault) = end.fault {
-        tell_unentered(rt, dumpdates, fault, file.failure());
+        report_unentered(rt, dumpdates, fault, file.failure());
     }
     match end.status {
         COMPLETE => COMPLETE,
@@ -231,7 +231,7 @@ fn enter<R: System, B: Blocks, W: Write>(
 }
 
 /// Tells why a dump was not entered in a dumpdates file: by the system's reason where the file failed.
-fn tell_unentered<R: Eprint>(
+fn report_unentered<R: Eprint>(
     rt: &R,
     dumpdates: &str,
     fault: UpdateFault,

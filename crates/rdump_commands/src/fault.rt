@@ -27,7 +27,7 @@ pub(crate) fn say<R: Eprint>(rt: &R, what: &str, why: &str) -> u8
 }
 
 /// Tells of an error on standard error, or of refused memory on standard output, and answers the status.
-pub(crate) fn tell<R: Eprint + Print>(rt: &R, what: &str, error: io::Error) -> u8
+pub(crate) fn report<R: Eprint + Print>(rt: &R, what: &str, error: io::Error) -> u8
     ensures { result ≡ 1 }
 {
     if error.kind() == io::ErrorKind::OutOfMemory {
@@ -40,10 +40,10 @@ pub(crate) fn tell<R: Eprint + Print>(rt: &R, what: &str, error: io::Error) -> u
 }
 
 /// Tells that memory was refused, and answers the status.
-pub(crate) fn tell_no_memory<R: Eprint + Print>(rt: &R) -> u8
+pub(crate) fn report_no_memory<R: Eprint + Print>(rt: &R) -> u8
     ensures { result ≡ 1 }
 {
-    tell(rt, "", io::ErrorKind::OutOfMemory.into())
+    report(rt, "", io::ErrorKind::OutOfMemory.into())
 }
 
 /// Tells that standard output could not be written, and answers this status.
@@ -65,7 +65,7 @@ pub(crate) fn ended<R: Eprint>(rt: &R, failures: u64, status: u8) -> u8
 }
 
 /// Tells why a file or a connection failed, and answers this status.
-pub(crate) fn tell_failed<R: Eprint>(rt: &R, what: &str, error: &io::Error, status: u8) -> u8
+pub(crate) fn report_failed<R: Eprint>(rt: &R, what: &str, error: &io::Error, status: u8) -> u8
     ensures { result ≡ status }
 {
     let what = plain(what);
@@ -78,7 +78,7 @@ pub(crate) fn refuse_run<R: System>(rt: &R, line: &DumpLine<'_>, date: u64, faul
     ensures { result ≡ 1 }
 {
     let Ok(error) = error_of(rt.alloc(), line, date, fault) else {
-        return tell_no_memory(rt);
+        return report_no_memory(rt);
     };
     let _ = error.print(rt);
     FAILED

@@ -4,11 +4,11 @@ ghost use Rattle.rdump_commands.specs.Status.{IsStatus};
 ghost use Rattle.rdump_files.specs.Payload.{IsRunsPayload};
 
 use crate::System;
-use crate::dump_command::{RunDates, dated, tell_first};
-use crate::dump_end::tell_younger;
+use crate::dump_command::{RunDates, dated, report_first};
+use crate::dump_end::report_younger;
 use crate::dump_start::{DumpStart, refuse_files, refuse_stranger};
 use crate::dumping::run_kept;
-use crate::fault::{FAILED, refuse_run, say, tell, tell_failed, tell_no_memory};
+use crate::fault::{FAILED, refuse_run, report, report_failed, report_no_memory, say};
 use dump_client::{Blocks, Client, ResumeFault, Run};
 use rdump_files::{
     FileFailed, PayloadFile, ProgressLine, ReplacedFile, ResumedDumpFault, WholeFile, dumper_of,
@@ -59,7 +59,7 @@ fn dump_kept<R: System, M: Medium + Drop, T: Write + Copy + Drop>(
     match file.read(rt.alloc()) {
         Ok(None) => dump_anew(rt, line, run, payload, start, &mut file, terminal),
         Ok(Some(bytes)) => dump_on(rt, line, &run, &bytes, payload, start, &mut file, terminal),
-        Err(FileFailed) => tell_unread(rt, path, file.failure()),
+        Err(FileFailed) => report_unread(rt, path, file.failure()),
     }
 }
 
@@ -79,8 +79,8 @@ fn dump_anew<R: System, M: Medium + Drop, T: Write + Copy + Drop>(
     let dates = dates_of(&run);
     let gauge = terminal.map(|it| ProgressLine::new(rt, it));
     match dumper_of(rt.alloc(), run, payload, gauge) {
-        Ok(mut client) => dump_told(rt, line, start, dates, None, &mut client, file, terminal),
-        Err(_) => tell_no_memory(rt),
+        Ok(mut client) => dump_reported(rt, line, start, dates, None, &mut client, file, terminal),
+        Err(_) => report_no_memory(rt),
     }
 }
 
@@ -107,7 +107,7 @@ fn dump_on<R: System, M: Medium + Drop, T: Write + Copy + Drop>(
     match resume_dump(rt.alloc(), run, bytes, payload, gauge) {
         Ok(mut client) => {
             let blocks = Some(run.blocks());
-            dump_told(rt, line, start, dates, blocks, &mut client, file, terminal)
+            dump_reported(rt, line, start, dates, blocks, &mut client, file, terminal)
         }
         Err(fault) => refuse_checkpoint(rt, path, fault),
     }
@@ -123,7 +123,7 @@ fn dates_of(run: &Run) -> RunDates {
 
 /// Has a client dump that keeps its checkpoint in this file, after what is told before the first attempt, and answers the status. One that
 /// goes on has so many blocks.
-fn dump_told<R: System, B: Blocks, T: Write + Copy + Drop>(
+fn dump_reported<R: System, B: Blocks, T: Write + Copy + Drop>(
     rt: &R,
     line: &DumpLine<'_>,
     start: &DumpStart,
@@ -140,18 +140,18 @@ fn dump_told<R: System, B: Blocks, T: Write + Copy + Drop>(
         return status;
     }
     let told = match goes_on {
-        Some(blocks) => tell_going_on(rt, line, start, client, blocks, file),
+        Some(blocks) => report_going_on(rt, line, start, client, blocks, file),
         None => Ok(()),
     };
-    match told.and_then(|()| tell_first(rt, line, start, dates, terminal.is_some())) {
+    match told.and_then(|()| report_first(rt, line, start, dates, terminal.is_some())) {
         Ok(()) => run_kept(rt, &dated(line, dates.date), start, client, file, terminal),
-        Err(error) => tell(rt, line.dumpdates, error),
+        Err(error) => report(rt, line.dumpdates, error),
     }
 }
 
 /// Tells what a dump goes on with, among so many blocks, and that its payload is younger than the checkpoint, if it is. It fails only where
 /// memory is refused.
-fn tell_going_on<R: System, B: Blocks>(
+fn report_going_on<R: System, B: Blocks>(
     rt: &R,
     line: &DumpLine<'_>,
     start: &DumpStart,
@@ -163,7 +163,7 @@ fn tell_going_on<R: System, B: Blocks>(
     let (_, counted) = client.checkpoint();
     let _ = eprintln!(rt; "going on: {volumes} volumes, {counted} blocks of {blocks} counted");
     let path = line.checkpoint.unwrap_or("");
-    tell_younger(rt, line, start, path, file.modified())
+    report_younger(rt, line, start, path, file.modified())
 }
 
 /// Tells why no dump goes on from the checkpoint at this path, and answers the status.
@@ -171,7 +171,7 @@ fn refuse_checkpoint<R: System>(rt: &R, path: &str, fault: ResumedDumpFault) -> 
     ensures { result ≡ 1 }
 {
     match fault {
-        ResumedDumpFault::Unread(ResumeFault::OutOfMemory) => tell_no_memory(rt),
+        ResumedDumpFault::Unread(ResumeFault::OutOfMemory) => report_no_memory(rt),
         ResumedDumpFault::Unread(fault) => {
             let _ = println!(rt; "{fault}");
             say(rt, path, "it is no checkpoint")
@@ -188,12 +188,12 @@ fn refuse_checkpoint<R: System>(rt: &R, path: &str, fault: ResumedDumpFault) -> 
 }
 
 /// Tells why the checkpoint file at this path could not be read, and answers the status.
-fn tell_unread<R: System>(rt: &R, path: &str, failure: Option<&io::Error>) -> u8
+fn report_unread<R: System>(rt: &R, path: &str, failure: Option<&io::Error>) -> u8
     ensures { result ≡ 1 }
 {
     match failure {
-        Some(error) if error.kind() == io::ErrorKind::OutOfMemory => tell_no_memory(rt),
-        Some(error) => tell_failed(rt, path, error, FAILED),
+        Some(error) if error.kind() == io::ErrorKind::OutOfMemory => report_no_memory(rt),
+        Some(error) => report_failed(rt, path, error, FAILED),
         None => say(rt, path, "it could not be read"),
     }
 }

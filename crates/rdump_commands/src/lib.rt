@@ -23,11 +23,11 @@ mod program;
 mod protecting;
 mod read_command;
 mod reel_peer;
+mod reporting_peer;
 mod shell_word;
 mod shown;
 mod stack;
 mod system;
-mod told_peer;
 mod volume;
 mod volume_blocks;
 

@@ -3,7 +3,7 @@ ghost use Rattle.rdump_commands.specs.Status.{IsMtStatus};
 ghost use Rattle.rdump_words.specs.Rdump.{IsMtLine};
 
 use crate::System;
-use crate::fault::{ABNORMAL, tell_failed, unwritten};
+use crate::fault::{ABNORMAL, report_failed, unwritten};
 use crate::shown::may_be_shown;
 use printable::{PlainBytes, plain};
 use rdump_talk::{SocketPeer, mt};
@@ -23,7 +23,7 @@ pub fn run_mt<R: System>(rt: &R, line: MtLine<'_>) -> u8
     let mut peer = SocketPeer::new(rt, line.to);
     let status = answer_of(rt, line, &mut peer, &mut answer);
     if answer.is_empty() {
-        return tell_unanswered(rt, line.to, peer.failure());
+        return report_unanswered(rt, line.to, peer.failure());
     }
     if print_answer(rt, &answer).is_err() {
         return unwritten(rt, ABNORMAL);
@@ -55,11 +55,11 @@ fn answer_of<R: System>(
 }
 
 /// Tells that no answer came from the server at this address, and why by the system, if it says. Answers the status.
-fn tell_unanswered<R: System>(rt: &R, to: &str, failure: Option<&io::Error>) -> u8
+fn report_unanswered<R: System>(rt: &R, to: &str, failure: Option<&io::Error>) -> u8
     ensures { IsMtStatus result }
 {
     match failure {
-        Some(error) => tell_failed(rt, to, error, ABNORMAL),
+        Some(error) => report_failed(rt, to, error, ABNORMAL),
         None => {
             let to = plain(to);
             let _ = eprintln!(rt; "rdump: {to}: the connection ended before the answer");

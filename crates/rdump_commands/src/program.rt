@@ -2,7 +2,7 @@
 ghost use Rattle.std.specs.Prelude.{◌≡◌};
 ghost use Rattle.rdump_commands.specs.Status.{IsHelpStatus, IsStatus};
 
-use crate::fault::{FAILED, tell, tell_no_memory, unwritten};
+use crate::fault::{FAILED, report, report_no_memory, unwritten};
 use crate::{System, run_dates, run_dump, run_mt, run_read};
 use clap::error::ErrorKind;
 use file_medium::reserve_std_fds;
@@ -27,7 +27,7 @@ pub fn rdump<R: System, T: Write + Copy + Drop>(rt: &R, terminal: Option<T>) -> 
     reserve_std_fds(rt);
     match arguments(rt) {
         Ok(arguments) => run_arguments(rt, arguments.as_slice(), terminal),
-        Err(error) => tell(rt, "the words could not be read", error),
+        Err(error) => report(rt, "the words could not be read", error),
     }
 }
 
@@ -64,7 +64,7 @@ fn refuse<R: System>(rt: &R, error: clap::Error) -> u8
     ensures { IsHelpStatus result }
 {
     if error.kind() == ErrorKind::OutOfMemory {
-        return tell_no_memory(rt);
+        return report_no_memory(rt);
     }
     if error.use_stderr() {
         return print_error(rt, &error);
@@ -84,6 +84,6 @@ pub(crate) fn print_error<R: System>(rt: &R, error: &clap::Error) -> u8
             let _ = rt.eprint(PlainLines(text.as_str()));
             FAILED
         }
-        Err(_) => tell_no_memory(rt),
+        Err(_) => report_no_memory(rt),
     }
 }

@@ -46,34 +46,34 @@ fn protection_of(line: &DumpLine<'_>, front: ReelFront) -> Option<Held> {
 }
 
 /// Prints why an attempt is not to begin. `failure` is the system's reason, if the connection of the look failed by one.
-pub(crate) fn tell_held<R: Eprint>(
+pub(crate) fn report_held<R: Eprint>(
     rt: &R,
     line: &DumpLine<'_>,
     held: &Held,
     failure: Option<&io::Error>,
 ) {
     match held {
-        Held::Protected(front, protection) => tell_protected(rt, line, front, *protection),
-        Held::Failed(fault) => tell_unfound(rt, line.to, *fault, failure),
+        Held::Protected(front, protection) => report_protected(rt, line, front, *protection),
+        Held::Failed(fault) => report_unfound(rt, line.to, *fault, failure),
     }
 }
 
 /// Prints what a reel begins with that is not to be written on.
-fn tell_protected<R: Eprint>(
+fn report_protected<R: Eprint>(
     rt: &R,
     line: &DumpLine<'_>,
     front: &ReelFront,
     protection: Protection,
 ) {
     match protection {
-        Protection::OtherDump => tell_other(rt, line, front),
-        Protection::NoLabel => tell_front(rt, line, "begins with a record that is no label"),
-        Protection::Mark => tell_front(rt, line, "begins with a mark"),
+        Protection::OtherDump => report_other(rt, line, front),
+        Protection::NoLabel => report_front(rt, line, "begins with a record that is no label"),
+        Protection::Mark => report_front(rt, line, "begins with a mark"),
     }
 }
 
 /// Prints which volume a reel has that begins so.
-fn tell_other<R: Eprint>(rt: &R, line: &DumpLine<'_>, front: &ReelFront) {
+fn report_other<R: Eprint>(rt: &R, line: &DumpLine<'_>, front: &ReelFront) {
     let (to, device) = (plain(line.to), plain(line.device));
     if let Some(label) = label_of(front) {
         let (name, level, date, volume) = (
@@ -90,7 +90,7 @@ fn tell_other<R: Eprint>(rt: &R, line: &DumpLine<'_>, front: &ReelFront) {
 }
 
 /// Prints this of the first reel of a drive.
-fn tell_front<R: Eprint>(rt: &R, line: &DumpLine<'_>, what: &str) {
+fn report_front<R: Eprint>(rt: &R, line: &DumpLine<'_>, what: &str) {
     let (to, device) = (plain(line.to), plain(line.device));
     let _ = eprintln!(rt;
         "rdump: {to}: protected: the first reel of {device} {what}; lay another reel first, \
@@ -107,7 +107,7 @@ fn label_of(front: &ReelFront) -> Option<VolumeLabel> {
 }
 
 /// Prints why a look at the reel of an address found nothing out.
-fn tell_unfound<R: Eprint>(rt: &R, address: &str, fault: LookFault, failure: Option<&io::Error>) {
+fn report_unfound<R: Eprint>(rt: &R, address: &str, fault: LookFault, failure: Option<&io::Error>) {
     let address = plain(address);
     let _ = match (fault, failure) {
         (LookFault::Refused { asked, number }, _) => {

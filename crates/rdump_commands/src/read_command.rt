@@ -3,7 +3,7 @@ ghost use Rattle.rdump_commands.specs.Status.{IsReadStatus, IsStatus};
 ghost use Rattle.rdump_words.specs.Rdump.{IsReadLine};
 
 use crate::System;
-use crate::fault::{ABNORMAL, tell, tell_failed};
+use crate::fault::{ABNORMAL, report, report_failed};
 use crate::out_file::OutFile;
 use crate::stack::read_stack;
 use crate::volume::{VolumeEnd, read_volume};
@@ -34,7 +34,7 @@ pub fn run_read<R: System>(rt: &R, line: ReadLine<'_>) -> u8
 {
     match OutFile::open(rt, rt.alloc(), &line) {
         Ok(file) => read_into(rt, &line, file),
-        Err(error) => tell(rt, line.out, error),
+        Err(error) => report(rt, line.out, error),
     }
 }
 
@@ -70,7 +70,7 @@ pub(crate) fn finish_file<R: System>(rt: &R, line: &ReadLine<'_>, file: &OutFile
 {
     match cut_and_sync(rt, line, file) {
         Ok(()) => WHOLE,
-        Err(error) => tell_failed(rt, line.out, &error, ABNORMAL),
+        Err(error) => report_failed(rt, line.out, &error, ABNORMAL),
     }
 }
 

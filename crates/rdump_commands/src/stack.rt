@@ -4,7 +4,7 @@ ghost use Rattle.rdump_words.specs.Rdump.{IsReadLine};
 
 use crate::System;
 use crate::came::{BlockRange, CameBlocks};
-use crate::fault::{ABNORMAL, tell_no_memory};
+use crate::fault::{ABNORMAL, report_no_memory};
 use crate::out_file::OutFile;
 use crate::read_command::finish_file;
 use crate::volume::{VolumeEnd, VolumeRead, read_volume};
@@ -20,7 +20,7 @@ pub(crate) fn read_stack<R: System>(rt: &R, line: &ReadLine<'_>, file: &OutFile)
     let mut came = CameBlocks::new(rt.alloc());
     let end = read_volumes(rt, line, file, &mut came);
     let below = end_of_length(line.length, file.block());
-    let has_gap = tell_came(rt, came.sorted(), file.was_empty(), below);
+    let has_gap = report_came(rt, came.sorted(), file.was_empty(), below);
     match end {
         VolumeEnd::Whole | VolumeEnd::Failed => ABNORMAL,
         VolumeEnd::NoReel => end_stack(rt, line, file, has_gap),
@@ -33,7 +33,7 @@ fn end_stack<R: System>(rt: &R, line: &ReadLine<'_>, file: &OutFile, has_gap: bo
     ensures { IsReadStatus result }
 {
     let status = finish_file(rt, line, file);
-    let is_short = tell_short(rt, line, file);
+    let is_short = report_short(rt, line, file);
     if has_gap || is_short {
         ABNORMAL
     } else {
@@ -46,7 +46,7 @@ fn end_stack<R: System>(rt: &R, line: &ReadLine<'_>, file: &OutFile, has_gap: bo
 fn end_dump<R: System>(rt: &R, line: &ReadLine<'_>, file: &OutFile, has_gap: bool) -> u8
     ensures { IsReadStatus result }
 {
-    let is_short = tell_short(rt, line, file);
+    let is_short = report_short(rt, line, file);
     if line.length.is_none() || has_gap || is_short {
         ABNORMAL
     } else {
@@ -66,7 +66,7 @@ fn end_of_length(length: Option<u64>, block: Option<usize>) -> u64 {
 
 /// Tells where the file has fewer bytes than the line asks for: the last volumes did not come. Answers whether it has. Without a length
 /// it tells that this cannot be known.
-fn tell_short<R: System>(rt: &R, line: &ReadLine<'_>, file: &OutFile) -> bool {
+fn report_short<R: System>(rt: &R, line: &ReadLine<'_>, file: &OutFile) -> bool {
     let Some(length) = line.length else {
         let _ = eprintln!(rt;
             "the end of the dump is not known: without --length the last volumes may be missing"
@@ -120,7 +120,7 @@ fn count<R: System>(rt: &R, read: &VolumeRead, came: &mut CameBlocks) -> bool {
         return true;
     };
     if came.add(label.first(), read.count).is_err() {
-        tell_no_memory(rt);
+        report_no_memory(rt);
         return false;
     }
     true
@@ -128,19 +128,19 @@ fn count<R: System>(rt: &R, read: &VolumeRead, came: &mut CameBlocks) -> bool {
 
 /// Tells of the blocks that came, which are in order: which are missing between them, and of those before the first one, up to the block
 /// `below`. Where the file was empty these are missing too, and else another run may have read them. Answers whether any are missing.
-fn tell_came<R: System>(rt: &R, came: &[BlockRange], was_empty: bool, below: u64) -> bool {
+fn report_came<R: System>(rt: &R, came: &[BlockRange], was_empty: bool, below: u64) -> bool {
     match came.first() {
-        Some(_) if was_empty => tell_gaps(rt, came, 0, below),
+        Some(_) if was_empty => report_gaps(rt, came, 0, below),
         Some(range) => {
-            tell_first(rt, range.first);
-            tell_gaps(rt, came, range.first, below)
+            report_first(rt, range.first);
+            report_gaps(rt, came, range.first, below)
         }
         None => false,
     }
 }
 
 /// Tells which block is the first one that came, where that is not the dump's first one.
-fn tell_first<R: System>(rt: &R, first: u64) {
+fn report_first<R: System>(rt: &R, first: u64) {
     if first > 0 {
         let _ = eprintln!(rt; "block {first} is the first one that came");
     }
@@ -148,13 +148,13 @@ fn tell_first<R: System>(rt: &R, first: u64) {
 
 /// Tells which blocks are missing from this one on, and below another one, between those that came, which are in order. Answers whether
 /// any are.
-fn tell_gaps<R: System>(rt: &R, came: &[BlockRange], from: u64, below: u64) -> bool {
+fn report_gaps<R: System>(rt: &R, came: &[BlockRange], from: u64, below: u64) -> bool {
     let mut end = from;
     let mut has_gap = false;
     for range in came {
         let next = range.first.min(below);
         if next > end {
-            tell_gap(rt, end, next - 1);
+            report_gap(rt, end, next - 1);
             has_gap = true;
         }
         end = end.max(range.end);
@@ -163,7 +163,7 @@ fn tell_gaps<R: System>(rt: &R, came: &[BlockRange], from: u64, below: u64) -> b
 }
 
 /// Tells that the blocks from one to another are missing.
-fn tell_gap<R: System>(rt: &R, first: u64, last: u64) {
+fn report_gap<R: System>(rt: &R, first: u64, last: u64) {
     let _ = if first == last {
         eprintln!(rt; "block {first} is missing")
     } else {

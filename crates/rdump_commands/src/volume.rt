@@ -3,7 +3,7 @@ ghost use Rattle.std.specs.Prelude.{◌≡◌};
 ghost use Rattle.rdump_words.specs.Rdump.{IsReadLine};
 
 use crate::System;
-use crate::fault::{ABNORMAL, tell_failed, unwritten};
+use crate::fault::{ABNORMAL, report_failed, unwritten};
 use crate::label_text::{Found, LabelText, Wanted};
 use crate::out_file::{BlockFault, OutFile};
 use crate::reel_peer::{ReelPeer, ReelState};
@@ -81,7 +81,7 @@ pub(crate) fn read_volume<R: System>(
     };
     let end = match end_behind(rt, line, dump, &came) {
         Some(end) => end,
-        None => tell_volume(rt, line, &came, file, peer.failure()),
+        None => report_volume(rt, line, &came, file, peer.failure()),
     };
     VolumeRead {
         count: came.sizes.count,
@@ -175,7 +175,7 @@ fn into_label(found: Found) -> Option<VolumeLabel> {
 
 /// Tells of what came, with the file, in which the volume begins where its label came, and answers how it ended. `failure` is why the
 /// connection failed, by the system.
-fn tell_volume<R: System>(
+fn report_volume<R: System>(
     rt: &R,
     line: &ReadLine<'_>,
     came: &Came,
@@ -187,14 +187,14 @@ fn tell_volume<R: System>(
     }
     let has_begun = has_come(line, &came.found) || (!line.place && file.has_begun());
     if has_begun {
-        tell_sizes(rt, came.sizes);
+        report_sizes(rt, came.sizes);
     }
     let is_foreign = is_foreign(came, has_begun);
     if is_foreign {
         let _ = eprintln!(rt; "not a volume of rdump");
     }
     if let Found::OtherDump(label) = &came.found {
-        return tell_other(rt, line.to, label);
+        return report_other(rt, line.to, label);
     }
     if is_foreign && line.place {
         return VolumeEnd::Failed;
@@ -202,7 +202,7 @@ fn tell_volume<R: System>(
     let fault = file.take_fault();
     let end = end_of(rt, line, came.read, fault.as_ref(), failure);
     if line.all {
-        tell_reel(rt, came);
+        report_reel(rt, came);
     }
     end
 }
@@ -227,7 +227,7 @@ fn is_foreign(came: &Came, has_begun: bool) -> bool {
 }
 
 /// Tells how many blocks were read.
-fn tell_sizes<R: System>(rt: &R, sizes: BlockSizes) {
+fn report_sizes<R: System>(rt: &R, sizes: BlockSizes) {
     let BlockSizes {
         count,
         shortest,
@@ -243,7 +243,7 @@ fn tell_sizes<R: System>(rt: &R, sizes: BlockSizes) {
 }
 
 /// Tells whose volume a reel has, which is of another dump than the ones before.
-fn tell_other<R: System>(rt: &R, to: &str, label: &VolumeLabel) -> VolumeEnd {
+fn report_other<R: System>(rt: &R, to: &str, label: &VolumeLabel) -> VolumeEnd {
     let to = plain(to);
     let (name, level, volume) = (label.name(), label.level(), label.volume());
     let _ = eprintln!(rt;
@@ -262,17 +262,17 @@ fn end_of<R: System>(
 ) -> VolumeEnd {
     match (read, fault) {
         (Ok(()), None) => return VolumeEnd::Whole,
-        (_, Some(fault)) => tell_unwritten(rt, line, fault),
-        (Err(fault), None) => tell_read(rt, line.to, fault, failure),
+        (_, Some(fault)) => report_unwritten(rt, line, fault),
+        (Err(fault), None) => report_read(rt, line.to, fault, failure),
     }
     VolumeEnd::Failed
 }
 
 /// Tells why a block was not written, or is not on the disk.
-fn tell_unwritten<R: System>(rt: &R, line: &ReadLine<'_>, fault: &BlockFault) {
+fn report_unwritten<R: System>(rt: &R, line: &ReadLine<'_>, fault: &BlockFault) {
     match fault {
         BlockFault::Failed(error) => {
-            tell_failed(rt, line.out, error, ABNORMAL);
+            report_failed(rt, line.out, error, ABNORMAL);
         }
         BlockFault::OtherLength { bytes, before } => {
             let to = plain(line.to);
@@ -283,13 +283,13 @@ fn tell_unwritten<R: System>(rt: &R, line: &ReadLine<'_>, fault: &BlockFault) {
 }
 
 /// Tells why a volume of this server was not read whole, by the system's reason where there is one.
-fn tell_read<R: System>(rt: &R, to: &str, fault: ReadFault, failure: Option<&io::Error>) {
+fn report_read<R: System>(rt: &R, to: &str, fault: ReadFault, failure: Option<&io::Error>) {
     match (fault, failure) {
         (ReadFault::OutputFailed, _) => {
             unwritten(rt, ABNORMAL);
         }
         (ReadFault::ConnectionEnded, Some(error)) => {
-            tell_failed(rt, to, error, ABNORMAL);
+            report_failed(rt, to, error, ABNORMAL);
         }
         _ => {
             let to = plain(to);
@@ -299,7 +299,7 @@ fn tell_read<R: System>(rt: &R, to: &str, fault: ReadFault, failure: Option<&io:
 }
 
 /// Tells where the reel is, once the server was asked to take it away.
-fn tell_reel<R: System>(rt: &R, came: &Came) {
+fn report_reel<R: System>(rt: &R, came: &Came) {
     if came.reel != ReelState::Asked {
         return;
     }

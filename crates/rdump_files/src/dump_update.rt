@@ -66,7 +66,7 @@ pub fn enter_dump<B: Blocks, W: Write, F: WholeFile>(
         return unentered(ABNORMAL);
     };
     let updated = update(alloc, file, entry);
-    tell(updated, out)
+    print_update(updated, out)
 }
 
 /// The end of a dump that was not to be entered.
@@ -80,7 +80,7 @@ fn unentered(status: u8) -> DumpEnd
 }
 
 /// Tells of a dump that is complete and was not entered, and answers its end.
-fn tell<W: Write>(updated: Result<(), UpdateFault>, out: &mut Counted<W>) -> DumpEnd
+fn print_update<W: Write>(updated: Result<(), UpdateFault>, out: &mut Counted<W>) -> DumpEnd
     ensures { IsUpdateTold W.contents updated out.old out.new result }
 {
     match updated {

@@ -24,7 +24,7 @@ pub(crate) fn drive_reel<R: ListSystem>(
         Ok(Some(why)) => Ok(Some(reel_of(rt, device, tally, Source::Undetermined(why))?)),
         Err(ReadFault::OutOfMemory) => Err(AllocError),
         Err(fault) => {
-            tell_fault(rt, to, fault, &peer);
+            report_fault(rt, to, fault, &peer);
             Ok(None)
         }
     }
@@ -52,7 +52,7 @@ fn reel_of<R: ListSystem>(
 }
 
 /// Tells why no session can be had, by the system's reason where there is one.
-fn tell_fault<R: ListSystem>(rt: &R, to: &str, fault: ReadFault, peer: &SocketPeer<'_, R>) {
+fn report_fault<R: ListSystem>(rt: &R, to: &str, fault: ReadFault, peer: &SocketPeer<'_, R>) {
     let to = plain(to);
     let _ = match (fault, peer.failure()) {
         (ReadFault::ConnectionEnded, Some(error)) => eprintln!(rt; "rdump: {to}: {error}"),

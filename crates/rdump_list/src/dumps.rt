@@ -1,7 +1,7 @@
 //! The dumps of a dumpdates file, and what reels have of them.
 use crate::ListSystem;
 use crate::dump_found::DumpFound;
-use crate::fault::tell;
+use crate::fault::report;
 use crate::printer::Printer;
 use crate::reel::ListedReel;
 use crate::words::push_count;
@@ -16,7 +16,7 @@ pub(crate) fn read_dates<R: ListSystem>(rt: &R, path: &str) -> Result<Option<Dat
     let bytes = match fs::read(rt, path) {
         Ok(bytes) => bytes,
         Err(error) => {
-            tell(rt, path, error)?;
+            report(rt, path, error)?;
             return Ok(None);
         }
     };

@@ -10,7 +10,7 @@ pub(crate) fn say<R: Eprint>(rt: &R, what: &str, why: &str) {
 }
 
 /// Tells on standard error what is at fault, by the system's reason. Refused memory is not told.
-pub(crate) fn tell<R: Eprint>(rt: &R, what: &str, error: io::Error) -> Result<(), AllocError> {
+pub(crate) fn report<R: Eprint>(rt: &R, what: &str, error: io::Error) -> Result<(), AllocError> {
     if error.kind() == ErrorKind::OutOfMemory {
         return Err(AllocError);
     }

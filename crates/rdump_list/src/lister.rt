@@ -1,6 +1,6 @@
 //! Record files that are read where they lie.
 use crate::ListSystem;
-use crate::fault::{say, tell};
+use crate::fault::{report, say};
 use crate::folder::names_in;
 use crate::reel::{ListedReel, Source};
 use file_medium::FileMedium;
@@ -52,7 +52,7 @@ impl<'a, R: ListSystem> Lister<'a, R> {
                 self.say(path, NO_FILE);
                 Ok(())
             }
-            Err(error) => self.tell(path, error),
+            Err(error) => self.report(path, error),
         }
     }
 
@@ -61,7 +61,7 @@ impl<'a, R: ListSystem> Lister<'a, R> {
     fn read_folder(&mut self, folder: &str) -> Result<(), AllocError> {
         match names_in(self.rt, folder) {
             Ok(names) => self.read_names(folder, &names),
-            Err(error) => self.tell(folder, error),
+            Err(error) => self.report(folder, error),
         }
     }
 
@@ -86,7 +86,7 @@ impl<'a, R: ListSystem> Lister<'a, R> {
             Ok(found) if found.is_file() => self.read_file(path),
             Ok(_) => Ok(()),
             Err(error) if error.kind() == ErrorKind::NotFound => Ok(()),
-            Err(error) => self.tell(path, error),
+            Err(error) => self.report(path, error),
         }
     }
 
@@ -98,7 +98,7 @@ impl<'a, R: ListSystem> Lister<'a, R> {
                 self.say(path, "it could not be read");
                 Ok(())
             }
-            Err(error) => self.tell(path, error),
+            Err(error) => self.report(path, error),
         }
     }
 
@@ -130,8 +130,8 @@ impl<'a, R: ListSystem> Lister<'a, R> {
     }
 
     /// Tells the system's reason why a path can't be read.
-    fn tell(&mut self, path: &str, error: io::Error) -> Result<(), AllocError> {
+    fn report(&mut self, path: &str, error: io::Error) -> Result<(), AllocError> {
         self.has_failed = true;
-        tell(self.rt, path, error)
+        report(self.rt, path, error)
     }
 }

@@ -78,7 +78,7 @@ fn operate<P: Peer, W: Write>(
     let Ok(answer) = ask(caller, peer, device, op, count) else {
         return FAILED;
     };
-    let status = tell(&answer, out);
+    let status = print_reply(&answer, out);
     let _ = caller.call(peer, &Request::Close);
     status
 }
@@ -112,7 +112,7 @@ fn mode_of(op: u32) -> u32
 }
 
 /// Prints what was answered. Answers the status.
-fn tell<W: Write>(answer: &KeptReply, out: &mut Counted<W>) -> u8
+fn print_reply<W: Write>(answer: &KeptReply, out: &mut Counted<W>) -> u8
     ensures { IsReplyTold W.contents (plain_kept answer.now) out.old out.new result }
 {
     let printed = print_answer(answer, out);

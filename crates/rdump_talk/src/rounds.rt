@@ -125,7 +125,7 @@ fn report<B: Blocks, R: Read, W: Write>(
 {
     match attempted {
         Attempted::Over => None,
-        Attempted::Failed(fault) => tell(client, fault, out),
+        Attempted::Failed(fault) => print_end(client, fault, out),
         Attempted::NotStarted => {
             let lines = failure_of(client, AttemptFault::OutOfMemory);
             ask_here(client, lines.as_bytes(), operator, out)
@@ -134,7 +134,7 @@ fn report<B: Blocks, R: Read, W: Write>(
 }
 
 /// Prints that an attempt failed. Answers how the dump ended where printing failed.
-fn tell<B: Blocks, W: Write>(
+fn print_end<B: Blocks, W: Write>(
     client: &Client<B>,
     fault: AttemptFault,
     out: &mut Counted<W>,

@@ -29,7 +29,7 @@ pub fn check_reel<M: Medium>(medium: &mut M, room: &mut [u8]) -> Result<ReelCont
     ensures quiet { OnOk result (M.failures medium.new ≡ M.failures medium.old) }
 {
     let bytes = medium.len()?;
-    let (tally, end) = tell_entries(medium, room)?;
+    let (tally, end) = add_entries(medium, room)?;
     Ok(ReelContents {
         records: tally.records(),
         marks: tally.marks(),
@@ -40,24 +40,21 @@ pub fn check_reel<M: Medium>(medium: &mut M, room: &mut [u8]) -> Result<ReelCont
 }
 
 /// The tally of the entries of a record file, and the offset where they end.
-fn tell_entries<M: Medium>(
-    medium: &mut M,
-    room: &mut [u8],
-) -> Result<(ReelTally, u64), MediumFailed>
+fn add_entries<M: Medium>(medium: &mut M, room: &mut [u8]) -> Result<(ReelTally, u64), MediumFailed>
     ensures { IsMediumRun (medium_kind_of M.Medium)
         (λ old new. (new ≡ old) × IfOk result (λ p. IsToldOf old p.1 p.0)) 0 (IsErr result) medium.old medium.new }
 {
     let mut tally = ReelTally::new();
     let mut at: u64 = 0;
     while let Some(length) = next_length(medium, at)? {
-        tell_entry(medium, at, length, room, &mut tally)?;
+        add_entry(medium, at, length, room, &mut tally)?;
         at += size_of(length);
     }
     Ok((tally, at))
 }
 
 /// Tells the entry of this length that stands from an offset on.
-fn tell_entry<M: Medium>(
+fn add_entry<M: Medium>(
     medium: &mut M,
     at: u64,
     length: u32,
@@ -73,11 +70,11 @@ fn tell_entry<M: Medium>(
         tally.mark();
         return Ok(());
     }
-    tell_record(medium, at + LENGTH_BYTES, length as usize, room, tally)
+    add_record(medium, at + LENGTH_BYTES, length as usize, room, tally)
 }
 
 /// Tells the record of this length whose bytes stand from an offset on. Only the bytes of a first one that may be a label count.
-fn tell_record<M: Medium>(
+fn add_record<M: Medium>(
     medium: &mut M,
     at: u64,
     length: usize,
@@ -90,7 +87,7 @@ fn tell_record<M: Medium>(
         medium.old medium.new }
 {
     if length == LABEL_BYTES && tally.is_empty() {
-        return tell_label(medium, at, tally);
+        return add_label(medium, at, tally);
     }
     pass_bytes(medium, at, length, room)?;
     tally.other_record(length);
@@ -98,7 +95,7 @@ fn tell_record<M: Medium>(
 }
 
 /// Tells the record of a label's length whose bytes stand from an offset on.
-fn tell_label<M: Medium>(medium: &mut M, at: u64, tally: &mut ReelTally) -> Result<(), MediumFailed>
+fn add_label<M: Medium>(medium: &mut M, at: u64, tally: &mut ReelTally) -> Result<(), MediumFailed>
     ensures { IsMediumRun (medium_kind_of M.Medium)
         (λ old new. (new ≡ old) × IfOk result (λ _. TellsRecord (drop at old) label_bytes tally.old tally.new)) 0 (IsErr result)
         medium.old medium.new }

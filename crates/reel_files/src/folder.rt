@@ -172,12 +172,12 @@ impl<R: FolderSystem, L: Log + Drop> FolderStacks<R, L> {
         let chosen = &self.drives[drive];
         match chosen.find(&self.rt, self.bin.as_str(), &self.log) {
             Ok(Some(found)) => {
-                chosen.opened(&found).tell(&self.log);
+                chosen.opened(&found).write_to(&self.log);
                 Ok(Some(found))
             }
             Ok(None) => Ok(None),
             Err(refusal) => {
-                chosen.refused(&refusal).tell(&self.log);
+                chosen.refused(&refusal).write_to(&self.log);
                 Err(refusal.reason)
             }
         }
@@ -190,7 +190,7 @@ impl<R: FolderSystem, L: Log + Drop> FolderStacks<R, L> {
     {
         let chosen = &mut self.drives[drive];
         let moved = chosen.take_off(&self.rt, self.bin.as_str(), medium);
-        chosen.moved(&moved, medium).tell(&self.log);
+        chosen.moved(&moved, medium).write_to(&self.log);
         match moved {
             Ok(Moved::Done(_)) => {
                 chosen.note(None);
@@ -272,7 +272,7 @@ impl<R: FolderSystem, L: Log + Drop> Stacks for FolderStacks<R, L> {
         let report = chosen.close(&self.rt, self.bin.as_str(), reel.medium());
         drop(reel);
         if let Some(report) = report {
-            report.tell(&self.log);
+            report.write_to(&self.log);
         }
     }
 

@@ -22,32 +22,28 @@ const ROOM: usize = 4096;
 /// Says in the log where a reel of this capacity can come to the limit and the signal is not ignored.
 ///
 /// It fails only where memory is refused. Where the system tells no limits it says nothing.
-pub(crate) fn tell_limit<R: FolderSystem, L: Log>(
-    rt: &R,
-    log: &L,
-    capacity: u64,
-) -> io::Result<()> {
+pub(crate) fn log_limit<R: FolderSystem, L: Log>(rt: &R, log: &L, capacity: u64) -> io::Result<()> {
     let Some(limit) = limit_of(rt)? else {
         return Ok(());
     };
     if limit < capacity && is_fatal(rt)? {
-        log.note(text_of(LimitTold { limit, capacity }).as_str());
+        log.note(text_of(LimitLog { limit, capacity }).as_str());
     }
     Ok(())
 }
 
 /// That a reel can come to the limit.
 #[derive(Clone, Copy)]
-struct LimitTold {
+struct LimitLog {
     /// How many bytes a file may have.
     limit: u64,
     /// How many bytes a reel takes.
     capacity: u64,
 }
 
-impl Display for LimitTold {
+impl Display for LimitLog {
     fn fmt<W: Write>(&self, f: &mut Formatter<W>) -> fmt::Result {
-        let LimitTold { limit, capacity } = self;
+        let LimitLog { limit, capacity } = self;
         write!(
             f,
             "a file may have {limit} bytes here and a reel {capacity}: "

@@ -9,7 +9,7 @@ ghost use Rattle.rmtd_serve.specs.Startup.{AreUntouched, IsDone, IsBegun, IsStar
 
 use crate::connections::Connections;
 use crate::error_log::ErrorLog;
-use crate::file_limit::tell_limit;
+use crate::file_limit::log_limit;
 use crate::folders::logged_stacks;
 use crate::line_start::LineStart;
 use crate::listener_setup::ListenerSetup;
@@ -73,7 +73,7 @@ pub fn start<R: System, I: Read, O: Write>(
 {
     match run_process(rt, input, output) {
         Ok(begun) => Ok(begun),
-        Err(error) => tell(rt, NOT_STARTED, error),
+        Err(error) => report(rt, NOT_STARTED, error),
     }
 }
 
@@ -89,7 +89,7 @@ fn run_process<R: System, I: Read, O: Write>(
 {
     match arguments(rt) {
         Ok(arguments) => run_arguments(rt, arguments.as_slice(), input, output),
-        Err(error) => tell(rt, "the words could not be read", error),
+        Err(error) => report(rt, "the words could not be read", error),
     }
 }
 
@@ -183,7 +183,7 @@ fn serve_line<R: System, I: Read, O: Write>(
     };
     match listen(rt, address, line, start) {
         Ok(status) => Ok(Begun::End(status)),
-        Err(error) => tell(rt, address, error),
+        Err(error) => report(rt, address, error),
     }
 }
 
@@ -207,7 +207,7 @@ fn serve_line_in_folders<R: System, I: Read, O: Write>(
 {
     let stacks = stacks_with_warnings(rt, line, bin, start)?;
     if let Some(fault) = stacks.find_fault() {
-        return tell(rt, fault.folder, fault.reason);
+        return report(rt, fault.folder, fault.reason);
     }
     match line.listen {
         Some(address) => listen_in_folders(rt, address, line, bin, start),
@@ -270,11 +270,11 @@ fn listen_in_folders<R: System>(
     ensures { IfOk result (ListensOrEnds line.now) }
 {
     let log = log_of(rt, start);
-    tell_limit(rt, &log, line.capacity)?;
+    log_limit(rt, &log, line.capacity)?;
     let listener_setup = listener_setup_of(rt, line, bin, start)?;
     match bind(rt, address, &log) {
         Ok(listener) => Ok(Begun::Serve(listener, listener_setup)),
-        Err(error) => tell(rt, address, error),
+        Err(error) => report(rt, address, error),
     }
 }
 
@@ -289,13 +289,13 @@ fn end<R: System, I: Read, O: Write>(
     ensures { result ≡ Begun.End status }
 {
     if status == FAILED && input.failures() == 0 && output.failures() == 0 {
-        let _ = tell(rt, NOT_STARTED, io::ErrorKind::OutOfMemory.into());
+        let _ = report(rt, NOT_STARTED, io::ErrorKind::OutOfMemory.into());
     }
     Begun::End(status)
 }
 
 /// Tells on standard error what is at fault and why; what is left is to end.
-fn tell<R: System>(rt: &R, what: &str, why: io::Error) -> io::Result<Begun<R>>
+fn report<R: System>(rt: &R, what: &str, why: io::Error) -> io::Result<Begun<R>>
     ensures { IfOk result (λ begun. begun ≡ Begun.End 1) }
 {
     let what = plain(what);
@@ -373,7 +373,7 @@ fn refuse<R: System>(rt: &R, error: Error) -> io::Result<Begun<R>>
     ensures { IfOk result (λ begun. (begun ≡ Begun.End 1) ⊎ ((begun ≡ Begun.End 0) × IsShown (kind_of error))) }
 {
     if error.kind() == ErrorKind::OutOfMemory {
-        return tell(rt, "the words", io::ErrorKind::OutOfMemory.into());
+        return report(rt, "the words", io::ErrorKind::OutOfMemory.into());
     }
     let printed = if error.use_stderr() {
         print_error(rt, &error)
@@ -381,7 +381,7 @@ fn refuse<R: System>(rt: &R, error: Error) -> io::Result<Begun<R>>
         error.print(rt)
     };
     if let Err(why) = printed {
-        return tell(rt, "standard output", why);
+        return report(rt, "standard output", why);
     }
     Ok(Begun::End(if error.use_stderr() { FAILED } else { 0 }))
 }

@@ -49,7 +49,7 @@ fn run_file<R: Files + Eprint + AllocGlobal, W: Write>(
 {
     match fs::read(rt, file) {
         Ok(text) => Ok(schedule(rt.alloc(), &text, out)),
-        Err(error) => tell(rt, file, error),
+        Err(error) => print_error(rt, file, error),
     }
 }
 
@@ -58,7 +58,7 @@ fn refuse<R: Print + Eprint>(rt: &R, error: clap::Error) -> io::Result<u8>
     ensures { IfOk result (λ status. (status ≡ 0) ⊎ (status ≡ FAILED)) }
 {
     if error.kind() == ErrorKind::OutOfMemory {
-        return tell(rt, "the words", io::ErrorKind::OutOfMemory.into());
+        return print_error(rt, "the words", io::ErrorKind::OutOfMemory.into());
     }
     if error.use_stderr() {
         eprintln!(rt; "rsim: wrong words: one FILE is wanted, see rsim --help")?;
@@ -66,12 +66,12 @@ fn refuse<R: Print + Eprint>(rt: &R, error: clap::Error) -> io::Result<u8>
     }
     match error.print(rt) {
         Ok(()) => Ok(0),
-        Err(why) => tell(rt, "standard output", why),
+        Err(why) => print_error(rt, "standard output", why),
     }
 }
 
 /// Tells on standard error what is at fault and why, and answers the status.
-fn tell<R: Eprint>(rt: &R, what: &str, why: io::Error) -> io::Result<u8>
+fn print_error<R: Eprint>(rt: &R, what: &str, why: io::Error) -> io::Result<u8>
     ensures { IfOk result (λ status. status ≡ FAILED) }
 {
     eprintln!(rt; "rsim: {what}: {why}")?;

@@ -108,7 +108,7 @@ impl FolderDriveState {
                 return Ok(Some(found));
             }
             let flaw = finish_move(rt, &found.latched, folder, bin)?;
-            self.finished(&found, flaw).tell(log);
+            self.finished(&found, flaw).write_to(log);
         }
         let changed = io::Error::from(ErrorKind::StaleNetworkFileHandle);
         Err(Refusal::new(folder, "list", changed))

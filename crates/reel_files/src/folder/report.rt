@@ -41,7 +41,7 @@ impl Report {
     }
 
     /// Has the log note it.
-    pub(super) fn tell<L: Log>(&self, log: &L) {
+    pub(super) fn write_to<L: Log>(&self, log: &L) {
         if self.is_warning {
             log.warn(self.line.as_str());
         } else {

@@ -5,4 +5,4 @@ pub returns-in_default : goal.returns-in_default
 returns-in_default g c = not_entered c.in_default.ensures c.unentered.ensures
 
 pub returns : goal.returns
-returns g c = entered_so c.in-Some.entry c.update-updated.result c.in-Some.ensures c.update-updated.ensures c.tell.ensures
+returns g c = entered_so c.in-Some.entry c.update-updated.result c.in-Some.ensures c.update-updated.ensures c.print_update.ensures

@@ -8,5 +8,5 @@ returns-in_default g c =
 
 pub returns : goal.returns
 returns g c =
-    told_then_closed g.P.Peer.tells c.args.device.now c.args.op c.args.count g.W.Write.contents c.args.peer.now c.ask.new.peer c.call.new.peer c.args.out.now c.tell-status.new.out c.tell-status.result c.ask.result c.call.result c.in-Ok.answer c.in-Ok.is
-    c.ask.ensures c.tell-status.ensures c.call.ensures
+    told_then_closed g.P.Peer.tells c.args.device.now c.args.op c.args.count g.W.Write.contents c.args.peer.now c.ask.new.peer c.call.new.peer c.args.out.now c.print_reply-status.new.out c.print_reply-status.result c.ask.result c.call.result c.in-Ok.answer c.in-Ok.is
+    c.ask.ensures c.print_reply-status.ensures c.call.ensures

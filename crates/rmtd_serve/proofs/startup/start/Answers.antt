@@ -5,4 +5,4 @@ use Rattle.rmtd_serve.proofs.startup.start.Goals as goal
 
 pub returns-in-Err-clause-started : goal.returns-in-Err-clause-started
 returns-in-Err-clause-started g c =
-    IfOk-weaker c.tell.result _ _ (λ begun ends. ([], refused c.in-Err.ensures.failed ends)) c.tell.ensures
+    IfOk-weaker c.report.result _ _ (λ begun ends. ([], refused c.in-Err.ensures.failed ends)) c.report.ensures

@@ -2,7 +2,7 @@ use Rattle.std.proofs.Common.{◌-◌, ◌≡◌, ◌^◌}
 use Rattle.tape.specs.RecordFile.{medium_kind_of}
 use Rattle.tape.specs.FileSteps.{IsMediumRun}
 use Rattle.reel_check.specs.Finding.{IsToldUpTo}
-use Rattle.reel_check.proofs.check.tell_entries.Given as goal
+use Rattle.reel_check.proofs.check.add_entries.Given as goal
 
 abbrev pub invariant-loop-length : goal.invariant-loop-length
 invariant-loop-length g l =

@@ -3,15 +3,15 @@ use Rattle.std.proofs.lemmas.Result.{IfOk-weaker}
 use Rattle.tape.proofs.MediumRuns.{run_as, no_bytes}
 use Rattle.reel_check.specs.Finding.{TellsEntry, TellsRecord}
 use Rattle.reel_check.proofs.Telling.{tells_entry}
-use Rattle.reel_check.proofs.check.tell_entry.Goals as goal
+use Rattle.reel_check.proofs.check.add_entry.Goals as goal
 
 pub returns : goal.returns
 returns g c =
-    run_as c.tell_record.ensures (λ f. f) (λ f. f) no_bytes
+    run_as c.add_record.ensures (λ f. f) (λ f. f) no_bytes
     (λ x y held step.
     let old = c.args.tally.now in
-    let new = c.tell_record.new.tally in (
+    let new = c.add_record.new.tally in (
       step.0,
-      IfOk-weaker c.tell_record.result (λ _. TellsRecord (drop (c.args.at + 4) x) c.args.length old new) (λ _. TellsEntry (drop c.args.at x) c.args.length old new)
+      IfOk-weaker c.add_record.result (λ _. TellsRecord (drop (c.args.at + 4) x) c.args.length old new) (λ _. TellsEntry (drop c.args.at x) c.args.length old new)
           (λ _. tells_entry x c.args.at c.args.length old new c.if-length-eq0.false) step.1,
     ))

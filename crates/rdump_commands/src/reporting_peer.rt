@@ -3,7 +3,7 @@ ghost use Rattle.std.specs.Prelude.{◌≤◌, length};
 
 use crate::System;
 use crate::last_reply::LastReply;
-use crate::protecting::{find_hold, refusal, tell_held};
+use crate::protecting::{find_hold, refusal, report_held};
 use dump_client::AttemptFault;
 use dump_run::VolumeLabel;
 use jiff::Timestamp;
@@ -21,7 +21,7 @@ use std::io::{self, Write};
 ///
 /// If the line asks for it, it looks at the reel before each attempt, over a connection of its own.
 #[derive(Drop)]
-pub(crate) struct ToldPeer<'a, R: System, T> {
+pub(crate) struct ReportingPeer<'a, R: System, T> {
     rt: &'a R,
     line: DumpLine<'a>,
     socket: SocketPeer<'a, R>,
@@ -30,10 +30,10 @@ pub(crate) struct ToldPeer<'a, R: System, T> {
     terminal: Option<T>,
 }
 
-impl<'a, R: System, T: Write> ToldPeer<'a, R, T> {
+impl<'a, R: System, T: Write> ReportingPeer<'a, R, T> {
     /// The server that this line names, with no connection. If reels are to be protected, the line has the date of the dump.
     pub(crate) fn new(rt: &'a R, line: &DumpLine<'a>, terminal: Option<T>) -> Self {
-        ToldPeer {
+        ReportingPeer {
             rt,
             line: *line,
             socket: SocketPeer::new(rt, line.to),
@@ -51,10 +51,10 @@ impl<'a, R: System, T: Write> ToldPeer<'a, R, T> {
     }
 
     /// Tells which label is written over, where the last reply has one: the dump goes on after it.
-    fn tell_label(&mut self) {
+    fn report_label(&mut self) {
         if let Some(label) = self.label() {
             self.clear();
-            tell_reel(self.rt, &label);
+            report_reel(self.rt, &label);
         }
     }
 
@@ -69,14 +69,14 @@ impl<'a, R: System, T: Write> ToldPeer<'a, R, T> {
             return true;
         };
         self.clear();
-        tell_held(self.rt, &self.line, &held, self.looks.failure());
+        report_held(self.rt, &self.line, &held, self.looks.failure());
         // From the second look in a row on that holds an attempt back, the next one waits.
         self.looks.attempt_failed(AttemptFault::ConnectionEnded);
         false
     }
 }
 
-impl<'a, R: System, T: Write> Peer for ToldPeer<'a, R, T> {
+impl<'a, R: System, T: Write> Peer for ReportingPeer<'a, R, T> {
     ghost tells = { λ _ _. ⊥ };
 
     fn connect(&mut self) -> bool {
@@ -85,7 +85,7 @@ impl<'a, R: System, T: Write> Peer for ToldPeer<'a, R, T> {
     }
 
     fn send(&mut self, bytes: &[u8]) -> bool {
-        self.tell_label();
+        self.report_label();
         self.reply.clear();
         self.socket.send(bytes)
     }
@@ -109,23 +109,23 @@ impl<'a, R: System, T: Write> Peer for ToldPeer<'a, R, T> {
         match fault {
             AttemptFault::ConnectionEnded => {
                 self.clear();
-                tell_ended(self.rt, self.line.to, self.socket.failure());
+                report_ended(self.rt, self.line.to, self.socket.failure());
             }
             AttemptFault::Refused(number) => {
                 self.clear();
-                tell_refused(self.rt, self.line.to, number);
+                report_refused(self.rt, self.line.to, number);
             }
             AttemptFault::CountedReel(volume) => {
                 self.clear();
-                tell_counted(self.rt, self.line.to, self.line.device, volume);
+                report_counted(self.rt, self.line.to, self.line.device, volume);
             }
             AttemptFault::Botched => {
                 self.clear();
-                tell_botched(self.rt, self.line.to);
+                report_botched(self.rt, self.line.to);
             }
             AttemptFault::SourceFault => {
                 self.clear();
-                tell_unread(self.rt, self.line.payload);
+                report_unread(self.rt, self.line.payload);
             }
             _ => {}
         }
@@ -138,7 +138,7 @@ fn clear<T: Write>(terminal: &mut T) {
 }
 
 /// Tells why the connection to an address could not be made or failed, or that it ended.
-fn tell_ended<R: Eprint>(rt: &R, address: &str, failure: Option<&io::Error>) {
+fn report_ended<R: Eprint>(rt: &R, address: &str, failure: Option<&io::Error>) {
     let address = plain(address);
     let _ = match failure {
         Some(error) => eprintln!(rt; "rdump: {address}: {error}"),
@@ -147,7 +147,7 @@ fn tell_ended<R: Eprint>(rt: &R, address: &str, failure: Option<&io::Error>) {
 }
 
 /// Tells what the system calls the error that an address answered, and after `EIO` where more is to be found.
-fn tell_refused<R: Eprint>(rt: &R, address: &str, number: u32) {
+fn report_refused<R: Eprint>(rt: &R, address: &str, number: u32) {
     let address = plain(address);
     let error = refusal(number);
     let _ = eprintln!(rt; "rdump: {address}: Refused {number}: {error}");
@@ -159,7 +159,7 @@ fn tell_refused<R: Eprint>(rt: &R, address: &str, number: u32) {
 }
 
 /// Tells what to do with a reel that begins with the label of a counted volume.
-fn tell_counted<R: Eprint>(rt: &R, address: &str, device: &str, volume: u32) {
+fn report_counted<R: Eprint>(rt: &R, address: &str, device: &str, volume: u32) {
     let address = plain(address);
     let device = plain(device);
     let _ = eprintln!(rt;
@@ -171,14 +171,14 @@ fn tell_counted<R: Eprint>(rt: &R, address: &str, device: &str, volume: u32) {
 }
 
 /// Tells that what came from an address is no reply.
-fn tell_botched<R: Eprint>(rt: &R, address: &str) {
+fn report_botched<R: Eprint>(rt: &R, address: &str) {
     let address = plain(address);
     let fault = ReadFault::Botched;
     let _ = eprintln!(rt; "rdump: {address}: {fault}");
 }
 
 /// Tells that a block of a payload could not be read.
-fn tell_unread<R: Eprint>(rt: &R, payload: &str) {
+fn report_unread<R: Eprint>(rt: &R, payload: &str) {
     let payload = plain(payload);
     let _ = eprintln!(rt;
         "rdump: {payload}: a block could not be read: the file became shorter, or its disk failed"
@@ -186,7 +186,7 @@ fn tell_unread<R: Eprint>(rt: &R, payload: &str) {
 }
 
 /// Tells which volume a reel has.
-fn tell_reel<R: Eprint>(rt: &R, label: &VolumeLabel) {
+fn report_reel<R: Eprint>(rt: &R, label: &VolumeLabel) {
     if let Some(day) = day_of(label.date()) {
         let (name, level, volume) = (label.name(), label.level(), label.volume());
         let _ = eprintln!(rt; "this reel has: {name} level {level} {day}, volume {volume}");

@@ -6,7 +6,7 @@ use Rattle.tape.proofs.MediumRuns.{no_error}
 use Rattle.reel_check.specs.Finding.{IsNextLength, IsToldUpTo}
 use Rattle.reel_check.proofs.ReelRuns.{look_then}
 use Rattle.reel_check.proofs.Telling.{more_told, all_told}
-use Rattle.reel_check.proofs.check.tell_entries.Goals as goal
+use Rattle.reel_check.proofs.check.add_entries.Goals as goal
 
 pub loop-length-preserved : goal.loop-length-preserved
 loop-length-preserved g c =
@@ -17,9 +17,9 @@ loop-length-preserved g c =
     = look_then c.loop-length.invariant c.in_ok-length.ensures.run no_error (λ f. absurd f) (λ x told next. (told, next)) in
     let P : Option ℕ → Type 0 = λ o. IfSome o (λ k. (k ≤ RECORD_LIMIT) × (at < 2 ^ 63)) in
     let limit = subst P c.in-Some.is c.in_ok-length.ensures.limit in
-    look_then found c.in_ok-tell_entry.ensures no_error (λ f. absurd f)
+    look_then found c.in_ok-add_entry.ensures no_error (λ f. absurd f)
     (λ x told tells.
-    more_told x at (at + c.size_of-at.result) n old c.tell_entry.new.tally limit.1 (ap (λ k. at + k) c.size_of-at.ensures) told.0
+    more_told x at (at + c.size_of-at.result) n old c.add_entry.new.tally limit.1 (ap (λ k. at + k) c.size_of-at.ensures) told.0
     (subst (IsNextLength (drop at x)) c.in-Some.is told.1) tells)
 
 pub returns : goal.returns

@@ -3,7 +3,7 @@ use Rattle.dump_client.specs.Standing.{checkpoint_of}
 use Rattle.rdump_talk.specs.Lines.{failure_lines}
 use Rattle.rmt_wire.specs.Print.{IsPrinted}
 use Rattle.rdump_talk.proofs.Printed.{lines_failed, cut_short}
-use Rattle.rdump_talk.proofs.rounds.tell.Goals as goal
+use Rattle.rdump_talk.proofs.rounds.print_end.Goals as goal
 
 pub returns-then-print_failure-clause-printed : goal.returns-then-print_failure-clause-printed
 returns-then-print_failure-clause-printed g c =
