@@ -9,4 +9,4 @@ pub mod Clock
 pub mod Line
 pub mod Lines
 pub mod Front
-pub mod Found
+pub mod FoundEntry

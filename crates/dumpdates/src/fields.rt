@@ -1,7 +1,7 @@
 //! What the words of a line say.
 
 ghost use Rattle.std.specs.Prelude.{ℕ, ◌^◌, ◌<◌, ◌≤◌, MatchOption, IfSome};
-ghost use Rattle.dumpdates.specs.Found.{SpellsMoment, plain_words, plain_fields};
+ghost use Rattle.dumpdates.specs.FoundEntry.{SpellsMoment, plain_words, plain_fields};
 ghost use Rattle.dumpdates.specs.Line.{PlainFields, SpellsDigits, SpellsTime, SpellsWords};
 
 use crate::entry::is_name;

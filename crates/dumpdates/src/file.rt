@@ -2,7 +2,7 @@
 
 ghost use Rattle.std.specs.Prelude.{◌≡◌, ◌==◌, ◌≤◌, length, OnOk, IfErr};
 ghost use Rattle.std.specs.List.{position_or_len};
-ghost use Rattle.dumpdates.specs.Found.{IsAdded, IsLineRefused};
+ghost use Rattle.dumpdates.specs.FoundEntry.{IsAdded, IsLineRefused};
 ghost use Rattle.dumpdates.specs.Stored.{plain_all};
 ghost use Rattle.dumpdates.specs.Text.{line_feed};
 

@@ -1,6 +1,6 @@
 //! A line of the file, as what it is.
 
-ghost use Rattle.dumpdates.specs.Found.{IsLineFound};
+ghost use Rattle.dumpdates.specs.FoundEntry.{IsLineFound};
 
 use crate::fields::fields_of;
 use crate::moment::seconds_of;
@@ -8,7 +8,7 @@ use crate::words::{is_blank, words_of};
 
 /// An entry in a line.
 #[derive(Clone, Copy)]
-pub(crate) struct Found<'a> {
+pub(crate) struct FoundEntry<'a> {
     pub(crate) name: &'a [u8],
     pub(crate) level: u8,
     pub(crate) date: u64,
@@ -24,7 +24,7 @@ pub(crate) enum EntryFault {
 }
 
 /// The entry that a line is. None for a blank one.
-pub(crate) fn line_of(line: &[u8]) -> Result<Option<Found<'_>>, EntryFault>
+pub(crate) fn line_of(line: &[u8]) -> Result<Option<FoundEntry<'_>>, EntryFault>
     ensures { IsLineFound line.now result }
 {
     if is_blank(line) {
@@ -39,7 +39,7 @@ pub(crate) fn line_of(line: &[u8]) -> Result<Option<Found<'_>>, EntryFault>
     let Some(date) = seconds_of(fields.moment) else {
         return Err(EntryFault::NoDate);
     };
-    Ok(Some(Found {
+    Ok(Some(FoundEntry {
         name: fields.name,
         level: fields.level,
         date,

@@ -3,11 +3,11 @@
 ghost use Rattle.std.specs.Prelude.{◌≡◌, ◌+◌, ◌≤◌, ◌∷◌, ◌++◌, [], Some, length, take, drop, filter, position, OnOk, OnErr};
 ghost use Rattle.dumpdates.specs.Dates as spec;
 ghost use Rattle.dumpdates.specs.Entry.{IsEntry};
-ghost use Rattle.dumpdates.specs.Found.{plain_found};
+ghost use Rattle.dumpdates.specs.FoundEntry.{plain_found};
 ghost use Rattle.dumpdates.specs.Stored.{plain_entry, plain_stored, plain_all, is_other};
 
 use crate::Entry;
-use crate::line::Found;
+use crate::line::FoundEntry;
 use crate::stored::Stored;
 use std::alloc::{AllocError, Global};
 
@@ -27,7 +27,7 @@ pub(crate) fn append(
     ensures last { OnOk result (plain_all entries.new.items ≡ plain_all entries.old.items ++ plain_entry entry.entry ∷ []) }
     ensures unchanged { OnErr result (entries.new.items ≡ entries.old.items) }
 {
-    let found = Found {
+    let found = FoundEntry {
         name: entry.name.as_bytes(),
         level: entry.level,
         date: entry.date,
@@ -39,7 +39,7 @@ pub(crate) fn append(
 pub(crate) fn push(
     alloc: Global,
     entries: &mut Vec<Stored>,
-    found: Found<'_>,
+    found: FoundEntry<'_>,
 ) -> Result<(), AllocError>
     requires { IsEntry (plain_found found) }
     ensures last { OnOk result (plain_all entries.new.items ≡ plain_all entries.old.items ++ plain_found found.entry ∷ []) }

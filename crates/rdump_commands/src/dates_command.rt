@@ -1,7 +1,7 @@
 //! `rdump dates`.
 ghost use Rattle.rdump_commands.specs.Status.{IsDatesStatus};
 
-use crate::System;
+use crate::ClientSystem;
 use crate::fault::{FAILED, NO_DUMPDATES, ended, report, say};
 use dumpdates::{Dates, DatesFault};
 use rdump_files::dates;
@@ -14,7 +14,7 @@ use std::{fs, io};
 ///
 /// Answers the exit status: 0 where the answer was printed, and 1 where the file can't be read or is none, memory was refused,
 /// or a write failed.
-pub fn run_dates<R: System>(rt: &R, file: &str, asked: Option<(&str, u8)>) -> u8
+pub fn run_dates<R: ClientSystem>(rt: &R, file: &str, asked: Option<(&str, u8)>) -> u8
     ensures { IsDatesStatus result }
 {
     let bytes = match fs::read(rt, file) {

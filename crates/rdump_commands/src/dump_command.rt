@@ -2,7 +2,7 @@
 ghost use Rattle.std.specs.Prelude.{◌≡◌, IfErr, IfSome};
 ghost use Rattle.rdump_commands.specs.Status.{IsStatus};
 
-use crate::System;
+use crate::ClientSystem;
 use crate::dump_end::report_end;
 use crate::dump_start::{DumpStart, refuse_files, refuse_stranger};
 use crate::dumping::run_printed;
@@ -34,7 +34,7 @@ use tape::{Medium, MediumFailed, MemoryMedium};
 ///
 /// Answers the exit status: 0 where the dump is complete, all was printed, and the dump is entered if it was to be; 1 where it
 /// could not begin; and else 3.
-pub fn run_dump<R: System, T: Write + Copy + Drop>(
+pub fn run_dump<R: ClientSystem, T: Write + Copy + Drop>(
     rt: &R,
     line: &DumpLine<'_>,
     terminal: Option<T>,
@@ -48,7 +48,7 @@ pub fn run_dump<R: System, T: Write + Copy + Drop>(
 }
 
 /// Dumps a payload that is open, and answers the status.
-fn dump_opened<R: System, T: Write + Copy + Drop>(
+fn dump_opened<R: ClientSystem, T: Write + Copy + Drop>(
     rt: &R,
     line: &DumpLine<'_>,
     file: File,
@@ -70,7 +70,7 @@ fn dump_opened<R: System, T: Write + Copy + Drop>(
 }
 
 /// Reads the dumpdates file, dumps the payload that lies on this medium, and answers the status.
-fn dump_medium<R: System, M: Medium + Drop, T: Write + Copy + Drop>(
+fn dump_medium<R: ClientSystem, M: Medium + Drop, T: Write + Copy + Drop>(
     rt: &R,
     line: &DumpLine<'_>,
     medium: M,
@@ -91,7 +91,7 @@ fn dump_medium<R: System, M: Medium + Drop, T: Write + Copy + Drop>(
 }
 
 /// The date on which the dump builds, by the dumpdates file. Answers the status where that file is at fault, which is told.
-fn since_of<R: System>(rt: &R, line: &DumpLine<'_>, start: &mut DumpStart) -> Result<u64, u8>
+fn since_of<R: ClientSystem>(rt: &R, line: &DumpLine<'_>, start: &mut DumpStart) -> Result<u64, u8>
     ensures { IfErr result (λ status. status ≡ 1) }
 {
     let path = line.dumpdates;
@@ -107,7 +107,7 @@ fn since_of<R: System>(rt: &R, line: &DumpLine<'_>, start: &mut DumpStart) -> Re
 
 /// The date on which the dump builds, by the dumpdates file, whose bytes are given. Answers the status where that file is at fault, or
 /// could not be replaced, which is told.
-fn since_in<R: System>(
+fn since_in<R: ClientSystem>(
     rt: &R,
     line: &DumpLine<'_>,
     start: &mut DumpStart,
@@ -130,7 +130,7 @@ fn since_in<R: System>(
 
 /// Notes what an update of the dumpdates file, whose bytes are given, is to replace, where the words ask for one. Answers the status where
 /// a file lies in its way that is not to be touched, which is told.
-fn look_at_update<R: System>(
+fn look_at_update<R: ClientSystem>(
     rt: &R,
     line: &DumpLine<'_>,
     start: &mut DumpStart,
@@ -149,7 +149,7 @@ fn look_at_update<R: System>(
 }
 
 /// Dumps a payload that builds on a dump of the date `since`, and answers the status.
-fn dump_since<R: System, M: Medium + Drop, T: Write + Copy + Drop>(
+fn dump_since<R: ClientSystem, M: Medium + Drop, T: Write + Copy + Drop>(
     rt: &R,
     line: &DumpLine<'_>,
     payload: PayloadFile<M>,
@@ -167,7 +167,7 @@ fn dump_since<R: System, M: Medium + Drop, T: Write + Copy + Drop>(
 }
 
 /// Dumps a payload at this date, and answers the status.
-fn dump_at<R: System, M: Medium + Drop, T: Write + Copy + Drop>(
+fn dump_at<R: ClientSystem, M: Medium + Drop, T: Write + Copy + Drop>(
     rt: &R,
     line: &DumpLine<'_>,
     payload: PayloadFile<M>,
@@ -198,7 +198,7 @@ pub(crate) fn dated<'a>(line: &DumpLine<'a>, date: u64) -> DumpLine<'a> {
 }
 
 /// Has a client dump that keeps no checkpoint, after what is told before the first attempt, and answers the status.
-fn dump_alone<R: System, B: Blocks, T: Write + Copy + Drop>(
+fn dump_alone<R: ClientSystem, B: Blocks, T: Write + Copy + Drop>(
     rt: &R,
     line: &DumpLine<'_>,
     start: &DumpStart,
@@ -231,7 +231,7 @@ pub(crate) struct RunDates {
 /// date is to be replaced, and where the dump could not be entered now, why.
 ///
 /// It fails only where memory is refused.
-pub(crate) fn report_first<R: System>(
+pub(crate) fn report_first<R: ClientSystem>(
     rt: &R,
     line: &DumpLine<'_>,
     start: &DumpStart,
@@ -254,7 +254,7 @@ pub(crate) fn report_first<R: System>(
 }
 
 /// Tells that the dump is to replace an entry of this date, which is after its own. It fails only where memory is refused.
-fn report_replaced<R: System>(rt: &R, line: &DumpLine<'_>, replaced: u64) -> io::Result<()> {
+fn report_replaced<R: ClientSystem>(rt: &R, line: &DumpLine<'_>, replaced: u64) -> io::Result<()> {
     let date = text_of(rt, replaced)?;
     let (path, name, level) = (plain(line.dumpdates), plain(line.fs), line.level);
     let _ = eprintln!(rt;
@@ -264,7 +264,7 @@ fn report_replaced<R: System>(rt: &R, line: &DumpLine<'_>, replaced: u64) -> io:
 }
 
 /// Tells from which date on a block counts as new. It fails only where memory is refused.
-fn report_since<R: System>(rt: &R, since: u64) -> io::Result<()> {
+fn report_since<R: ClientSystem>(rt: &R, since: u64) -> io::Result<()> {
     if since == 0 {
         let _ = eprintln!(rt; "since the epoch: every block counts as new");
         return Ok(());
@@ -275,14 +275,14 @@ fn report_since<R: System>(rt: &R, since: u64) -> io::Result<()> {
 }
 
 /// Tells that the base date is after the date of the dump. It fails only where memory is refused.
-fn report_late<R: System>(rt: &R, since: u64) -> io::Result<()> {
+fn report_late<R: ClientSystem>(rt: &R, since: u64) -> io::Result<()> {
     let date = text_of(rt, since)?;
     let _ = eprintln!(rt; "rdump: the base date, {date}, is after the date of this dump");
     Ok(())
 }
 
 /// The text of a date. It fails only where memory is refused: each date of an entry has a text.
-fn text_of<R: System>(rt: &R, date: u64) -> io::Result<String> {
+fn text_of<R: ClientSystem>(rt: &R, date: u64) -> io::Result<String> {
     match date_text(rt.alloc(), date) {
         Some(text) => Ok(text),
         None => Err(io::Error::from(ErrorKind::OutOfMemory)),
@@ -290,7 +290,7 @@ fn text_of<R: System>(rt: &R, date: u64) -> io::Result<String> {
 }
 
 /// Tells why a dumpdates file can't be written, if it can't. It fails only where memory is refused.
-fn warn<R: System>(rt: &R, dumpdates: &str) -> io::Result<()> {
+fn warn<R: ClientSystem>(rt: &R, dumpdates: &str) -> io::Result<()> {
     match ReplacedFile::new(rt, rt.alloc(), dumpdates).find_fault() {
         None => Ok(()),
         Some(error) if error.kind() == ErrorKind::OutOfMemory => Err(error),

@@ -1,6 +1,6 @@
 //! What is told of a dump beside its lines: what a restore needs, and what became of the payload.
 
-use crate::System;
+use crate::ClientSystem;
 use crate::dump_start::DumpStart;
 use crate::shell_word::ShellWord;
 use dump_client::{Blocks, Client};
@@ -12,7 +12,7 @@ use std::io::{self, ErrorKind};
 use std::time::{SystemTime, UNIX_EPOCH};
 
 /// Tells of a dump that is complete what a restore needs, and whether its payload changed.
-pub(crate) fn report_end<R: System, B: Blocks>(
+pub(crate) fn report_end<R: ClientSystem, B: Blocks>(
     rt: &R,
     line: &DumpLine<'_>,
     start: &DumpStart,
@@ -51,7 +51,7 @@ fn report_change<R: Eprint>(rt: &R, path: &str, look: &PayloadLook) {
 }
 
 /// Tells that a payload was written to after the checkpoint at this path, if it was. It fails only where memory is refused.
-pub(crate) fn report_younger<R: System>(
+pub(crate) fn report_younger<R: ClientSystem>(
     rt: &R,
     line: &DumpLine<'_>,
     start: &DumpStart,
@@ -68,7 +68,7 @@ pub(crate) fn report_younger<R: System>(
 }
 
 /// Tells when the payload at this path was written to, and when the checkpoint was. It fails only where memory is refused.
-fn report_times<R: System>(
+fn report_times<R: ClientSystem>(
     rt: &R,
     payload: &str,
     written: SystemTime,
@@ -84,7 +84,7 @@ fn report_times<R: System>(
 }
 
 /// A time as text, in UTC; of one after the year 9999 the last second of that. It fails only where memory is refused.
-fn time_text<R: System>(rt: &R, time: SystemTime) -> io::Result<String> {
+fn time_text<R: ClientSystem>(rt: &R, time: SystemTime) -> io::Result<String> {
     let seconds = time.duration_since(UNIX_EPOCH).map_or(0, |it| it.as_secs());
     match date_text(rt.alloc(), seconds.min(LAST_SECOND)) {
         Some(text) => Ok(text),

@@ -1,7 +1,7 @@
 //! What a dump is started with beside its words.
 ghost use Rattle.std.specs.Prelude.{◌≡◌, IfSome};
 
-use crate::System;
+use crate::ClientSystem;
 use crate::fault::{FAILED, report, report_no_memory, say};
 use dumpdates::{Dates, DatesFault};
 use printable::plain;
@@ -31,7 +31,7 @@ impl DumpStart {
     /// Opens the payload at this path.
     ///
     /// It fails with the system's reason, where the payload was exchanged while it was opened, and where memory is refused.
-    pub(crate) fn open<R: System>(rt: &R, path: &str) -> io::Result<(File, DumpStart)> {
+    pub(crate) fn open<R: ClientSystem>(rt: &R, path: &str) -> io::Result<(File, DumpStart)> {
         let (file, found) = open_payload(rt, path)?;
         let look = PayloadLook::new(&file, &found)?;
         let start = DumpStart {
@@ -46,7 +46,7 @@ impl DumpStart {
 
     /// Notes which entries of the dumpdates file, whose bytes are given, the dump is to replace. Answers the status where memory is
     /// refused, which is told.
-    pub(crate) fn note_replaced<R: System>(
+    pub(crate) fn note_replaced<R: ClientSystem>(
         &mut self,
         rt: &R,
         line: &DumpLine<'_>,
@@ -86,7 +86,7 @@ fn latest_date(alloc: Global, file: &[u8], name: &str, level: u64) -> Result<u64
 
 /// Tells why files were not added to those of a dump, and answers the status: one at this path is one of the others too, or the system does
 /// not tell. None where they were added.
-pub(crate) fn refuse_files<R: System>(
+pub(crate) fn refuse_files<R: ClientSystem>(
     rt: &R,
     line: &DumpLine<'_>,
     path: &str,
@@ -102,7 +102,7 @@ pub(crate) fn refuse_files<R: System>(
 }
 
 /// Tells that the file at this path is another one of the dump too, and answers the status.
-fn refuse_one<R: System>(rt: &R, line: &DumpLine<'_>, path: &str, one: OneFile) -> u8
+fn refuse_one<R: ClientSystem>(rt: &R, line: &DumpLine<'_>, path: &str, one: OneFile) -> u8
     ensures { result ≡ 1 }
 {
     let which = match one.file {
@@ -121,7 +121,7 @@ fn refuse_one<R: System>(rt: &R, line: &DumpLine<'_>, path: &str, one: OneFile) 
 }
 
 /// Tells that a file lies where the new file of this one is to be made that no run left, and answers the status. None where there is none.
-pub(crate) fn refuse_stranger<R: System>(
+pub(crate) fn refuse_stranger<R: ClientSystem>(
     rt: &R,
     path: &str,
     file: &ReplacedFile<'_, R>,

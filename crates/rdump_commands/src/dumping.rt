@@ -4,7 +4,7 @@ ghost use Rattle.dump_client.specs.declared.stage.Stage.TheVariants.{Finished};
 ghost use Rattle.rdump_talk.specs.declared.conclusion.Conclusion.TheVariants as ends;
 ghost use Rattle.rdump_commands.specs.Status.{IsDumpStatus, IsEndStatus};
 
-use crate::System;
+use crate::ClientSystem;
 use crate::asking::Asking;
 use crate::dump_end::report_end;
 use crate::dump_start::DumpStart;
@@ -28,7 +28,7 @@ const COMPLETE: u8 = 0;
 ///
 /// Answers the exit status: 0 where the run is finished, all was printed, and it is entered in the dumpdates file if the line
 /// asks for that; and else 3.
-pub fn run_client<R: System, B: Blocks, T: Write + Copy + Drop>(
+pub fn run_client<R: ClientSystem, B: Blocks, T: Write + Copy + Drop>(
     rt: &R,
     line: &DumpLine<'_>,
     client: &mut Client<B>,
@@ -49,7 +49,7 @@ pub(crate) struct Dumped {
 }
 
 /// Has a client dump as `run_client` does.
-pub(crate) fn run_printed<R: System, B: Blocks, T: Write + Copy + Drop>(
+pub(crate) fn run_printed<R: ClientSystem, B: Blocks, T: Write + Copy + Drop>(
     rt: &R,
     line: &DumpLine<'_>,
     client: &mut Client<B>,
@@ -72,7 +72,7 @@ pub(crate) fn run_printed<R: System, B: Blocks, T: Write + Copy + Drop>(
 }
 
 /// Has a client dump over a peer, with its lines to `out`, and answers the status.
-fn dump_over<R: System, B: Blocks, P: Peer, I: Read, W: Write>(
+fn dump_over<R: ClientSystem, B: Blocks, P: Peer, I: Read, W: Write>(
     rt: &R,
     line: &DumpLine<'_>,
     client: &mut Client<B>,
@@ -91,7 +91,7 @@ fn dump_over<R: System, B: Blocks, P: Peer, I: Read, W: Write>(
 
 /// Has a client dump, enters the dump in a dumpdates file where it is complete, and answers the status. Why it was not entered is
 /// told.
-fn dump_entered<R: System, B: Blocks, P: Peer, I: Read, W: Write>(
+fn dump_entered<R: ClientSystem, B: Blocks, P: Peer, I: Read, W: Write>(
     rt: &R,
     dumpdates: &str,
     client: &mut Client<B>,
@@ -115,7 +115,7 @@ fn dump_entered<R: System, B: Blocks, P: Peer, I: Read, W: Write>(
 ///
 /// Answers the exit status: 0 where the run is finished, all was printed, it is entered in the dumpdates file if the line asks
 /// for that, and the file is removed; and else 3.
-pub(crate) fn run_kept<R: System, B: Blocks, T: Write + Copy + Drop>(
+pub(crate) fn run_kept<R: ClientSystem, B: Blocks, T: Write + Copy + Drop>(
     rt: &R,
     line: &DumpLine<'_>,
     start: &DumpStart,
@@ -141,7 +141,7 @@ pub(crate) fn run_kept<R: System, B: Blocks, T: Write + Copy + Drop>(
 }
 
 /// Does what is left once a dump with a checkpoint ended so: enters it, and removes the file. Answers the status.
-fn end_kept<R: System, B: Blocks, W: Write>(
+fn end_kept<R: ClientSystem, B: Blocks, W: Write>(
     rt: &R,
     line: &DumpLine<'_>,
     client: &Client<B>,
@@ -165,7 +165,12 @@ fn end_kept<R: System, B: Blocks, W: Write>(
 }
 
 /// Removes the checkpoint file of a line, and answers this status. Where it can't be removed, that is told, and the status is another.
-fn remove<R: System>(rt: &R, line: &DumpLine<'_>, file: &mut ReplacedFile<'_, R>, status: u8) -> u8
+fn remove<R: ClientSystem>(
+    rt: &R,
+    line: &DumpLine<'_>,
+    file: &mut ReplacedFile<'_, R>,
+    status: u8,
+) -> u8
     ensures { (result ≡ status) ⊎ (result ≡ 3) }
 {
     match file.remove() {
@@ -211,7 +216,7 @@ fn report_unkept<R: Eprint>(rt: &R, line: &DumpLine<'_>, failure: Option<&io::Er
 }
 
 /// Enters the dump of a client that is finished in a dumpdates file, and answers the status. Why it was not entered is told.
-fn enter<R: System, B: Blocks, W: Write>(
+fn enter<R: ClientSystem, B: Blocks, W: Write>(
     rt: &R,
     dumpdates: &str,
     client: &Client<B>,

@@ -1,7 +1,7 @@
 //! Telling what is at fault. Where it can't be told, the status is the same.
 ghost use Rattle.std.specs.Prelude.{◌≡◌};
 
-use crate::System;
+use crate::ClientSystem;
 use dump_client::RunFault;
 use printable::plain;
 use rdump_words::{DumpLine, dump_error};
@@ -74,7 +74,12 @@ pub(crate) fn report_failed<R: Eprint>(rt: &R, what: &str, error: &io::Error, st
 }
 
 /// Tells which limit of a run the words break, where the dump is of this date, and answers the status.
-pub(crate) fn refuse_run<R: System>(rt: &R, line: &DumpLine<'_>, date: u64, fault: RunFault) -> u8
+pub(crate) fn refuse_run<R: ClientSystem>(
+    rt: &R,
+    line: &DumpLine<'_>,
+    date: u64,
+    fault: RunFault,
+) -> u8
     ensures { result ≡ 1 }
 {
     let Ok(error) = error_of(rt.alloc(), line, date, fault) else {

@@ -3,7 +3,7 @@ ghost use Rattle.std.specs.Prelude.{◌≡◌};
 ghost use Rattle.rdump_commands.specs.Status.{IsStatus};
 ghost use Rattle.rdump_files.specs.Payload.{IsRunsPayload};
 
-use crate::System;
+use crate::ClientSystem;
 use crate::dump_command::{RunDates, dated, report_first};
 use crate::dump_end::report_younger;
 use crate::dump_start::{DumpStart, refuse_files, refuse_stranger};
@@ -19,7 +19,7 @@ use std::io::{self, Write};
 use tape::Medium;
 
 /// Dumps a payload at this date, from the checkpoint at this path on if there is one, and answers the status.
-pub(crate) fn dump_from<R: System, M: Medium + Drop, T: Write + Copy + Drop>(
+pub(crate) fn dump_from<R: ClientSystem, M: Medium + Drop, T: Write + Copy + Drop>(
     rt: &R,
     line: &DumpLine<'_>,
     path: &str,
@@ -43,7 +43,7 @@ pub(crate) fn dump_from<R: System, M: Medium + Drop, T: Write + Copy + Drop>(
 }
 
 /// Dumps a run, from the checkpoint at this path on if there is one, and answers the status.
-fn dump_kept<R: System, M: Medium + Drop, T: Write + Copy + Drop>(
+fn dump_kept<R: ClientSystem, M: Medium + Drop, T: Write + Copy + Drop>(
     rt: &R,
     line: &DumpLine<'_>,
     path: &str,
@@ -64,7 +64,7 @@ fn dump_kept<R: System, M: Medium + Drop, T: Write + Copy + Drop>(
 }
 
 /// Dumps a payload from its beginning on, and answers the status.
-fn dump_anew<R: System, M: Medium + Drop, T: Write + Copy + Drop>(
+fn dump_anew<R: ClientSystem, M: Medium + Drop, T: Write + Copy + Drop>(
     rt: &R,
     line: &DumpLine<'_>,
     run: Run,
@@ -85,7 +85,7 @@ fn dump_anew<R: System, M: Medium + Drop, T: Write + Copy + Drop>(
 }
 
 /// Dumps a payload from this checkpoint on, and answers the status.
-fn dump_on<R: System, M: Medium + Drop, T: Write + Copy + Drop>(
+fn dump_on<R: ClientSystem, M: Medium + Drop, T: Write + Copy + Drop>(
     rt: &R,
     line: &DumpLine<'_>,
     run: &Run,
@@ -123,7 +123,7 @@ fn dates_of(run: &Run) -> RunDates {
 
 /// Has a client dump that keeps its checkpoint in this file, after what is told before the first attempt, and answers the status. One that
 /// goes on has so many blocks.
-fn dump_reported<R: System, B: Blocks, T: Write + Copy + Drop>(
+fn dump_reported<R: ClientSystem, B: Blocks, T: Write + Copy + Drop>(
     rt: &R,
     line: &DumpLine<'_>,
     start: &DumpStart,
@@ -151,7 +151,7 @@ fn dump_reported<R: System, B: Blocks, T: Write + Copy + Drop>(
 
 /// Tells what a dump goes on with, among so many blocks, and that its payload is younger than the checkpoint, if it is. It fails only where
 /// memory is refused.
-fn report_going_on<R: System, B: Blocks>(
+fn report_going_on<R: ClientSystem, B: Blocks>(
     rt: &R,
     line: &DumpLine<'_>,
     start: &DumpStart,
@@ -167,7 +167,7 @@ fn report_going_on<R: System, B: Blocks>(
 }
 
 /// Tells why no dump goes on from the checkpoint at this path, and answers the status.
-fn refuse_checkpoint<R: System>(rt: &R, path: &str, fault: ResumedDumpFault) -> u8
+fn refuse_checkpoint<R: ClientSystem>(rt: &R, path: &str, fault: ResumedDumpFault) -> u8
     ensures { result ≡ 1 }
 {
     match fault {
@@ -188,7 +188,7 @@ fn refuse_checkpoint<R: System>(rt: &R, path: &str, fault: ResumedDumpFault) -> 
 }
 
 /// Tells why the checkpoint file at this path could not be read, and answers the status.
-fn report_unread<R: System>(rt: &R, path: &str, failure: Option<&io::Error>) -> u8
+fn report_unread<R: ClientSystem>(rt: &R, path: &str, failure: Option<&io::Error>) -> u8
     ensures { result ≡ 1 }
 {
     match failure {

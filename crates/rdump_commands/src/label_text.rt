@@ -6,7 +6,7 @@ use std::io::{self, ErrorKind, Write};
 
 /// What the text of a volume's label is.
 #[derive(Drop)]
-pub(crate) enum Found {
+pub(crate) enum LabelKind {
     /// No text came.
     Nothing,
     /// It is that of no label of `rdump`.
@@ -19,7 +19,7 @@ pub(crate) enum Found {
 
 /// Which texts are printed.
 #[derive(Clone, Copy)]
-pub(crate) enum Wanted<'a> {
+pub(crate) enum LabelFilter<'a> {
     /// Any text.
     Any,
     /// Those of labels.
@@ -34,9 +34,9 @@ pub(crate) enum Wanted<'a> {
 pub(crate) struct LabelText<'a, W> {
     out: W,
     is_shown: bool,
-    wanted: Wanted<'a>,
+    wanted: LabelFilter<'a>,
     first: &'a Cell<Option<u32>>,
-    found: Found,
+    found: LabelKind,
 }
 
 impl<'a, W: Write + Drop> LabelText<'a, W> {
@@ -44,7 +44,7 @@ impl<'a, W: Write + Drop> LabelText<'a, W> {
     pub(crate) fn new(
         out: W,
         is_shown: bool,
-        wanted: Wanted<'a>,
+        wanted: LabelFilter<'a>,
         first: &'a Cell<Option<u32>>,
     ) -> Self {
         LabelText {
@@ -52,12 +52,12 @@ impl<'a, W: Write + Drop> LabelText<'a, W> {
             is_shown,
             wanted,
             first,
-            found: Found::Nothing,
+            found: LabelKind::Nothing,
         }
     }
 
     /// What the text is.
-    pub(crate) fn into_found(self) -> Found {
+    pub(crate) fn into_found(self) -> LabelKind {
         self.found
     }
 }
@@ -70,7 +70,7 @@ impl<'a, W: Write> Write for LabelText<'a, W> {
             return Err(ErrorKind::InvalidData.into());
         }
         match &self.found {
-            Found::Label(label) => {
+            LabelKind::Label(label) => {
                 self.out.write_all(buf)?;
                 self.first.set(Some(label.first()));
             }
@@ -86,20 +86,20 @@ impl<'a, W: Write> Write for LabelText<'a, W> {
 }
 
 /// What a text is, where labels of one dump may be wanted.
-fn look(text: &[u8], wanted: Wanted<'_>) -> Found {
+fn look(text: &[u8], wanted: LabelFilter<'_>) -> LabelKind {
     match (label_of(text), wanted) {
-        (None, _) => Found::Foreign,
-        (Some(label), Wanted::DumpOf(first)) if !are_of_one_dump(&label, first) => {
-            Found::OtherDump(label)
+        (None, _) => LabelKind::Foreign,
+        (Some(label), LabelFilter::DumpOf(first)) if !are_of_one_dump(&label, first) => {
+            LabelKind::OtherDump(label)
         }
-        (Some(label), _) => Found::Label(label),
+        (Some(label), _) => LabelKind::Label(label),
     }
 }
 
 /// Whether what was found is wanted.
-fn is_wanted(found: &Found, wanted: Wanted<'_>) -> bool {
+fn is_wanted(found: &LabelKind, wanted: LabelFilter<'_>) -> bool {
     match (found, wanted) {
-        (Found::Label(_), _) | (Found::Foreign, Wanted::Any) => true,
+        (LabelKind::Label(_), _) | (LabelKind::Foreign, LabelFilter::Any) => true,
         _ => false,
     }
 }

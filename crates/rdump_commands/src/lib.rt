@@ -3,7 +3,7 @@
 //!
 //! `rdump` is all of it, and `run_arguments` the same for words that are given. Each command is a call of its own: `run_dump`,
 //! `run_read`, `run_mt`, `run_dates`, and `run_ls` of `rdump_list`. `run_client` is a dump from its client on. What they use of the
-//! runtime is `System`.
+//! runtime is `ClientSystem`.
 #![tactic(auto)]
 
 mod asking;
@@ -37,4 +37,4 @@ pub use dumping::run_client;
 pub use mt_command::run_mt;
 pub use program::{rdump, run_arguments};
 pub use read_command::run_read;
-pub use system::System;
+pub use system::ClientSystem;

@@ -2,7 +2,7 @@
 ghost use Rattle.rdump_commands.specs.Status.{IsMtStatus};
 ghost use Rattle.rdump_words.specs.Rdump.{IsMtLine};
 
-use crate::System;
+use crate::ClientSystem;
 use crate::fault::{ABNORMAL, report_failed, unwritten};
 use crate::shown::may_be_shown;
 use printable::{PlainBytes, plain};
@@ -15,7 +15,7 @@ use std::io::{self, Write};
 /// printed.
 ///
 /// Answers the exit status: 0 where the operation was done and that was printed, and else 3.
-pub fn run_mt<R: System>(rt: &R, line: MtLine<'_>) -> u8
+pub fn run_mt<R: ClientSystem>(rt: &R, line: MtLine<'_>) -> u8
     requires { IsMtLine line }
     ensures { IsMtStatus result }
 {
@@ -32,7 +32,7 @@ pub fn run_mt<R: System>(rt: &R, line: MtLine<'_>) -> u8
 }
 
 /// Prints an answer of one line.
-fn print_answer<R: System>(rt: &R, answer: &[u8]) -> io::Result<()> {
+fn print_answer<R: ClientSystem>(rt: &R, answer: &[u8]) -> io::Result<()> {
     match answer.strip_suffix(b"\n") {
         Some(line) if may_be_shown(rt) => rt.println(PlainBytes(line)),
         _ => io::writer(rt).write_all(answer),
@@ -40,7 +40,7 @@ fn print_answer<R: System>(rt: &R, answer: &[u8]) -> io::Result<()> {
 }
 
 /// Does one operation at a drive of this server, appends the answer, and answers the status.
-fn answer_of<R: System>(
+fn answer_of<R: ClientSystem>(
     rt: &R,
     line: MtLine<'_>,
     peer: &mut SocketPeer<'_, R>,
@@ -55,7 +55,7 @@ fn answer_of<R: System>(
 }
 
 /// Tells that no answer came from the server at this address, and why by the system, if it says. Answers the status.
-fn report_unanswered<R: System>(rt: &R, to: &str, failure: Option<&io::Error>) -> u8
+fn report_unanswered<R: ClientSystem>(rt: &R, to: &str, failure: Option<&io::Error>) -> u8
     ensures { IsMtStatus result }
 {
     match failure {

@@ -3,7 +3,7 @@ ghost use Rattle.std.specs.Prelude.{◌≡◌};
 ghost use Rattle.rdump_commands.specs.Status.{IsHelpStatus, IsStatus};
 
 use crate::fault::{FAILED, report, report_no_memory, unwritten};
-use crate::{System, run_dates, run_dump, run_mt, run_read};
+use crate::{ClientSystem, run_dates, run_dump, run_mt, run_read};
 use clap::error::ErrorKind;
 use file_medium::reserve_std_fds;
 use printable::PlainLines;
@@ -21,7 +21,7 @@ use std::io::{self, Write};
 /// refused before anything was sent, and that of `rdump ls`, is told on standard output.
 ///
 /// No file that it opens gets the place of a standard stream that the process was started without.
-pub fn rdump<R: System, T: Write + Copy + Drop>(rt: &R, terminal: Option<T>) -> u8
+pub fn rdump<R: ClientSystem, T: Write + Copy + Drop>(rt: &R, terminal: Option<T>) -> u8
     ensures { IsStatus result }
 {
     reserve_std_fds(rt);
@@ -32,7 +32,7 @@ pub fn rdump<R: System, T: Write + Copy + Drop>(rt: &R, terminal: Option<T>) -> 
 }
 
 /// The words of the process, its own name first. Each growth that is refused is answered.
-fn arguments<R: System>(rt: &R) -> io::Result<Vec<String>> {
+fn arguments<R: ClientSystem>(rt: &R) -> io::Result<Vec<String>> {
     let mut arguments = Vec::new(rt.alloc());
     for argument in env::args(rt)? {
         arguments.push(argument)?;
@@ -42,7 +42,7 @@ fn arguments<R: System>(rt: &R) -> io::Result<Vec<String>> {
 
 /// Does what these words ask, of which the first is the name of the program itself, and answers the status, both as `rdump`
 /// does.
-pub fn run_arguments<R: System, S: AsStr, T: Write + Copy + Drop>(
+pub fn run_arguments<R: ClientSystem, S: AsStr, T: Write + Copy + Drop>(
     rt: &R,
     arguments: &[S],
     terminal: Option<T>,
@@ -60,7 +60,7 @@ pub fn run_arguments<R: System, S: AsStr, T: Write + Copy + Drop>(
 }
 
 /// Tells why words gave nothing to do, and answers the status. Help and the version go to standard output.
-fn refuse<R: System>(rt: &R, error: clap::Error) -> u8
+fn refuse<R: ClientSystem>(rt: &R, error: clap::Error) -> u8
     ensures { IsHelpStatus result }
 {
     if error.kind() == ErrorKind::OutOfMemory {
@@ -76,7 +76,7 @@ fn refuse<R: System>(rt: &R, error: clap::Error) -> u8
 }
 
 /// Prints an error of words on standard error, in which words may stand as they were given, and answers the status.
-pub(crate) fn print_error<R: System>(rt: &R, error: &clap::Error) -> u8
+pub(crate) fn print_error<R: ClientSystem>(rt: &R, error: &clap::Error) -> u8
     ensures { result ≡ 1 }
 {
     match format!(in rt.alloc(); "{error}") {

@@ -1,6 +1,6 @@
 //! The look at a reel before each attempt of `rdump dump --protect`.
 
-use crate::System;
+use crate::ClientSystem;
 use dump_run::VolumeLabel;
 use printable::plain;
 use rdump_talk::{
@@ -21,7 +21,7 @@ pub(crate) enum Held {
 
 /// Looks at the first reel of the drive that a line names, over a connection of its own, and finds why the dump of this line is not to
 /// write on it. None if it may: the reel is empty, or begins with a label of the line's name, level and date.
-pub(crate) fn find_hold<R: System>(
+pub(crate) fn find_hold<R: ClientSystem>(
     rt: &R,
     line: &DumpLine<'_>,
     peer: &mut SocketPeer<'_, R>,

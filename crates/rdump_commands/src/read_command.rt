@@ -2,11 +2,11 @@
 ghost use Rattle.rdump_commands.specs.Status.{IsReadStatus, IsStatus};
 ghost use Rattle.rdump_words.specs.Rdump.{IsReadLine};
 
-use crate::System;
+use crate::ClientSystem;
 use crate::fault::{ABNORMAL, report, report_failed};
 use crate::out_file::OutFile;
 use crate::stack::read_stack;
-use crate::volume::{VolumeEnd, read_volume};
+use crate::volume::{ReadEnd, read_volume};
 use rdump_words::ReadLine;
 use std::io;
 
@@ -28,7 +28,7 @@ pub(crate) const WHOLE: u8 = 0;
 ///
 /// Answers the exit status: 0 where all was read whole and synced, and nothing is known to be missing, 1 where the file could not be opened, or has to be a plain
 /// one, for places or a length, and is none, and else 3.
-pub fn run_read<R: System>(rt: &R, line: ReadLine<'_>) -> u8
+pub fn run_read<R: ClientSystem>(rt: &R, line: ReadLine<'_>) -> u8
     requires { IsReadLine line }
     ensures { IsStatus result }
 {
@@ -39,7 +39,7 @@ pub fn run_read<R: System>(rt: &R, line: ReadLine<'_>) -> u8
 }
 
 /// Reads what the line asks for into this file, and answers the status.
-fn read_into<R: System>(rt: &R, line: &ReadLine<'_>, file: OutFile) -> u8
+fn read_into<R: ClientSystem>(rt: &R, line: &ReadLine<'_>, file: OutFile) -> u8
     requires { IsReadLine line.now }
     ensures { IsReadStatus result }
 {
@@ -53,19 +53,19 @@ fn read_into<R: System>(rt: &R, line: &ReadLine<'_>, file: OutFile) -> u8
 }
 
 /// Reads one volume into a file, and answers the status.
-fn read_one<R: System>(rt: &R, line: &ReadLine<'_>, file: &OutFile) -> u8
+fn read_one<R: ClientSystem>(rt: &R, line: &ReadLine<'_>, file: &OutFile) -> u8
     requires { IsReadLine line.now }
     ensures { IsReadStatus result }
 {
     match read_volume(rt, line, None, file).end {
-        VolumeEnd::Whole if file.has_begun() => finish_file(rt, line, file),
-        VolumeEnd::Whole => WHOLE,
+        ReadEnd::Whole if file.has_begun() => finish_file(rt, line, file),
+        ReadEnd::Whole => WHOLE,
         _ => ABNORMAL,
     }
 }
 
 /// Cuts a file to the length that the line asks for, if it does, and syncs it. Answers the status.
-pub(crate) fn finish_file<R: System>(rt: &R, line: &ReadLine<'_>, file: &OutFile) -> u8
+pub(crate) fn finish_file<R: ClientSystem>(rt: &R, line: &ReadLine<'_>, file: &OutFile) -> u8
     ensures { IsReadStatus result }
 {
     match cut_and_sync(rt, line, file) {
@@ -75,7 +75,7 @@ pub(crate) fn finish_file<R: System>(rt: &R, line: &ReadLine<'_>, file: &OutFile
 }
 
 /// Cuts a file to the length that the line asks for, if it does, and syncs it.
-fn cut_and_sync<R: System>(rt: &R, line: &ReadLine<'_>, file: &OutFile) -> io::Result<()> {
+fn cut_and_sync<R: ClientSystem>(rt: &R, line: &ReadLine<'_>, file: &OutFile) -> io::Result<()> {
     if let Some(length) = line.length {
         file.cut(length)?;
     }

@@ -1,5 +1,5 @@
 //! A server whose reels are read.
-use crate::System;
+use crate::ClientSystem;
 use crate::out_file::{BlockFault, OutFile};
 use dump_client::AttemptFault;
 use rdump_talk::{Peer, SocketPeer};
@@ -26,7 +26,7 @@ pub(crate) enum ReelState {
 /// A request to take the reel away before that is not sent: the connection ends there. Where the file could not be synced, it keeps
 /// why.
 #[derive(Drop)]
-pub(crate) struct ReelPeer<'a, R: System> {
+pub(crate) struct ReelPeer<'a, R: ClientSystem> {
     rt: &'a R,
     socket: SocketPeer<'a, R>,
     file: &'a OutFile,
@@ -34,7 +34,7 @@ pub(crate) struct ReelPeer<'a, R: System> {
     reel: ReelState,
 }
 
-impl<'a, R: System> ReelPeer<'a, R> {
+impl<'a, R: ClientSystem> ReelPeer<'a, R> {
     /// The server at this address, with no connection.
     pub(crate) fn new(
         rt: &'a R,
@@ -86,7 +86,7 @@ impl<'a, R: System> ReelPeer<'a, R> {
     }
 }
 
-impl<'a, R: System> Peer for ReelPeer<'a, R> {
+impl<'a, R: ClientSystem> Peer for ReelPeer<'a, R> {
     ghost tells = { λ _ _. ⊥ };
 
     fn connect(&mut self) -> bool {

@@ -1,7 +1,7 @@
 //! A server that a dump goes to, of which an operator is told why attempts failed.
 ghost use Rattle.std.specs.Prelude.{◌≤◌, length};
 
-use crate::System;
+use crate::ClientSystem;
 use crate::last_reply::LastReply;
 use crate::protecting::{find_hold, refusal, report_held};
 use dump_client::AttemptFault;
@@ -21,7 +21,7 @@ use std::io::{self, Write};
 ///
 /// If the line asks for it, it looks at the reel before each attempt, over a connection of its own.
 #[derive(Drop)]
-pub(crate) struct ReportingPeer<'a, R: System, T> {
+pub(crate) struct ReportingPeer<'a, R: ClientSystem, T> {
     rt: &'a R,
     line: DumpLine<'a>,
     socket: SocketPeer<'a, R>,
@@ -30,7 +30,7 @@ pub(crate) struct ReportingPeer<'a, R: System, T> {
     terminal: Option<T>,
 }
 
-impl<'a, R: System, T: Write> ReportingPeer<'a, R, T> {
+impl<'a, R: ClientSystem, T: Write> ReportingPeer<'a, R, T> {
     /// The server that this line names, with no connection. If reels are to be protected, the line has the date of the dump.
     pub(crate) fn new(rt: &'a R, line: &DumpLine<'a>, terminal: Option<T>) -> Self {
         ReportingPeer {
@@ -76,7 +76,7 @@ impl<'a, R: System, T: Write> ReportingPeer<'a, R, T> {
     }
 }
 
-impl<'a, R: System, T: Write> Peer for ReportingPeer<'a, R, T> {
+impl<'a, R: ClientSystem, T: Write> Peer for ReportingPeer<'a, R, T> {
     ghost tells = { λ _ _. ⊥ };
 
     fn connect(&mut self) -> bool {

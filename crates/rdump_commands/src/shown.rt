@@ -1,6 +1,6 @@
 //! Whether standard output is shown.
 
-use crate::System;
+use crate::ClientSystem;
 use std::fs;
 use std::os::unix::fs::FileTypeExt;
 
@@ -8,7 +8,7 @@ use std::os::unix::fs::FileTypeExt;
 const OUTPUT: &str = "/proc/self/fd/1";
 
 /// Whether standard output may be a terminal: it is a device of characters, as each terminal is, or the system does not say what it is.
-pub(crate) fn may_be_shown<R: System>(rt: &R) -> bool {
+pub(crate) fn may_be_shown<R: ClientSystem>(rt: &R) -> bool {
     match fs::metadata(rt, OUTPUT) {
         Ok(found) => found.file_type().is_char_device(),
         Err(_) => true,

@@ -2,18 +2,18 @@
 ghost use Rattle.rdump_commands.specs.Status.{IsReadStatus};
 ghost use Rattle.rdump_words.specs.Rdump.{IsReadLine};
 
-use crate::System;
+use crate::ClientSystem;
 use crate::came::{BlockRange, CameBlocks};
 use crate::fault::{ABNORMAL, report_no_memory};
 use crate::out_file::OutFile;
 use crate::read_command::finish_file;
-use crate::volume::{VolumeEnd, VolumeRead, read_volume};
+use crate::volume::{ReadEnd, VolumeRead, read_volume};
 use dump_run::VolumeLabel;
 use printable::plain;
 use rdump_words::ReadLine;
 
 /// Reads the volumes of a stack into a file, each to its place, as `rdump read --all` does, and answers the status.
-pub(crate) fn read_stack<R: System>(rt: &R, line: &ReadLine<'_>, file: &OutFile) -> u8
+pub(crate) fn read_stack<R: ClientSystem>(rt: &R, line: &ReadLine<'_>, file: &OutFile) -> u8
     requires { IsReadLine line.now }
     ensures { IsReadStatus result }
 {
@@ -22,14 +22,14 @@ pub(crate) fn read_stack<R: System>(rt: &R, line: &ReadLine<'_>, file: &OutFile)
     let below = end_of_length(line.length, file.block());
     let has_gap = report_came(rt, came.sorted(), file.was_empty(), below);
     match end {
-        VolumeEnd::Whole | VolumeEnd::Failed => ABNORMAL,
-        VolumeEnd::NoReel => end_stack(rt, line, file, has_gap),
-        VolumeEnd::NoRecord | VolumeEnd::OtherDump => end_dump(rt, line, file, has_gap),
+        ReadEnd::Whole | ReadEnd::Failed => ABNORMAL,
+        ReadEnd::NoReel => end_stack(rt, line, file, has_gap),
+        ReadEnd::NoRecord | ReadEnd::OtherDump => end_dump(rt, line, file, has_gap),
     }
 }
 
 /// The stack is empty: cuts and syncs the file, and answers the status.
-fn end_stack<R: System>(rt: &R, line: &ReadLine<'_>, file: &OutFile, has_gap: bool) -> u8
+fn end_stack<R: ClientSystem>(rt: &R, line: &ReadLine<'_>, file: &OutFile, has_gap: bool) -> u8
     ensures { IsReadStatus result }
 {
     let status = finish_file(rt, line, file);
@@ -43,7 +43,7 @@ fn end_stack<R: System>(rt: &R, line: &ReadLine<'_>, file: &OutFile, has_gap: bo
 
 /// The next reel is not one of the dump: where nothing is missing below the length that the line asks for, the file is cut and synced.
 /// Without a length the dump may go on with further reels. Answers the status.
-fn end_dump<R: System>(rt: &R, line: &ReadLine<'_>, file: &OutFile, has_gap: bool) -> u8
+fn end_dump<R: ClientSystem>(rt: &R, line: &ReadLine<'_>, file: &OutFile, has_gap: bool) -> u8
     ensures { IsReadStatus result }
 {
     let is_short = report_short(rt, line, file);
@@ -66,7 +66,7 @@ fn end_of_length(length: Option<u64>, block: Option<usize>) -> u64 {
 
 /// Tells where the file has fewer bytes than the line asks for: the last volumes did not come. Answers whether it has. Without a length
 /// it tells that this cannot be known.
-fn report_short<R: System>(rt: &R, line: &ReadLine<'_>, file: &OutFile) -> bool {
+fn report_short<R: ClientSystem>(rt: &R, line: &ReadLine<'_>, file: &OutFile) -> bool {
     let Some(length) = line.length else {
         let _ = eprintln!(rt;
             "the end of the dump is not known: without --length the last volumes may be missing"
@@ -84,26 +84,26 @@ fn report_short<R: System>(rt: &R, line: &ReadLine<'_>, file: &OutFile) -> bool 
 }
 
 /// Reads volume after volume, up to the end of the stack, or to one that is not read whole. Answers which.
-fn read_volumes<R: System>(
+fn read_volumes<R: ClientSystem>(
     rt: &R,
     line: &ReadLine<'_>,
     file: &OutFile,
     came: &mut CameBlocks,
-) -> VolumeEnd
+) -> ReadEnd
     requires { IsReadLine line.now }
 {
     let mut dump = None;
     for _ in 0..u64::MAX {
         let read = read_volume(rt, line, dump.as_ref(), file);
         if !count(rt, &read, came) {
-            return VolumeEnd::Failed;
+            return ReadEnd::Failed;
         }
-        if read.end != VolumeEnd::Whole {
+        if read.end != ReadEnd::Whole {
             return read.end;
         }
         dump = first_of(dump, read.label);
     }
-    VolumeEnd::Failed
+    ReadEnd::Failed
 }
 
 /// The label of the first volume, where this one is the label of the next.
@@ -115,7 +115,7 @@ fn first_of(dump: Option<VolumeLabel>, label: Option<VolumeLabel>) -> Option<Vol
 }
 
 /// Counts the blocks that came of a volume. It fails only where memory is refused, which is told.
-fn count<R: System>(rt: &R, read: &VolumeRead, came: &mut CameBlocks) -> bool {
+fn count<R: ClientSystem>(rt: &R, read: &VolumeRead, came: &mut CameBlocks) -> bool {
     let Some(label) = &read.label else {
         return true;
     };
@@ -128,7 +128,7 @@ fn count<R: System>(rt: &R, read: &VolumeRead, came: &mut CameBlocks) -> bool {
 
 /// Tells of the blocks that came, which are in order: which are missing between them, and of those before the first one, up to the block
 /// `below`. Where the file was empty these are missing too, and else another run may have read them. Answers whether any are missing.
-fn report_came<R: System>(rt: &R, came: &[BlockRange], was_empty: bool, below: u64) -> bool {
+fn report_came<R: ClientSystem>(rt: &R, came: &[BlockRange], was_empty: bool, below: u64) -> bool {
     match came.first() {
         Some(_) if was_empty => report_gaps(rt, came, 0, below),
         Some(range) => {
@@ -140,7 +140,7 @@ fn report_came<R: System>(rt: &R, came: &[BlockRange], was_empty: bool, below: u
 }
 
 /// Tells which block is the first one that came, where that is not the dump's first one.
-fn report_first<R: System>(rt: &R, first: u64) {
+fn report_first<R: ClientSystem>(rt: &R, first: u64) {
     if first > 0 {
         let _ = eprintln!(rt; "block {first} is the first one that came");
     }
@@ -148,7 +148,7 @@ fn report_first<R: System>(rt: &R, first: u64) {
 
 /// Tells which blocks are missing from this one on, and below another one, between those that came, which are in order. Answers whether
 /// any are.
-fn report_gaps<R: System>(rt: &R, came: &[BlockRange], from: u64, below: u64) -> bool {
+fn report_gaps<R: ClientSystem>(rt: &R, came: &[BlockRange], from: u64, below: u64) -> bool {
     let mut end = from;
     let mut has_gap = false;
     for range in came {
@@ -163,7 +163,7 @@ fn report_gaps<R: System>(rt: &R, came: &[BlockRange], from: u64, below: u64) ->
 }
 
 /// Tells that the blocks from one to another are missing.
-fn report_gap<R: System>(rt: &R, first: u64, last: u64) {
+fn report_gap<R: ClientSystem>(rt: &R, first: u64, last: u64) {
     let _ = if first == last {
         eprintln!(rt; "block {first} is missing")
     } else {

@@ -5,7 +5,14 @@ use std::net::Net;
 use std::rt::{Clock, Env, Files};
 
 /// What the commands use of the runtime: memory, the words of the process, its streams, the clock, files and sockets.
-pub trait System: AllocGlobal + Clock + Env + Eprint + Files<File = File> + Input + Net + Print {}
+pub trait ClientSystem: AllocGlobal
+    + Clock
+    + Env
+    + Eprint
+    + Files<File = File>
+    + Input
+    + Net
+    + Print {}
 
-impl<R: AllocGlobal + Clock + Env + Eprint + Files<File = File> + Input + Net + Print> System
+impl<R: AllocGlobal + Clock + Env + Eprint + Files<File = File> + Input + Net + Print> ClientSystem
     for R {}

@@ -2,9 +2,9 @@
 ghost use Rattle.std.specs.Prelude.{◌≡◌};
 ghost use Rattle.rdump_words.specs.Rdump.{IsReadLine};
 
-use crate::System;
+use crate::ClientSystem;
 use crate::fault::{ABNORMAL, report_failed, unwritten};
-use crate::label_text::{Found, LabelText, Wanted};
+use crate::label_text::{LabelFilter, LabelKind, LabelText};
 use crate::out_file::{BlockFault, OutFile};
 use crate::reel_peer::{ReelPeer, ReelState};
 use crate::shown::may_be_shown;
@@ -22,7 +22,7 @@ use std::io;
 
 /// How the reading of a volume ended.
 #[derive(Clone, Copy, PartialEq, Eq)]
-pub(crate) enum VolumeEnd {
+pub(crate) enum ReadEnd {
     /// It was read whole.
     Whole,
     /// The drive has no reel any more, after a volume was read.
@@ -43,21 +43,21 @@ pub(crate) struct VolumeRead {
     /// How many blocks of it were written.
     pub count: u64,
     /// How it ended.
-    pub end: VolumeEnd,
+    pub end: ReadEnd,
 }
 
 /// What came over a connection.
 #[derive(Drop)]
 struct Came {
     read: Result<(), ReadFault>,
-    found: Found,
+    found: LabelKind,
     sizes: BlockSizes,
     reel: ReelState,
 }
 
 /// Reads the volume of the first reel of the stack into a file, prints its label, and tells of it. Where `dump` is there, it is the label
 /// of a volume that was read before, and volumes of another dump are refused.
-pub(crate) fn read_volume<R: System>(
+pub(crate) fn read_volume<R: ClientSystem>(
     rt: &R,
     line: &ReadLine<'_>,
     dump: Option<&VolumeLabel>,
@@ -91,11 +91,11 @@ pub(crate) fn read_volume<R: System>(
 }
 
 /// Which labels are wanted.
-fn wanted_of<'a>(line: &ReadLine<'_>, dump: Option<&'a VolumeLabel>) -> Wanted<'a> {
+fn wanted_of<'a>(line: &ReadLine<'_>, dump: Option<&'a VolumeLabel>) -> LabelFilter<'a> {
     match dump {
-        Some(label) => Wanted::DumpOf(label),
-        None if line.place => Wanted::Label,
-        None => Wanted::Any,
+        Some(label) => LabelFilter::DumpOf(label),
+        None if line.place => LabelFilter::Label,
+        None => LabelFilter::Any,
     }
 }
 
@@ -112,23 +112,23 @@ fn after_of(line: &ReadLine<'_>) -> AfterVolume {
 
 /// How the stack ended behind a volume that was read, if it did: the drive has no reel any more, or the next one has nothing, which is
 /// told.
-fn end_behind<R: System>(
+fn end_behind<R: ClientSystem>(
     rt: &R,
     line: &ReadLine<'_>,
     dump: Option<&VolumeLabel>,
     came: &Came,
-) -> Option<VolumeEnd>
+) -> Option<ReadEnd>
     requires { IsReadLine line.now }
 {
     if dump.is_none() {
         return None;
     }
     if has_no_reel(came.read) {
-        return Some(VolumeEnd::NoReel);
+        return Some(ReadEnd::NoReel);
     }
     if has_no_record(came) && is_blank(rt, line) {
         let _ = eprintln!(rt; "the next reel gives no record");
-        return Some(VolumeEnd::NoRecord);
+        return Some(ReadEnd::NoRecord);
     }
     None
 }
@@ -136,13 +136,13 @@ fn end_behind<R: System>(
 /// Whether the first read gave nothing. Where a record came whose text is empty, the reel was to be taken away, and was kept.
 fn has_no_record(came: &Came) -> bool {
     match (&came.found, came.read) {
-        (Found::Nothing, Ok(())) => true,
+        (LabelKind::Nothing, Ok(())) => true,
         _ => false,
     }
 }
 
 /// Whether the first reel of the stack has nothing. False if the look does not find that out.
-fn is_blank<R: System>(rt: &R, line: &ReadLine<'_>) -> bool
+fn is_blank<R: ClientSystem>(rt: &R, line: &ReadLine<'_>) -> bool
     requires { IsReadLine line.now }
 {
     let mut peer = SocketPeer::new(rt, line.to);
@@ -166,22 +166,22 @@ fn has_no_reel(read: Result<(), ReadFault>) -> bool {
 }
 
 /// The label that was found.
-fn into_label(found: Found) -> Option<VolumeLabel> {
+fn into_label(found: LabelKind) -> Option<VolumeLabel> {
     match found {
-        Found::Label(label) => Some(label),
+        LabelKind::Label(label) => Some(label),
         _ => None,
     }
 }
 
 /// Tells of what came, with the file, in which the volume begins where its label came, and answers how it ended. `failure` is why the
 /// connection failed, by the system.
-fn report_volume<R: System>(
+fn report_volume<R: ClientSystem>(
     rt: &R,
     line: &ReadLine<'_>,
     came: &Came,
     file: &OutFile,
     failure: Option<&io::Error>,
-) -> VolumeEnd {
+) -> ReadEnd {
     if has_come(line, &came.found) {
         file.begin();
     }
@@ -193,11 +193,11 @@ fn report_volume<R: System>(
     if is_foreign {
         let _ = eprintln!(rt; "not a volume of rdump");
     }
-    if let Found::OtherDump(label) = &came.found {
+    if let LabelKind::OtherDump(label) = &came.found {
         return report_other(rt, line.to, label);
     }
     if is_foreign && line.place {
-        return VolumeEnd::Failed;
+        return ReadEnd::Failed;
     }
     let fault = file.take_fault();
     let end = end_of(rt, line, came.read, fault.as_ref(), failure);
@@ -208,26 +208,26 @@ fn report_volume<R: System>(
 }
 
 /// Whether a text came that was printed, or was to be.
-fn has_come(line: &ReadLine<'_>, found: &Found) -> bool {
+fn has_come(line: &ReadLine<'_>, found: &LabelKind) -> bool {
     match found {
-        Found::Nothing | Found::OtherDump(_) => false,
-        Found::Foreign => !line.place,
-        Found::Label(_) => true,
+        LabelKind::Nothing | LabelKind::OtherDump(_) => false,
+        LabelKind::Foreign => !line.place,
+        LabelKind::Label(_) => true,
     }
 }
 
 /// Whether a reel was read as far as its first record, which is no label of `rdump`. A mark is looked for only behind a record.
 fn is_foreign(came: &Came, has_begun: bool) -> bool {
     match (&came.found, came.read) {
-        (Found::Label(_) | Found::OtherDump(_), _) => false,
-        (Found::Foreign, _) | (_, Ok(())) => true,
+        (LabelKind::Label(_) | LabelKind::OtherDump(_), _) => false,
+        (LabelKind::Foreign, _) | (_, Ok(())) => true,
         (_, Err(ReadFault::OutputFailed | ReadFault::NoMark | ReadFault::Undetermined)) => true,
         _ => has_begun || came.reel == ReelState::Kept,
     }
 }
 
 /// Tells how many blocks were read.
-fn report_sizes<R: System>(rt: &R, sizes: BlockSizes) {
+fn report_sizes<R: ClientSystem>(rt: &R, sizes: BlockSizes) {
     let BlockSizes {
         count,
         shortest,
@@ -243,33 +243,33 @@ fn report_sizes<R: System>(rt: &R, sizes: BlockSizes) {
 }
 
 /// Tells whose volume a reel has, which is of another dump than the ones before.
-fn report_other<R: System>(rt: &R, to: &str, label: &VolumeLabel) -> VolumeEnd {
+fn report_other<R: ClientSystem>(rt: &R, to: &str, label: &VolumeLabel) -> ReadEnd {
     let to = plain(to);
     let (name, level, volume) = (label.name(), label.level(), label.volume());
     let _ = eprintln!(rt;
         "rdump: {to}: the reel has volume {volume} of {name} level {level}, another dump"
     );
-    VolumeEnd::OtherDump
+    ReadEnd::OtherDump
 }
 
 /// Tells why a volume was not read whole, if it was not, and answers how it ended.
-fn end_of<R: System>(
+fn end_of<R: ClientSystem>(
     rt: &R,
     line: &ReadLine<'_>,
     read: Result<(), ReadFault>,
     fault: Option<&BlockFault>,
     failure: Option<&io::Error>,
-) -> VolumeEnd {
+) -> ReadEnd {
     match (read, fault) {
-        (Ok(()), None) => return VolumeEnd::Whole,
+        (Ok(()), None) => return ReadEnd::Whole,
         (_, Some(fault)) => report_unwritten(rt, line, fault),
         (Err(fault), None) => report_read(rt, line.to, fault, failure),
     }
-    VolumeEnd::Failed
+    ReadEnd::Failed
 }
 
 /// Tells why a block was not written, or is not on the disk.
-fn report_unwritten<R: System>(rt: &R, line: &ReadLine<'_>, fault: &BlockFault) {
+fn report_unwritten<R: ClientSystem>(rt: &R, line: &ReadLine<'_>, fault: &BlockFault) {
     match fault {
         BlockFault::Failed(error) => {
             report_failed(rt, line.out, error, ABNORMAL);
@@ -283,7 +283,7 @@ fn report_unwritten<R: System>(rt: &R, line: &ReadLine<'_>, fault: &BlockFault) 
 }
 
 /// Tells why a volume of this server was not read whole, by the system's reason where there is one.
-fn report_read<R: System>(rt: &R, to: &str, fault: ReadFault, failure: Option<&io::Error>) {
+fn report_read<R: ClientSystem>(rt: &R, to: &str, fault: ReadFault, failure: Option<&io::Error>) {
     match (fault, failure) {
         (ReadFault::OutputFailed, _) => {
             unwritten(rt, ABNORMAL);
@@ -299,7 +299,7 @@ fn report_read<R: System>(rt: &R, to: &str, fault: ReadFault, failure: Option<&i
 }
 
 /// Tells where the reel is, once the server was asked to take it away.
-fn report_reel<R: System>(rt: &R, came: &Came) {
+fn report_reel<R: ClientSystem>(rt: &R, came: &Came) {
     if came.reel != ReelState::Asked {
         return;
     }

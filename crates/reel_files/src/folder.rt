@@ -18,7 +18,7 @@ mod refusal;
 mod report;
 
 use crate::{FileMedium, FolderSystem, Log, NoLog};
-use drive_state::{FolderDriveState, Found};
+use drive_state::{FolderDriveState, OpenedReel};
 use drives::{DriveFault, Stacks};
 use known::FileId;
 use look::{clash_of, look_at, look_at_next, look_between};
@@ -165,7 +165,7 @@ impl<R: FolderSystem, L: Log + Drop> FolderStacks<R, L> {
     }
 
     /// Opens and locks the file of the reel that a latch takes, as `FolderDriveState::find` does, and notes what came of it.
-    fn find(&self, drive: usize) -> io::Result<Option<Found>>
+    fn find(&self, drive: usize) -> io::Result<Option<OpenedReel>>
         requires { drive < length self.now.rows }
         ensures free { MatchResult result (λ found. IsSome found → (row_at self.now drive).latched ≡ false) (λ _. (row_at self.now drive).latched ≡ false) }
     {

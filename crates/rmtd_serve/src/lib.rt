@@ -36,6 +36,6 @@ pub use listener_setup::ListenerSetup;
 pub use listening::serve_connections;
 pub use many::serve_many;
 pub use memory_server::MemoryServer;
-pub use startup::{Begun, System, begin, start};
+pub use startup::{Begun, ServerSystem, begin, start};
 pub use stdio::{exit_status, run_stdio};
 pub use tape_server::TapeServer;

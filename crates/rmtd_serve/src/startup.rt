@@ -37,13 +37,13 @@ const FAILED: u8 = 1;
 const NOT_STARTED: &str = "it did not start";
 
 /// What `rmtd` asks of the system beside its standard streams and its threads.
-pub trait System: FolderSystem
+pub trait ServerSystem: FolderSystem
     + Net<Listener = TcpListener, Stream = TcpStream>
     + Print
     + Eprint
     + Env {}
 
-impl<R> System for R
+impl<R> ServerSystem for R
 where
     R: FolderSystem + Net<Listener = TcpListener, Stream = TcpStream> + Print + Eprint + Env,
 {}
@@ -62,7 +62,7 @@ pub enum Begun<R: FolderSystem + Eprint> {
 /// Where the words could not be read, or memory was refused at the start, that is told on standard error, and the status is 1.
 /// With `--stdio` the start lasts until the first request is read.
 /// It fails only where standard error could not be written.
-pub fn start<R: System, I: Read, O: Write>(
+pub fn start<R: ServerSystem, I: Read, O: Write>(
     rt: &R,
     input: &mut Counted<I>,
     output: &mut Counted<O>,
@@ -78,7 +78,7 @@ pub fn start<R: System, I: Read, O: Write>(
 }
 
 /// Reads the words of the program, and does what they ask until connections are served at once.
-fn run_process<R: System, I: Read, O: Write>(
+fn run_process<R: ServerSystem, I: Read, O: Write>(
     rt: &R,
     input: &mut Counted<I>,
     output: &mut Counted<O>,
@@ -103,7 +103,7 @@ fn arguments<R: Env + AllocGlobal>(rt: &R) -> io::Result<Vec<String>> {
 }
 
 /// Does what these words ask until connections are served at once.
-fn run_arguments<R: System, I: Read, O: Write>(
+fn run_arguments<R: ServerSystem, I: Read, O: Write>(
     rt: &R,
     arguments: &[String],
     input: &mut Counted<I>,
@@ -140,7 +140,7 @@ fn lent(alloc: Global, arguments: &[String]) -> Result<Vec<&str>, AllocError> {
 /// stream is touched.
 ///
 /// Nothing that is opened here or later has the place of a standard stream.
-pub fn begin<R: System, I: Read, O: Write>(
+pub fn begin<R: ServerSystem, I: Read, O: Write>(
     rt: &R,
     arguments: &[&str],
     input: &mut Counted<I>,
@@ -159,7 +159,7 @@ pub fn begin<R: System, I: Read, O: Write>(
 }
 
 /// Serves as the line says, but for connections at drives in folders: it tells what is left to do.
-fn serve_line<R: System, I: Read, O: Write>(
+fn serve_line<R: ServerSystem, I: Read, O: Write>(
     rt: &R,
     line: &ServerLine<'_>,
     input: &mut Counted<I>,
@@ -190,7 +190,7 @@ fn serve_line<R: System, I: Read, O: Write>(
 /// Serves the streams at drives whose reels are files in folders, or makes ready for connections. A folder that cannot be used
 /// is told before anything is read. What goes wrong while the streams are served is told on standard error, where that is not
 /// the stream that has the answers.
-fn serve_line_in_folders<R: System, I: Read, O: Write>(
+fn serve_line_in_folders<R: ServerSystem, I: Read, O: Write>(
     rt: &R,
     line: &ServerLine<'_>,
     bin: &str,
@@ -216,7 +216,7 @@ fn serve_line_in_folders<R: System, I: Read, O: Write>(
 }
 
 /// The stacks of the line's drives, which tell on standard error what goes wrong. It fails only where memory is refused.
-fn stacks_with_warnings<R: System>(
+fn stacks_with_warnings<R: ServerSystem>(
     rt: &R,
     line: &ServerLine<'_>,
     bin: &str,
@@ -232,7 +232,7 @@ fn stacks_with_warnings<R: System>(
 }
 
 /// Serves the streams at these stacks; what is left is to end.
-fn serve_in_folders<R: System, S: Stacks + Drop, I: Read, O: Write>(
+fn serve_in_folders<R: ServerSystem, S: Stacks + Drop, I: Read, O: Write>(
     rt: &R,
     line: &ServerLine<'_>,
     stacks: S,
@@ -256,7 +256,7 @@ fn serve_in_folders<R: System, S: Stacks + Drop, I: Read, O: Write>(
 
 /// Makes ready for connections at this address, at drives whose reels are files in folders. All memory of the start is had before
 /// the line that says that it listens, so whoever reads that line can be served.
-fn listen_in_folders<R: System>(
+fn listen_in_folders<R: ServerSystem>(
     rt: &R,
     address: &str,
     line: &ServerLine<'_>,
@@ -280,7 +280,7 @@ fn listen_in_folders<R: System>(
 
 /// What is left once the streams were served, with this status: to end. Where memory was refused before the first request was read,
 /// that is told on standard error; a line that cannot be written is dropped.
-fn end<R: System, I: Read, O: Write>(
+fn end<R: ServerSystem, I: Read, O: Write>(
     rt: &R,
     status: u8,
     input: &Counted<I>,
@@ -295,7 +295,7 @@ fn end<R: System, I: Read, O: Write>(
 }
 
 /// Tells on standard error what is at fault and why; what is left is to end.
-fn report<R: System>(rt: &R, what: &str, why: io::Error) -> io::Result<Begun<R>>
+fn report<R: ServerSystem>(rt: &R, what: &str, why: io::Error) -> io::Result<Begun<R>>
     ensures { IfOk result (λ begun. begun ≡ Begun.End 1) }
 {
     let what = plain(what);
@@ -311,7 +311,7 @@ const BIN_ALONE: &str =
     "--bin is given and no drive: the reel of /dev/st0 is in memory, and is gone when the server ends";
 
 /// Warns that the reel is in memory, where a bin is given that it never comes to. It fails only where memory is refused.
-fn warn_of_bin<R: System>(rt: &R, line: &ServerLine<'_>, start: LineStart) -> io::Result<()> {
+fn warn_of_bin<R: ServerSystem>(rt: &R, line: &ServerLine<'_>, start: LineStart) -> io::Result<()> {
     if line.bin.is_some() {
         Warnings::new(rt, start)?.warn(BIN_ALONE);
     }
@@ -320,7 +320,7 @@ fn warn_of_bin<R: System>(rt: &R, line: &ServerLine<'_>, start: LineStart) -> io
 
 /// Listens at this address, and serves as many connections as the line says with a drive in memory, which is told on standard error.
 /// Answers the status: 0 where as many came, and 1 where the listener is broken for good.
-fn listen<R: System>(
+fn listen<R: ServerSystem>(
     rt: &R,
     address: &str,
     line: &ServerLine<'_>,
@@ -358,7 +358,7 @@ const ANYWHERE: &str =
 
 /// A listener at this address, which is told on standard output. Where that is each address of the machine the log says what that
 /// means.
-fn bind<R: System, L: Log>(rt: &R, address: &str, log: &L) -> io::Result<TcpListener> {
+fn bind<R: ServerSystem, L: Log>(rt: &R, address: &str, log: &L) -> io::Result<TcpListener> {
     let listener = TcpListener::bind(rt, address)?;
     let place = listener.local_addr()?;
     if place.ip().to_canonical().is_unspecified() {
@@ -369,7 +369,7 @@ fn bind<R: System, L: Log>(rt: &R, address: &str, log: &L) -> io::Result<TcpList
 }
 
 /// Tells why words gave nothing to do; what is left is to end. Help and the version go to standard output.
-fn refuse<R: System>(rt: &R, error: Error) -> io::Result<Begun<R>>
+fn refuse<R: ServerSystem>(rt: &R, error: Error) -> io::Result<Begun<R>>
     ensures { IfOk result (λ begun. (begun ≡ Begun.End 1) ⊎ ((begun ≡ Begun.End 0) × IsShown (kind_of error))) }
 {
     if error.kind() == ErrorKind::OutOfMemory {
@@ -387,7 +387,7 @@ fn refuse<R: System>(rt: &R, error: Error) -> io::Result<Begun<R>>
 }
 
 /// Prints an error of words on standard error, in which words may stand as they were given.
-fn print_error<R: System>(rt: &R, error: &Error) -> io::Result<()> {
+fn print_error<R: ServerSystem>(rt: &R, error: &Error) -> io::Result<()> {
     let text = format!(in rt.alloc(); "{error}")?;
     rt.eprint(PlainLines(text.as_str()))
 }

@@ -21,7 +21,7 @@ enum Part {
 
 /// What a reel is to be said to hold.
 #[derive(Clone, Copy)]
-enum Wanted {
+enum Expected {
     Empty,
     /// So many blocks of this length, and this end.
     Volume(u64, usize, VolumeEnd),
@@ -29,7 +29,7 @@ enum Wanted {
 }
 
 /// The parts of a reel, what it holds, and how many records and marks it has.
-type Row = (&'static [Part], Wanted, u64, u64);
+type Row = (&'static [Part], Expected, u64, u64);
 
 const LABEL: Part = Part::Label;
 
@@ -40,38 +40,38 @@ const OTHER: Part = Part::Record(b"other block");
 const MARK: Part = Part::Mark;
 
 static ROWS: [Row; 10] = [
-    (&[], Wanted::Empty, 0, 0),
-    (&[LABEL], Wanted::Volume(0, 0, VolumeEnd::NoMark), 1, 0),
+    (&[], Expected::Empty, 0, 0),
+    (&[LABEL], Expected::Volume(0, 0, VolumeEnd::NoMark), 1, 0),
     (
         &[LABEL, BLOCK, BLOCK],
-        Wanted::Volume(2, 5, VolumeEnd::NoMark),
+        Expected::Volume(2, 5, VolumeEnd::NoMark),
         3,
         0,
     ),
     (
         &[LABEL, BLOCK, BLOCK, MARK],
-        Wanted::Volume(2, 5, VolumeEnd::OneMark),
+        Expected::Volume(2, 5, VolumeEnd::OneMark),
         3,
         1,
     ),
     (
         &[LABEL, OTHER, MARK, MARK],
-        Wanted::Volume(1, 11, VolumeEnd::MoreAfterMark),
+        Expected::Volume(1, 11, VolumeEnd::MoreAfterMark),
         2,
         2,
     ),
     (
         &[LABEL, OTHER, MARK, BLOCK],
-        Wanted::Volume(1, 11, VolumeEnd::MoreAfterMark),
+        Expected::Volume(1, 11, VolumeEnd::MoreAfterMark),
         3,
         1,
     ),
-    (&[LABEL, BLOCK, OTHER, MARK], Wanted::Foreign, 3, 1),
-    (&[BLOCK, MARK], Wanted::Foreign, 1, 1),
-    (&[MARK, LABEL, BLOCK, MARK], Wanted::Foreign, 2, 2),
+    (&[LABEL, BLOCK, OTHER, MARK], Expected::Foreign, 3, 1),
+    (&[BLOCK, MARK], Expected::Foreign, 1, 1),
+    (&[MARK, LABEL, BLOCK, MARK], Expected::Foreign, 2, 2),
     (
         &[LABEL, LABEL, MARK],
-        Wanted::Volume(1, 1024, VolumeEnd::OneMark),
+        Expected::Volume(1, 1024, VolumeEnd::OneMark),
         2,
         1,
     ),
@@ -83,10 +83,10 @@ fn dumped() -> Option<Run> {
 }
 
 /// Whether a holding is what is wanted, and a volume's label says what the label said.
-fn is_met(holding: &Holding, wanted: Wanted) -> bool {
+fn is_met(holding: &Holding, wanted: Expected) -> bool {
     match (holding, wanted) {
-        (Holding::Empty, Wanted::Empty) | (Holding::Foreign, Wanted::Foreign) => true,
-        (Holding::Volume(volume), Wanted::Volume(blocks, block_bytes, end)) => {
+        (Holding::Empty, Expected::Empty) | (Holding::Foreign, Expected::Foreign) => true,
+        (Holding::Volume(volume), Expected::Volume(blocks, block_bytes, end)) => {
             let label = &volume.label;
             label.name() == "/usr"
                 && (label.volume(), label.first()) == (2, 5)

@@ -4,7 +4,7 @@
 //! types of a function's own text alone.
 
 use rmt_wire::Counted;
-use rmtd_serve::{Begun, System, begin, start};
+use rmtd_serve::{Begun, ServerSystem, begin, start};
 use std::fs::{self, File};
 use std::io;
 use std::net::{TcpListener, TcpStream};
@@ -34,7 +34,7 @@ static ROWS: [Row; 7] = [
 ];
 
 /// Whether a start is done as the row says.
-fn is_done<R: System>(rt: &R, row: &Row) -> bool {
+fn is_done<R: ServerSystem>(rt: &R, row: &Row) -> bool {
     let (arguments, sent, status, wanted) = *row;
     let mut taken = Vec::new(rt.alloc());
     let mut input = Counted::new(sent);
@@ -61,7 +61,7 @@ static FOLDERS: [&str; 5] = [
 ];
 
 /// How many connections these words leave to serve.
-fn left_by<R: System>(rt: &R, arguments: &[&str]) -> io::Result<u64> {
+fn left_by<R: ServerSystem>(rt: &R, arguments: &[&str]) -> io::Result<u64> {
     let mut output = Counted::new(Vec::new(rt.alloc()));
     let begun = begin(
         rt,
@@ -84,7 +84,7 @@ fn connections_at_folders_are_left(rt: HostRuntime) -> io::Result<()> {
 }
 
 /// Whether the program's own words, which are those of a test, are refused.
-fn is_refused<R: System + Env>(rt: &R) -> io::Result<bool> {
+fn is_refused<R: ServerSystem + Env>(rt: &R) -> io::Result<bool> {
     let mut output = Counted::new(Vec::new(rt.alloc()));
     let begun = start(rt, &mut Counted::new(b"C\n".as_slice()), &mut output)?;
     Ok(matches!(begun, Begun::End(1)))

@@ -82,7 +82,7 @@ impl FolderDriveState {
         rt: &R,
         bin: &str,
         log: &L,
-    ) -> Result<Option<Found>, Refusal>
+    ) -> Result<Option<OpenedReel>, Refusal>
         ensures free { MatchResult result (λ found. IsSome found → self.now.latched ≡ false) (λ _. self.now.latched ≡ false) }
     {
         if self.latched.is_some() {
@@ -97,7 +97,7 @@ impl FolderDriveState {
         rt: &R,
         bin: &str,
         log: &L,
-    ) -> Result<Option<Found>, Refusal> {
+    ) -> Result<Option<OpenedReel>, Refusal> {
         let folder = self.folder.as_str();
         for _ in 0..FINISH_TURNS {
             let Some(opened) = open_first(rt, folder, bin)? else {
@@ -115,7 +115,7 @@ impl FolderDriveState {
     }
 
     /// The report of a move that was finished.
-    fn finished(&self, found: &Found, flaw: Option<MoveFlaw>) -> Report {
+    fn finished(&self, found: &OpenedReel, flaw: Option<MoveFlaw>) -> Report {
         let (drive, reel) = (self.name.as_str(), found.latched.name.as_str());
         let mut report = Report::warning(format_args!(
             "{drive}: {reel} moved to the bin: a stop had cut the move short"
@@ -131,7 +131,7 @@ impl FolderDriveState {
     }
 
     /// The report of a latch.
-    pub(super) fn opened(&self, found: &Found) -> Report {
+    pub(super) fn opened(&self, found: &OpenedReel) -> Report {
         let (drive, reel) = (self.name.as_str(), found.latched.name.as_str());
         let mut report = Report::new(format_args!("{drive}: {reel} opened"));
         if found.in_bin == InBin::Another {
@@ -244,7 +244,7 @@ impl FolderDriveState {
 
 /// A file that was opened and locked, and what a drive keeps of it.
 #[derive(Drop)]
-pub(super) struct Found {
+pub(super) struct OpenedReel {
     /// The handle.
     pub(super) file: File,
     /// It may only be read.
@@ -256,7 +256,7 @@ pub(super) struct Found {
 }
 
 /// What the drive keeps of a reel that was opened, beside its handle.
-fn found_of(opened: Opened) -> Found {
+fn found_of(opened: Opened) -> OpenedReel {
     let Opened {
         file,
         reads_only,
@@ -272,7 +272,7 @@ fn found_of(opened: Opened) -> Found {
         to: bin_path,
         id,
     };
-    Found {
+    OpenedReel {
         file,
         reads_only,
         in_bin,

@@ -1,6 +1,6 @@
 use Rattle.std.proofs.Common.{rules}
 use Rattle.std.proofs.lemmas.Result.{err_from_is_err_and}
-use Rattle.dumpdates.specs.Found.{plain_found}
+use Rattle.dumpdates.specs.FoundEntry.{plain_found}
 use Rattle.dumpdates.proofs.Shapes.{spelled_is_entry}
 use Rattle.dumpdates.proofs.file.read_line.Goals as goal
 

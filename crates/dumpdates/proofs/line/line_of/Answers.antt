@@ -2,7 +2,7 @@ use Rattle.std.proofs.Common.{◌≡◌, ℕ, ◌∙◌, ap, refl, sym}
 use Rattle.std.proofs.lemmas.Bool.{false≢true}
 use Rattle.dumpdates.specs.Entry.{DatesEntry}
 use Rattle.dumpdates.specs.Moment.{seconds_at}
-use Rattle.dumpdates.specs.Found.{plain_words, plain_fields}
+use Rattle.dumpdates.specs.FoundEntry.{plain_words, plain_fields}
 use Rattle.dumpdates.specs.Line.{is_space}
 use Rattle.dumpdates.proofs.Shapes.{all_from_test, not_blank, no_words, other_words, words_shape}
 use Rattle.dumpdates.proofs.line.line_of.Goals as goal

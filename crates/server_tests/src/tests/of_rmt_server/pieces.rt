@@ -26,22 +26,22 @@ impl Read for Pieces<'_> {
 /// It takes so many bytes, at most `most` a call. Then it fails; where it takes a byte a call it takes none. It tells
 /// whether they were those that are wanted.
 #[derive(Drop)]
-pub(crate) struct Wanted<'a> {
+pub(crate) struct Expected<'a> {
     rest: &'a [u8],
     is_other: bool,
     room: usize,
     most: usize,
 }
 
-impl<'a> Wanted<'a> {
+impl<'a> Expected<'a> {
     /// It takes all.
     pub(crate) fn all(bytes: &'a [u8]) -> Self {
-        Wanted::narrow(bytes, usize::MAX, usize::MAX)
+        Expected::narrow(bytes, usize::MAX, usize::MAX)
     }
 
     /// It takes `room` bytes, at most `most` a call.
     pub(crate) fn narrow(bytes: &'a [u8], room: usize, most: usize) -> Self {
-        Wanted {
+        Expected {
             rest: bytes,
             is_other: false,
             room,
@@ -55,7 +55,7 @@ impl<'a> Wanted<'a> {
     }
 }
 
-impl Write for Wanted<'_> {
+impl Write for Expected<'_> {
     fn write(&mut self, buf: &[u8]) -> io::Result<usize> {
         if self.room == 0 && self.most > 1 {
             return Err(ErrorKind::BrokenPipe.into());

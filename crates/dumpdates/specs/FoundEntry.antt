@@ -7,7 +7,7 @@ use Rattle.dumpdates.specs.Lines.{IsEntryLine}
 use Rattle.dumpdates.specs.declared.moment.Moment.{Moment}
 use Rattle.dumpdates.specs.declared.words.LineWords.{LineWords}
 use Rattle.dumpdates.specs.declared.fields.LineFields.{LineFields}
-use Rattle.dumpdates.specs.declared.line.Found.{Found}
+use Rattle.dumpdates.specs.declared.line.FoundEntry.{FoundEntry}
 use Rattle.dumpdates.specs.declared.line.EntryFault.{EntryFault}
 use Rattle.dumpdates.specs.declared.line.EntryFault.TheVariants.{BadShape, NoDate}
 use Rattle.dumpdates.specs.declared.fault.DatesFault.{DatesFault}
@@ -32,11 +32,11 @@ abbrev pub SpellsMoment : PlainWords → Moment → Type 0
 SpellsMoment w m =
     SpellsMonth w.month m.month × SpellsDigits 1 2 w.day m.day × SpellsTime w.time m.hour m.minute m.second × SpellsDigits 4 4 w.year m.year
 
-abbrev pub plain_found : Found → DatesEntry
+abbrev pub plain_found : FoundEntry → DatesEntry
 plain_found e = record { name = e.name.now; level = e.level; date = e.date }
 
 -- what a line was found to be
-abbrev pub IsLineFound : List ℕ → Result (Option Found) EntryFault → Type 0
+abbrev pub IsLineFound : List ℕ → Result (Option FoundEntry) EntryFault → Type 0
 IsLineFound line (Ok None) = AreSpaces line
 IsLineFound line (Ok (Some found)) = SpellsLine line (plain_found found)
 IsLineFound line (Err BadShape) = IsBadLine line
