@@ -4,7 +4,7 @@
 SERVER := crates/rmtd/out/rmtd
 CLIENT := crates/rdump/out/rdump
 SIMULATOR := crates/rsim/out/rsim
-FEED := crates/feed/out/feed
+FEED := crates/bench_feed/out/bench_feed
 MINUTES := out/minutes.txt
 RATIOS := out/bench.tsv
 PROGRAMS := rmtd rdump rsim
@@ -47,7 +47,7 @@ edits: kit ## try the further edits, wrong bodies that the prover has to refuse,
 	@python3 tests/further.py $(CRATE)
 
 bench: build ## long streams, reels in folders, dumps beside a floor, a long dumpdates file, long schedules, and bytes in pieces; it ends with a table of ratios
-	@python3 tests/build.py feed
+	@python3 tests/build.py bench_feed
 	rm -f $(RATIOS)
 	python3 bench/stdio.py $(SERVER)
 	python3 bench/reels.py $(SERVER)

@@ -17,7 +17,7 @@ from stdio import LINEAR, Words, least_times
 from told import ratio, seconds
 from wire import GREATEST_RECORD
 
-BUILT = Path(__file__).resolve().parent.parent / "crates/feed/out/feed"
+BUILT = Path(__file__).resolve().parent.parent / "crates/bench_feed/out/bench_feed"
 
 REPEATS = 7
 # How many values, of as many data or text bytes as a record has at most, the shorter stream has: 1 MiB of them.

@@ -35,7 +35,7 @@ TREES = TOP / "out/build"
 PARTS = ("src", "specs", "proofs")
 # A program is also run once, when `rt` has built it: with words with which it ends at once, and does nothing.
 VERSION = ("--version",)
-WORDS = {"feed": ("replies", "1", "1000")}
+WORDS = {"bench_feed": ("replies", "1", "1000")}
 # The seconds of one processor that a crate took, a line of it, and a program beside that, as measured of the server and what it stands on.
 SECONDS_A_CRATE = 90.0
 SECONDS_A_LINE = 0.07

@@ -2,9 +2,9 @@
 use Rattle.std.proofs.Common.{◌≡◌, Bool, true, false, ℕ, List, subst}
 use Rattle.dump_client.specs.Standing.{Standing}
 use Rattle.dump_client.specs.declared.stage.Stage.TheVariants.{Finished}
-use Rattle.rdump_talk.specs.Keeping.{IsDumpKept, IsKeptConclusion, KeptEnds, KeptKind}
-use Rattle.rdump_talk.specs.declared.conclusion.Conclusion.{Conclusion}
-use Rattle.rdump_talk.specs.declared.conclusion.Conclusion.TheVariants.{Complete}
+use Rattle.rdump_net.specs.Keeping.{IsDumpKept, IsKeptConclusion, KeptEnds, KeptKind}
+use Rattle.rdump_net.specs.declared.conclusion.Conclusion.{Conclusion}
+use Rattle.rdump_net.specs.declared.conclusion.Conclusion.TheVariants.{Complete}
 
 -- one that is complete is finished
 complete_at : (whole : Bool) (at : Standing) (last : List ℕ) → IsKeptConclusion whole at last Complete → at.stage ≡ Finished

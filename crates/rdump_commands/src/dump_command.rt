@@ -12,11 +12,11 @@ use dump_client::{Blocks, Client};
 use dumpdates::DatesFault;
 use file_medium::FileMedium;
 use printable::plain;
+use rdump_args::DumpLine;
 use rdump_files::{
     DumperFault, PayloadFile, ProgressLine, ReplacedFile, base_date, date_text, dumper,
     read_or_empty, read_steady, seconds_now,
 };
-use rdump_words::DumpLine;
 use rmt_wire::Counted;
 use std::fs::File;
 use std::io::{self, ErrorKind, Write};

@@ -6,8 +6,8 @@ use crate::shell_word::ShellWord;
 use dump_client::{Blocks, Client};
 use dumpdates::LAST_SECOND;
 use printable::plain;
+use rdump_args::DumpLine;
 use rdump_files::{PayloadChange, PayloadLook, date_text};
-use rdump_words::DumpLine;
 use std::io::{self, ErrorKind};
 use std::time::{SystemTime, UNIX_EPOCH};
 

@@ -1,7 +1,7 @@
 //! A client that dumps to a server.
 ghost use Rattle.std.specs.Prelude.{◌≡◌, ◌⊎◌};
 ghost use Rattle.dump_client.specs.declared.stage.Stage.TheVariants.{Finished};
-ghost use Rattle.rdump_talk.specs.declared.conclusion.Conclusion.TheVariants as ends;
+ghost use Rattle.rdump_net.specs.declared.conclusion.Conclusion.TheVariants as ends;
 ghost use Rattle.rdump_commands.specs.Status.{IsDumpStatus, IsEndStatus};
 
 use crate::ClientSystem;
@@ -13,9 +13,9 @@ use crate::reporting_peer::ReportingPeer;
 use dump_client::{Blocks, Client};
 use dumpdates::DatesFault;
 use printable::plain;
+use rdump_args::DumpLine;
 use rdump_files::{Clearing, FileFailed, ReplacedFile, UpdateFault, dump_and_update, enter_dump};
-use rdump_talk::{Conclusion, Peer, dump, dump_kept};
-use rdump_words::DumpLine;
+use rdump_net::{Conclusion, Peer, dump, dump_kept};
 use rmt_wire::Counted;
 use std::io::{self, Read, Write};
 

@@ -4,7 +4,7 @@ ghost use Rattle.std.specs.Prelude.{◌≡◌};
 use crate::ClientSystem;
 use dump_client::RunFault;
 use printable::plain;
-use rdump_words::{DumpLine, dump_error};
+use rdump_args::{DumpLine, dump_error};
 use std::alloc::{AllocError, Global};
 use std::io;
 

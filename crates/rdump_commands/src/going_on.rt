@@ -10,11 +10,11 @@ use crate::dump_start::{DumpStart, refuse_files, refuse_stranger};
 use crate::dumping::run_kept;
 use crate::fault::{FAILED, refuse_run, report, report_failed, report_no_memory, say};
 use dump_client::{Blocks, Client, ResumeFault, Run};
+use rdump_args::DumpLine;
 use rdump_files::{
     FileFailed, PayloadFile, ProgressLine, ReplacedFile, ResumedDumpFault, WholeFile, dumper_of,
     resume_dump, run_of,
 };
-use rdump_words::DumpLine;
 use std::io::{self, Write};
 use tape::Medium;
 

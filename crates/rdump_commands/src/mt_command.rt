@@ -1,13 +1,13 @@
 //! `rdump mt`.
 ghost use Rattle.rdump_commands.specs.Status.{IsMtStatus};
-ghost use Rattle.rdump_words.specs.Rdump.{IsMtLine};
+ghost use Rattle.rdump_args.specs.Rdump.{IsMtLine};
 
 use crate::ClientSystem;
 use crate::fault::{ABNORMAL, report_failed, unwritten};
 use crate::shown::may_be_shown;
 use printable::{PlainBytes, plain};
-use rdump_talk::{SocketPeer, mt};
-use rdump_words::MtLine;
+use rdump_args::MtLine;
+use rdump_net::{SocketPeer, mt};
 use rmt_wire::Counted;
 use std::io::{self, Write};
 

@@ -1,6 +1,6 @@
 //! The file that volumes are read back into.
+use rdump_args::ReadLine;
 use rdump_files::named_file;
-use rdump_words::ReadLine;
 use std::alloc::Global;
 use std::cell::Cell;
 use std::fs::{self, File, Metadata, OpenOptions, TryLockError};

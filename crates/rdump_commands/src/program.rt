@@ -7,8 +7,8 @@ use crate::{ClientSystem, run_dates, run_dump, run_mt, run_read};
 use clap::error::ErrorKind;
 use file_medium::reserve_std_fds;
 use printable::PlainLines;
+use rdump_args::{RdumpLine, rdump_args};
 use rdump_list::run_ls;
-use rdump_words::{RdumpLine, rdump_words};
 use std::convert::AsStr;
 use std::env;
 use std::io::{self, Write};
@@ -49,7 +49,7 @@ pub fn run_arguments<R: ClientSystem, S: AsStr, T: Write + Copy + Drop>(
 ) -> u8
     ensures { IsStatus result }
 {
-    match rdump_words(rt.alloc(), arguments) {
+    match rdump_args(rt.alloc(), arguments) {
         Ok(RdumpLine::Dump(line)) => run_dump(rt, &line, terminal),
         Ok(RdumpLine::Read(line)) => run_read(rt, line),
         Ok(RdumpLine::List(line)) => run_ls(rt, line),

@@ -3,10 +3,10 @@
 use crate::ClientSystem;
 use dump_run::VolumeLabel;
 use printable::plain;
-use rdump_talk::{
+use rdump_args::DumpLine;
+use rdump_net::{
     CallFault, LookFault, Peer, Protection, ReelFront, SocketPeer, find_protection, look_at_reel,
 };
-use rdump_words::DumpLine;
 use rmt_wire::argument::is_device;
 use std::io;
 

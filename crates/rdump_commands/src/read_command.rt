@@ -1,13 +1,13 @@
 //! `rdump read`.
 ghost use Rattle.rdump_commands.specs.Status.{IsReadStatus, IsStatus};
-ghost use Rattle.rdump_words.specs.Rdump.{IsReadLine};
+ghost use Rattle.rdump_args.specs.Rdump.{IsReadLine};
 
 use crate::ClientSystem;
 use crate::fault::{ABNORMAL, report, report_failed};
 use crate::out_file::OutFile;
 use crate::stack::read_stack;
 use crate::volume::{ReadEnd, read_volume};
-use rdump_words::ReadLine;
+use rdump_args::ReadLine;
 use std::io;
 
 /// The status of what was read whole.

@@ -2,7 +2,7 @@
 use crate::ClientSystem;
 use crate::out_file::{BlockFault, OutFile};
 use dump_client::AttemptFault;
-use rdump_talk::{Peer, SocketPeer};
+use rdump_net::{Peer, SocketPeer};
 use std::cell::Cell;
 use std::io;
 

@@ -10,9 +10,9 @@ use jiff::Timestamp;
 use jiff::civil::Date;
 use jiff::tz::TimeZone;
 use printable::plain;
+use rdump_args::DumpLine;
 use rdump_files::CLEAR;
-use rdump_talk::{Peer, ReadFault, SocketPeer};
-use rdump_words::DumpLine;
+use rdump_net::{Peer, ReadFault, SocketPeer};
 use rmt_wire::errno::EIO;
 use std::io::{self, Write};
 

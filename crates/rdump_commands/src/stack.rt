@@ -1,6 +1,6 @@
 //! The volumes of a stack, read back one after the other.
 ghost use Rattle.rdump_commands.specs.Status.{IsReadStatus};
-ghost use Rattle.rdump_words.specs.Rdump.{IsReadLine};
+ghost use Rattle.rdump_args.specs.Rdump.{IsReadLine};
 
 use crate::ClientSystem;
 use crate::came::{BlockRange, CameBlocks};
@@ -10,7 +10,7 @@ use crate::read_command::finish_file;
 use crate::volume::{ReadEnd, VolumeRead, read_volume};
 use dump_run::VolumeLabel;
 use printable::plain;
-use rdump_words::ReadLine;
+use rdump_args::ReadLine;
 
 /// Reads the volumes of a stack into a file, each to its place, as `rdump read --all` does, and answers the status.
 pub(crate) fn read_stack<R: ClientSystem>(rt: &R, line: &ReadLine<'_>, file: &OutFile) -> u8

@@ -1,6 +1,6 @@
 //! One volume that is read back, over a connection of its own.
 ghost use Rattle.std.specs.Prelude.{◌≡◌};
-ghost use Rattle.rdump_words.specs.Rdump.{IsReadLine};
+ghost use Rattle.rdump_args.specs.Rdump.{IsReadLine};
 
 use crate::ClientSystem;
 use crate::fault::{ABNORMAL, report_failed, unwritten};
@@ -11,10 +11,10 @@ use crate::shown::may_be_shown;
 use crate::volume_blocks::{BlockSizes, VolumeBlocks};
 use dump_run::VolumeLabel;
 use printable::plain;
-use rdump_talk::{
+use rdump_args::ReadLine;
+use rdump_net::{
     AfterVolume, ReadFault, ReelFront, SocketPeer, VolumeRequest, copy_volume, look_at_reel,
 };
-use rdump_words::ReadLine;
 use rmt_wire::Counted;
 use rmt_wire::errno::ENXIO;
 use std::cell::Cell;

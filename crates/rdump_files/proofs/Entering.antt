@@ -9,7 +9,7 @@ use Rattle.dump_client.specs.Standing.{Standing}
 use Rattle.dump_run.specs.declared.count.VolumeCount.{VolumeCount}
 use Rattle.dump_client.specs.declared.stage.Stage.{Stage}
 use Rattle.dump_client.specs.declared.stage.Stage.TheVariants.{Ready, ToSend, Waiting, Asking, Finished, Abandoned}
-use Rattle.rdump_talk.specs.Lines.{IsDumped, IsLast}
+use Rattle.rdump_net.specs.Lines.{IsDumped, IsLast}
 use Rattle.rdump_files.specs.Entering.{dates_entry_of, sinks, DumpSinks, IsEntered, IsUncaused, IsUpdateTold, IsDumpEntered}
 use Rattle.rdump_files.specs.Updating.{IsUpdated}
 use Rattle.rdump_files.specs.WholeFile.{WholeFileKind}

@@ -7,7 +7,7 @@ use Rattle.dump_run.specs.Run.{PlainRun}
 use Rattle.dump_client.specs.Standing.{Standing}
 use Rattle.dump_run.specs.declared.count.VolumeCount.{VolumeCount}
 use Rattle.dump_client.specs.declared.stage.Stage.TheVariants.{Finished}
-use Rattle.rdump_talk.specs.Lines.{IsDumped}
+use Rattle.rdump_net.specs.Lines.{IsDumped}
 use Rattle.rdump_files.specs.Updating.{IsUpdated}
 use Rattle.rdump_files.specs.WholeFile.{WholeFileKind}
 use Rattle.rdump_files.specs.declared.dates_update.UpdateFault.{UpdateFault}

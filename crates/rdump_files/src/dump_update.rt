@@ -2,11 +2,11 @@
 ghost use Rattle.std.specs.Prelude.{◌≡◌, None};
 ghost use Rattle.rdump_files.specs.Entering.{IsDumpEntered, IsEntered, IsUpdateTold, sinks};
 ghost use Rattle.rdump_files.specs.WholeFile.{whole_file};
-ghost use Rattle.rdump_talk.specs.Talk.{Anywhere, TalksOver};
+ghost use Rattle.rdump_net.specs.Talk.{Anywhere, TalksOver};
 
 use crate::{UpdateFault, WholeFile, update};
 use dump_client::{Blocks, Client};
-use rdump_talk::{Peer, dump};
+use rdump_net::{Peer, dump};
 use rmt_wire::{Counted, print_text};
 use std::alloc::Global;
 use std::io::{Read, Write};

@@ -7,7 +7,7 @@ ghost use Rattle.rdump_files.specs.Payload.{blocks_for, line_run, IsRefusedRun, 
 
 use crate::{Gauge, PayloadFile, Shown};
 use dump_client::{Client, Run, RunFault};
-use rdump_words::DumpLine;
+use rdump_args::DumpLine;
 use std::alloc::{AllocError, Global};
 use tape::Medium;
 

@@ -3,7 +3,7 @@
 use crate::files::read_if_there;
 use crate::new_file::{Form, NewFile, find_stranger};
 use crate::{FileFailed, WholeFile};
-use rdump_talk::Keeper;
+use rdump_net::Keeper;
 use std::alloc::Global;
 use std::fs::File;
 use std::io::{self, ErrorKind};

@@ -5,7 +5,7 @@ use crate::ListSystem;
 use crate::drive_reel::read_drive;
 use crate::reel::{ListedReel, Source};
 use printable::plain;
-use rdump_talk::{ReadFault, SocketPeer};
+use rdump_net::{ReadFault, SocketPeer};
 use reel_check::{ReelContents, ReelTally};
 use std::alloc::AllocError;
 

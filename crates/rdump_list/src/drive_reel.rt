@@ -5,7 +5,7 @@ ghost use Rattle.rmt_wire.specs.Number.{IsLine};
 
 use crate::spacing::{Stop, can_space, next_record, no_reply, rewind, space};
 use crate::undetermined::Undetermined;
-use rdump_talk::{KeptReply, Peer, PeerCaller, ReadFault, VolumeRequest};
+use rdump_net::{KeptReply, Peer, PeerCaller, ReadFault, VolumeRequest};
 use reel_check::{Holding, ReelTally};
 use rmt_wire::fcntl::O_RDONLY;
 use rmt_wire::mtio::{MTBSF, MTBSR, MTFSF, MTFSR};

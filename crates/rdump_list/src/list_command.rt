@@ -2,7 +2,7 @@
 ghost use Rattle.std.specs.Prelude.{IfOk};
 ghost use Rattle.dump_run.specs.Run.{IsDevice};
 ghost use Rattle.rdump_list.specs.Status.{IsListStatus};
-ghost use Rattle.rdump_words.specs.Rdump.{IsListLine, IsListedReels};
+ghost use Rattle.rdump_args.specs.Rdump.{IsListLine, IsListedReels};
 
 use crate::ListSystem;
 use crate::drive::drive_reel;
@@ -13,7 +13,7 @@ use crate::order::sort;
 use crate::printer::Printer;
 use crate::reel::ListedReel;
 use crate::status::{FAILED, status_of};
-use rdump_words::{ListLine, ListedReels};
+use rdump_args::{ListLine, ListedReels};
 use std::alloc::{AllocError, Global};
 use std::io::{self, Write};
 

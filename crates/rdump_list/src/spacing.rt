@@ -4,7 +4,7 @@ ghost use Rattle.rmt_wire.specs.declared.limits.TheConstants.{NUMBER_LIMIT};
 ghost use Rattle.rmt_wire.specs.declared.mtio.TheConstants.{MTNOP};
 
 use crate::undetermined::{Asked, Undetermined};
-use rdump_talk::{CallFault, KeptReply, Peer, PeerCaller, ReadFault};
+use rdump_net::{CallFault, KeptReply, Peer, PeerCaller, ReadFault};
 use rmt_wire::mtio::MTREW;
 use rmt_wire::{RECORD_LIMIT, Request};
 

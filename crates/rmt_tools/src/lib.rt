@@ -6,6 +6,7 @@ mod memory_peer;
 
 pub use hold_table::{HoldSeat, HoldTable, TableHand};
 pub use memory_peer::MemoryPeer;
+pub use rdump_args::{DumpLine, ListLine, ListedReels, MtLine, RdumpLine, ReadLine, rdump_args};
 pub use rdump_commands::{rdump, run_client, run_dates, run_dump, run_mt, run_read, run_words};
 pub use rdump_files::{
     Clearing, DumpEnd, DumperFault, FileFailed, Gauge, PayloadFile, ProgressLine, ReplacedFile,
@@ -14,19 +15,18 @@ pub use rdump_files::{
     seconds_now, update,
 };
 pub use rdump_list::{ListSystem, is_whole, push_words, run_ls};
-pub use rdump_talk::{
+pub use rdump_net::{
     AfterVolume, CallFault, Conclusion, Keeper, KeptReply, Passed, Peer, PeerCaller, ReadFault,
     SocketPeer, VolumeRequest, copy_volume, dump, dump_kept, failure_line, mt, read_volume,
 };
-pub use rdump_words::{DumpLine, ListLine, ListedReels, MtLine, RdumpLine, ReadLine, rdump_words};
 pub use reel_check::{
     Holding, ReelContents, ReelTally, Volume, VolumeEnd, check_reel, dumped_volume, one_holding,
     one_volume,
 };
 pub use reel_files::{FileMedium, FolderDrive, FolderFault, FolderStacks};
+pub use rmtd_args::{DriveWord, LineFault, ServerLine, server_line, server_words};
 pub use rmtd_serve::{
     Begun, Connections, Incoming, ListenerSetup, MemoryServer, TapeServer, begin, exit_status,
     folder_stacks, run_stdio, seat_stacks, serve_at, serve_connections, serve_many, start,
 };
-pub use rmtd_words::{DriveWord, LineFault, ServerLine, server_line, server_words};
-pub use schedules::{rsim, schedule};
+pub use rsim_schedule::{rsim, schedule};

@@ -3,8 +3,8 @@ ghost use Rattle.std.specs.Prelude.{◌≡◌, ◌≤◌, ◌∷◌, [], None, I
 ghost use Rattle.rmt_server.specs.Memory.{in_memory};
 ghost use Rattle.rmt_server.specs.Opening.{IsClosed};
 ghost use Rattle.rmt_server.specs.State.{state};
-ghost use Rattle.rdump_talk.specs.Peer.{Logs, connected};
-ghost use Rattle.rdump_talk.specs.declared.peer.Passed.TheVariants.{Connected, Ended};
+ghost use Rattle.rdump_net.specs.Peer.{Logs, connected};
+ghost use Rattle.rdump_net.specs.declared.peer.Passed.TheVariants.{Connected, Ended};
 ghost use Rattle.rmt_tools.specs.Telling.{IsCleared, IsLogOf, IsMadeOf, IsTakenApart, where_so};
 
 mod far_end;
@@ -13,7 +13,7 @@ mod log;
 use drives::{DriveTable, ListStacks, LocalHolds};
 use far_end::FarEnd;
 use log::Log;
-use rdump_talk::Peer;
+use rdump_net::Peer;
 use std::alloc::Global;
 use std::marker::Model;
 

@@ -13,7 +13,7 @@ use Rattle.drives.specs.contracts.local.LocalHoldsHolds.TheImpl.{ghosts as of_ho
 use Rattle.rmt_server.specs.declared.stream.Served.{Served}
 use Rattle.rmt_server.specs.State.{State}
 use Rattle.rmt_server.specs.Stream.{streams, streams_kind}
-use Rattle.rmtd_words.specs.declared.rmtd_line.ServerLine.{ServerLine}
+use Rattle.rmtd_args.specs.declared.rmtd_line.ServerLine.{ServerLine}
 use Rattle.rmtd_serve.specs.Stdio.{exit_status}
 use Rattle.rmtd_serve.specs.Startup.{EndsLine}
 use Rattle.rmtd_serve.specs.Startup.EndsLine.{in_folders}

@@ -1,8 +1,8 @@
 -- The stacks of drives in folders, as the words of `rmtd` name them. Public contracts cite it.
 use Rattle.std.specs.Prelude.{ℕ, false, List, map}
 use Rattle.reel_files.specs.Folders.{FolderLibrary, folder_row, folder_library}
-use Rattle.rmtd_words.specs.Drive.{plain_drive}
-use Rattle.rmtd_words.specs.declared.drive_argument.DriveArgument.{DriveArgument}
+use Rattle.rmtd_args.specs.Drive.{plain_drive}
+use Rattle.rmtd_args.specs.declared.drive_argument.DriveArgument.{DriveArgument}
 
 -- no reel is latched at any, and the device never failed
 abbrev pub stacks_of : List DriveArgument → List ℕ → ℕ → FolderLibrary

@@ -6,8 +6,8 @@ use Rattle.clap.specs.Arguments.{Text}
 use Rattle.rmt_server.specs.declared.stream.Served.{Served}
 use Rattle.rmt_server.specs.Stream.{Exchange, Streams, StreamsKind, AreRead}
 use Rattle.reel_files.specs.Folders.{FolderLibrary}
-use Rattle.rmtd_words.specs.declared.rmtd_line.ServerLine.{ServerLine}
-use Rattle.rmtd_words.specs.Rmtd.{AskToBeShown, IsLineOf}
+use Rattle.rmtd_args.specs.declared.rmtd_line.ServerLine.{ServerLine}
+use Rattle.rmtd_args.specs.Rmtd.{AskToBeShown, IsLineOf}
 use Rattle.rmtd_serve.specs.declared.startup.Begun.{Begun}
 use Rattle.rmtd_serve.specs.declared.startup.Begun.TheVariants.{End, Serve}
 use Rattle.rmtd_serve.specs.Stdio.{EndsWith, IsStdio, exit_status}

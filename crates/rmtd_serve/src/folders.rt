@@ -2,14 +2,14 @@
 ghost use Rattle.std.specs.Prelude.{◌≡◌, ◌≤◌, false, All, IfOk, length, map};
 ghost use Rattle.drives.specs.declared.holds.TheConstants.{DRIVE_LIMIT};
 ghost use Rattle.reel_files.specs.Folders.{folder_row};
-ghost use Rattle.rmtd_words.specs.Drive.{plain_drive};
+ghost use Rattle.rmtd_args.specs.Drive.{plain_drive};
 ghost use Rattle.rmtd_serve.specs.Folders.{stacks_of};
 
 use crate::error_log::ErrorLog;
 use crate::line_start::LineStart;
 use hold_table::SEAT_LIMIT;
 use reel_files::{FolderDrive, FolderStacks, FolderSystem, Log, NoLog};
-use rmtd_words::DriveArgument;
+use rmtd_args::DriveArgument;
 use std::alloc::{AllocError, Global};
 
 /// The stacks of these drives and the bin, in their folders. Each reel takes so many bytes. It reads no folder, and fails only

@@ -1,7 +1,7 @@
 //! Making ready for connections that are served at once.
 ghost use Rattle.std.specs.Prelude.{◌≡◌, ◌≤◌, Some, IfOk, length, map, option_map};
 ghost use Rattle.drives.specs.declared.holds.TheConstants.{DRIVE_LIMIT};
-ghost use Rattle.rmtd_words.specs.Drive.{KeepsDriveRules, plain_drive};
+ghost use Rattle.rmtd_args.specs.Drive.{KeepsDriveRules, plain_drive};
 ghost use Rattle.rmtd_serve.specs.Startup.{IsListenerSetupOf};
 
 use crate::folders::seat_stacks;
@@ -9,7 +9,7 @@ use crate::line_start::LineStart;
 use crate::listener_setup::ListenerSetup;
 use hold_table::HoldTable;
 use reel_files::FolderSystem;
-use rmtd_words::ServerLine;
+use rmtd_args::ServerLine;
 use std::io;
 
 /// What the line has connections served at, with a log whose lines begin so. It fails only where memory is refused.

@@ -2,8 +2,8 @@
 ghost use Rattle.std.specs.Prelude.{◌≡◌, ◌⊎◌, ◌≤◌, Some, None, IfOk, OnErr, length, map, option_map};
 ghost use Rattle.clap.specs.Arguments.{kind_of};
 ghost use Rattle.drives.specs.declared.holds.TheConstants.{DRIVE_LIMIT};
-ghost use Rattle.rmtd_words.specs.Drive.{KeepsDriveRules, plain_drive};
-ghost use Rattle.rmtd_words.specs.Rmtd.{IsShown};
+ghost use Rattle.rmtd_args.specs.Drive.{KeepsDriveRules, plain_drive};
+ghost use Rattle.rmtd_args.specs.Rmtd.{IsShown};
 ghost use Rattle.rmt_server.specs.Stream.{streams, streams_kind};
 ghost use Rattle.rmtd_serve.specs.Startup.{AreUntouched, IsDone, IsBegun, IsStarted, ListensOrEnds};
 
@@ -23,7 +23,7 @@ use file_medium::reserve_std_fds;
 use printable::{PlainLines, plain};
 use reel_files::{FolderStacks, FolderSystem, Log};
 use rmt_wire::Counted;
-use rmtd_words::{ServerLine, server_line};
+use rmtd_args::{ServerLine, server_line};
 use std::alloc::{AllocError, Global};
 use std::env;
 use std::io::{self, Read, Write};

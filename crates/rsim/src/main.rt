@@ -2,7 +2,7 @@
 #![tactic(auto)]
 
 use rmt_wire::Counted;
-use schedules::rsim;
+use rsim_schedule::rsim;
 use std::process::ExitCode;
 use std::{env, io};
 

@@ -6,8 +6,8 @@ use Rattle.std.specs.Result.{is_err}
 use Rattle.std.specs.List.{list_all}
 use Rattle.drives.specs.TapeLibrary.{TapeLibrary, IsDriveNamed, latched_at}
 use Rattle.drives.specs.Arranging.{are_distinct, is_piled, may_arrange}
-use Rattle.tape_events.specs.World.{World, Connection, numbered}
-use Rattle.tape_events.specs.Changes.{connection_of}
+use Rattle.world_model.specs.World.{World, Connection, numbered}
+use Rattle.world_model.specs.Changes.{connection_of}
 use Rattle.tape_world.specs.declared.conn.Connection.{Connection as RealConnection}
 use Rattle.tape_world.specs.Seen.{seen_connection}
 use Rattle.tape_world.proofs.Linked.{no_connection}

@@ -9,7 +9,7 @@ use Rattle.drives.specs.Arranging.{are_distinct}
 use Rattle.drives.specs.declared.holds.TheConstants.{DRIVE_LIMIT}
 use Rattle.drives.proofs.Arranging.{any_lent}
 use Rattle.tape_world.specs.declared.drive_spec.DriveSpec.{DriveSpec}
-use Rattle.tape_events.specs.First.{AreGoodDrives}
+use Rattle.world_model.specs.First.{AreGoodDrives}
 use Rattle.tape_world.specs.Making.{plain_drive_spec, reels_of, reel_again, names_again}
 
 -- the names of all reels

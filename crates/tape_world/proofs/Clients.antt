@@ -13,9 +13,9 @@ use Rattle.dump_client.specs.declared.stage.State.{State}
 use Rattle.dump_client.specs.declared.stage.State.TheVariants as told
 use Rattle.dump_client.specs.declared.stage.Answer.{Answer}
 use Rattle.dump_client.specs.declared.fault.StartFault.{StartFault}
-use Rattle.tape_events.specs.World.{World, Caller, numbered}
-use Rattle.tape_events.specs.Rows.{StandsIn}
-use Rattle.tape_events.specs.Steps.{caller, entry_of}
+use Rattle.world_model.specs.World.{World, Caller, numbered}
+use Rattle.world_model.specs.Rows.{StandsIn}
+use Rattle.world_model.specs.Steps.{caller, entry_of}
 use Rattle.tape_world.specs.declared.caller.Begun.{Begun as RealBegun}
 use Rattle.tape_world.specs.declared.caller.Caller.{Caller as RealCaller}
 use Rattle.tape_world.specs.Seen.{seen_caller}

@@ -7,9 +7,9 @@ use Rattle.dump_client.specs.Client.{HasFedAt}
 use Rattle.dump_client.specs.declared.stage.Progress.{Progress}
 use Rattle.dump_client.specs.declared.stage.Progress.TheVariants as moved
 use Rattle.dump_client.specs.declared.fault.AttemptFault.{AttemptFault}
-use Rattle.tape_events.specs.World.{World, Connection, Dumping, Caller, numbered}
-use Rattle.tape_events.specs.Changes.{changed, changed_from, over_there, with_no_failure, other_left, given_up, came_to}
-use Rattle.tape_events.specs.Steps.{caller, forgotten_from, SeesEnd}
+use Rattle.world_model.specs.World.{World, Connection, Dumping, Caller, numbered}
+use Rattle.world_model.specs.Changes.{changed, changed_from, over_there, with_no_failure, other_left, given_up, came_to}
+use Rattle.world_model.specs.Steps.{caller, forgotten_from, SeesEnd}
 use Rattle.tape_world.specs.declared.conn.Connection.{Connection as RealConnection}
 use Rattle.tape_world.specs.declared.caller.Begun.{Begun as RealBegun}
 use Rattle.tape_world.specs.declared.caller.Caller.{Caller as RealCaller}

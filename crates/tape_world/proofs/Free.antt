@@ -16,7 +16,7 @@ use Rattle.drives.specs.declared.fault.DriveFault.{DriveFault}
 use Rattle.drives.specs.declared.fault.DriveFault.TheVariants.{NoSuchDrive, Busy, NoReel, Device, OutOfMemory, NameTaken}
 use Rattle.drives.proofs.Shops.{bit, named, times_named, sum_by_slots, sum_by_with_drive, any_count}
 use Rattle.drives.proofs.Arranging.{names_from}
-use Rattle.tape_events.specs.First.{AreGoodDrives}
+use Rattle.world_model.specs.First.{AreGoodDrives}
 use Rattle.tape_world.specs.declared.drive_spec.DriveSpec.{DriveSpec}
 use Rattle.tape_world.specs.Making.{plain_drive_spec, reels_of, blank_slots, laid_drive, laid_library, with_laid, with_slots}
 use Rattle.tape_world.proofs.Apart.{all_reels, good_parts}

@@ -8,9 +8,9 @@ use Rattle.dump_run.specs.declared.count.VolumeCount.{VolumeCount}
 use Rattle.dump_client.specs.declared.stage.Progress.{Progress}
 use Rattle.dump_client.specs.declared.stage.Progress.TheVariants as moved
 use Rattle.dump_client.specs.declared.fault.AttemptFault.{AttemptFault}
-use Rattle.tape_events.specs.World.{World, Connection, Dumping, Caller, Count, numbered}
-use Rattle.tape_events.specs.Changes.{with_no_failure, changed, changed_from, over_there, reel_opened_by, counts_of, came_to}
-use Rattle.tape_events.specs.Steps.{Hears, caller}
+use Rattle.world_model.specs.World.{World, Connection, Dumping, Caller, Count, numbered}
+use Rattle.world_model.specs.Changes.{with_no_failure, changed, changed_from, over_there, reel_opened_by, counts_of, came_to}
+use Rattle.world_model.specs.Steps.{Hears, caller}
 use Rattle.tape_world.specs.declared.conn.Connection.{Connection as RealConnection}
 use Rattle.tape_world.specs.declared.caller.Caller.{Caller as RealCaller}
 use Rattle.tape_world.specs.declared.history.Count.{Count as RealCount}

@@ -1,8 +1,8 @@
 -- What leaves the names of all reels among those in memory.
 use Rattle.std.proofs.Common.{◌≡◌, ℕ, ◌<◌, List, sym, subst}
 use Rattle.drives.specs.TapeLibrary.{TapeLibrary}
-use Rattle.tape_events.specs.World.{World}
-use Rattle.tape_events.specs.Naming.{SameNames}
+use Rattle.world_model.specs.World.{World}
+use Rattle.world_model.specs.Naming.{SameNames}
 use Rattle.tape_world.specs.Serving.{IsLibraryKnown}
 
 pub known_same : (names : List (List ℕ)) (s new : TapeLibrary) → new ≡ s → IsLibraryKnown names s → IsLibraryKnown names new

@@ -4,8 +4,8 @@ use Rattle.std.specs.Prelude.{slice_get, slice_set, slice_index_or, take, drop}
 use Rattle.std.proofs.lemmas.List.{map-set, set-get_or, length-map, length-set, take_all, drop_all, append-nil}
 use Rattle.std.proofs.Math.ListN.{get_or-map}
 use Rattle.std.proofs.lemmas.Option.{slice_get-map, slice_get-get_or, same_Some}
-use Rattle.tape_events.specs.World.{Connection, numbered, with_numbered, World}
-use Rattle.tape_events.specs.Changes.{changed, changed_from, over_here, connection_of}
+use Rattle.world_model.specs.World.{Connection, numbered, with_numbered, World}
+use Rattle.world_model.specs.Changes.{changed, changed_from, over_here, connection_of}
 use Rattle.tape_world.specs.declared.conn.Connection.{Connection as RealConnection}
 use Rattle.tape_world.specs.Seen.{seen_connection}
 

@@ -19,7 +19,7 @@ use Rattle.dumpdates.specs.Entry.{DatesEntry}
 use Rattle.rmt_server.specs.ServerState.{server}
 use Rattle.tape_host.specs.Servers.{Hosted, hosted}
 use Rattle.tape_host.specs.Lying.{Lie, StacksLie, AllLie}
-use Rattle.tape_events.specs.First.{PlainDriveSpec, blank_drive, first_world}
+use Rattle.world_model.specs.First.{PlainDriveSpec, blank_drive, first_world}
 use Rattle.tape_world.specs.declared.conn.Connection.{Connection as RealConnection}
 use Rattle.tape_world.specs.declared.caller.Begun.{Begun as RealBegun}
 use Rattle.tape_world.specs.declared.history.History.{History}

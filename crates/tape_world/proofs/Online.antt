@@ -3,14 +3,14 @@ use Rattle.std.proofs.Common.{◌≡◌, ℕ, zero, suc, ◌+◌, ◌<◌, List,
 use Rattle.std.specs.Prelude.{slice_index_or}
 use Rattle.std.specs.Option.{option_or}
 use Rattle.std.proofs.lemmas.Option.{slice_get_within}
-use Rattle.tape_events.specs.Standing.{AreHeld}
+use Rattle.world_model.specs.Standing.{AreHeld}
 use Rattle.tape.specs.Tape.{Tape}
 use Rattle.drives.specs.TapeLibrary.{TapeLibrary}
 use Rattle.rmt_server.specs.Session.{PlainSession}
 use Rattle.rmt_server.specs.TroubledServe.{drive_in}
 use Rattle.rmt_server.specs.ServerState.{ServerState, ServerConnection}
 use Rattle.tape_host.specs.Servers.{side_at}
-use Rattle.tape_events.specs.Changes.{side_of}
+use Rattle.world_model.specs.Changes.{side_of}
 use Rattle.tape_world.specs.Entries.{AreOpenThere, tape_online, first_tape_online}
 use Rattle.tape_world.proofs.Server.{side_found}
 

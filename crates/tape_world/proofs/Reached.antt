@@ -6,9 +6,9 @@ use Rattle.rmt_wire.specs.RequestReader.{RequestHeld, Unread, taken_of}
 use Rattle.rmt_wire.specs.declared.limits.TheConstants.{READER_LIMIT}
 use Rattle.rmt_server.specs.ServerState.{ServerState, server, ServerConnection, side}
 use Rattle.tape_host.specs.Servers.{Hosted, side_at, with_side_at, HasRoom, IsPiecePushed}
-use Rattle.tape_events.specs.World.{with_numbered}
-use Rattle.tape_events.specs.Changes.{side_of}
-use Rattle.tape_events.specs.Rows.{HasRoomFor}
+use Rattle.world_model.specs.World.{with_numbered}
+use Rattle.world_model.specs.Changes.{side_of}
+use Rattle.world_model.specs.Rows.{HasRoomFor}
 use Rattle.tape_world.proofs.Server.{side_found}
 
 -- what came of so many bytes that were pushed to the side of connection k

@@ -2,9 +2,9 @@
 use Rattle.std.proofs.Common.{◌≡◌, List, option_map, Option, Some, None, refl, sym, ap, subst, ◌∙◌}
 use Rattle.std.specs.Prelude.{Result, Ok, Err}
 use Rattle.std.specs.Result.{IsErrAnd}
-use Rattle.tape_events.specs.World.{World}
-use Rattle.tape_events.specs.Events.{PlainEvent}
-use Rattle.tape_events.specs.Steps.{caller}
+use Rattle.world_model.specs.World.{World}
+use Rattle.world_model.specs.Events.{PlainEvent}
+use Rattle.world_model.specs.Steps.{caller}
 use Rattle.tape_world.specs.declared.stop.EventStop.{EventStop}
 use Rattle.tape_world.specs.declared.stop.EventStop.TheVariants.{OutOfMemory}
 use Rattle.tape_world.specs.declared.caller.Begun.{Begun as RealBegun}

@@ -1,11 +1,11 @@
 -- What events without a fault leave, from the law of a link without faults.
 use Rattle.std.specs.Prelude.{ℕ, zero, suc, List, [], ◌∷◌, take}
 use Rattle.std.proofs.Common.{subst}
-use Rattle.tape_events.specs.World.{World}
-use Rattle.tape_events.specs.Events.{PlainEvent}
-use Rattle.tape_events.specs.Steps.{Runs}
-use Rattle.tape_events.specs.First.{PlainDriveSpec, AreGoodDrives, first_world}
-use Rattle.tape_events.specs.Faultless.{AreFaultless, VolumesInOrder}
+use Rattle.world_model.specs.World.{World}
+use Rattle.world_model.specs.Events.{PlainEvent}
+use Rattle.world_model.specs.Steps.{Runs}
+use Rattle.world_model.specs.First.{PlainDriveSpec, AreGoodDrives, first_world}
+use Rattle.world_model.specs.Faultless.{AreFaultless, VolumesInOrder}
 use Rattle.tape_world.specs.Running.{LeavesInOrder}
 
 -- the law of a link without faults

@@ -3,11 +3,11 @@ use Rattle.std.proofs.Common.{◌≡◌, ℕ, ◌+◌, ◌<◌, ◌≤◌, List,
 use Rattle.std.specs.Prelude.{slice_get, slice_index_or, Result, Ok, Err}
 use Rattle.std.proofs.lemmas.List.{take_more, take_all, length-map}
 use Rattle.std.proofs.lemmas.Option.{same_Some, slice_get-map, slice_get-get_or}
-use Rattle.tape_events.specs.World.{World}
-use Rattle.tape_events.specs.Events.{PlainEvent}
-use Rattle.tape_events.specs.First.{IsReached}
-use Rattle.tape_events.specs.Rows.{Possible}
-use Rattle.tape_events.specs.Steps.{Runs, one_more}
+use Rattle.world_model.specs.World.{World}
+use Rattle.world_model.specs.Events.{PlainEvent}
+use Rattle.world_model.specs.First.{IsReached}
+use Rattle.world_model.specs.Rows.{Possible}
+use Rattle.world_model.specs.Steps.{Runs, one_more}
 use Rattle.tape_world.specs.declared.event.Event.{Event}
 use Rattle.tape_world.specs.declared.stop.EventStop.{EventStop}
 use Rattle.tape_world.specs.declared.stop.EventStop.TheVariants as stops

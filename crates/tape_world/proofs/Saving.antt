@@ -15,11 +15,11 @@ use Rattle.dump_run.specs.declared.count.VolumeCount.{VolumeCount}
 use Rattle.dump_client.specs.Client.{IsPayload}
 use Rattle.dump_client.specs.declared.stage.Answer.{Answer}
 use Rattle.dump_client.specs.declared.stage.Answer.TheVariants.{Retry, Abandon}
-use Rattle.tape_events.specs.World.{World, Begun, Entered, Kept, numbered}
-use Rattle.tape_events.specs.Changes.{with_no_failure}
-use Rattle.tape_events.specs.Kept.{IsWorldKept}
-use Rattle.tape_events.specs.Rows.{IsRunEntered, MayBeKept}
-use Rattle.tape_events.specs.Steps.{ResumesRun, caller, forgotten_from, kept_after}
+use Rattle.world_model.specs.World.{World, Begun, Entered, Kept, numbered}
+use Rattle.world_model.specs.Changes.{with_no_failure}
+use Rattle.world_model.specs.Kept.{IsWorldKept}
+use Rattle.world_model.specs.Rows.{IsRunEntered, MayBeKept}
+use Rattle.world_model.specs.Steps.{ResumesRun, caller, forgotten_from, kept_after}
 use Rattle.tape_world.specs.declared.history.Entered.{Entered as RealEntered}
 use Rattle.tape_world.specs.declared.caller.Begun.{Begun as RealBegun}
 use Rattle.tape_world.specs.declared.caller.Caller.{Caller as RealCaller}

@@ -15,11 +15,11 @@ use Rattle.dump_client.specs.declared.stage.Stage.TheVariants.{Ready, ToSend, Wa
 use Rattle.dump_client.specs.declared.stage.State.TheVariants as told
 use Rattle.dump_client.specs.declared.fault.AttemptFault.{AttemptFault}
 use Rattle.dump_client.specs.declared.fault.AttemptFault.TheVariants.{SourceFault}
-use Rattle.tape_events.specs.World.{World, Connection, Caller, numbered}
-use Rattle.tape_events.specs.Changes.{changed, over_there}
-use Rattle.tape_events.specs.Events.PlainEvent.{Send}
-use Rattle.tape_events.specs.Rows.{StandsIn}
-use Rattle.tape_events.specs.Steps.{Happens, Sends, caller, is_failing}
+use Rattle.world_model.specs.World.{World, Connection, Caller, numbered}
+use Rattle.world_model.specs.Changes.{changed, over_there}
+use Rattle.world_model.specs.Events.PlainEvent.{Send}
+use Rattle.world_model.specs.Rows.{StandsIn}
+use Rattle.world_model.specs.Steps.{Happens, Sends, caller, is_failing}
 use Rattle.tape_world.specs.declared.conn.Connection.{Connection as RealConnection}
 use Rattle.tape_world.specs.declared.caller.Begun.{Begun as RealBegun}
 use Rattle.tape_world.specs.declared.caller.Caller.{Caller as RealCaller}

@@ -7,8 +7,8 @@ use Rattle.rmt_server.specs.Session.{closed_library}
 use Rattle.rmt_server.specs.TroubledServe.{drive_in, with_holder}
 use Rattle.tape_host.specs.Servers as host
 use Rattle.tape_host.specs.Servers.{side_at, with_side_at, HasRoom}
-use Rattle.tape_events.specs.World.{with_numbered}
-use Rattle.tape_events.specs.Changes.{side_of, ended_from, ended, all_ended}
+use Rattle.world_model.specs.World.{with_numbered}
+use Rattle.world_model.specs.Changes.{side_of, ended_from, ended, all_ended}
 
 at_place : {S : Type 0} (xs : List (Option S)) (i : ℕ) → slice_index_or xs i None ≡ option_and_then (λ s. s) (slice_get xs i)
 at_place [] i = refl

@@ -21,8 +21,8 @@ use Rattle.tape_host.specs.declared.turn.Turn.{Turn}
 use Rattle.tape_host.specs.declared.turn.Turn.TheVariants as turns
 use Rattle.tape_host.specs.Servers.{Hosted, hosted, side_at, ended}
 use Rattle.tape_host.specs.Turns.{sent_back, GivesNothing, carried_of, asked_of, answered_of, TurnsAt, TurnsSide, ServesAt, with_back}
-use Rattle.tape_events.specs.World.{Connection, Dumping}
-use Rattle.tape_events.specs.Changes.{changed, sent_on, noted, noted_by, noted_write, noted_marks, answered, over_here, opening}
+use Rattle.world_model.specs.World.{Connection, Dumping}
+use Rattle.world_model.specs.Changes.{changed, sent_on, noted, noted_by, noted_write, noted_marks, answered, over_here, opening}
 use Rattle.tape_world.specs.declared.conn.Connection.{Connection as RealConnection}
 use Rattle.tape_world.specs.declared.history.Opening.{Opening as RealOpening}
 use Rattle.tape_world.specs.Seen.{seen_connection, seen_opening, name_at}

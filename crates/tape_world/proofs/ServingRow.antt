@@ -28,13 +28,13 @@ use Rattle.tape_host.specs.Servers.{Hosted, side_at, with_side_at}
 use Rattle.tape_host.specs.Turns.{Carries, GivesNothing, GivesFault, asked_of, carried_of, writes_for}
 use Rattle.dumpdates.specs.Entry.{DatesEntry}
 use Rattle.dump_run.specs.declared.count.VolumeCount.{VolumeCount}
-use Rattle.tape_events.specs.World.{World, Connection, Opening, Writing, numbered, with_numbered}
-use Rattle.tape_events.specs.Events.PlainEvent.{Serve}
-use Rattle.tape_events.specs.Changes.{with_no_failure, changed, changed_from, ended, side_of, written_reel, opened_reel, opening, list_in, writing, answered, over_here}
-use Rattle.tape_events.specs.Rows.{Possible}
-use Rattle.tape_events.specs.Steps.{Happens}
-use Rattle.tape_events.specs.Standing.{AreHeld}
-use Rattle.tape_events.specs.Kept.{IsWorldKept}
+use Rattle.world_model.specs.World.{World, Connection, Opening, Writing, numbered, with_numbered}
+use Rattle.world_model.specs.Events.PlainEvent.{Serve}
+use Rattle.world_model.specs.Changes.{with_no_failure, changed, changed_from, ended, side_of, written_reel, opened_reel, opening, list_in, writing, answered, over_here}
+use Rattle.world_model.specs.Rows.{Possible}
+use Rattle.world_model.specs.Steps.{Happens}
+use Rattle.world_model.specs.Standing.{AreHeld}
+use Rattle.world_model.specs.Kept.{IsWorldKept}
 use Rattle.tape_world.specs.declared.conn.Connection.{Connection as RealConnection}
 use Rattle.tape_world.specs.declared.history.History.{History}
 use Rattle.tape_world.specs.declared.history.Count.{Count as RealCount}

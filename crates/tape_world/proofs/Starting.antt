@@ -16,9 +16,9 @@ use Rattle.dump_client.specs.declared.fault.StartFault.TheVariants as refused
 use Rattle.rmt_wire.specs.ReplyReader.{ReplyHeld, ReplyUnread, reply_held}
 use Rattle.tape_world.specs.Parts.{new_dumping}
 use Rattle.tape_world.specs.declared.stop.EventStop.TheVariants.{OutOfMemory}
-use Rattle.tape_events.specs.World.{World, Dumping, Begun, numbered}
-use Rattle.tape_events.specs.Rows.{StandsIn}
-use Rattle.tape_events.specs.Steps.{caller, fresh}
+use Rattle.world_model.specs.World.{World, Dumping, Begun, numbered}
+use Rattle.world_model.specs.Rows.{StandsIn}
+use Rattle.world_model.specs.Steps.{caller, fresh}
 use Rattle.tape_world.specs.declared.caller.Begun.{Begun as RealBegun}
 use Rattle.tape_world.specs.declared.caller.Caller.{Caller as RealCaller}
 use Rattle.tape_world.specs.Seen.{seen_begun, seen_caller}

@@ -1,8 +1,8 @@
 -- What the client's next request makes of it.
 use Rattle.std.proofs.Common.{◌≡◌, inl, inr, ◌≤◌, ℕ, Bool, true, false, List, [], length, length-append, decimal, Option, Some, None, refl, sym, ap, subst, ◌∙◌, arith}
 use Rattle.std.specs.Prelude.{Result, Ok, Err, IfOk, slice_set, slice_index_or, map, ◌-◌}
-use Rattle.tape_events.specs.Changes.{changed}
-use Rattle.tape_events.proofs.ToldSends.{small_number}
+use Rattle.world_model.specs.Changes.{changed}
+use Rattle.world_model.proofs.ToldSends.{small_number}
 use Rattle.tape_world.specs.declared.conn.Connection.{Connection as RealConnection}
 use Rattle.tape_world.specs.Seen.{seen_connection}
 use Rattle.tape_world.proofs.Linked.{put_connection}
@@ -25,7 +25,7 @@ use Rattle.dump_client.specs.declared.step.Step.TheVariants.{Open, Operation, Lo
 use Rattle.dump_client.specs.declared.stage.Stage.TheVariants.{ToSend, Waiting, Asking}
 use Rattle.dump_client.specs.declared.fault.AttemptFault.{AttemptFault}
 use Rattle.dump_client.specs.declared.fault.AttemptFault.TheVariants.{SourceFault}
-use Rattle.tape_events.specs.Steps.{is_failing}
+use Rattle.world_model.specs.Steps.{is_failing}
 
 ten_digits : (n : ℕ) → n ≤ 2147483647 → length (decimal n) ≤ 10
 ten_digits n small = length-decimal-le 10 n (omega arith) (omega arith) (omega arith)

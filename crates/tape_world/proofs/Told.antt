@@ -7,11 +7,11 @@ use Rattle.rmt_wire.specs.RequestReader.{Unread, taken_of}
 use Rattle.rmt_wire.specs.declared.limits.TheConstants.{READER_LIMIT}
 use Rattle.rmt_server.specs.ServerState.{ServerConnection}
 use Rattle.tape_host.specs.Servers.{HasRoom}
-use Rattle.tape_events.specs.World.{World, Connection, Begun, numbered}
-use Rattle.tape_events.specs.Events.PlainEvent.{ToServer, ToClient}
-use Rattle.tape_events.specs.Changes.{side_of, connection_of}
-use Rattle.tape_events.specs.Rows.{Possible, HasRoomFor}
-use Rattle.tape_events.specs.First.{IsReadable}
+use Rattle.world_model.specs.World.{World, Connection, Begun, numbered}
+use Rattle.world_model.specs.Events.PlainEvent.{ToServer, ToClient}
+use Rattle.world_model.specs.Changes.{side_of, connection_of}
+use Rattle.world_model.specs.Rows.{Possible, HasRoomFor}
+use Rattle.world_model.specs.First.{IsReadable}
 use Rattle.tape_world.specs.declared.caller.Begun.{Begun as RealBegun}
 use Rattle.tape_world.specs.declared.caller.Caller.{Caller as RealCaller}
 use Rattle.tape_world.specs.Holding.{IsBegun, IsSourced}

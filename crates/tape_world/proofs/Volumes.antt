@@ -14,14 +14,14 @@ use Rattle.drives.proofs.Shops.{bit, named, times_named}
 use Rattle.rmt_server.specs.ServerState.{ServerState, ServerConnection}
 use Rattle.rmt_server.specs.Session.{PlainSession}
 use Rattle.rmt_server.specs.Session.PlainSession.{Idle, Offline, Online}
-use Rattle.tape_events.specs.World.{World, Begun}
-use Rattle.tape_events.specs.Changes.{side_of, first_name}
-use Rattle.tape_events.specs.Standing.{IsFirstAway, online_drive_in, AreHeld, ReelLiesIn, ReelLiesOn, HasInDrive, StandsOn}
-use Rattle.tape_events.specs.Kept.{AreLaid, IsWorldKept}
-use Rattle.tape_events.specs.Headline.{CountedReels}
-use Rattle.tape_events.specs.Written.{whole_volume}
-use Rattle.tape_events.proofs.Held.{side_there}
-use Rattle.tape_events.proofs.LabelledNames.{stands_one}
+use Rattle.world_model.specs.World.{World, Begun}
+use Rattle.world_model.specs.Changes.{side_of, first_name}
+use Rattle.world_model.specs.Standing.{IsFirstAway, online_drive_in, AreHeld, ReelLiesIn, ReelLiesOn, HasInDrive, StandsOn}
+use Rattle.world_model.specs.Kept.{AreLaid, IsWorldKept}
+use Rattle.world_model.specs.Headline.{CountedReels}
+use Rattle.world_model.specs.Written.{whole_volume}
+use Rattle.world_model.proofs.Held.{side_there}
+use Rattle.world_model.proofs.LabelledNames.{stands_one}
 use Rattle.tape_world.specs.Entries.{named_tape_in, tape_online, first_tape_online, entries_on}
 use Rattle.tape_world.specs.Volumes.{TellsVolumes}
 

@@ -28,7 +28,7 @@ use Rattle.rmt_server.specs.ServerState.{ServerState, ServerConnection}
 use Rattle.tape_host.specs.declared.turn.RequestKind.TheVariants as asked
 use Rattle.tape_host.specs.Servers.{side_at}
 use Rattle.tape_host.specs.Turns.{carried_of, asked_of, answered_of}
-use Rattle.tape_events.specs.Changes.{first_name, written_reel, reel_written, writing}
+use Rattle.world_model.specs.Changes.{first_name, written_reel, reel_written, writing}
 use Rattle.tape_world.specs.declared.history.Writing.{Writing as RealWriting}
 use Rattle.tape_world.specs.Seen.{seen_writing, name_at}
 use Rattle.tape_world.specs.Serving.{is_barred, name_online, name_online_at, name_written_by}

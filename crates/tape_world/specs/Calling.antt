@@ -11,8 +11,8 @@ use Rattle.dump_client.specs.declared.stage.Progress.{Progress}
 use Rattle.dump_client.specs.declared.stage.Progress.TheVariants.{Failed}
 use Rattle.dump_client.specs.declared.fault.AttemptFault.{AttemptFault}
 use Rattle.dump_client.specs.declared.fault.StartFault.{StartFault}
-use Rattle.tape_events.specs.World.{Connection, Dumping}
-use Rattle.tape_events.specs.Changes.{changed, over_there}
+use Rattle.world_model.specs.World.{Connection, Dumping}
+use Rattle.world_model.specs.Changes.{changed, over_there}
 use Rattle.rmt_wire.specs.ReplyReader.{reply_held}
 use Rattle.tape_world.specs.Parts.{new_dumping}
 use Rattle.tape_world.specs.declared.stop.EventStop.{EventStop}

@@ -9,8 +9,8 @@ use Rattle.rmt_server.specs.Session.{PlainSession}
 use Rattle.rmt_server.specs.Session.PlainSession.{Online}
 use Rattle.rmt_server.specs.TroubledServe.{drive_in}
 use Rattle.rmt_server.specs.ServerState.{ServerState, ServerConnection}
-use Rattle.tape_events.specs.World.{World}
-use Rattle.tape_events.specs.Changes.{side_of, first_name}
+use Rattle.world_model.specs.World.{World}
+use Rattle.world_model.specs.Changes.{side_of, first_name}
 
 -- each drive that a live side has open is there
 abbrev pub AreOpenThere : ServerState → Type 0

@@ -5,8 +5,8 @@ use Rattle.dump_client.specs.Client.{HasFedAt, unanswered}
 use Rattle.dump_run.specs.declared.count.VolumeCount.{VolumeCount}
 use Rattle.dump_client.specs.declared.stage.Progress.{Progress}
 use Rattle.dump_client.specs.declared.stage.Progress.TheVariants.{Failed, Ended}
-use Rattle.tape_events.specs.World.{Connection}
-use Rattle.tape_events.specs.Changes.{over_there}
+use Rattle.world_model.specs.World.{Connection}
+use Rattle.world_model.specs.Changes.{over_there}
 use Rattle.tape_world.specs.Holding.{is_in_attempt}
 use Rattle.tape_world.specs.Calling.{IsSameRun, failure_of}
 use Rattle.tape_world.specs.declared.history.Count.{Count}

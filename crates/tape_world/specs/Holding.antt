@@ -3,11 +3,11 @@ use Rattle.std.specs.Prelude.{◌≡◌, ℕ, false, List, Option, Some, Result,
 use Rattle.dump_run.specs.Blocks.{listed}
 use Rattle.dump_run.specs.Checkpoint.{SpellsCheckpoint}
 use Rattle.dump_client.specs.Client.{IsPayload}
-use Rattle.tape_events.specs.World.{World, numbered}
-use Rattle.tape_events.specs.Events.{PlainEvent}
-use Rattle.tape_events.specs.Rows.{Possible}
-use Rattle.tape_events.specs.Steps.{Happens}
-pub use Rattle.tape_events.specs.Owning.{is_in_attempt, IsClients, IsOwned, IsBegun}
+use Rattle.world_model.specs.World.{World, numbered}
+use Rattle.world_model.specs.Events.{PlainEvent}
+use Rattle.world_model.specs.Rows.{Possible}
+use Rattle.world_model.specs.Steps.{Happens}
+pub use Rattle.world_model.specs.Owning.{is_in_attempt, IsClients, IsOwned, IsBegun}
 use Rattle.tape_world.specs.declared.stop.EventStop.{EventStop}
 use Rattle.tape_world.specs.declared.stop.EventStop.TheVariants.{NotPossible, OutOfMemory}
 use Rattle.tape_world.specs.declared.caller.Begun.{Begun as RealBegun}

@@ -1,7 +1,7 @@
 -- What becomes of a connection. No public contract needs it.
 use Rattle.std.specs.Prelude.{ℕ, true, List, drop}
-use Rattle.tape_events.specs.World.{Connection}
-use Rattle.tape_events.specs.Changes.{sent_on}
+use Rattle.world_model.specs.World.{Connection}
+use Rattle.world_model.specs.Changes.{sent_on}
 
 -- it is cut
 abbrev pub severed : Connection → Connection

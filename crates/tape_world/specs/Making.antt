@@ -6,7 +6,7 @@ use Rattle.tape.specs.Trouble.{TroubledTape}
 use Rattle.drives.specs.TapeLibrary.{ReelSlot, slot, Drive, drive_with, LibraryOf, library, drive_at, with_drive_at}
 use Rattle.drives.specs.ListLibrary.{blank_reel}
 use Rattle.drives.specs.Arranging.{are_distinct}
-use Rattle.tape_events.specs.First.{PlainDriveSpec}
+use Rattle.world_model.specs.First.{PlainDriveSpec}
 use Rattle.tape_world.specs.declared.drive_spec.DriveSpec.{DriveSpec}
 
 abbrev pub reels_of : DriveSpec → List (List ℕ)

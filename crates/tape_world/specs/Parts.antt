@@ -1,6 +1,6 @@
 -- Parts of a world that need no part in memory. No public contract needs it.
 use Rattle.std.specs.Prelude.{ℕ, false, List}
-use Rattle.tape_events.specs.World.{Dumping}
+use Rattle.world_model.specs.World.{Dumping}
 
 -- bytes on the way, and room for how many more there is
 pub record Piped : Type 0 where

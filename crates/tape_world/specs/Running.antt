@@ -1,12 +1,12 @@
 -- Events as values, and what a list of them makes of a world. Public contracts cite it.
 use Rattle.std.specs.Prelude.{◌≡◌, ℕ, ◌<◌, List, [], ◌∷◌, length, map, take, slice_get, Some}
-use Rattle.tape_events.specs.World.{World}
-use Rattle.tape_events.specs.Events.{PlainEvent}
-use Rattle.tape_events.specs.Events.PlainEvent.{StartRun, Connect, Send, ToServer, Serve, ToClient, Cut, EndAtServer, EndAtClient, ServerRestart, ClientRestart, Respond, Arrange, Stranger, Says, Enter, Save}
-use Rattle.tape_events.specs.Rows.{Possible}
-use Rattle.tape_events.specs.Steps.{Runs}
-use Rattle.tape_events.specs.First.{PlainDriveSpec, AreGoodDrives, first_world}
-use Rattle.tape_events.specs.Faultless.{AreFaultless, VolumesInOrder}
+use Rattle.world_model.specs.World.{World}
+use Rattle.world_model.specs.Events.{PlainEvent}
+use Rattle.world_model.specs.Events.PlainEvent.{StartRun, Connect, Send, ToServer, Serve, ToClient, Cut, EndAtServer, EndAtClient, ServerRestart, ClientRestart, Respond, Arrange, Stranger, Says, Enter, Save}
+use Rattle.world_model.specs.Rows.{Possible}
+use Rattle.world_model.specs.Steps.{Runs}
+use Rattle.world_model.specs.First.{PlainDriveSpec, AreGoodDrives, first_world}
+use Rattle.world_model.specs.Faultless.{AreFaultless, VolumesInOrder}
 use Rattle.tape_world.specs.declared.event.Event.{Event}
 use Rattle.tape_world.specs.declared.event.Event.TheVariants as lent
 use Rattle.tape_world.specs.declared.stop.EventStop.{EventStop}

@@ -7,7 +7,7 @@ use Rattle.dump_client.specs.Standing.{IsOver}
 use Rattle.dump_client.specs.declared.stage.Answer.{Answer}
 use Rattle.dump_client.specs.declared.stage.Answer.TheVariants.{Retry, Abandon}
 use Rattle.dump_client.specs.declared.stage.Stage.TheVariants.{Finished, Abandoned}
-use Rattle.tape_events.specs.World.{numbered}
+use Rattle.world_model.specs.World.{numbered}
 use Rattle.tape_world.specs.declared.history.Entered.{Entered}
 use Rattle.tape_world.specs.declared.caller.Begun.{Begun}
 use Rattle.tape_world.specs.declared.caller.Caller.{Caller}

@@ -4,7 +4,7 @@ use Rattle.std.specs.Global.{Global}
 use Rattle.dumpdates.specs.Entry.{DatesEntry}
 use Rattle.rmt_server.specs.ServerState.{ServerState}
 use Rattle.dump_run.specs.declared.count.VolumeCount.{VolumeCount}
-use Rattle.tape_events.specs.World.{Connection, Begun, Caller, Count, Opening, Writing, Entered, Kept, World}
+use Rattle.world_model.specs.World.{Connection, Begun, Caller, Count, Opening, Writing, Entered, Kept, World}
 use Rattle.tape_world.specs.declared.conn.Connection.{Connection as RealConnection}
 use Rattle.tape_world.specs.declared.caller.Begun.{Begun as RealBegun}
 use Rattle.tape_world.specs.declared.caller.Caller.{Caller as RealCaller}

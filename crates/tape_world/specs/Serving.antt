@@ -21,9 +21,9 @@ use Rattle.tape_host.specs.declared.turn.Turn.{Turn}
 use Rattle.tape_host.specs.declared.turn.Turn.TheVariants as turns
 use Rattle.tape_host.specs.Servers.{Hosted, hosted, side_at, ended}
 use Rattle.tape_host.specs.Turns.{carried_of, Carries, GivesNothing, GivesFault}
-use Rattle.tape_events.specs.World.{Connection, Dumping}
-use Rattle.tape_events.specs.Standing.{HasReel}
-use Rattle.tape_events.specs.Changes.{accepted, noted_error, answered, opening, over_here, first_name, writing}
+use Rattle.world_model.specs.World.{Connection, Dumping}
+use Rattle.world_model.specs.Standing.{HasReel}
+use Rattle.world_model.specs.Changes.{accepted, noted_error, answered, opening, over_here, first_name, writing}
 use Rattle.tape_world.specs.declared.history.History.{History}
 use Rattle.tape_world.specs.Seen.{seen_openings, seen_lists, seen_writings}
 

@@ -10,9 +10,9 @@ use Rattle.dump_client.specs.declared.step.Step.{Step}
 use Rattle.dump_client.specs.declared.stage.Stage.TheVariants.{ToSend, Waiting, Asking}
 use Rattle.dump_client.specs.declared.fault.AttemptFault.{AttemptFault}
 use Rattle.dump_client.specs.declared.fault.AttemptFault.TheVariants.{SourceFault}
-use Rattle.tape_events.specs.World.{Connection}
-use Rattle.tape_events.specs.Changes.{over_there}
-use Rattle.tape_events.specs.Steps.{is_failing, sent_connection}
+use Rattle.world_model.specs.World.{Connection}
+use Rattle.world_model.specs.Changes.{over_there}
+use Rattle.world_model.specs.Steps.{is_failing, sent_connection}
 use Rattle.tape_world.specs.declared.caller.Caller.{Caller}
 
 -- a request is to be sent

@@ -5,10 +5,10 @@ use Rattle.drives.specs.TapeLibrary.{KeptReel, ReelSlot, TapeLibrary, IsDriveNam
 use Rattle.dump_run.specs.Blocks.{ListedBlocks, listed}
 use Rattle.dump_client.specs.Standing.{Standing}
 use Rattle.dump_client.specs.Client.{ClientHeld}
-use Rattle.tape_events.specs.World.{World, Connection, Begun, Caller, Count, numbered}
-use Rattle.tape_events.specs.Events.PlainEvent.{ToServer, ToClient}
-use Rattle.tape_events.specs.Changes.{connection_of}
-use Rattle.tape_events.specs.Rows.{Possible}
+use Rattle.world_model.specs.World.{World, Connection, Begun, Caller, Count, numbered}
+use Rattle.world_model.specs.Events.PlainEvent.{ToServer, ToClient}
+use Rattle.world_model.specs.Changes.{connection_of}
+use Rattle.world_model.specs.Rows.{Possible}
 use Rattle.tape_world.specs.declared.counts.CountTold.{CountTold}
 
 abbrev pub told_count : CountTold → Count

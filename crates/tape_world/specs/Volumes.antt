@@ -1,8 +1,8 @@
 -- What `entry` tells of reels that were counted. Public contracts cite it.
 use Rattle.std.specs.Prelude.{◌≡◌, Contains, Some}
-use Rattle.tape_events.specs.World.{World, Begun, Count, numbered}
-use Rattle.tape_events.specs.Written.{whole_volume}
-use Rattle.tape_events.specs.Headline.{IsNotReopened}
+use Rattle.world_model.specs.World.{World, Begun, Count, numbered}
+use Rattle.world_model.specs.Written.{whole_volume}
+use Rattle.world_model.specs.Headline.{IsNotReopened}
 use Rattle.tape_world.specs.Entries.{entries_on}
 
 -- The entries of each reel that was counted, and that no foreign session opened for writing since, are told, and are its volume's: those

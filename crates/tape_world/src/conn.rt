@@ -1,10 +1,10 @@
 //! Connections, by their numbers, which are counted from 1.
 ghost use Rattle.std.specs.Prelude.{◌≡◌, ◌≤◌, false, length, map, slice_get, OnOk, OnErr};
 ghost use Rattle.std.specs.Option.{option_copied, option_map};
-ghost use Rattle.tape_events.specs.World.{numbered};
-ghost use Rattle.tape_events.specs.Changes.{changed, new_connection, over_here, over_there};
+ghost use Rattle.world_model.specs.World.{numbered};
+ghost use Rattle.world_model.specs.Changes.{changed, new_connection, over_here, over_there};
 ghost use Rattle.tape_world.specs.Seen.{seen_connection};
-ghost use Rattle.tape_events.specs.Steps.{sent_connection};
+ghost use Rattle.world_model.specs.Steps.{sent_connection};
 ghost use Rattle.tape_world.specs.Linking.{severed, said, arrived};
 ghost use Rattle.tape_world.specs.Hearing.{deliver_back};
 ghost use Rattle.tape_world.specs.Serving.{noted_turn};

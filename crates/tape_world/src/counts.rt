@@ -33,7 +33,7 @@ pub struct Counts<'a> {
 
 impl<'a> Model for Counts<'a> {
     ghost use Rattle.std.specs.Prelude.{List, map};
-    ghost use Rattle.tape_events.specs.World.{Count};
+    ghost use Rattle.world_model.specs.World.{Count};
     ghost use Rattle.tape_world.specs.Seen.{seen_count};
 
     ghost Value = { List Count };

@@ -3,7 +3,7 @@ ghost use Rattle.std.specs.Prelude.{◌≡◌, ◌↔◌, true, map};
 ghost use Rattle.std.specs.List.{flat_map, list_any};
 ghost use Rattle.std.specs.Str.{bytes_eq};
 ghost use Rattle.drives.specs.Arranging.{are_distinct, is_repeated};
-ghost use Rattle.tape_events.specs.First.{AreGoodDrives};
+ghost use Rattle.world_model.specs.First.{AreGoodDrives};
 ghost use Rattle.tape_world.specs.Making.{plain_drive_spec, reels_of, reel_again, names_again};
 
 use drives::DRIVE_LIMIT;

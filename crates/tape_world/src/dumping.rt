@@ -1,7 +1,7 @@
 //! What is noted of an attempt of the client on its connection.
 
 ghost use Rattle.std.specs.Prelude.{◌≡◌};
-ghost use Rattle.tape_events.specs.Changes.{noted_sent, accepted, noted_error};
+ghost use Rattle.world_model.specs.Changes.{noted_sent, accepted, noted_error};
 ghost use Rattle.tape_world.specs.Parts.{new_dumping};
 ghost use Rattle.tape_world.specs.Serving.{noted_record, noted_mark, noted_carried};
 
@@ -25,7 +25,7 @@ pub(crate) struct Dumping {
 }
 
 impl Model for Dumping {
-    ghost use Rattle.tape_events.specs.World.{Dumping};
+    ghost use Rattle.world_model.specs.World.{Dumping};
 
     ghost Value = { Dumping };
 

@@ -1,13 +1,13 @@
 //! Events, one after the other.
 ghost use Rattle.std.specs.Prelude.{◌≡◌, OnOk, IfErr, map};
-ghost use Rattle.tape_events.specs.Steps.{Runs};
+ghost use Rattle.world_model.specs.Steps.{Runs};
 ghost use Rattle.tape_world.specs.Running.{plain_event, fault_place, fault_at, IsStopped, IsEventRefused, LeavesInOrder};
 
 use crate::event::Event;
 use crate::fault::WorldFault;
 use crate::stop::EventStop;
 use crate::world::World;
-use tape_events::faultless;
+use world_model::faultless;
 
 /// Makes these events, one after the other. Each makes its growths in memory first.
 ///

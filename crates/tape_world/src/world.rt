@@ -4,11 +4,11 @@ mod reels;
 mod telling;
 
 ghost use Rattle.std.specs.Prelude.{◌≡◌, IfOk, map};
-ghost use Rattle.tape_events.specs.First.{AreGoodDrives, first_world, IsReached};
-ghost use Rattle.tape_events.specs.Headline.{Headline, CountedReels, NoTwoHolders, DumpdatesGained};
-ghost use Rattle.tape_events.specs.Further.{SentRequests, ReelsNotReopened, OwnOpens, LatchedReels, LabelledReels, ClientsCounts};
-ghost use Rattle.tape_events.specs.Standing.{AreHeld};
-ghost use Rattle.tape_events.specs.Kept.{IsWorldKept};
+ghost use Rattle.world_model.specs.First.{AreGoodDrives, first_world, IsReached};
+ghost use Rattle.world_model.specs.Headline.{Headline, CountedReels, NoTwoHolders, DumpdatesGained};
+ghost use Rattle.world_model.specs.Further.{SentRequests, ReelsNotReopened, OwnOpens, LatchedReels, LabelledReels, ClientsCounts};
+ghost use Rattle.world_model.specs.Standing.{AreHeld};
+ghost use Rattle.world_model.specs.Kept.{IsWorldKept};
 ghost use Rattle.tape_world.specs.Holding.{IsEvent};
 ghost use Rattle.tape_world.specs.Making.{plain_drive_spec};
 ghost use Rattle.tape_world.specs.Running.{plain_event};
@@ -20,7 +20,7 @@ use crate::stop::EventStop;
 use crate::world_state::WorldState;
 use std::alloc::{AllocError, Global};
 use std::marker::Model;
-use tape_events::kept;
+use world_model::kept;
 
 /// A server with its drives, all connections that were ever made, and a client.
 ///
@@ -32,8 +32,8 @@ pub struct World {
 }
 
 impl Model for World {
-    ghost use Rattle.tape_events.specs.World.{World};
-    ghost use Rattle.tape_events.specs.First.{IsReached};
+    ghost use Rattle.world_model.specs.World.{World};
+    ghost use Rattle.world_model.specs.First.{IsReached};
 
     ghost Value = { World };
 

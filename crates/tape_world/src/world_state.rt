@@ -35,7 +35,7 @@ pub(crate) struct WorldState {
 }
 
 impl Model for WorldState {
-    ghost use Rattle.tape_events.specs.World.{World};
+    ghost use Rattle.world_model.specs.World.{World};
     ghost use Rattle.tape_world.specs.Seen.{book_names, world_of};
     ghost use Rattle.tape_world.specs.Holding.{IsBacked, IsSourced};
     ghost use Rattle.tape_world.specs.Serving.{IsLibraryKnown};

@@ -1,7 +1,7 @@
 //! The words of both programs.
 
-use rdump_words::{dump_error, rdump_words};
-use rmtd_words::{server_line, server_words};
+use rdump_args::{dump_error, rdump_args};
+use rmtd_args::{server_line, server_words};
 use std::alloc::Global;
 use std::fmt::Debug;
 
@@ -111,7 +111,7 @@ static ROWS: [Row; 9] = [
 #[test]
 fn arguments_of_the_client(rt: HostRuntime) {
     for (arguments, wanted) in &ROWS {
-        let read = rdump_words(rt.alloc(), arguments);
+        let read = rdump_args(rt.alloc(), arguments);
         assert!(rt; is_shown(rt.alloc(), &read, wanted));
     }
 }
@@ -161,7 +161,7 @@ static REFUSED: [Row; 8] = [
 
 /// Whether words are refused, and this is told first.
 fn is_told(alloc: Global, arguments: &'static [&'static str], wanted: &str) -> bool {
-    let Err(error) = rdump_words(alloc, arguments) else {
+    let Err(error) = rdump_args(alloc, arguments) else {
         return false;
     };
     match format!(in alloc; "{error}") {
@@ -198,7 +198,7 @@ fn is_refused(alloc: Global, address: &str) -> bool {
     let arguments = [
         "rdump", "read", "--to", address, "--device", "d", "--out", "o",
     ];
-    rdump_words(alloc, &arguments).is_err()
+    rdump_args(alloc, &arguments).is_err()
 }
 
 #[test]

@@ -8,7 +8,7 @@ use super::progress::Seen;
 use dump_client::ResumeFault;
 use rdump_commands::run_arguments;
 use rdump_files::{ReplacedFile, ResumedDumpFault, WholeFile, resume_dump, run_of};
-use rdump_talk::{Conclusion, Keeper, dump_kept};
+use rdump_net::{Conclusion, Keeper, dump_kept};
 use rmt_wire::Counted;
 use std::alloc::Global;
 use std::fs;

@@ -3,8 +3,8 @@
 use super::check_row;
 use super::fixture::{TWO_BYTES, client, line};
 use super::store::OLD;
+use rdump_args::{MtLine, ReadLine};
 use rdump_commands::{rdump, run_arguments, run_client, run_dates, run_dump, run_mt, run_read};
-use rdump_words::{MtLine, ReadLine};
 use std::fs;
 use std::io::Stderr;
 use std::os::unix::fs::symlink;

@@ -1,6 +1,6 @@
 //! A peer that gives what it was told to.
 
-use rdump_talk::Peer;
+use rdump_net::Peer;
 use std::alloc::Global;
 
 /// The replies that a connection gives, one at a time. After the last it ends.

@@ -4,8 +4,8 @@ ghost use Rattle.std.specs.Prelude.{◌≡◌, IfSome};
 
 use super::progress::Seen;
 use dump_client::Client;
+use rdump_args::DumpLine;
 use rdump_files::{PayloadFile, Shown, dumper};
-use rdump_words::DumpLine;
 use std::alloc::Global;
 use tape::MemoryMedium;
 

@@ -1,8 +1,8 @@
 //! Stacks of drives in folders.
 
 use drives::Stacks;
+use rmtd_args::DriveArgument;
 use rmtd_serve::{LineStart, folder_stacks, seat_stacks};
-use rmtd_words::DriveArgument;
 use std::alloc::AllocError;
 
 /// Two drives, whose folders are not there.

@@ -7,7 +7,7 @@ use super::store::{ENTERED, Held, Kept, OLD};
 use dump_client::AttemptFault;
 use dumpdates::DatesFault;
 use rdump_files::{FileFailed, UpdateFault, dump_and_update};
-use rdump_talk::failure_line;
+use rdump_net::failure_line;
 use rmt_wire::Counted;
 use std::alloc::Global;
 

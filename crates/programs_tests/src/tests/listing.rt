@@ -1,7 +1,7 @@
 //! What is said of record files, and the statuses of `rdump ls`, against what was written by hand.
 
 use super::check_row;
-use rdump_words::{ListLine, ListedReels};
+use rdump_args::{ListLine, ListedReels};
 use rmt_tools::{check_reel, is_whole, push_words, run_ls};
 use std::alloc::{AllocError, Global};
 use std::fs;

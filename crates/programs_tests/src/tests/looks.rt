@@ -3,7 +3,7 @@
 use super::check_row;
 use super::fake::{FakePeer, Replies};
 use super::fixture::DEVICE;
-use rdump_talk::{
+use rdump_net::{
     CallFault, LookFault, LookRequest, Protection, ReelFront, find_protection, look_at_reel,
 };
 use std::alloc::Global;

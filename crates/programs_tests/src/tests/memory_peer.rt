@@ -4,7 +4,7 @@ ghost use Rattle.std.specs.Prelude.{◌≡◌, ◌≤◌, length};
 
 use super::fixture::{DEVICE, PayloadDumper, client};
 use drives::{DriveTable, ListStacks, LocalHolds, Stacks};
-use rdump_talk::{Peer, dump};
+use rdump_net::{Peer, dump};
 use rmt_tools::MemoryPeer;
 use rmt_wire::Counted;
 use std::alloc::Global;

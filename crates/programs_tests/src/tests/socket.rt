@@ -1,6 +1,6 @@
 //! A peer over TCP, on the loopback, in one thread: what is sent waits in the socket.
 
-use rdump_talk::{Peer, SocketPeer};
+use rdump_net::{Peer, SocketPeer};
 use std::alloc::Global;
 use std::io::{Read, Write};
 use std::net::{TcpListener, TcpStream};

@@ -1,10 +1,10 @@
 //! What passed between a caller and a peer in memory.
 ghost use Rattle.std.specs.Prelude.{◌≡◌, ◌∷◌, ◌++◌, [], IsTrue, map, replicate};
-ghost use Rattle.rdump_talk.specs.Peer.{Logs};
-ghost use Rattle.rdump_talk.specs.declared.peer.Passed.TheVariants.{Connected, Sent, Given, Ended};
+ghost use Rattle.rdump_net.specs.Peer.{Logs};
+ghost use Rattle.rdump_net.specs.declared.peer.Passed.TheVariants.{Connected, Sent, Given, Ended};
 ghost use Rattle.rmt_tools.specs.Telling.{IsLogOf, where_so};
 
-use rdump_talk::Passed;
+use rdump_net::Passed;
 use std::alloc::Global;
 use std::marker::Model;
 

@@ -5,14 +5,14 @@ ghost use Rattle.std.specs.Str.{bytes_eq};
 ghost use Rattle.tape.specs.List.{told_length, told_bytes, with_front};
 ghost use Rattle.drives.specs.ListLibrary.{rest_slot};
 ghost use Rattle.tape_host.specs.Servers.{side_at};
-ghost use Rattle.tape_events.specs.Changes.{first_name};
+ghost use Rattle.world_model.specs.Changes.{first_name};
 ghost use Rattle.tape_world.specs.Entries.{AreOpenThere, entry_on, tape_online, first_tape_online};
 
 use super::World;
 use drives::ListedReel;
 use tape::TroubledReel;
-use tape_events::kept;
 use tape_host::Host;
+use world_model::kept;
 
 /// Whether the first reel of a stack has that name. No reel has the name of none.
 fn is_first(stack: &[ListedReel], name: &[u8]) -> bool

@@ -3,7 +3,7 @@ ghost use Rattle.std.specs.Prelude.{◌≡◌, Option, Some, map, IfSome};
 ghost use Rattle.std.specs.Option.{option_copied, option_map};
 ghost use Rattle.drives.specs.ListLibrary.{rest_slot};
 ghost use Rattle.rmt_server.specs.Memory.{session_seen};
-ghost use Rattle.tape_events.specs.Changes.{side_of};
+ghost use Rattle.world_model.specs.Changes.{side_of};
 ghost use Rattle.tape_world.specs.Telling.{client_told, caller_told, TellsStack, TellsWay, TellsPayload};
 
 use super::World;

@@ -1,5 +1,5 @@
 //! What happens to connections themselves.
-ghost use Rattle.tape_events.specs.Events.PlainEvent.{Cut, Stranger, Says};
+ghost use Rattle.world_model.specs.Events.PlainEvent.{Cut, Stranger, Says};
 ghost use Rattle.tape_world.specs.Holding.{IsEvent};
 
 use super::WorldState;

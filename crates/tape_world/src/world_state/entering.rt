@@ -1,7 +1,7 @@
 //! The finished run is entered in dumpdates.
 ghost use Rattle.std.specs.Prelude.{◌≡◌, ◌==◌, IfOk};
 ghost use Rattle.std.specs.List.{list_any};
-ghost use Rattle.tape_events.specs.Events.PlainEvent.{Enter};
+ghost use Rattle.world_model.specs.Events.PlainEvent.{Enter};
 ghost use Rattle.tape_world.specs.Holding.{IsEvent};
 ghost use Rattle.tape_world.specs.Saving.{IsEntryOf};
 

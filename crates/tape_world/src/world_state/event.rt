@@ -1,5 +1,5 @@
 //! One event, of whatever kind.
-ghost use Rattle.tape_events.specs.Kept.{IsWorldKept};
+ghost use Rattle.world_model.specs.Kept.{IsWorldKept};
 ghost use Rattle.tape_world.specs.Holding.{IsEvent};
 ghost use Rattle.tape_world.specs.Running.{plain_event};
 

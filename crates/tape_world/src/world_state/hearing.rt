@@ -1,9 +1,9 @@
 //! What the client hears of its server.
 ghost use Rattle.std.specs.Prelude.{◌≡◌, ◌==◌, ◌<◌, ◌≤◌, ◌++◌, length, map, option_to_list, slice_get};
 ghost use Rattle.std.specs.Vec.{vec_capacity, vec_len};
-ghost use Rattle.tape_events.specs.Changes.{changed, reel_opened_by};
-ghost use Rattle.tape_events.specs.Events.PlainEvent.{ToClient};
-ghost use Rattle.tape_events.specs.Kept.{IsWorldKept};
+ghost use Rattle.world_model.specs.Changes.{changed, reel_opened_by};
+ghost use Rattle.world_model.specs.Events.PlainEvent.{ToClient};
+ghost use Rattle.world_model.specs.Kept.{IsWorldKept};
 ghost use Rattle.tape_world.specs.Calling.{failure_of};
 ghost use Rattle.tape_world.specs.Hearing.{HasHeard, IsAttempting, count_in, heard_on, is_over, own_after};
 ghost use Rattle.tape_world.specs.Holding.{IsEvent};

@@ -3,7 +3,7 @@ ghost use Rattle.std.specs.Prelude.{◌≡◌, ◌<◌, ◌++◌, [], None, IfOk
 ghost use Rattle.std.specs.List.{flat_map};
 ghost use Rattle.drives.specs.TapeLibrary.{EachReelOnce, IsDriveNamed};
 ghost use Rattle.drives.specs.ListLibrary.{IsLibrary, library_of, StacksCanFail};
-ghost use Rattle.tape_events.specs.First.{AreGoodDrives, first_world};
+ghost use Rattle.world_model.specs.First.{AreGoodDrives, first_world};
 ghost use Rattle.tape_world.specs.Making.{plain_drive_spec, reels_of, blank_slots, laid_library, with_laid, with_slots};
 ghost use Rattle.tape_world.specs.Seen.{book_names};
 

@@ -1,12 +1,12 @@
 //! What an operator does at the drives.
 ghost use Rattle.std.specs.Prelude.{map};
-ghost use Rattle.tape_events.specs.Events.PlainEvent.{Arrange};
-ghost use Rattle.tape_events.specs.Kept.{IsWorldKept};
+ghost use Rattle.world_model.specs.Events.PlainEvent.{Arrange};
+ghost use Rattle.world_model.specs.Kept.{IsWorldKept};
 ghost use Rattle.tape_world.specs.Holding.{IsEvent};
 
 use super::WorldState;
 use crate::stop::EventStop;
-use tape_events::kept;
+use world_model::kept;
 
 impl WorldState {
     /// The operator lays these reels on the stack of a drive that nobody has open.

@@ -1,8 +1,8 @@
 //! What is kept of a run outside of the client, as a checkpoint file keeps it, and the client that comes back with it.
 ghost use Rattle.std.specs.Prelude.{◌≡◌, ◌↔◌, true, IfOk, length, map};
 ghost use Rattle.dump_run.specs.Checkpoint.{checkpoint_text};
-ghost use Rattle.tape_events.specs.Events.PlainEvent.{ClientRestart, Save};
-ghost use Rattle.tape_events.specs.Kept.{IsWorldKept};
+ghost use Rattle.world_model.specs.Events.PlainEvent.{ClientRestart, Save};
+ghost use Rattle.world_model.specs.Kept.{IsWorldKept};
 ghost use Rattle.tape_world.specs.Calling.{IsPlaced, over_own};
 ghost use Rattle.tape_world.specs.Holding.{IsBacked, IsEvent};
 ghost use Rattle.tape_world.specs.Saving.{ResumesRunWith, IsKeptOf, MayKeep, kept_then};

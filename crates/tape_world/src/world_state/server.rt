@@ -1,12 +1,12 @@
 //! What happens at the server's side.
-ghost use Rattle.tape_events.specs.Events.PlainEvent.{ToServer, EndAtServer, ServerRestart};
-ghost use Rattle.tape_events.specs.Kept.{IsWorldKept};
+ghost use Rattle.world_model.specs.Events.PlainEvent.{ToServer, EndAtServer, ServerRestart};
+ghost use Rattle.world_model.specs.Kept.{IsWorldKept};
 ghost use Rattle.tape_world.specs.Holding.{IsEvent};
 
 use super::WorldState;
 use crate::conn::{self, find};
 use crate::stop::EventStop;
-use tape_events::kept;
+use world_model::kept;
 
 impl WorldState {
     /// So many of the bytes that are on the way reach the server.

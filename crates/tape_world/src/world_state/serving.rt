@@ -5,9 +5,9 @@ ghost use Rattle.std.specs.Option.{option_copied, option_to_list};
 ghost use Rattle.std.specs.Str.{bytes_eq};
 ghost use Rattle.drives.specs.ListLibrary.{rest_slot};
 ghost use Rattle.tape_host.specs.Servers.{side_at};
-ghost use Rattle.tape_events.specs.Changes.{changed, first_name, list_in, opening, writing};
-ghost use Rattle.tape_events.specs.Events.PlainEvent.{Serve};
-ghost use Rattle.tape_events.specs.Kept.{IsWorldKept};
+ghost use Rattle.world_model.specs.Changes.{changed, first_name, list_in, opening, writing};
+ghost use Rattle.world_model.specs.Events.PlainEvent.{Serve};
+ghost use Rattle.world_model.specs.Kept.{IsWorldKept};
 ghost use Rattle.tape_world.specs.Holding.{IsEvent};
 ghost use Rattle.tape_world.specs.Seen.{book_names, seen_caller, seen_connection, seen_lists, seen_openings, seen_writings};
 ghost use Rattle.tape_world.specs.Serving.{HasRoom, IsNoted, IsOnlineIn, IsSameHistory, TurnServes, is_write, name_online_at, opened_in, written_in};
@@ -23,8 +23,8 @@ use rmt_wire::READER_LIMIT;
 use rmt_wire::errno::{EACCES, EBADF};
 use std::alloc::{AllocError, Global};
 use tape::Trouble;
-use tape_events::kept;
 use tape_host::{Answered, Carried, Host, RequestKind, Turn};
+use world_model::kept;
 
 /// The server's side of a connection takes one turn, and what came of it is noted.
 ///

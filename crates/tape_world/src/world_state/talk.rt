@@ -2,9 +2,9 @@
 ghost use Rattle.std.specs.Prelude.{◌≡◌, ◌≤◌, List, ℕ, [], IfOk, OnErr, length, map};
 ghost use Rattle.std.specs.Vec.{vec_capacity};
 ghost use Rattle.rmt_wire.specs.declared.limits.TheConstants.{READER_LIMIT};
-ghost use Rattle.tape_events.specs.Changes.{changed};
-ghost use Rattle.tape_events.specs.Events.PlainEvent.{Send};
-ghost use Rattle.tape_events.specs.Kept.{IsWorldKept};
+ghost use Rattle.world_model.specs.Changes.{changed};
+ghost use Rattle.world_model.specs.Events.PlainEvent.{Send};
+ghost use Rattle.world_model.specs.Kept.{IsWorldKept};
 ghost use Rattle.tape_world.specs.Holding.{IsEvent};
 ghost use Rattle.tape_world.specs.Seen.{seen_connection};
 ghost use Rattle.tape_world.specs.Talking.{Asks, IsToSend, talked};

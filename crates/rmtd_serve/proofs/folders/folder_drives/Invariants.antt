@@ -1,6 +1,6 @@
 use Rattle.std.proofs.Common.{◌≡◌, false, map, take}
 use Rattle.reel_files.specs.Folders.{folder_row}
-use Rattle.rmtd_words.specs.Drive.{plain_drive}
+use Rattle.rmtd_args.specs.Drive.{plain_drive}
 use Rattle.rmtd_serve.proofs.folders.folder_drives.Given as goal
 
 -- the drives of the words before the place

@@ -1,4 +1,4 @@
-use Rattle.tape_events.specs.Changes.{over_here}
+use Rattle.world_model.specs.Changes.{over_here}
 use Rattle.tape_world.proofs.Linked.{put_connection}
 use Rattle.tape_world.proofs.conn.end_here.Goals as goal
 

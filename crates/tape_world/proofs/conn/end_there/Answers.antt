@@ -1,4 +1,4 @@
-use Rattle.tape_events.specs.Changes.{over_there}
+use Rattle.world_model.specs.Changes.{over_there}
 use Rattle.tape_world.proofs.Linked.{put_connection}
 use Rattle.tape_world.proofs.conn.end_there.Goals as goal
 

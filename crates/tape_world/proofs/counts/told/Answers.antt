@@ -1,5 +1,5 @@
 use Rattle.std.proofs.Common.{ℕ, List, ap}
-use Rattle.tape_events.specs.World.{Count}
+use Rattle.world_model.specs.World.{Count}
 use Rattle.tape_world.specs.declared.history.Count.{Count as RealCount}
 use Rattle.tape_world.proofs.counts.told.Goals as goal
 

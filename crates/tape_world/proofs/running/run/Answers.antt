@@ -1,5 +1,5 @@
 use Rattle.std.proofs.Common.{map}
-use Rattle.tape_events.specs.Steps.{none}
+use Rattle.world_model.specs.Steps.{none}
 use Rattle.tape_world.specs.Running.{plain_event}
 use Rattle.tape_world.proofs.RunningOn.{event_at, inside_map, goes_on, all_made, stopped, refused}
 use Rattle.tape_world.proofs.RunningInOrder.{all_in_order, some_in_order}

@@ -1,5 +1,5 @@
 use Rattle.std.proofs.Common.{map, take}
-use Rattle.tape_events.specs.Steps.{Runs}
+use Rattle.world_model.specs.Steps.{Runs}
 use Rattle.tape_world.specs.Running.{plain_event}
 use Rattle.tape_world.proofs.running.run.Given as goal
 

@@ -1,7 +1,7 @@
 //! Streams that fail.
 
 use rmt_wire::Counted;
-use schedules::schedule;
+use rsim_schedule::schedule;
 use std::io::{self, ErrorKind, Write};
 
 /// A stream that takes so many writes, and then fails.

@@ -1,7 +1,7 @@
 //! A schedule, and what it has to print.
 
 use rmt_wire::Counted;
-use schedules::schedule;
+use rsim_schedule::schedule;
 use std::alloc::Global;
 use std::test::Fail;
 

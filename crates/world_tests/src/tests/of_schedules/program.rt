@@ -1,7 +1,7 @@
 //! What `rsim` does with its words.
 
 use rmt_wire::Counted;
-use schedules::rsim;
+use rsim_schedule::rsim;
 use std::test::Fail;
 use std::{fs, process};
 

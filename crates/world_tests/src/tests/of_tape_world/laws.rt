@@ -1,13 +1,13 @@
 //! The laws of the world as plain data, each called once, and what a world tells of itself.
 
-ghost use Rattle.tape_events.specs.Headline.{Headline};
-ghost use Rattle.tape_events.specs.Further.{LabelledReels};
-ghost use Rattle.tape_events.specs.Kept.{IsWorldKept};
+ghost use Rattle.world_model.specs.Headline.{Headline};
+ghost use Rattle.world_model.specs.Further.{LabelledReels};
+ghost use Rattle.world_model.specs.Kept.{IsWorldKept};
 
 use super::world::new_world;
 use std::test::Fail;
-use tape_events::{faultless, kept, one_request, one_run};
 use tape_world::{DriveSpec, World};
+use world_model::{faultless, kept, one_request, one_run};
 
 #[test]
 fn each_law_is_called(_rt: HostRuntime) {

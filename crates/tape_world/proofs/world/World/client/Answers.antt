@@ -1,5 +1,5 @@
 use Rattle.std.proofs.Common.{rules, ◌≡◌, Some, refl, sym, subst, ap, ◌∙◌}
-use Rattle.tape_events.specs.World.{World}
+use Rattle.world_model.specs.World.{World}
 use Rattle.tape_world.specs.Holding.{IsBegun}
 use Rattle.tape_world.specs.Telling.{TellsPayload}
 use Rattle.tape_world.specs.contracts.world_state.WorldState.{the_view}

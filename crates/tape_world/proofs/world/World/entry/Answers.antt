@@ -1,5 +1,5 @@
 use Rattle.std.proofs.Common.{sym, subst, ap}
-use Rattle.tape_events.specs.World.{World}
+use Rattle.world_model.specs.World.{World}
 use Rattle.tape_world.specs.Entries.{AreOpenThere}
 use Rattle.tape_world.proofs.Online.{held_there}
 use Rattle.tape_world.proofs.world.World.entry.Goals as goal

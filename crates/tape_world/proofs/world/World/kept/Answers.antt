@@ -1,10 +1,10 @@
 use Rattle.std.proofs.Common.{subst}
-use Rattle.tape_events.specs.World.{World}
-use Rattle.tape_events.specs.First.{IsReached}
-use Rattle.tape_events.specs.Headline.{Headline, NoTwoHolders, CountedReels, DumpdatesGained}
-use Rattle.tape_events.specs.Further.{SentRequests, ReelsNotReopened, OwnOpens, LatchedReels, LabelledReels, ClientsCounts}
-use Rattle.tape_events.specs.Kept.{IsWorldKept}
-use Rattle.tape_events.specs.Standing.{AreHeld}
+use Rattle.world_model.specs.World.{World}
+use Rattle.world_model.specs.First.{IsReached}
+use Rattle.world_model.specs.Headline.{Headline, NoTwoHolders, CountedReels, DumpdatesGained}
+use Rattle.world_model.specs.Further.{SentRequests, ReelsNotReopened, OwnOpens, LatchedReels, LabelledReels, ClientsCounts}
+use Rattle.world_model.specs.Kept.{IsWorldKept}
+use Rattle.world_model.specs.Standing.{AreHeld}
 use Rattle.tape_world.specs.Volumes.{TellsVolumes}
 use Rattle.tape_world.proofs.Volumes.{volumes_told}
 use Rattle.tape_world.proofs.world.World.kept.Goals as goal

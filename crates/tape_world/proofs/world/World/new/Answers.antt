@@ -1,6 +1,6 @@
 use Rattle.std.proofs.Common.{[], sym, subst, map}
-use Rattle.tape_events.specs.First.{IsReached}
-use Rattle.tape_events.specs.Steps.{none}
+use Rattle.world_model.specs.First.{IsReached}
+use Rattle.world_model.specs.Steps.{none}
 use Rattle.tape_world.specs.Making.{plain_drive_spec}
 use Rattle.tape_world.proofs.world.World.new.Goals as goal
 

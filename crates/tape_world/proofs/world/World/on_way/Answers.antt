@@ -2,8 +2,8 @@ use Rattle.std.proofs.Common.{rules, ◌≡◌, Option, Some, length, refl, sym,
 use Rattle.std.specs.Option.{option_copied}
 use Rattle.tape_host.specs.Servers.{HasRoom}
 use Rattle.rmt_server.specs.ServerState.{ServerConnection}
-use Rattle.tape_events.specs.World.{World}
-use Rattle.tape_events.specs.First.{IsReadable}
+use Rattle.world_model.specs.World.{World}
+use Rattle.world_model.specs.First.{IsReadable}
 use Rattle.tape_world.specs.Seen.{seen_connection}
 use Rattle.tape_world.specs.Telling.{TellsWay}
 use Rattle.tape_world.specs.contracts.world_state.WorldState.{the_view}

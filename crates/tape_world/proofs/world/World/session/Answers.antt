@@ -1,7 +1,7 @@
 use Rattle.std.proofs.Common.{option_map, ap, ◌∙◌}
 use Rattle.rmt_server.specs.ServerState.{ServerConnection}
-use Rattle.tape_events.specs.World.{World}
-use Rattle.tape_events.specs.Changes.{side_of}
+use Rattle.world_model.specs.World.{World}
+use Rattle.world_model.specs.Changes.{side_of}
 use Rattle.tape_world.proofs.Server.{side_found}
 use Rattle.tape_world.proofs.world.World.session.Goals as goal
 

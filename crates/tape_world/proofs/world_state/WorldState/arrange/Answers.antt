@@ -1,16 +1,16 @@
 use Rattle.std.proofs.Common.{rules, arith, false, map, refl, sym, subst, ap, ◌∙◌, ◌≡◌}
-use Rattle.tape_events.specs.Kept.{IsWorldKept}
+use Rattle.world_model.specs.Kept.{IsWorldKept}
 use Rattle.tape_world.proofs.Known.{known_after, known_same}
-use Rattle.tape_events.specs.World.{World}
-use Rattle.tape_events.specs.Rows.{MayArrange}
+use Rattle.world_model.specs.World.{World}
+use Rattle.world_model.specs.Rows.{MayArrange}
 use Rattle.std.specs.Prelude.{IsTrue}
 use Rattle.std.specs.List.{list_all}
 use Rattle.std.proofs.lemmas.Bool.{false≢true}
 use Rattle.drives.specs.Arranging.{is_piled}
 use Rattle.tape_world.proofs.Absent.{named_same, may_be, may_parts, if_err, if_ok}
-use Rattle.tape_events.specs.Changes.{with_no_failure}
-use Rattle.tape_events.specs.Steps.{Happens}
-use Rattle.tape_events.specs.Events.PlainEvent.{Arrange}
+use Rattle.world_model.specs.Changes.{with_no_failure}
+use Rattle.world_model.specs.Steps.{Happens}
+use Rattle.world_model.specs.Events.PlainEvent.{Arrange}
 use Rattle.tape_host.specs.Servers.{hosted, restacked}
 use Rattle.tape_world.specs.contracts.world_state.WorldState.{the_view}
 use Rattle.tape_world.proofs.world_state.WorldState.arrange.Goals.{After-is_err}

@@ -1,5 +1,5 @@
 use Rattle.std.proofs.Common.{rules, refl, sym, ap, subst, ◌∙◌, ◌++◌, None, map, option_map, take, drop, length}
-use Rattle.tape_events.specs.Changes.{with_no_failure}
+use Rattle.world_model.specs.Changes.{with_no_failure}
 use Rattle.tape_world.specs.Holding.{IsOwned, IsSourced}
 use Rattle.tape_world.specs.Calling.{IsPlaced}
 use Rattle.tape_world.specs.Saving.{ResumesRunWith}

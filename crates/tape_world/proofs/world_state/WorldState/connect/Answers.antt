@@ -7,10 +7,10 @@ use Rattle.dump_client.specs.Standing.{standing, state_of}
 use Rattle.dump_client.specs.declared.step.Step.TheVariants.{Open}
 use Rattle.dump_client.specs.declared.stage.Stage.TheVariants.{ToSend}
 use Rattle.tape_host.specs.Servers.{joined}
-use Rattle.tape_events.specs.World.{World, Caller}
-use Rattle.tape_events.specs.Changes.{with_no_failure, new_connection}
-use Rattle.tape_events.specs.Events.PlainEvent.{Connect}
-use Rattle.tape_events.specs.Steps.{caller, client_connected, fresh}
+use Rattle.world_model.specs.World.{World, Caller}
+use Rattle.world_model.specs.Changes.{with_no_failure, new_connection}
+use Rattle.world_model.specs.Events.PlainEvent.{Connect}
+use Rattle.world_model.specs.Steps.{caller, client_connected, fresh}
 use Rattle.tape_world.specs.contracts.world_state.WorldState.{the_view}
 use Rattle.tape_world.specs.Seen.{seen_caller, seen_connection, world_of}
 use Rattle.tape_world.proofs.Clients.{sourced_same}

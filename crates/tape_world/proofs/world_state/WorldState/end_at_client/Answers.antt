@@ -1,7 +1,7 @@
 use Rattle.std.proofs.Common.{rules, refl, sym, ap, subst, ◌∙◌, ◌≡◌, None, Some, option_map}
 use Rattle.std.specs.Option.{option_copied}
-use Rattle.tape_events.specs.World.{World, Dumping}
-use Rattle.tape_events.specs.Changes.{with_no_failure, other_left, over_there}
+use Rattle.world_model.specs.World.{World, Dumping}
+use Rattle.world_model.specs.Changes.{with_no_failure, other_left, over_there}
 use Rattle.tape_world.specs.Holding.{IsClients, IsOwned}
 use Rattle.tape_world.specs.contracts.world_state.WorldState.{the_view}
 use Rattle.tape_world.specs.Seen.{seen_connection, seen_caller}

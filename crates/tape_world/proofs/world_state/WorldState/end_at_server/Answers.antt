@@ -1,11 +1,11 @@
 use Rattle.std.proofs.Common.{arith, refl, ap, subst, sym, ◌∙◌}
 use Rattle.std.proofs.lemmas.Grind.{elements}
 use Rattle.std.specs.Option.{option_copied}
-use Rattle.tape_events.specs.World.{World}
-use Rattle.tape_events.specs.Changes.{with_no_failure, changed, ended_at, over_here}
-use Rattle.tape_events.specs.Events.PlainEvent.{EndAtServer}
-use Rattle.tape_events.specs.Rows.{Possible}
-use Rattle.tape_events.specs.Kept.{IsWorldKept}
+use Rattle.world_model.specs.World.{World}
+use Rattle.world_model.specs.Changes.{with_no_failure, changed, ended_at, over_here}
+use Rattle.world_model.specs.Events.PlainEvent.{EndAtServer}
+use Rattle.world_model.specs.Rows.{Possible}
+use Rattle.world_model.specs.Kept.{IsWorldKept}
 use Rattle.tape_world.specs.contracts.world_state.WorldState.{the_view}
 use Rattle.tape_world.specs.Seen.{seen_connection}
 use Rattle.tape_world.proofs.Linked.{connections_after, connection_is}

@@ -4,10 +4,10 @@ use Rattle.std.proofs.lemmas.Option.{same_Some}
 use Rattle.std.proofs.lemmas.List.{map-append}
 use Rattle.dumpdates.specs.Dates.{entered}
 use Rattle.dumpdates.specs.Stored.{plain_entry}
-use Rattle.tape_events.specs.World.{World, Caller}
-use Rattle.tape_events.specs.Changes.{with_no_failure}
-use Rattle.tape_events.specs.Rows.{IsRunEntered}
-use Rattle.tape_events.specs.Steps.{recorded}
+use Rattle.world_model.specs.World.{World, Caller}
+use Rattle.world_model.specs.Changes.{with_no_failure}
+use Rattle.world_model.specs.Rows.{IsRunEntered}
+use Rattle.world_model.specs.Steps.{recorded}
 use Rattle.tape_world.specs.contracts.world_state.WorldState.{the_view}
 use Rattle.tape_world.specs.Seen.{seen_caller, seen_entered, seen_kept}
 use Rattle.tape_world.proofs.Clients.{tells_finished}

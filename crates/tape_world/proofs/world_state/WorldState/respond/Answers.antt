@@ -1,7 +1,7 @@
 use Rattle.std.proofs.Common.{rules, sym, ap, ◌∙◌, Some, option_map, refl}
-use Rattle.tape_events.specs.World.{World}
-use Rattle.tape_events.specs.Changes.{with_no_failure}
-use Rattle.tape_events.specs.Steps.{caller, kept_after}
+use Rattle.world_model.specs.World.{World}
+use Rattle.world_model.specs.Changes.{with_no_failure}
+use Rattle.world_model.specs.Steps.{caller, kept_after}
 use Rattle.dump_client.specs.Standing.{standing, stage_after, state_of}
 use Rattle.tape_world.specs.Seen.{seen_caller, seen_kept}
 use Rattle.tape_world.specs.contracts.world_state.WorldState.{the_view}

@@ -2,9 +2,9 @@ use Rattle.std.proofs.Common.{Some, map, option_map, refl, sym, ap, ◌∙◌}
 use Rattle.std.proofs.lemmas.Bool.{false≢true}
 use Rattle.std.proofs.lemmas.Option.{same_Some}
 use Rattle.std.proofs.Common.{subst}
-use Rattle.tape_events.specs.World.{World, Caller}
-use Rattle.tape_events.specs.Changes.{with_no_failure}
-use Rattle.tape_events.specs.Rows.{MayBeKept}
+use Rattle.world_model.specs.World.{World, Caller}
+use Rattle.world_model.specs.Changes.{with_no_failure}
+use Rattle.world_model.specs.Rows.{MayBeKept}
 use Rattle.tape_world.specs.contracts.world_state.WorldState.{the_view}
 use Rattle.tape_world.specs.Seen.{seen_caller, seen_entered, seen_kept}
 use Rattle.tape_world.proofs.Saving.{backed_saved, may_be_kept, may_keep, saved_seen}

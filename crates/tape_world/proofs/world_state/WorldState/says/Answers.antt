@@ -1,8 +1,8 @@
 use Rattle.std.proofs.Common.{rules, refl, sym, ap, ◌∙◌}
 use Rattle.std.specs.Option.{option_copied, is_some}
-use Rattle.tape_events.specs.World.{World}
-use Rattle.tape_events.specs.Events.PlainEvent.{Says}
-use Rattle.tape_events.specs.Changes.{changed, with_no_failure}
+use Rattle.world_model.specs.World.{World}
+use Rattle.world_model.specs.Events.PlainEvent.{Says}
+use Rattle.world_model.specs.Changes.{changed, with_no_failure}
 use Rattle.tape_world.specs.contracts.world_state.WorldState.{the_view}
 use Rattle.tape_world.specs.Linking.{said}
 use Rattle.tape_world.specs.Seen.{seen_connection}

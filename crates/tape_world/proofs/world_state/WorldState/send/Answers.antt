@@ -2,9 +2,9 @@ use Rattle.std.proofs.Common.{arith, ◌≡◌, refl, sym, ap, subst, ◌∙◌,
 use Rattle.std.proofs.lemmas.Grind.{common_steps}
 use Rattle.std.specs.Prelude.{◌≤◌}
 use Rattle.std.specs.Vec.{with_items}
-use Rattle.tape_events.specs.World.{World}
-use Rattle.tape_events.specs.Events.PlainEvent.{Send}
-use Rattle.tape_events.specs.Rows.{Possible}
+use Rattle.world_model.specs.World.{World}
+use Rattle.world_model.specs.Events.PlainEvent.{Send}
+use Rattle.world_model.specs.Rows.{Possible}
 use Rattle.tape_world.specs.contracts.world_state.WorldState.{the_view}
 use Rattle.tape_world.specs.Serving.{IsLibraryKnown}
 use Rattle.tape_world.specs.Holding.{IsBacked, IsOwned, IsSourced}

@@ -1,13 +1,13 @@
 use Rattle.std.proofs.Common.{◌≡◌, ◌≢◌, List, None, refl, sym, ap, subst, ◌∙◌}
 use Rattle.std.specs.Prelude.{map, take, drop, length, ◌++◌}
 use Rattle.std.specs.Option.{option_copied}
-use Rattle.tape_events.specs.World.{World, Connection}
-use Rattle.tape_events.specs.Changes.{changed}
-use Rattle.tape_events.specs.Events.PlainEvent.{Serve}
-use Rattle.tape_events.specs.Steps.{Happens}
+use Rattle.world_model.specs.World.{World, Connection}
+use Rattle.world_model.specs.Changes.{changed}
+use Rattle.world_model.specs.Events.PlainEvent.{Serve}
+use Rattle.world_model.specs.Steps.{Happens}
 use Rattle.tape_world.specs.contracts.world_state.WorldState.{the_view}
 use Rattle.tape_world.specs.Seen.{seen_connection, book_names, world_of}
-use Rattle.tape_events.specs.Kept.{IsWorldKept}
+use Rattle.world_model.specs.Kept.{IsWorldKept}
 use Rattle.tape_world.specs.Serving.{TurnServes, IsLibraryKnown}
 use Rattle.tape_world.proofs.Known.{known_after, known_same}
 use Rattle.tape_world.proofs.ServingRow.{turned, serves_happens, serves_world, nothing_served, nothing_there, same_connections, opened_known, written_known, online_in, still_known, name_known, same_history, noted_history}

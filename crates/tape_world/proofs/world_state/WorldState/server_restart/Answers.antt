@@ -1,9 +1,9 @@
 use Rattle.std.proofs.Common.{refl, sym, ap, subst, ◌∙◌}
 use Rattle.std.specs.Prelude.{length, map}
-use Rattle.tape_events.specs.World.{World}
-use Rattle.tape_events.specs.Changes.{with_no_failure, restarted, over_here}
-use Rattle.tape_events.specs.Events.PlainEvent.{ServerRestart}
-use Rattle.tape_events.specs.Kept.{IsWorldKept}
+use Rattle.world_model.specs.World.{World}
+use Rattle.world_model.specs.Changes.{with_no_failure, restarted, over_here}
+use Rattle.world_model.specs.Events.PlainEvent.{ServerRestart}
+use Rattle.world_model.specs.Kept.{IsWorldKept}
 use Rattle.tape_world.specs.contracts.world_state.WorldState.{the_view}
 use Rattle.tape_world.proofs.Linked.{connections_over}
 use Rattle.tape_world.proofs.Server.{all_ended_is}

@@ -1,15 +1,15 @@
 use Rattle.std.proofs.Common.{rules, ◌≡◌, ◌+◌, refl, sym, ap, subst, ◌∙◌, Some, None, map, option_map, length, ◌++◌, ◌∷◌, [], arith, ◌*◌}
 use Rattle.std.proofs.lemmas.List.{map-append, length-append, length-map}
-use Rattle.tape_events.specs.World.{World}
-use Rattle.tape_events.specs.Changes.{with_no_failure}
-use Rattle.tape_events.specs.Steps.{begun, caller}
+use Rattle.world_model.specs.World.{World}
+use Rattle.world_model.specs.Changes.{with_no_failure}
+use Rattle.world_model.specs.Steps.{begun, caller}
 use Rattle.dump_run.specs.Blocks.{cut_blocks}
 use Rattle.tape_world.specs.contracts.world_state.WorldState.{the_view}
 use Rattle.tape_world.specs.Seen.{seen_begun, seen_caller, seen_kept}
 use Rattle.tape_world.specs.Holding.{IsBacked, IsSourced}
 use Rattle.tape_world.proofs.Starting.{begun_is, begun_sourced, plain_begun}
 use Rattle.tape_world.proofs.Saving.{backed_begun}
-use Rattle.tape_events.specs.Events.PlainEvent.{StartRun}
+use Rattle.world_model.specs.Events.PlainEvent.{StartRun}
 use Rattle.std.proofs.lemmas.Bool.{false≢true}
 use Rattle.tape_world.proofs.Refused.{refused_event}
 use Rattle.tape_world.proofs.world_state.WorldState.start_run.Goals.{then-not-has_no_run-via-then-not-has_no_run, then-not-has_no_run-via-else-not-has_no_run+then-payload-bytes}

@@ -1,10 +1,10 @@
 use Rattle.std.proofs.Common.{◌∙◌, refl, sym, ap, subst, arith, map, option_map}
 use Rattle.std.specs.Prelude.{◌≤◌, ◌++◌, length, take, drop}
 use Rattle.std.specs.Option.{option_copied}
-use Rattle.tape_events.specs.World.{World}
-use Rattle.tape_events.specs.Changes.{with_no_failure, changed}
-use Rattle.tape_events.specs.Events.PlainEvent.{ToClient}
-use Rattle.tape_events.specs.Steps.{Happens}
+use Rattle.world_model.specs.World.{World}
+use Rattle.world_model.specs.Changes.{with_no_failure, changed}
+use Rattle.world_model.specs.Events.PlainEvent.{ToClient}
+use Rattle.world_model.specs.Steps.{Happens}
 use Rattle.tape_world.specs.contracts.world_state.WorldState.{the_view}
 use Rattle.tape_world.specs.Hearing.{deliver_back, heard_on, HasHeard}
 use Rattle.tape_world.specs.Holding.{IsOwned}

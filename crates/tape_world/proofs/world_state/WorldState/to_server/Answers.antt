@@ -3,11 +3,11 @@ use Rattle.std.proofs.lemmas.Grind.{elements}
 use Rattle.std.specs.Prelude.{length, map, ◌≤◌, ◌++◌, take, drop}
 use Rattle.rmt_wire.specs.RequestReader.{Unread}
 use Rattle.std.specs.Option.{option_copied}
-use Rattle.tape_events.specs.World.{World}
-use Rattle.tape_events.specs.Changes.{with_no_failure, changed}
-use Rattle.tape_events.specs.Events.PlainEvent.{ToServer}
-use Rattle.tape_events.specs.Steps.{Happens}
-use Rattle.tape_events.specs.First.{IsReadable}
+use Rattle.world_model.specs.World.{World}
+use Rattle.world_model.specs.Changes.{with_no_failure, changed}
+use Rattle.world_model.specs.Events.PlainEvent.{ToServer}
+use Rattle.world_model.specs.Steps.{Happens}
+use Rattle.world_model.specs.First.{IsReadable}
 use Rattle.tape_world.specs.contracts.world_state.WorldState.{the_view}
 use Rattle.tape_world.specs.Linking.{arrived}
 use Rattle.tape_world.specs.Seen.{seen_connection}

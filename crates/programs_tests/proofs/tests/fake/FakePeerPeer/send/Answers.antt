@@ -1,4 +1,4 @@
-use Rattle.rdump_talk.proofs.Talking.{some_sent}
+use Rattle.rdump_net.proofs.Talking.{some_sent}
 use Rattle.programs_tests.proofs.tests.fake.FakePeerPeer.send.Goals as goal
 
 pub returns : goal.returns

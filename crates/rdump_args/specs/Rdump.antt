@@ -1,0 +1,51 @@
+-- What the words of `rdump` may ask. Public contracts cite it.
+use Rattle.std.specs.Prelude.{◌≤◌, ◌<◌, ℕ, Option, None, Some, IfSome, IsSome, IsTrue, ⊤, length}
+use Rattle.std.specs.Borrow.{Bor}
+use Rattle.clap.specs.Arguments.{Text}
+use Rattle.dumpdates.specs.Entry.{IsName}
+use Rattle.dump_run.specs.Run.{IsDevice}
+use Rattle.address.specs.Address.{HasPort}
+use Rattle.rmt_wire.specs.declared.argument.TheConstants.{ARGUMENT_LIMIT}
+use Rattle.rmt_wire.specs.declared.limits.TheConstants.{NUMBER_LIMIT}
+use Rattle.rmt_wire.specs.declared.mtio.TheConstants.{MTNOP}
+use Rattle.rdump_args.specs.declared.rdump_line.RdumpLine.{RdumpLine}
+use Rattle.rdump_args.specs.declared.rdump_line.RdumpLine.TheVariants.{Dump, Read, List, Mt, Dates}
+use Rattle.rdump_args.specs.declared.run_line.DumpLine.{DumpLine}
+use Rattle.rdump_args.specs.declared.read_line.ReadLine.{ReadLine}
+use Rattle.rdump_args.specs.declared.list_line.ListLine.{ListLine}
+use Rattle.rdump_args.specs.declared.list_line.ListedReels.{ListedReels}
+use Rattle.rdump_args.specs.declared.list_line.ListedReels.TheVariants.{Paths, Drive}
+use Rattle.rdump_args.specs.declared.tape_line.MtLine.{MtLine}
+
+-- a name and a level that are asked for are those of an entry
+abbrev pub IsDatesAsked : Option (Bor Text × ℕ) → Type 0
+IsDatesAsked None = ⊤
+IsDatesAsked (Some (name, level)) = IsName name.now × (level ≤ 9)
+
+-- the numbers of a run are within what words can say
+abbrev pub IsDumpLine : DumpLine → Type 0
+IsDumpLine line = (line.level ≤ ARGUMENT_LIMIT) × (line.block ≤ ARGUMENT_LIMIT) × IfSome line.date (λ n. n ≤ ARGUMENT_LIMIT)
+
+-- a length that a text can say; every volume is read to its place
+abbrev pub IsReadLine : ReadLine → Type 0
+IsReadLine line = IsDevice line.device.now × IfSome line.length (λ n. n ≤ ARGUMENT_LIMIT) × (IsTrue line.all → IsTrue line.place)
+
+-- a path at least, or a drive
+abbrev pub IsListedReels : ListedReels → Type 0
+IsListedReels (Paths paths) = 0 < length paths.items
+IsListedReels (Drive to device) = IsDevice device.now × HasPort to.now
+
+-- a number of blocks is one that a dump can have, and stands with a dumpdates file alone
+abbrev pub IsListLine : ListLine → Type 0
+IsListLine line = IsListedReels line.reels × IfSome line.blocks (λ n. (n ≤ NUMBER_LIMIT) × IsSome line.dumpdates)
+
+-- a device, and an operation with a count that a request can name
+abbrev pub IsMtLine : MtLine → Type 0
+IsMtLine line = IsDevice line.device.now × (line.op ≤ MTNOP) × (line.count ≤ NUMBER_LIMIT)
+
+abbrev pub IsRdumpLine : RdumpLine → Type 0
+IsRdumpLine (Dump line) = IsDumpLine line × HasPort line.to.now
+IsRdumpLine (Read line) = IsReadLine line × HasPort line.to.now
+IsRdumpLine (List line) = IsListLine line
+IsRdumpLine (Mt line) = IsMtLine line × HasPort line.to.now
+IsRdumpLine (Dates file asked) = IsDatesAsked asked

@@ -1,0 +1,177 @@
+//! The words of `rdump dump`.
+ghost use Rattle.std.specs.Prelude.{◌≤◌, IfOk, IfSome};
+ghost use Rattle.address.specs.Address.{HasPort};
+ghost use Rattle.rdump_args.specs.Rdump.{IsDumpLine};
+ghost use Rattle.rmt_wire.specs.declared.argument.TheConstants.{ARGUMENT_LIMIT};
+
+use crate::argument::{ArgumentSpec, Form, is_given, value_in};
+use crate::drive::address_in;
+use crate::fault::ArgumentFault;
+use clap::ArgMatches;
+use rmt_wire::argument::number_of;
+
+/// What the words ask of `rdump dump`. The device, the name and the numbers may be none that a run can have: numbers are 0
+/// to 9223372036854775807.
+#[derive(Clone, Copy, Debug)]
+pub struct DumpLine<'a> {
+    /// Where the server listens: a host and a port.
+    pub to: &'a str,
+    /// The drive at the server.
+    pub device: &'a str,
+    /// The name of the file system.
+    pub fs: &'a str,
+    /// The level of the dump.
+    pub level: u64,
+    /// Where the payload is.
+    pub payload: &'a str,
+    /// The bytes of a block.
+    pub block: u64,
+    /// Where the dumpdates file is.
+    pub dumpdates: &'a str,
+    /// The date of the dump, in seconds since 1970 began, UTC, and None where it is that of the clock.
+    pub date: Option<u64>,
+    /// Where the checkpoint of the dump is kept, and None where it is not.
+    pub checkpoint: Option<&'a str>,
+    /// Whether the dump is entered in the dumpdates file once it is complete.
+    pub update: bool,
+    /// Whether each attempt looks at the reel first, and writes on no reel of another dump.
+    pub protect: bool,
+}
+
+/// What is said of a level that is no number.
+const BAD_LEVEL: &str = "invalid value for '--level <LEVEL>': a level is 0 to 9, in digits";
+
+/// What is said of a block size that is no number.
+const BAD_BLOCK: &str =
+    "invalid value for '--block <BYTES>': a block is 1 to 262144 bytes, in digits";
+
+/// What is said of a date that is no number.
+const BAD_DATE: &str =
+    "invalid value for '--date <SECONDS>': a date is 0 to 253402300799, in digits";
+
+/// What clap's matches ask of `rdump dump`.
+pub(crate) fn dump_in<'a>(matches: &ArgMatches<'a>) -> Result<DumpLine<'a>, ArgumentFault>
+    ensures { IfOk result (λ line. IsDumpLine line × HasPort line.to.now) }
+{
+    let to = address_in(matches)?;
+    match numbers_in(
+        value_in(matches, "level"),
+        value_in(matches, "block"),
+        matches.get_str("date"),
+    ) {
+        Ok((level, block, date)) => Ok(DumpLine {
+            to,
+            device: value_in(matches, "device"),
+            fs: value_in(matches, "fs"),
+            level,
+            payload: value_in(matches, "payload"),
+            block,
+            dumpdates: value_in(matches, "dumpdates"),
+            date,
+            checkpoint: matches.get_str("checkpoint"),
+            update: is_given(matches, "update"),
+            protect: is_given(matches, "protect"),
+        }),
+        Err(fault) => Err(fault),
+    }
+}
+
+/// The numbers that these texts say: the level, the bytes of a block, and the date if one is given.
+fn numbers_in(
+    level: &str,
+    block: &str,
+    date: Option<&str>,
+) -> Result<(u64, u64, Option<u64>), ArgumentFault>
+    ensures { IfOk result (λ found. (found.0 ≤ ARGUMENT_LIMIT) × (found.1 ≤ ARGUMENT_LIMIT)
+        × IfSome found.2 (λ n. n ≤ ARGUMENT_LIMIT)) }
+{
+    let Some(level) = number_of(level) else {
+        return Err(ArgumentFault::Value(BAD_LEVEL));
+    };
+    let Some(block) = number_of(block) else {
+        return Err(ArgumentFault::Value(BAD_BLOCK));
+    };
+    match date_in(date) {
+        Some(date) => Ok((level, block, date)),
+        None => Err(ArgumentFault::Value(BAD_DATE)),
+    }
+}
+
+/// The date that a text says, if one is given, and None where it says none.
+fn date_in(text: Option<&str>) -> Option<Option<u64>>
+    ensures { IfSome result (λ date. IfSome date (λ n. n ≤ ARGUMENT_LIMIT)) }
+{
+    match text {
+        Some(text) => Some(Some(number_of(text)?)),
+        None => Some(None),
+    }
+}
+
+/// The words of `rdump dump`.
+pub(crate) static DUMP_WORDS: [ArgumentSpec; 11] = [
+    ArgumentSpec::TO,
+    ArgumentSpec::DEVICE,
+    ArgumentSpec {
+        name: "fs",
+        value: "NAME",
+        help: "The name of the file system",
+        form: Form::Required,
+        missing: "--fs is required",
+    },
+    ArgumentSpec {
+        name: "level",
+        value: "LEVEL",
+        help: "The level of the dump, 0 to 9",
+        form: Form::Required,
+        missing: "--level is required",
+    },
+    ArgumentSpec {
+        name: "payload",
+        value: "FILE",
+        help: "What is dumped",
+        form: Form::Required,
+        missing: "--payload is required",
+    },
+    ArgumentSpec {
+        name: "block",
+        value: "BYTES",
+        help: "The size of a block, 1 to 262144",
+        form: Form::Required,
+        missing: "--block is required",
+    },
+    ArgumentSpec {
+        name: "dumpdates",
+        value: "FILE",
+        help: "The dumpdates file; a missing one is empty",
+        form: Form::Required,
+        missing: "--dumpdates is required",
+    },
+    ArgumentSpec {
+        name: "date",
+        value: "SECONDS",
+        help: "The date of the dump in seconds since 1970 [default: the clock's]",
+        form: Form::Optional,
+        missing: "",
+    },
+    ArgumentSpec {
+        name: "checkpoint",
+        value: "FILE",
+        help: "Keep there what is counted; where it is there, go on from it",
+        form: Form::Optional,
+        missing: "",
+    },
+    ArgumentSpec {
+        name: "update",
+        value: "",
+        help: "Enter the dump in the dumpdates file once it is complete",
+        form: Form::Flag,
+        missing: "",
+    },
+    ArgumentSpec {
+        name: "protect",
+        value: "",
+        help: "Write on no reel that another dump, or anyone else, has written",
+        form: Form::Flag,
+        missing: "",
+    },
+];

@@ -1,0 +1,144 @@
+-- Texts that are printed one after the other, and the lines of a dump.
+use Rattle.std.proofs.Common.{◌≡◌, ◌≢◌, ◌+◌, ℕ, List, [], ◌++◌, Bool, true, false, if◌then◌else◌, inl, inr, Option, Some, None, refl, sym, ap, subst, ◌∙◌, min, take, drop, length, append-nil, append_assoc, arith}
+use Rattle.std.specs.Io.KnownBytes.{Appends}
+use Rattle.std.proofs.KnownBytes.{Appends-nil, Appends-trans}
+use Rattle.std.proofs.Math.Seq.{take-append-add, drop-append_seam}
+use Rattle.std.proofs.lemmas.List.{take-append-le, take_min}
+use Rattle.rmt_wire.specs.Counted.{Counting, HasRisen}
+use Rattle.dump_client.specs.Standing.{VolumeCount}
+use Rattle.dump_client.specs.Standing.{Standing, checkpoint_of, state_of}
+use Rattle.dump_client.specs.declared.fault.AttemptFault.{AttemptFault}
+use Rattle.dump_client.specs.declared.stage.Stage.{Stage}
+use Rattle.dump_client.specs.declared.stage.Stage.TheVariants.{Ready, ToSend, Waiting, Asking, Finished, Abandoned}
+use Rattle.dump_client.specs.declared.stage.State.{State}
+use Rattle.dump_client.specs.declared.stage.State.TheVariants as told
+use Rattle.rmt_wire.specs.Print.{IsPrinted}
+use Rattle.rdump_net.specs.Lines.{DumpLines, HasGrown, IsConcluded, IsConclusion, IsDumped, IsFinish, IsLast, IsRound, abandoned_line, complete_line, conclusion_status, count_lines, failure_lines, question_line}
+use Rattle.rdump_net.specs.declared.conclusion.Conclusion.{Conclusion}
+use Rattle.rdump_net.specs.declared.conclusion.Conclusion.TheVariants as ends
+use Rattle.rdump_net.specs.Lines.DumpLines.{none, counted, failed, asked}
+
+module _ {W : Type 0} (contents : W → Option (List ℕ)) where
+  pub nothing_printed : (out : Counting W) → IsPrinted contents [] out out true
+  nothing_printed out = (Appends-nil (contents out.inner), refl)
+
+  -- one text, and then another
+  pub printed_both : (one two : List ℕ) (a b c : Counting W) (whole : Bool) → IsPrinted contents one a b true → IsPrinted contents two b c whole
+      → IsPrinted contents (one ++ two) a c whole
+  printed_both one two a b c true h k = (Appends-trans _ _ _ one two h.0 k.0, k.1 ∙ h.1)
+  printed_both one two a b c false h k = (
+    (
+      length one + k.0.0,
+      subst (Appends (contents a.inner) (contents c.inner)) (sym (take-append-add one two k.0.0)) (Appends-trans _ _ _ one (take k.0.0 two) h.0 k.0.1),
+    ),
+    subst (λ n. HasRisen n c.failures) h.1 k.1,
+  )
+
+  -- a beginning of a text is one of it with more after it
+  pub printed_less : (one two : List ℕ) (a b : Counting W) → IsPrinted contents one a b false → IsPrinted contents (one ++ two) a b false
+  printed_less one two a b h = (
+    (
+      min h.0.0 (length one),
+      subst (Appends (contents a.inner) (contents b.inner)) (sym (take-append-le (min h.0.0 (length one)) one two (omega arith) ∙ take_min h.0.0 one)) h.0.1,
+    ),
+    h.1,
+  )
+
+-- lines, and then further lines
+pub lines_both : (a b : List VolumeCount) (one : List ℕ) → DumpLines a b one → (c : List VolumeCount) (two : List ℕ) → DumpLines b c two → DumpLines a c (one ++ two)
+lines_both a b one h c two none = subst (DumpLines a b) (sym (append-nil one)) h
+lines_both a b one h c two (counted {counts = counts} {text = text} more k) =
+    subst (DumpLines a (counts ++ more)) (append_assoc one text (count_lines more)) (counted more (lines_both a b one h counts text k))
+lines_both a b one h c two (failed {text = text} fault k) =
+    subst (DumpLines a c) (append_assoc one text (failure_lines (checkpoint_of c).0 fault)) (failed fault (lines_both a b one h c text k))
+lines_both a b one h c two (asked {text = text} k) = subst (DumpLines a c) (append_assoc one text question_line) (asked (lines_both a b one h c text k))
+
+-- the lines of what was counted since
+pub lines_since : (old new : List VolumeCount) (n : ℕ) → n ≡ length old → HasGrown old new → DumpLines old new (count_lines (drop n new))
+lines_since old new n e (more, is) =
+    let left : drop n new ≡ more = ap (drop n) is ∙ (ap (λ m. drop m (old ++ more)) e ∙ drop-append_seam old more) in
+    subst (λ l. DumpLines old l (count_lines (drop n new))) (sym is)
+    (subst (λ l. DumpLines old (old ++ more) (count_lines l)) (sym left) (counted more none))
+
+pub lines_failed : (counts : List VolumeCount) (fault : AttemptFault) → DumpLines counts counts (failure_lines (checkpoint_of counts).0 fault)
+lines_failed counts fault = failed fault none
+
+pub lines_asked : (counts : List VolumeCount) → DumpLines counts counts question_line
+lines_asked counts = asked none
+
+pub lines_same : (old new : List VolumeCount) → new ≡ old → DumpLines old new []
+lines_same old new e = subst (λ n. DumpLines old n []) (sym e) none
+
+-- the state that is told is that of the stage
+pub finished_stage : (stage : Stage) (state : State) → state ≡ state_of stage → state ≡ told.Finished → stage ≡ Finished
+finished_stage Ready state e h = cc
+finished_stage (ToSend step) state e h = cc
+finished_stage (Waiting step) state e h = cc
+finished_stage Asking state e h = cc
+finished_stage Finished state e h = refl
+finished_stage Abandoned state e h = cc
+
+pub not_finished : (stage : Stage) (state : State) → state ≡ state_of stage → ¬ (state ≡ told.Finished) → stage ≢ Finished
+not_finished stage state e h same = h (e ∙ ap state_of same)
+
+pub last_complete : (whole : Bool) (at : Standing) (end : Conclusion) → at.stage ≡ Finished → end ≡ (if whole then ends.Complete else ends.PrintFailed) → IsConclusion whole at (complete_line at.counts) end
+last_complete true at end h e = subst (IsConclusion true at (complete_line at.counts)) (sym e) (h, refl)
+last_complete false at end h e = subst (IsConclusion false at (complete_line at.counts)) (sym e) tt
+
+pub last_abandoned : (whole : Bool) (at : Standing) (end : Conclusion) → at.stage ≢ Finished → end ≡ (if whole then ends.Abandoned else ends.PrintFailed) → IsConclusion whole at abandoned_line end
+last_abandoned true at end h e = subst (IsConclusion true at abandoned_line) (sym e) (h, refl)
+last_abandoned false at end h e = subst (IsConclusion false at abandoned_line) (sym e) tt
+
+-- the status that goes with an end
+last_of : (whole : Bool) (at : Standing) (last : List ℕ) (end : Conclusion) → IsConclusion whole at last end → IsLast whole at last (conclusion_status end)
+last_of true at last ends.Complete h = inl (h.0, h.1, refl)
+last_of true at last ends.Abandoned h = inr (h.0, h.1, refl)
+last_of true at last ends.PrintFailed h = absurd h
+last_of true at last ends.Unkept h = absurd h
+last_of false at last ends.PrintFailed h = refl
+last_of false at last ends.Complete h = absurd h
+last_of false at last ends.Abandoned h = absurd h
+last_of false at last ends.Unkept h = absurd h
+
+module _ {W : Type 0} (contents : W → Option (List ℕ)) where
+  -- a part that was cut short
+  pub cut_short : (first : List VolumeCount) (at : Standing) (out out' : Counting W) (text : List ℕ) → DumpLines first at.counts text
+      → IsPrinted contents text out out' false → IsConcluded contents first at out out' ends.PrintFailed
+  cut_short first at out out' text lines printed = record {
+    text = text;
+    last = [];
+    whole = false;
+    lines = lines;
+    printed = subst (λ t. IsPrinted contents t out out' false) (sym (append-nil text)) printed;
+    ends = tt;
+  }
+
+  -- the last line alone
+  pub last_alone : (at : Standing) (out out' : Counting W) (end : Conclusion) → IsFinish contents at out out' end → IsConcluded contents at.counts at out out' end
+  last_alone at out out' end h = record { text = []; last = h.0; whole = h.1; lines = none; printed = h.2; ends = h.3 }
+
+  -- a part, and then another
+  pub round_after : (first : List VolumeCount) (counts : List VolumeCount) (at : Standing) (a b c : Counting W) (text : List ℕ) (result : Option Conclusion)
+      → DumpLines first counts text → IsPrinted contents text a b true → IsRound contents counts at b c result → IsRound contents first at a c result
+  round_after first counts at a b c text None lines printed h =
+      (text ++ h.0, lines_both first counts text lines at.counts h.0 h.1, printed_both contents text h.0 a b c true printed h.2)
+  round_after first counts at a b c text (Some end) lines printed h = record {
+    text = text ++ h.text;
+    last = h.last;
+    whole = h.whole;
+    lines = lines_both first counts text lines at.counts h.text h.lines;
+    printed = subst (λ t. IsPrinted contents t a c h.whole) (sym (append_assoc text h.text h.last)) (printed_both contents text (h.text ++ h.last) a b c h.whole printed h.printed);
+    ends = h.ends;
+  }
+
+  -- what a dump prints, with its status
+  pub dumped_so : (first : List VolumeCount) (at : Standing) (out out' : Counting W) (end : Conclusion) (status : ℕ) → status ≡ conclusion_status end
+      → IsConcluded contents first at out out' end → IsDumped contents first at out out' status
+  dumped_so first at out out' end status e h = record {
+    text = h.text;
+    last = h.last;
+    whole = h.whole;
+    lines = h.lines;
+    printed = h.printed;
+    ends = subst (IsLast h.whole at h.last) (sym e) (last_of h.whole at h.last end h.ends);
+  }

@@ -1,0 +1,17 @@
+use Rattle.std.proofs.Common.{◌≡◌, [], subst, sym}
+use Rattle.dump_client.specs.Standing.{checkpoint_of}
+use Rattle.dump_client.specs.declared.fault.AttemptFault.TheVariants.{OutOfMemory}
+use Rattle.rdump_net.specs.Lines.{DumpLines, failure_lines}
+use Rattle.rdump_net.specs.Lines.DumpLines.{none}
+use Rattle.rdump_net.proofs.Printed.{lines_failed, nothing_printed}
+use Rattle.rdump_net.proofs.rounds.report.Goals as goal
+
+pub returns-in-Over-clause-printed : goal.returns-in-Over-clause-printed
+returns-in-Over-clause-printed g c = ([], none, nothing_printed g.W.Write.contents c.args.out.now)
+
+pub ask_here-requires : goal.ask_here-requires
+ask_here-requires g c =
+    let counts = c.args.client.now.at.counts in
+    let e : c.as_bytes.result.now ≡ failure_lines (checkpoint_of counts).0 OutOfMemory =
+    (let a = c.as_bytes.ensures.value in let b = c.deref.ensures in let d = c.failure_of-lines.ensures in cc) in
+    subst (DumpLines counts counts) (sym e) (lines_failed counts OutOfMemory)

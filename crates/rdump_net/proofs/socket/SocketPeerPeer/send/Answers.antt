@@ -1,0 +1,13 @@
+use Rattle.std.proofs.Common.{false}
+use Rattle.rdump_net.proofs.Talking.{some_sent}
+use Rattle.rdump_net.proofs.socket.SocketPeerPeer.send.Goals as goal
+
+pub returns : goal.returns
+returns g c =
+    let sent = some_sent c.args.bytes.now c.is_some.result in
+    (sent.0, sent.1, λ log h. h)
+
+pub returns-in_default : goal.returns-in_default
+returns-in_default g c =
+    let sent = some_sent c.args.bytes.now false in
+    (sent.0, sent.1, λ log h. h)

@@ -1,0 +1,85 @@
+-- A request that is sent to a peer, and what comes back. Public contracts stand on it (through Calls).
+use Rattle.std.specs.Prelude.{◌≡◌, ◌≢◌, ◌⊎◌, ◌≤◌, ◌<◌, ◌-◌, ◌^◌, ℕ, false, List, [], ◌∷◌, ◌++◌, map, length, Option, Some, None, Result, Ok, Err}
+use Rattle.rmt_wire.specs.declared.limits.TheConstants.{READER_LIMIT}
+use Rattle.rmt_wire.specs.Reply.{PlainReply, Wanted, SpellsReply}
+use Rattle.rmt_wire.specs.Reply.Wanted.{Number, DataUpTo}
+use Rattle.rmt_wire.specs.ReplyParts.{ReplyGives}
+use Rattle.rmt_wire.specs.ReplyReader.{ReplyHeld, ReplyUnread}
+use Rattle.rmt_wire.specs.Request.{PlainRequest, request_text}
+use Rattle.rmt_wire.specs.Request.PlainRequest.{Open, Close, Write, WriteDropped, Read, Op}
+use Rattle.rmt_wire.specs.declared.fault.WireFault.{WireFault}
+use Rattle.rdump_net.specs.KeptReply.{plain_kept}
+use Rattle.rdump_net.specs.Peer.{AreBytesSent, Logs}
+use Rattle.rdump_net.specs.declared.kept_reply.KeptReply.{KeptReply}
+use Rattle.rdump_net.specs.declared.fault.CallFault.{CallFault}
+use Rattle.rdump_net.specs.declared.fault.CallFault.TheVariants.{ConnectionEnded, Botched, OutOfMemory}
+use Rattle.rdump_net.specs.declared.peer.Passed.{Passed}
+use Rattle.rdump_net.specs.declared.peer.Passed.TheVariants.{Sent, Given, Ended}
+
+-- data answer a read, and a number all others
+abbrev pub wanted_by : PlainRequest → Wanted
+wanted_by (Open device mode) = Number
+wanted_by Close = Number
+wanted_by (Write bytes) = Number
+wanted_by (WriteDropped count) = Number
+wanted_by (Read count) = DataUpTo count
+wanted_by (Op op count) = Number
+
+-- what came is no reply: none by the grammar, one with more after it, or one that does not end in 2^64 - 1 bytes
+abbrev pub IsNoReply : Wanted → List ℕ → Type 0
+IsNoReply wanted bytes =
+    ((fault : WireFault) × ReplyGives (Some wanted) bytes (Err fault) bytes)
+    ⊎ ((reply : PlainReply) × (rest : List ℕ) × ReplyGives (Some wanted) bytes (Ok (Some reply)) rest × (rest ≢ []))
+    ⊎ (ReplyGives (Some wanted) bytes (Ok None) bytes × (2 ^ 64 - 1 ≤ length bytes))
+
+-- what a peer gives to one who waits for a reply: that reply, alone; or its connection ends in it; or no reply comes; or one comes
+-- for which there is no memory
+abbrev pub Brings : Wanted → Result PlainReply CallFault → List Passed → Type 0
+Brings wanted (Ok reply) passed = (bytes : List ℕ) × SpellsReply bytes reply wanted × (passed ≡ map Given bytes)
+Brings wanted (Err ConnectionEnded) passed =
+    (bytes : List ℕ) × ReplyGives (Some wanted) bytes (Ok None) bytes × (passed ≡ map Given bytes ++ Ended ∷ [])
+Brings wanted (Err Botched) passed = (bytes : List ℕ) × IsNoReply wanted bytes × (passed ≡ map Given bytes)
+Brings wanted (Err OutOfMemory) passed =
+    (bytes : List ℕ) × (reply : PlainReply) × (rest : List ℕ) × ReplyGives (Some wanted) bytes (Ok (Some reply)) rest
+    × (passed ≡ map Given bytes)
+
+-- what passes in a call: the request is sent, once, and then comes what the peer brings; or the connection ends while it is sent; or
+-- there is no memory for it
+abbrev pub IsPeerCall : PlainRequest → Result PlainReply CallFault → List Passed → Type 0
+IsPeerCall request result passed =
+    ((more : List Passed) × Brings (wanted_by request) result more × (passed ≡ map Sent (request_text request) ++ more))
+    ⊎ ((result ≡ Err ConnectionEnded) × AreBytesSent (request_text request) false passed)
+    ⊎ ((result ≡ Err OutOfMemory) × (passed ≡ []))
+
+-- the same over a peer
+abbrev pub IsReplyHeard : {P : Type 0} → (P → List Passed → Type 0) → Wanted → Result PlainReply CallFault → P → P → Type 0
+IsReplyHeard tells wanted result p p' = (passed : List Passed) × Brings wanted result passed × Logs tells p p' passed
+
+abbrev pub IsCalled : {P : Type 0} → (P → List Passed → Type 0) → PlainRequest → Result PlainReply CallFault → P → P → Type 0
+IsCalled tells request result p p' = (passed : List Passed) × IsPeerCall request result passed × Logs tells p p' passed
+
+-- these bytes came since a reply of this kind was waited for, and are a beginning of one, for the rest of which there is room
+pub record IsReplyAwaited (wanted : Wanted) (h : ReplyHeld) (bytes : List ℕ) : Type 0 where
+  pub unread : ReplyUnread h (Some wanted) bytes
+  pub begun : ReplyGives (Some wanted) bytes (Ok None) bytes
+  pub room : length h.kept < READER_LIMIT
+
+-- what a reader gives of the bytes that it holds, and where it stands then; a fault stays, whatever follows
+abbrev pub IsFront : Wanted → List ℕ → Result (Option KeptReply) CallFault → ReplyHeld → Type 0
+IsFront wanted bytes (Ok None) new = IsReplyAwaited wanted new bytes
+IsFront wanted bytes (Ok (Some answer)) new =
+    (rest : List ℕ) × ReplyGives (Some wanted) bytes (Ok (Some (plain_kept answer))) rest × ReplyUnread new None rest
+IsFront wanted bytes (Err Botched) new =
+    (fault : WireFault) × ((more : List ℕ) → ReplyGives (Some wanted) (bytes ++ more) (Err fault) (bytes ++ more))
+IsFront wanted bytes (Err OutOfMemory) new =
+    (reply : PlainReply) × (rest : List ℕ) × ReplyGives (Some wanted) bytes (Ok (Some reply)) rest
+IsFront wanted bytes (Err ConnectionEnded) new = ⊥
+
+-- all the bytes are a beginning of a reply, or a reply, alone, or none of these
+abbrev pub IsTaken : Wanted → List ℕ → Result (Option KeptReply) CallFault → ReplyHeld → Type 0
+IsTaken wanted bytes (Ok None) new = IsReplyAwaited wanted new bytes
+IsTaken wanted bytes (Ok (Some answer)) new = SpellsReply bytes (plain_kept answer) wanted
+IsTaken wanted bytes (Err Botched) new = IsNoReply wanted bytes
+IsTaken wanted bytes (Err OutOfMemory) new =
+    (reply : PlainReply) × (rest : List ℕ) × ReplyGives (Some wanted) bytes (Ok (Some reply)) rest
+IsTaken wanted bytes (Err ConnectionEnded) new = ⊥

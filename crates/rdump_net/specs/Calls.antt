@@ -1,0 +1,51 @@
+-- Calls over a peer, one after the other, each after the reply to the one before. Public contracts stand on it (through Reading).
+use Rattle.std.specs.Prelude.{◌≡◌, ◌⊎◌, Bool, true, false, List, [], ◌∷◌, ◌++◌, Option, Some, None, Ok, Err}
+use Rattle.rmt_wire.specs.Reply.{PlainReply}
+use Rattle.rmt_wire.specs.Reply.PlainReply.{Done, Data, Error}
+use Rattle.rmt_wire.specs.Request.{PlainRequest}
+use Rattle.rdump_net.specs.Call.{IsPeerCall}
+use Rattle.rdump_net.specs.Peer.{Logs}
+use Rattle.rdump_net.specs.declared.fault.CallFault.{CallFault}
+use Rattle.rdump_net.specs.declared.fault.CallFault.TheVariants.{ConnectionEnded, Botched, OutOfMemory}
+use Rattle.rdump_net.specs.declared.peer.Passed.{Passed}
+use Rattle.rdump_net.specs.declared.peer.Passed.TheVariants.{Connected, Ended}
+
+abbrev pub is_done : PlainReply → Bool
+is_done (Done n) = true
+is_done (Data bytes) = false
+is_done (Error n text) = false
+
+-- What passed from the connection on, with the replies so far: what is asked next after some replies is said by `next`.
+pub data CallsFollow (next : List PlainReply → Option PlainRequest) : List PlainReply → List Passed → Type 0 where
+  begins : CallsFollow next [] (Connected ∷ [])
+  one_more : {replies : List PlainReply} {passed more : List Passed} (request : PlainRequest) (reply : PlainReply)
+      → CallsFollow next replies passed → next replies ≡ Some request → IsPeerCall request (Ok reply) more
+      → CallsFollow next (replies ++ reply ∷ []) (passed ++ more)
+
+-- no call was made, since there was no connection, or no memory for replies
+abbrev pub NotBegun : CallFault → List Passed → Type 0
+NotBegun ConnectionEnded passed = passed ≡ Ended ∷ []
+NotBegun OutOfMemory passed = passed ≡ []
+NotBegun Botched passed = ⊥
+
+-- how the calls end: nothing more is asked, or the next call has no reply, or none was made
+abbrev pub Stops : (List PlainReply → Option PlainRequest) → Option CallFault → List PlainReply → List Passed → Type 0
+Stops next None replies passed = CallsFollow next replies passed × (next replies ≡ None)
+Stops next (Some fault) replies passed =
+    ((before : List Passed) × (more : List Passed) × (request : PlainRequest) × CallsFollow next replies before
+    × (next replies ≡ Some request) × IsPeerCall request (Err fault) more × (passed ≡ before ++ more))
+    ⊎ ((replies ≡ []) × NotBegun fault passed)
+
+-- further calls, from these replies on to those
+pub record Extends {P : Type 0} (next : List PlainReply → Option PlainRequest) (tells : P → List Passed → Type 0) (p p' : P)
+    (replies later : List PlainReply) : Type 0 where
+  pub more : List Passed
+  pub logs : Logs tells p p' more
+  pub follows : (passed : List Passed) → CallsFollow next replies passed → CallsFollow next later (passed ++ more)
+
+-- further calls, up to their end
+pub record Finishes {P : Type 0} (next : List PlainReply → Option PlainRequest) (tells : P → List Passed → Type 0) (p p' : P)
+    (replies : List PlainReply) (fault : Option CallFault) (later : List PlainReply) : Type 0 where
+  pub more : List Passed
+  pub logs : Logs tells p p' more
+  pub stops : (passed : List Passed) → CallsFollow next replies passed → Stops next fault later (passed ++ more)

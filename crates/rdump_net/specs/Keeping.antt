@@ -1,0 +1,117 @@
+-- A dump whose checkpoint is kept. Public contracts cite it.
+use Rattle.std.specs.Prelude.{◌≡◌, ◌⊎◌, ℕ, Bool, true, false, List, [], ◌∷◌, ◌++◌, Option, Some, option_map, codes, Vec}
+use Rattle.std.specs.Global.{Global}
+use Rattle.rmt_wire.specs.Counted.{Counting}
+use Rattle.rmt_wire.specs.Print.{IsPrinted}
+use Rattle.dump_run.specs.Checkpoint.{checkpoint_text}
+use Rattle.dump_client.specs.Standing.{Standing}
+use Rattle.dump_client.specs.Client.{ClientHeld, HasFed}
+use Rattle.rdump_net.specs.Peer.{Logs}
+use Rattle.rdump_net.specs.Talk.{Talks}
+use Rattle.rdump_net.specs.Lines.{DumpLines, IsConclusion}
+use Rattle.rdump_net.specs.declared.conclusion.Conclusion.{Conclusion}
+use Rattle.rdump_net.specs.declared.conclusion.Conclusion.TheVariants.{Complete, Unkept}
+use Rattle.rdump_net.specs.declared.peer.Passed.{Passed}
+
+-- these texts were put, after all that had been
+abbrev pub PutsOn : {K : Type 0} → (K → List (List ℕ) → Type 0) → K → K → List (List ℕ) → Type 0
+PutsOn puts old new texts = (log : List (List ℕ)) → puts old log → puts new (log ++ texts)
+
+-- the text, where it was put
+abbrev pub put_if : List ℕ → Bool → List (List ℕ)
+put_if text true = text ∷ []
+put_if text false = []
+
+-- the text that was put last is that of the checkpoint of a client that stands there
+abbrev pub IsKept : List (List ℕ) → Standing → Type 0
+IsKept texts at = (before : List (List ℕ)) × (texts ≡ before ++ checkpoint_text at.run at.counts ∷ [])
+
+-- What a dump did so far: what passed at the peer, what was printed, the texts that were put, and where the client stands. An attempt
+-- starts only where the text that was put last is that of the client's checkpoint. A text is put once the lines of all that it counts
+-- are printed.
+pub data KeptDump (told : List (List ℕ) → Type 0) (start : Standing) (first : List ℕ)
+    : List Passed → List ℕ → List (List ℕ) → Standing → List ℕ → Type 0 where
+  none : KeptDump told start first [] [] [] start first
+  then_talk : {passed more : List Passed} {text : List ℕ} {texts : List (List ℕ)} {before after : Standing} {fed later : List ℕ}
+      → KeptDump told start first passed text texts before fed → Talks told (IsKept texts) before fed more after later
+      → KeptDump told start first (passed ++ more) text texts after later
+  then_print : {passed : List Passed} {text : List ℕ} {texts : List (List ℕ)} {at : Standing} {fed : List ℕ} (line : List ℕ)
+      → KeptDump told start first passed text texts at fed → KeptDump told start first passed (text ++ line) texts at fed
+  then_put : {passed : List Passed} {text : List ℕ} {texts : List (List ℕ)} {at : Standing} {fed : List ℕ}
+      → KeptDump told start first passed text texts at fed → DumpLines start.counts at.counts text
+      → KeptDump told start first passed text (texts ++ checkpoint_text at.run at.counts ∷ []) at fed
+
+-- the client, the peer, the output and the keeper of a dump
+pub record KeptEnds (B P W K : Type 0) : Type 0 where
+  pub client : ClientHeld B
+  pub peer : P
+  pub out : Counting W
+  pub keeper : K
+
+abbrev pub kept_ends : {B P W K : Type 0} → ClientHeld B → P → Counting W → K → KeptEnds B P W K
+kept_ends client peer out keeper = record { client = client; peer = peer; out = out; keeper = keeper }
+
+-- what they tell: the source its blocks, the peer what passed, the output what was written, the keeper what was put
+pub record KeptKind (B P W K : Type 0) : Type 1 where
+  pub holds : B → List (List ℕ) → Type 0
+  pub tells : P → List Passed → Type 0
+  pub contents : W → Option (List ℕ)
+  pub puts : K → List (List ℕ) → Type 0
+
+abbrev pub kept_kind : {B P W K : Type 0} → (B → List (List ℕ) → Type 0) → (P → List Passed → Type 0) → (W → Option (List ℕ))
+    → (K → List (List ℕ) → Type 0) → KeptKind B P W K
+kept_kind holds tells contents puts = record { holds = holds; tells = tells; contents = contents; puts = puts }
+
+-- what a dump did, where this was printed of it, is what the peer and the keeper tell
+pub record HasKept {B P W K : Type 0} (k : KeptKind B P W K) (old new : KeptEnds B P W K) (text : List ℕ) (fed : List ℕ) : Type 0 where
+  pub passed : List Passed
+  pub texts : List (List ℕ)
+  pub later : List ℕ
+  pub dumped : KeptDump (k.holds old.client.source) old.client.at fed passed text texts new.client.at later
+  pub keeps : HasFed new.client later
+  pub logs : Logs k.tells old.peer new.peer passed
+  pub put : PutsOn k.puts old.keeper new.keeper texts
+
+-- the line of a checkpoint that could not be kept
+abbrev pub unkept_line : List ℕ
+unkept_line = codes "checkpoint not written\n"
+
+-- how a dump ends, and its last line
+abbrev pub IsKeptConclusion : Bool → Standing → List ℕ → Conclusion → Type 0
+IsKeptConclusion whole at last Unkept = last ≡ unkept_line
+IsKeptConclusion whole at last end = IsConclusion whole at last end
+
+-- What a dump did up to its end. Where it is complete, and is not as it was at the start, the text that was put last is that of the
+-- client's checkpoint.
+pub record HasKeptTo {B P W K : Type 0} (k : KeptKind B P W K) (old new : KeptEnds B P W K) (end : Conclusion) (text : List ℕ) (fed : List ℕ) : Type 0 where
+  pub has : HasKept k old new text fed
+  pub last : end ≡ Complete → (new.client.at ≡ old.client.at) ⊎ IsKept has.texts new.client.at
+
+-- A dump whose checkpoint is kept. Up to the last text that was put all was printed whole; then come the lines that are left, and the
+-- last line.
+pub record IsDumpKept {B P W K : Type 0} (k : KeptKind B P W K) (old new : KeptEnds B P W K) (end : Conclusion) : Type 0 where
+  pub text : List ℕ
+  pub rest : List ℕ
+  pub last : List ℕ
+  pub middle : Counting W
+  pub whole : Bool
+  pub same : (payload : List (List ℕ)) → k.holds old.client.source payload → k.holds new.client.source payload
+  pub kept : (fed : List ℕ) → HasFed old.client fed → HasKeptTo k old new end text fed
+  pub printed : IsPrinted k.contents text old.out middle true
+  pub told : IsPrinted k.contents (rest ++ last) middle new.out whole
+  pub lines : DumpLines old.client.at.counts new.client.at.counts (text ++ rest)
+  pub ends : IsKeptConclusion whole new.client.at last end
+
+-- a text that was kept, as bytes
+abbrev pub plain_kept : Option (Vec ℕ Global) → Option (List ℕ)
+plain_kept kept = option_map (λ held. held.items) kept
+
+-- The text is kept: it was put, unless it is what was kept last. Or it is not, and none was put.
+abbrev pub IsKeptUp : {K : Type 0} → (K → List (List ℕ) → Type 0) → List ℕ → Option (List ℕ) → Bool → Option (List ℕ) → K → K → Type 0
+IsKeptUp puts text old true new k k' =
+    (new ≡ Some text) × (((old ≡ Some text) × PutsOn puts k k' []) ⊎ PutsOn puts k k' (text ∷ []))
+IsKeptUp puts text old false new k k' = PutsOn puts k k' []
+
+-- the line was printed, and the dump ends so
+abbrev pub IsUnkept : {W : Type 0} → (W → Option (List ℕ)) → Counting W → Counting W → Conclusion → Type 0
+IsUnkept contents out out' end = (end ≡ Unkept) × ((whole : Bool) × IsPrinted contents unkept_line out out' whole)

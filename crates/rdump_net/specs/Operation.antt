@@ -1,0 +1,83 @@
+-- One operation of mtio: its requests, what is printed, and the status. Public contracts cite it.
+use Rattle.std.specs.Prelude.{◌≡◌, ◌&&◌, ℕ, Bool, List, [], ◌∷◌, ◌++◌, length, codes, decimal, Option, Some, None, Result, Ok, Err, if◌then◌else◌, nat_eq}
+use Rattle.rmt_wire.specs.Counted.{Counting}
+use Rattle.rmt_wire.specs.Reply.{PlainReply}
+use Rattle.rmt_wire.specs.Reply.PlainReply.{Done, Data, Error}
+use Rattle.rmt_wire.specs.Request.{PlainRequest}
+use Rattle.rmt_wire.specs.Request.PlainRequest.{Open, Close, Op}
+use Rattle.rmt_wire.specs.declared.fcntl.TheConstants.{O_RDONLY, O_RDWR}
+use Rattle.rmt_wire.specs.declared.mtio.TheConstants.{MTWEOF}
+use Rattle.rdump_net.specs.Calls.{is_done, Stops, Extends, Finishes}
+use Rattle.rdump_net.specs.Ends.{StreamEnds, StreamKind}
+use Rattle.rdump_net.specs.Peer.{Logs}
+use Rattle.rmt_wire.specs.Print.{IsPrinted}
+use Rattle.rdump_net.specs.declared.fault.CallFault.{CallFault}
+use Rattle.rdump_net.specs.declared.peer.Passed.{Passed}
+
+-- a device is opened for reading and writing where marks are written, and else for reading
+abbrev pub mode_for : ℕ → ℕ
+mode_for op = if nat_eq op MTWEOF then O_RDWR else O_RDONLY
+
+-- the open, then the operation, then the close; after an open that was refused, the close
+abbrev pub next_of : List ℕ → ℕ → ℕ → List PlainReply → Option PlainRequest
+next_of device op count [] = Some (Open device (mode_for op))
+next_of device op count (opened ∷ []) = if is_done opened then Some (Op op count) else Some Close
+next_of device op count (opened ∷ reply ∷ []) = if is_done opened then Some Close else None
+next_of device op count (opened ∷ reply ∷ closed ∷ more) = None
+
+-- the reply that is told: that to the operation, or to an open that was refused
+abbrev pub told_of : List PlainReply → Option PlainReply
+told_of [] = None
+told_of (opened ∷ []) = if is_done opened then None else Some opened
+told_of (opened ∷ reply ∷ more) = if is_done opened then Some reply else Some opened
+
+-- `A` and the number; `E`, the number, a space and the text
+abbrev pub reply_line : PlainReply → List ℕ
+reply_line (Done n) = codes "A" ++ decimal n ++ codes "\n"
+reply_line (Data bytes) = codes "A" ++ decimal (length bytes) ++ codes "\n"
+reply_line (Error n text) = codes "E" ++ decimal n ++ codes " " ++ (text ++ codes "\n")
+
+abbrev pub told_line : Option PlainReply → List ℕ
+told_line None = []
+told_line (Some reply) = reply_line reply
+
+-- 0 where the operation was done, and that was printed
+abbrev pub status_after : Option PlainReply → Bool → ℕ
+status_after None whole = 3
+status_after (Some reply) whole = if is_done reply && whole then 0 else 3
+
+-- what an operation does over a peer, what it prints, and its status
+pub record IsMt {P W : Type 0} (kind : StreamKind P W) (device : List ℕ) (op count : ℕ) (old new : StreamEnds P W)
+    (status : ℕ) : Type 0 where
+  pub replies : List PlainReply
+  pub fault : Option CallFault
+  pub passed : List Passed
+  pub whole : Bool
+  pub stops : Stops (next_of device op count) fault replies passed
+  pub logs : Logs kind.tells old.peer new.peer passed
+  pub printed : IsPrinted kind.contents (told_line (told_of replies)) old.out new.out whole
+  pub result : status ≡ status_after (told_of replies) whole
+
+-- the same once there is a connection
+pub record IsOperated {P W : Type 0} (kind : StreamKind P W) (device : List ℕ) (op count : ℕ) (old new : StreamEnds P W)
+    (status : ℕ) : Type 0 where
+  pub replies : List PlainReply
+  pub fault : Option CallFault
+  pub whole : Bool
+  pub finishes : Finishes (next_of device op count) kind.tells old.peer new.peer [] fault replies
+  pub printed : IsPrinted kind.contents (told_line (told_of replies)) old.out new.out whole
+  pub result : status ≡ status_after (told_of replies) whole
+
+-- what is answered, up to the close, where what is asked next is said by `next`
+abbrev pub IsOperationReply : {P : Type 0} → (List PlainReply → Option PlainRequest) → (P → List Passed → Type 0) → P → P
+    → Result PlainReply CallFault → Type 0
+IsOperationReply next tells p p' (Ok reply) =
+    (replies : List PlainReply) × Extends next tells p p' [] replies × (next replies ≡ Some Close) × (told_of replies ≡ Some reply)
+    × ((closed : PlainReply) → (next (replies ++ closed ∷ []) ≡ None) × (told_of (replies ++ closed ∷ []) ≡ Some reply))
+IsOperationReply next tells p p' (Err fault) =
+    (replies : List PlainReply) × Finishes next tells p p' [] (Some fault) replies × (told_of replies ≡ None)
+
+-- a reply is told
+abbrev pub IsReplyTold : {W : Type 0} → (W → Option (List ℕ)) → PlainReply → Counting W → Counting W → ℕ → Type 0
+IsReplyTold contents reply out out' status =
+    (whole : Bool) × IsPrinted contents (reply_line reply) out out' whole × (status ≡ status_after (Some reply) whole)

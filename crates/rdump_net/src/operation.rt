@@ -1,0 +1,155 @@
+//! One operation of mtio over a peer.
+ghost use Rattle.std.specs.Prelude.{◌≡◌, ◌≤◌, ◌+◌, ◌++◌, codes, length, decimal};
+ghost use Rattle.rmt_wire.specs.Number.{IsLine};
+ghost use Rattle.rmt_wire.specs.declared.limits.TheConstants.{NUMBER_LIMIT};
+ghost use Rattle.rdump_net.specs.Ends.{stream_ends, stream_kind};
+ghost use Rattle.rdump_net.specs.KeptReply.{plain_kept, told_reply};
+ghost use Rattle.rdump_net.specs.Operation.{mode_for, next_of, reply_line, IsMt, IsOperated, IsOperationReply, IsReplyTold};
+ghost use Rattle.rmt_wire.specs.Print.{IsPrinted};
+
+use crate::Peer;
+use crate::caller::PeerCaller;
+use crate::fault::CallFault;
+use crate::kept_reply::KeptReply;
+use crate::lines::{LINE_ROOM, push_part};
+use arrayvec::ArrayString;
+use rmt_wire::fcntl::{O_RDONLY, O_RDWR};
+use rmt_wire::mtio::MTWEOF;
+use rmt_wire::{Counted, Request, print_text};
+use std::alloc::Global;
+use std::io::Write;
+
+/// The status of an operation that was done.
+const DONE: u8 = 0;
+
+/// The status of an operation that was refused, or could not be told of.
+const FAILED: u8 = 3;
+
+/// Does an operation of mtio with this count at a device, over a connection of its own, and prints what the server answers,
+/// on one line: `A1`, or `E5 Input/output error`.
+///
+/// It opens the device, for reading and writing where the operation is `MTWEOF` and else for reading, and closes it
+/// after the operation. Where the open is refused, that is printed in its place. What the close is answered changes nothing.
+///
+/// The device is one line of at most `LINE_LIMIT` bytes, and both numbers are at most `NUMBER_LIMIT`.
+///
+/// Answers the exit status of `rdump mt`: 0 where the operation was done and that was printed, and else 3. Where the
+/// connection ended before, or what came is no reply, nothing is printed.
+pub fn mt<P: Peer, W: Write>(
+    alloc: Global,
+    peer: &mut P,
+    device: &[u8],
+    op: u32,
+    count: u32,
+    out: &mut Counted<W>,
+) -> u8
+    requires device { IsLine device.now }
+    requires op { op ≤ NUMBER_LIMIT }
+    requires count { count ≤ NUMBER_LIMIT }
+    ensures { IsMt (stream_kind P.tells W.contents) device.now op count
+        (stream_ends peer.old out.old) (stream_ends peer.new out.new) result }
+{
+    let Ok(mut caller) = PeerCaller::new(alloc) else {
+        return FAILED;
+    };
+    if !peer.connect() {
+        return FAILED;
+    }
+    let status = operate(&mut caller, peer, device, op, count, out);
+    peer.hang_up();
+    status
+}
+
+/// Does the operation over the connection that there is, and tells of it.
+fn operate<P: Peer, W: Write>(
+    caller: &mut PeerCaller,
+    peer: &mut P,
+    device: &[u8],
+    op: u32,
+    count: u32,
+    out: &mut Counted<W>,
+) -> u8
+    requires device { IsLine device.now }
+    requires op { op ≤ NUMBER_LIMIT }
+    requires count { count ≤ NUMBER_LIMIT }
+    ensures { IsOperated (stream_kind P.tells W.contents) device.now op count
+        (stream_ends peer.old out.old) (stream_ends peer.new out.new) result }
+{
+    let Ok(answer) = ask(caller, peer, device, op, count) else {
+        return FAILED;
+    };
+    let status = print_reply(&answer, out);
+    let _ = caller.call(peer, &Request::Close);
+    status
+}
+
+/// What the operation is answered, or an open that is refused.
+fn ask<P: Peer>(
+    caller: &mut PeerCaller,
+    peer: &mut P,
+    device: &[u8],
+    op: u32,
+    count: u32,
+) -> Result<KeptReply, CallFault>
+    requires device { IsLine device.now }
+    requires op { op ≤ NUMBER_LIMIT }
+    requires count { count ≤ NUMBER_LIMIT }
+    ensures { IsOperationReply (next_of device.now op count) P.tells peer.old peer.new (told_reply result) }
+{
+    let mode = mode_of(op);
+    let opened = caller.call(peer, &Request::Open { device, mode })?;
+    if !opened.is_done() {
+        return Ok(opened);
+    }
+    caller.call(peer, &Request::Op { op, count })
+}
+
+/// How a device is opened for this operation.
+fn mode_of(op: u32) -> u32
+    ensures { result ≡ mode_for op }
+{
+    if op == MTWEOF { O_RDWR } else { O_RDONLY }
+}
+
+/// Prints what was answered. Answers the status.
+fn print_reply<W: Write>(answer: &KeptReply, out: &mut Counted<W>) -> u8
+    ensures { IsReplyTold W.contents (plain_kept answer.now) out.old out.new result }
+{
+    let printed = print_answer(answer, out);
+    if answer.is_done() && printed {
+        DONE
+    } else {
+        FAILED
+    }
+}
+
+/// Prints the line of an answer. Answers whether it was printed.
+fn print_answer<W: Write>(answer: &KeptReply, out: &mut Counted<W>) -> bool
+    ensures { IsPrinted W.contents (reply_line (plain_kept answer.now)) out.old out.new result }
+{
+    match answer {
+        KeptReply::Done { number } => print_number(out, "A", u64::from(*number), "\n"),
+        KeptReply::Data { bytes } => print_number(out, "A", bytes.len() as u64, "\n"),
+        KeptReply::Error { number, text } => {
+            print_number(out, "E", u64::from(*number), " ") && print_line(out, text)
+        }
+    }
+}
+
+/// Prints a text and a line feed. Answers whether that was printed.
+fn print_line<W: Write>(out: &mut Counted<W>, text: &[u8]) -> bool
+    ensures { IsPrinted W.contents (text.now ++ codes "\n") out.old out.new result }
+{
+    print_text(out, text) && print_text(out, b"\n")
+}
+
+/// Prints a letter, a number and what ends it. Answers whether that was printed.
+fn print_number<W: Write>(out: &mut Counted<W>, letter: &str, number: u64, end: &str) -> bool
+    requires { length letter.now + length end.now ≤ 2 }
+    ensures { IsPrinted W.contents (letter.now ++ decimal number ++ end.now) out.old out.new result }
+{
+    let mut line = ArrayString::<LINE_ROOM>::new();
+    push_part(&mut line, letter, number);
+    line.push_str(end);
+    print_text(out, line.as_bytes())
+}

@@ -1,0 +1,442 @@
+//! A volume that is read back over a peer.
+ghost use Rattle.std.specs.Prelude.{◌≡◌, ◌≤◌, IfSome, IfErr, length, nat_eq, position};
+ghost use Rattle.rmt_wire.specs.Lent.{plain_request};
+ghost use Rattle.rmt_wire.specs.declared.limits.TheConstants.{NUMBER_LIMIT, RECORD_LIMIT};
+ghost use Rattle.rmt_wire.specs.declared.mtio.TheConstants.{MTNOP};
+ghost use Rattle.rmt_wire.specs.Number.{IsLine};
+ghost use Rattle.rmt_wire.specs.Reply.Wanted.{Number};
+ghost use Rattle.rmt_wire.specs.Request as requests;
+ghost use Rattle.rdump_net.specs.Call.{wanted_by};
+ghost use Rattle.rdump_net.specs.Ends.{copy_ends, copy_kind, stream_ends, stream_kind};
+ghost use Rattle.rmt_wire.specs.Print.{IsPrinted};
+ghost use Rattle.rdump_net.specs.Reading as spec;
+ghost use Rattle.rdump_net.specs.declared.fault.ReadFault.TheVariants as faults;
+ghost use Rattle.rdump_net.specs.Reading.{AreFurtherRecordsWritten, IsAnsweredNext, IsBegun, IsClosedUnmarked, IsConcludedAtEnd, IsConcludedAtMark, IsCopiedAtLabel, IsDoneBy, IsDoneNext, IsLookedAtEnd, IsLookedBy, IsNamed, IsRead, IsReadStatus, IsRecordNext, IsTakenAwayAtMark, IsThrough, is_whole};
+ghost use Rattle.rdump_net.specs.declared.volume.AfterVolume.{AfterVolume};
+
+use crate::Peer;
+use crate::caller::PeerCaller;
+use crate::fault::{CallFault, ReadFault, VolumeRequest};
+use crate::kept_reply::KeptReply;
+use rmt_wire::errno::EIO;
+use rmt_wire::fcntl::O_RDONLY;
+use rmt_wire::mtio::{MTBSR, MTFSF, MTFSR, MTOFFL, MTREW};
+use rmt_wire::{Counted, NUMBER_LIMIT, RECORD_LIMIT, Request, print_text};
+use std::alloc::Global;
+use std::io::Write;
+
+/// The status of a volume that was read whole.
+const WHOLE: u8 = 0;
+
+/// The status of a volume that was not.
+const FAILED: u8 = 3;
+
+/// What becomes of a reel, once its volume was read whole.
+#[derive(Clone, Copy, Debug, PartialEq, Eq)]
+pub enum AfterVolume {
+    /// The reel stays. Whether a mark ends the volume is not found out.
+    Stay,
+    /// The reel stays. It is found out whether a mark ends the volume, where a label was read.
+    Check,
+    /// The same, and where a mark ends the volume the reel goes to the bin (`MTOFFL`). One without a label stays.
+    Offline,
+}
+
+/// Reads the volume that begins a reel, as `copy_volume` does with `AfterVolume::Stay`, and returns the exit status: 0 if it
+/// was read whole, and 3 if not. The reel stays in the drive.
+///
+/// The device is one line of at most `LINE_LIMIT` bytes.
+pub fn read_volume<P: Peer, F: Write, W: Write>(
+    alloc: Global,
+    peer: &mut P,
+    device: &[u8],
+    file: &mut Counted<F>,
+    out: &mut Counted<W>,
+) -> u8
+    requires { IsLine device.now }
+    ensures { IsReadStatus (copy_kind P.tells F.contents W.contents) device.now
+        (copy_ends peer.old file.old out.old) (copy_ends peer.new file.new out.new) result }
+{
+    match copy_volume(alloc, peer, device, AfterVolume::Stay, file, out) {
+        Ok(()) => WHOLE,
+        Err(_) => FAILED,
+    }
+}
+
+/// Reads the volume that begins a reel, over a connection of its own: prints the label, up to its first zero byte, and
+/// writes the records after it, up to the first mark, to a file.
+///
+/// It opens the device for reading, rewinds, reads record after record, and closes the device. After a reply that is an
+/// error, after one that is none, and after a write that failed, it does nothing more.
+///
+/// A read gives nothing at a mark, and at the end of a reel too. With `AfterVolume::Check` and `Offline` it finds out which it was,
+/// after the last record: it goes back over a record (MTBSR). Where that is done there is no mark, and the result is `NoMark`. Where it
+/// is refused with EIO it rewinds, goes forward over as many records as were read (MTFSR), and over a mark (MTFSF). Any other refusal,
+/// or more than `NUMBER_LIMIT` records, give `Undetermined`. After either fault the device is closed, and the reel stays.
+///
+/// With `Offline` it takes the reel away before the close, once a mark was found and all was written. A reel that begins with a mark, or
+/// has nothing, has no label: it stays, nothing is printed or written, and the close follows. Where the connection ends before the
+/// reply to MTOFFL comes, the reel may be in the bin.
+///
+/// The device is one line of at most `LINE_LIMIT` bytes. It takes memory for one record at a time.
+pub fn copy_volume<P: Peer, F: Write, W: Write>(
+    alloc: Global,
+    peer: &mut P,
+    device: &[u8],
+    after: AfterVolume,
+    file: &mut Counted<F>,
+    out: &mut Counted<W>,
+) -> Result<(), ReadFault>
+    requires { IsLine device.now }
+    ensures { IsRead (copy_kind P.tells F.contents W.contents) device.now after
+        (copy_ends peer.old file.old out.old) (copy_ends peer.new file.new out.new) result }
+{
+    let Ok(mut caller) = PeerCaller::new(alloc) else {
+        return Err(ReadFault::OutOfMemory);
+    };
+    if !peer.connect() {
+        return Err(ReadFault::ConnectionEnded);
+    }
+    let result = go_through(&mut caller, peer, device, after, file, out);
+    peer.hang_up();
+    result
+}
+
+/// Makes all calls over the connection that there is.
+fn go_through<P: Peer, F: Write, W: Write>(
+    caller: &mut PeerCaller,
+    peer: &mut P,
+    device: &[u8],
+    after: AfterVolume,
+    file: &mut Counted<F>,
+    out: &mut Counted<W>,
+) -> Result<(), ReadFault>
+    requires { IsLine device.now }
+    ensures { IsThrough (copy_kind P.tells F.contents W.contents) device.now after
+        (copy_ends peer.old file.old out.old) (copy_ends peer.new file.new out.new) result }
+{
+    begin(caller, peer, device)?;
+    let records = copy_records(caller, peer, file, out)?;
+    conclude(caller, peer, goes_of(after, records), records)
+}
+
+/// Opens the device, and rewinds it.
+fn begin<P: Peer>(caller: &mut PeerCaller, peer: &mut P, device: &[u8]) -> Result<(), ReadFault>
+    requires { IsLine device.now }
+    ensures { (after : AfterVolume) → IsBegun P.tells device.now after peer.old peer.new result }
+{
+    let open = Request::Open {
+        device,
+        mode: O_RDONLY,
+    };
+    ask(caller, peer, VolumeRequest::Open, &open)?;
+    let rewind = Request::Op {
+        op: MTREW,
+        count: 1,
+    };
+    ask(caller, peer, VolumeRequest::Rewind, &rewind)
+}
+
+/// What becomes of a reel of which so many records were read: one without a label stays, and no mark is looked for.
+fn goes_of(after: AfterVolume, records: u64) -> AfterVolume
+    ensures { result ≡ spec.goes_of after records }
+{
+    if records == 0 {
+        AfterVolume::Stay
+    } else {
+        after
+    }
+}
+
+/// Looks for the mark where the records ended, of which there are so many, takes the reel away where it is to go, and closes the device.
+fn conclude<P: Peer>(
+    caller: &mut PeerCaller,
+    peer: &mut P,
+    goes: AfterVolume,
+    records: u64,
+) -> Result<(), ReadFault>
+    ensures { IsConcludedAtEnd P.tells goes records peer.old peer.new result }
+{
+    match look(caller, peer, goes, records) {
+        Ok(None) => conclude_at_mark(caller, peer, goes),
+        Ok(Some(fault)) => close_unmarked(caller, peer, fault),
+        Err(fault) => Err(fault),
+    }
+}
+
+/// Takes the reel away, where it is to go, and closes the device.
+fn conclude_at_mark<P: Peer>(
+    caller: &mut PeerCaller,
+    peer: &mut P,
+    goes: AfterVolume,
+) -> Result<(), ReadFault>
+    ensures { IsConcludedAtMark P.tells goes peer.old peer.new result }
+{
+    take_away(caller, peer, goes)?;
+    ask(caller, peer, VolumeRequest::Close, &Request::Close)
+}
+
+/// Closes the device, where no mark is known to have stood. What that is answered changes nothing.
+fn close_unmarked<P: Peer>(
+    caller: &mut PeerCaller,
+    peer: &mut P,
+    fault: ReadFault,
+) -> Result<(), ReadFault>
+    ensures { IsClosedUnmarked P.tells fault peer.old peer.new result }
+{
+    let _ = caller.call(peer, &Request::Close);
+    Err(fault)
+}
+
+/// Looks for the mark where the records ended, of which there are so many, unless the reel stays in any case. None where it stood, or
+/// was not looked for; else why it is not known to have stood.
+fn look<P: Peer>(
+    caller: &mut PeerCaller,
+    peer: &mut P,
+    goes: AfterVolume,
+    records: u64,
+) -> Result<Option<ReadFault>, ReadFault>
+    ensures { IsLookedAtEnd P.tells goes records peer.old peer.new result }
+{
+    match goes {
+        AfterVolume::Stay => Ok(None),
+        AfterVolume::Check | AfterVolume::Offline => look_back(caller, peer, records),
+    }
+}
+
+/// Goes back over a record. Only where the last read met the end of the reel a record stands right before the place.
+fn look_back<P: Peer>(
+    caller: &mut PeerCaller,
+    peer: &mut P,
+    records: u64,
+) -> Result<Option<ReadFault>, ReadFault>
+    ensures { IsLookedBy (λ goes. spec.next_back goes records) P.tells peer.old peer.new result }
+{
+    match operate(caller, peer, MTBSR, 1) {
+        Ok(None) => Ok(Some(ReadFault::NoMark)),
+        Ok(Some(number)) => {
+            if number == EIO {
+                look_again(caller, peer, records)
+            } else {
+                Ok(Some(ReadFault::Undetermined))
+            }
+        }
+        Err(fault) => Err(fault),
+    }
+}
+
+/// A mark stopped that, or the device failed: goes to the mark from the beginning, where one request can name as many records.
+fn look_again<P: Peer>(
+    caller: &mut PeerCaller,
+    peer: &mut P,
+    records: u64,
+) -> Result<Option<ReadFault>, ReadFault>
+    ensures { IsLookedBy (λ goes. spec.next_again goes records) P.tells peer.old peer.new result }
+{
+    match operate(caller, peer, MTREW, 1) {
+        Ok(None) => {
+            if u64::from(NUMBER_LIMIT) < records {
+                Ok(Some(ReadFault::Undetermined))
+            } else {
+                look_forward(caller, peer, records as u32)
+            }
+        }
+        Ok(Some(_)) => Ok(Some(ReadFault::Undetermined)),
+        Err(fault) => Err(fault),
+    }
+}
+
+/// Goes over so many records from the beginning, and over the mark behind them.
+fn look_forward<P: Peer>(
+    caller: &mut PeerCaller,
+    peer: &mut P,
+    records: u32,
+) -> Result<Option<ReadFault>, ReadFault>
+    requires { records ≤ NUMBER_LIMIT }
+    ensures { IsLookedBy (λ goes. spec.next_forward goes records) P.tells peer.old peer.new result }
+{
+    match operate(caller, peer, MTFSR, records) {
+        Ok(None) => look_over(caller, peer),
+        Ok(Some(_)) => Ok(Some(ReadFault::Undetermined)),
+        Err(fault) => Err(fault),
+    }
+}
+
+/// Goes over a mark, right behind the last record.
+fn look_over<P: Peer>(caller: &mut PeerCaller, peer: &mut P) -> Result<Option<ReadFault>, ReadFault>
+    ensures { IsLookedBy spec.next_over P.tells peer.old peer.new result }
+{
+    match operate(caller, peer, MTFSF, 1) {
+        Ok(None) => Ok(None),
+        Ok(Some(_)) => Ok(Some(ReadFault::Undetermined)),
+        Err(fault) => Err(fault),
+    }
+}
+
+/// Does an operation of mtio. None where it was done, and else the number of the error that it was refused with.
+fn operate<P: Peer>(
+    caller: &mut PeerCaller,
+    peer: &mut P,
+    op: u32,
+    count: u32,
+) -> Result<Option<u32>, ReadFault>
+    requires op { op ≤ MTNOP }
+    requires count { count ≤ NUMBER_LIMIT }
+    ensures { IsAnsweredNext P.tells op count peer.old peer.new result }
+{
+    match caller.call(peer, &Request::Op { op, count }) {
+        Ok(KeptReply::Done { .. }) => Ok(None),
+        Ok(KeptReply::Error { number, .. }) => Ok(Some(number)),
+        Ok(KeptReply::Data { .. }) => Err(ReadFault::Botched),
+        Err(fault) => Err(read_fault(fault)),
+    }
+}
+
+/// Takes the reel away, where it is to go.
+fn take_away<P: Peer>(
+    caller: &mut PeerCaller,
+    peer: &mut P,
+    goes: AfterVolume,
+) -> Result<(), ReadFault>
+    ensures { IsTakenAwayAtMark P.tells goes peer.old peer.new result }
+{
+    match goes {
+        AfterVolume::Stay | AfterVolume::Check => Ok(()),
+        AfterVolume::Offline => {
+            let offline = Request::Op {
+                op: MTOFFL,
+                count: 1,
+            };
+            ask(caller, peer, VolumeRequest::Offline, &offline)
+        }
+    }
+}
+
+/// Has something done that is answered by a number.
+fn ask<P: Peer>(
+    caller: &mut PeerCaller,
+    peer: &mut P,
+    asked: VolumeRequest,
+    request: &Request<'_>,
+) -> Result<(), ReadFault>
+    requires spelling { requests.HasSpelling (plain_request request.now) }
+    requires number { wanted_by (plain_request request.now) ≡ Number }
+    requires named { IsNamed asked (plain_request request.now) }
+    ensures { IsDoneNext P.tells (plain_request request.now) peer.old peer.new result }
+{
+    match caller.call(peer, request) {
+        Ok(answer) => done(&answer, asked),
+        Err(fault) => Err(read_fault(fault)),
+    }
+}
+
+/// Nothing where this is the answer to what was done, and else why it was not.
+fn done(answer: &KeptReply, asked: VolumeRequest) -> Result<(), ReadFault>
+    ensures { IsDoneBy answer.now asked result }
+{
+    match answer {
+        KeptReply::Done { .. } => Ok(()),
+        KeptReply::Error { number, .. } => Err(ReadFault::Refused {
+            asked,
+            number: *number,
+        }),
+        KeptReply::Data { .. } => Err(ReadFault::Botched),
+    }
+}
+
+/// The next record; nothing at a mark, or at the end of the reel.
+fn next_record<P: Peer>(caller: &mut PeerCaller, peer: &mut P) -> Result<Vec<u8>, ReadFault>
+    ensures { IsRecordNext P.tells (requests.PlainRequest.Read RECORD_LIMIT) peer.old peer.new result }
+{
+    let read = Request::Read {
+        count: RECORD_LIMIT as u32,
+    };
+    match caller.call(peer, &read) {
+        Ok(KeptReply::Data { bytes }) => Ok(bytes),
+        Ok(KeptReply::Error { number, .. }) => Err(ReadFault::Refused {
+            asked: VolumeRequest::Read,
+            number,
+        }),
+        Ok(KeptReply::Done { .. }) => Err(ReadFault::Botched),
+        Err(fault) => Err(read_fault(fault)),
+    }
+}
+
+/// A call that has no reply, as a fault of the volume.
+fn read_fault(fault: CallFault) -> ReadFault
+    ensures { result ≡ spec.read_fault fault }
+{
+    match fault {
+        CallFault::ConnectionEnded => ReadFault::ConnectionEnded,
+        CallFault::Botched => ReadFault::Botched,
+        CallFault::OutOfMemory => ReadFault::OutOfMemory,
+    }
+}
+
+/// Prints the label, and writes the records after it, up to where a read gives nothing. Answers how many records there are with the
+/// label, 0 where there is none.
+fn copy_records<P: Peer, F: Write, W: Write>(
+    caller: &mut PeerCaller,
+    peer: &mut P,
+    file: &mut Counted<F>,
+    out: &mut Counted<W>,
+) -> Result<u64, ReadFault>
+    ensures { IsCopiedAtLabel (copy_kind P.tells F.contents W.contents)
+        (copy_ends peer.old file.old out.old) (copy_ends peer.new file.new out.new) result }
+{
+    let label = next_record(caller, peer)?;
+    if label.is_empty() {
+        return Ok(0);
+    }
+    write_whole(out, label_text(&label))?;
+    write_records(caller, peer, file)
+}
+
+/// Writes record after record, up to where a read gives nothing. Answers how many records were read, the label with them.
+fn write_records<P: Peer, F: Write>(
+    caller: &mut PeerCaller,
+    peer: &mut P,
+    file: &mut Counted<F>,
+) -> Result<u64, ReadFault>
+    ensures { AreFurtherRecordsWritten (stream_kind P.tells F.contents)
+        (stream_ends peer.old file.old) (stream_ends peer.new file.new) result }
+{
+    for records in 1..u64::MAX {
+        let bytes = next_record(caller, peer)?;
+        if bytes.is_empty() {
+            return Ok(records);
+        }
+        write_whole(file, &bytes)?;
+    }
+    Err(ReadFault::Botched)
+}
+
+/// Writes some bytes whole.
+fn write_whole<W: Write>(out: &mut Counted<W>, bytes: &[u8]) -> Result<(), ReadFault>
+    ensures written { IsPrinted W.contents bytes.now out.old out.new (is_whole result) }
+    ensures fault { IfErr result (λ e. e ≡ faults.OutputFailed) }
+{
+    if print_text(out, bytes) {
+        Ok(())
+    } else {
+        Err(ReadFault::OutputFailed)
+    }
+}
+
+/// The text of a label, up to its first zero byte.
+fn label_text(label: &[u8]) -> &[u8]
+    ensures { result.now ≡ spec.text_of label.now }
+{
+    match first_zero(label) {
+        Some(at) => &label[..at],
+        None => label,
+    }
+}
+
+/// Where the first zero byte is.
+fn first_zero(bytes: &[u8]) -> Option<usize>
+    ensures within { IfSome result (λ n. n ≤ length bytes.now) }
+    ensures found { result ≡ position (λ b. nat_eq b 0) bytes.now }
+{
+    bytes.iter().position(|byte| *byte == 0)
+}

@@ -1,5 +1,0 @@
-use Rattle.rdump_talk.specs.Talk.{Nowhere, TalksOver}
-use Rattle.rdump_talk.proofs.attempt.converse.Given as goal
-
-abbrev pub invariant-loop : goal.invariant-loop
-invariant-loop g l = TalksOver g.B.Blocks.holds Nowhere g.P.Peer.tells l.fn.client l.client l.fn.peer l.peer

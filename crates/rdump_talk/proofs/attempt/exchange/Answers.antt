@@ -1,6 +1,0 @@
-use Rattle.rdump_talk.specs.Talk.{Nowhere}
-use Rattle.rdump_talk.proofs.Talking.{nothing_said}
-use Rattle.rdump_talk.proofs.attempt.exchange.Goals as goal
-
-pub returns-in_default : goal.returns-in_default
-returns-in_default g c = nothing_said g.B.Blocks.holds Nowhere g.P.Peer.tells c.args.client.now c.args.peer.now

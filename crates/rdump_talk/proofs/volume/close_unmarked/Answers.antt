@@ -1,5 +1,0 @@
-use Rattle.rdump_talk.proofs.Marks.{closed_unmarked}
-use Rattle.rdump_talk.proofs.volume.close_unmarked.Goals as goal
-
-pub returns : goal.returns
-returns g c = λ goes next replies at unmarked. closed_unmarked next g.P.Peer.tells goes c.args.peer.now c.call.new.peer replies c.args.fault c.call.result at unmarked c.call.ensures

@@ -1,5 +1,0 @@
-use Rattle.std.proofs.Common.{arith}
-use Rattle.rdump_words.proofs.tape_line.op_of.Goals as goal
-
-pub returns-in-nop : goal.returns-in-nop
-returns-in-nop c = omega arith

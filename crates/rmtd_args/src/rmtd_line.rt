@@ -1,0 +1,332 @@
+//! The words of `rmtd`.
+
+ghost use Rattle.std.specs.Prelude.{◌≡◌, map, codes, false, [], IfOk, IfErr, IsErrOf, MatchOption, MatchResult, option_map};
+ghost use Rattle.clap.specs.Arguments.{App, HasKind, app_of, first_of, found_of, kind_of, new_app, rows_of, rule_of, with_rule};
+ghost use Rattle.rmtd_args.specs.Drive.{plain_drive, split_of};
+ghost use Rattle.rmtd_args.specs.Rmtd.{app, app_with_limits, app_with_ways, arguments_in, arguments_rule, faults_in, flag_rule, has_stdio, matches_in, option_rule, with_version, AreBadArguments, AskToBeShown, IsLineIn, IsLineOf, IsShown, KeepsRules, ReadsCapacity, ReadsConnections, IsNumberIfGiven};
+
+use crate::drive_argument::{DriveArgument, check_drives, drives_of};
+use crate::wrong::Wrong;
+use clap::error::ErrorKind;
+use clap::{Arg, ArgAction, ArgMatches, Command, Error};
+use rmt_wire::argument::number_of;
+use std::alloc::{AllocError, Global};
+
+/// How many bytes a reel takes where no word says it.
+const USUAL_CAPACITY: u64 = 1_048_576;
+
+/// What the words ask of `rmtd`: to serve its standard input, or to listen at an address.
+#[derive(Debug, Drop)]
+pub struct ServerLine<'a> {
+    /// Whether to serve standard input and standard output.
+    pub stdio: bool,
+    /// Where to listen: a host and a port.
+    pub listen: Option<&'a str>,
+    /// How many bytes a reel takes, counted as its file has them: the one in memory, and each in a folder.
+    pub capacity: u64,
+    /// After how many connections to end.
+    pub connections: Option<u64>,
+    /// The folder of the bin, which is given where there is a drive.
+    pub bin: Option<&'a str>,
+    /// The drives whose stacks are folders, in the order of their words: at most 64, with distinct devices. With none
+    /// there is one drive in memory.
+    pub drives: Vec<DriveArgument<'a>>,
+}
+
+/// Why there is no line.
+#[derive(Clone, Copy, Debug, PartialEq, Eq)]
+pub enum LineFault {
+    /// The words are wrong, or ask for help or the version.
+    BadWords,
+    /// Memory was refused.
+    OutOfMemory,
+}
+
+/// Reads the words of `rmtd`, of which the first is the name of the program itself:
+/// `--stdio` or `--listen ADDRESS`, with `[--capacity BYTES] [--connections N] [--bin DIR] [DEVICE=DIR]...`.
+///
+/// Just one of `--stdio` and `--listen` is given. A number is 0 to 9223372036854775807, in digits. Without
+/// `--capacity` it is 1048576 bytes. A word `DEVICE=DIR` is a drive: the device ends before the first `=` and is 1 to
+/// 255 bytes of one line, and the rest is a folder, not empty. There are at most 64, no two of one device, and
+/// `--bin` is given where there is one.
+pub fn server_words<'a>(
+    alloc: Global,
+    arguments: &'a [&'a str],
+) -> Result<ServerLine<'a>, LineFault>
+    ensures line { IfOk result (IsLineOf (map (λ s. s.now) arguments.entry.now)) }
+    ensures refused { IsErrOf result LineFault.BadWords → AreBadArguments (map (λ s. s.now) arguments.entry.now) }
+{
+    match server_line(alloc, arguments) {
+        Ok(line) => Ok(line),
+        Err(error) => Err(fault_from(&error)),
+    }
+}
+
+/// The same, with clap's text for the user in place of the fault: what is wrong with the words, or the help or the
+/// version where they ask for it, and only then. Where memory was refused its kind is `OutOfMemory`. Where clap refuses the
+/// words it is of a kind with which clap does.
+pub fn server_line<'a>(alloc: Global, arguments: &'a [&'a str]) -> Result<ServerLine<'a>, Error>
+    ensures line { IfOk result (IsLineOf (map (λ s. s.now) arguments.entry.now)) }
+    ensures refused { IfErr result (λ e. ¬ (kind_of e ≡ ErrorKind.OutOfMemory) → AreBadArguments (map (λ s. s.now) arguments.entry.now)) }
+    ensures shown { IfErr result (λ e. IsShown (kind_of e) → AskToBeShown (map (λ s. s.now) arguments.entry.now)) }
+    ensures kinds { IfErr result (λ e. ¬ (faults_in (map (λ s. s.now) arguments.entry.now) ≡ [])
+        → HasKind (faults_in (map (λ s. s.now) arguments.entry.now)) e) }
+{
+    match command(alloc) {
+        Ok(mut rmtd) => line_by(alloc, &mut rmtd, arguments),
+        Err(refused) => Err(refused.into()),
+    }
+}
+
+/// The line that the words say to the command, or what a user is told of them.
+fn line_by<'a>(
+    alloc: Global,
+    rmtd: &mut Command<'a>,
+    arguments: &'a [&'a str],
+) -> Result<ServerLine<'a>, Error>
+    requires { app_of rmtd.old ≡ app }
+    ensures line { IfOk result (IsLineOf (map (λ s. s.now) arguments.entry.now)) }
+    ensures refused { IfErr result (λ e. ¬ (kind_of e ≡ ErrorKind.OutOfMemory) → AreBadArguments (map (λ s. s.now) arguments.entry.now)) }
+    ensures shown { IfErr result (λ e. IsShown (kind_of e) → AskToBeShown (map (λ s. s.now) arguments.entry.now)) }
+    ensures kinds { IfErr result (λ e. ¬ (faults_in (map (λ s. s.now) arguments.entry.now) ≡ [])
+        → HasKind (faults_in (map (λ s. s.now) arguments.entry.now)) e) }
+{
+    let matches = matched(rmtd, arguments)?;
+    line_or_refusal(alloc, rmtd, &matches)
+}
+
+/// The line that clap's matches say, or what a user is told of the rule that they break.
+fn line_or_refusal<'a>(
+    alloc: Global,
+    rmtd: &mut Command<'a>,
+    matches: &ArgMatches<'a>,
+) -> Result<ServerLine<'a>, Error>
+    ensures line { IfOk result (IsLineIn (rows_of (found_of matches.now))) }
+    ensures refused { IfErr result (λ e. ¬ (kind_of e ≡ ErrorKind.OutOfMemory) → ¬ (KeepsRules (rows_of (found_of matches.now)))) }
+    ensures plain { IfErr result (λ e. ¬ (IsShown (kind_of e))) }
+{
+    match line_of(alloc, matches)? {
+        Ok(line) => Ok(line),
+        Err(wrong) => Err(refusal(alloc, rmtd, wrong)?),
+    }
+}
+
+/// What clap makes of the words.
+fn matched<'a>(rmtd: &mut Command<'a>, arguments: &'a [&'a str]) -> Result<ArgMatches<'a>, Error>
+    requires { app_of rmtd.old ≡ app }
+    ensures rows { IfOk result (λ m. rows_of (found_of m) ≡ matches_in (map (λ s. s.now) arguments.entry.now)) }
+    ensures taken { IfOk result (λ _. faults_in (map (λ s. s.now) arguments.entry.now) ≡ []) }
+    ensures refused { IfErr result (λ e. ¬ (kind_of e ≡ ErrorKind.OutOfMemory) → ¬ (faults_in (map (λ s. s.now) arguments.entry.now) ≡ [])) }
+    ensures shown { IfErr result (λ e. IsShown (kind_of e) → AskToBeShown (map (λ s. s.now) arguments.entry.now)) }
+    ensures kinds { IfErr result (HasKind (faults_in (map (λ s. s.now) arguments.entry.now))) }
+{
+    rmtd.try_get_matches_from_mut(arguments)
+}
+
+/// What a user is told of words that clap takes and that break a rule.
+fn refusal(alloc: Global, rmtd: &mut Command<'_>, wrong: Wrong<'_>) -> Result<Error, AllocError>
+    ensures { IfOk result (λ e. ¬ (IsShown (kind_of e))) }
+{
+    let text = format!(in alloc; "{wrong}")?;
+    rmtd.error(wrong.kind(), text.as_str())
+}
+
+/// What an error is to a caller that wants no text.
+fn fault_from(error: &Error) -> LineFault
+    ensures { result ≡ LineFault.BadWords → ¬ (kind_of error.now ≡ ErrorKind.OutOfMemory) }
+{
+    match error.kind() {
+        ErrorKind::OutOfMemory => LineFault::OutOfMemory,
+        _ => LineFault::BadWords,
+    }
+}
+
+/// The line that clap's matches say, or the rule that they break.
+fn line_of<'a>(
+    alloc: Global,
+    matches: &ArgMatches<'a>,
+) -> Result<Result<ServerLine<'a>, Wrong<'a>>, AllocError>
+    ensures { IfOk result (λ read. MatchResult read (IsLineIn (rows_of (found_of matches.now)))
+        (λ _. ¬ (KeepsRules (rows_of (found_of matches.now))))) }
+{
+    let given = drive_arguments(alloc, matches)?;
+    let drives = drives_of(alloc, given.as_slice())?;
+    Ok(line_in(matches, given.as_slice(), drives))
+}
+
+/// The line that clap's matches say, of which these words are no options and say these drives.
+fn line_in<'a>(
+    matches: &ArgMatches<'a>,
+    given: &[&'a str],
+    drives: Vec<DriveArgument<'a>>,
+) -> Result<ServerLine<'a>, Wrong<'a>>
+    requires given { map (λ s. s.now) given.now ≡ arguments_in (rows_of (found_of matches.now)) }
+    requires drives { map plain_drive drives.items ≡ map split_of (map (λ s. s.now) given.now) }
+    ensures { MatchResult result (IsLineIn (rows_of (found_of matches.now))) (λ _. ¬ (KeepsRules (rows_of (found_of matches.now)))) }
+{
+    let stdio = stdio_of(matches);
+    let listen = text_of(matches, "listen");
+    if stdio == listen.is_some() {
+        return Err(Wrong::Ways);
+    }
+    let Some(capacity) = capacity_of(text_of(matches, "capacity")) else {
+        return Err(Wrong::Capacity);
+    };
+    let Ok(connections) = connections_of(text_of(matches, "connections")) else {
+        return Err(Wrong::Connections);
+    };
+    let bin = text_of(matches, "bin");
+    if let Err(wrong) = check_drives(given, bin) {
+        return Err(wrong);
+    }
+    Ok(ServerLine {
+        stdio,
+        listen,
+        capacity,
+        connections,
+        bin,
+        drives,
+    })
+}
+
+/// Whether `--stdio` is given.
+fn stdio_of(matches: &ArgMatches<'_>) -> bool
+    ensures { result ≡ has_stdio (rows_of (found_of matches.now)) }
+{
+    match matches.get_str("stdio") {
+        Some(text) => text == "true",
+        None => false,
+    }
+}
+
+/// The value of an option.
+fn text_of<'a>(matches: &ArgMatches<'a>, id: &str) -> Option<&'a str>
+    ensures { option_map (λ s. s.now) result ≡ first_of id.now (rows_of (found_of matches.now)) }
+{
+    matches.get_str(id)
+}
+
+/// The words that are no options, in order.
+fn drive_arguments<'a>(alloc: Global, matches: &ArgMatches<'a>) -> Result<Vec<&'a str>, AllocError>
+    ensures { IfOk result (λ v. map (λ s. s.now) v.items ≡ arguments_in (rows_of (found_of matches.now))) }
+{
+    match matches.get_strs("drive") {
+        Some(given) => Vec::from_slice(alloc, given),
+        None => Ok(Vec::new(alloc)),
+    }
+}
+
+/// The capacity that a text says, if one is given.
+fn capacity_of(text: Option<&str>) -> Option<u64>
+    ensures { MatchOption result (¬ (IsNumberIfGiven (option_map (λ s. s.now) text.entry)))
+        (ReadsCapacity (option_map (λ s. s.now) text.entry)) }
+{
+    match text {
+        Some(text) => number_of(text),
+        None => Some(USUAL_CAPACITY),
+    }
+}
+
+/// The number of connections that a text says, if one is given.
+fn connections_of(text: Option<&str>) -> Result<Option<u64>, Wrong<'static>>
+    ensures { MatchResult result (ReadsConnections (option_map (λ s. s.now) text.entry))
+        (λ _. ¬ (IsNumberIfGiven (option_map (λ s. s.now) text.entry))) }
+{
+    let Some(text) = text else {
+        return Ok(None);
+    };
+    match number_of(text) {
+        Some(number) => Ok(Some(number)),
+        None => Err(Wrong::Connections),
+    }
+}
+
+/// The command `rmtd` with all of its words.
+fn command<'a>(alloc: Global) -> Result<Command<'a>, AllocError>
+    ensures { IfOk result (λ c. app_of c ≡ app) }
+{
+    let help = "The folder of the reels that are taken away";
+    match with_option(alloc, with_limits(alloc), "bin", "DIR", help) {
+        Ok(command) => command.arg(drives(alloc)),
+        Err(refused) => Err(refused),
+    }
+}
+
+/// The command `rmtd` with the words that say where it serves, and how much.
+fn with_limits<'a>(alloc: Global) -> Result<Command<'a>, AllocError>
+    ensures { IfOk result (λ c. app_of c ≡ app_with_limits) }
+{
+    let capacity = "What a reel holds [default: 1048576]";
+    let connections = "End after so many connections";
+    let command = with_option(alloc, with_ways(alloc), "capacity", "BYTES", capacity);
+    with_option(alloc, command, "connections", "N", connections)
+}
+
+/// The command `rmtd` with the words that say where it serves.
+fn with_ways<'a>(alloc: Global) -> Result<Command<'a>, AllocError>
+    ensures { IfOk result (λ c. app_of c ≡ app_with_ways) }
+{
+    let stdio = flag(alloc, "stdio", "Serve standard input and standard output");
+    let help = "Listen at this host and port";
+    with_option(alloc, named(alloc).arg(stdio), "listen", "ADDRESS", help)
+}
+
+/// A command with one more word that has a value.
+fn with_option<'a>(
+    alloc: Global,
+    command: Result<Command<'a>, AllocError>,
+    name: &'a str,
+    value: &'a str,
+    help: &'a str,
+) -> Result<Command<'a>, AllocError>
+    ensures { (a : App) → IfOk command.entry (λ c. app_of c ≡ a)
+        → IfOk result (λ c. app_of c ≡ with_rule a (option_rule name.entry.now)) }
+{
+    match command {
+        Ok(command) => command.arg(valued(alloc, name, value, help)),
+        Err(refused) => Err(refused),
+    }
+}
+
+/// The command `rmtd` without its words.
+fn named<'a>(alloc: Global) -> Command<'a>
+    ensures { app_of result ≡ with_version (new_app (codes "rmtd")) }
+{
+    Command::new(alloc, "rmtd")
+        .about("Tape server for the remote magtape protocol of rmt(8)")
+        .version("0.1.0")
+}
+
+/// `--NAME`.
+fn flag<'a>(alloc: Global, name: &'a str, help: &'a str) -> Arg<'a>
+    ensures rule { rule_of result ≡ flag_rule name.entry.now }
+    ensures local { result.global ≡ false }
+{
+    Arg::new(alloc, name)
+        .long(name)
+        .action(ArgAction::SetTrue)
+        .help(help)
+}
+
+/// `--NAME VALUE`.
+fn valued<'a>(alloc: Global, name: &'a str, value: &'a str, help: &'a str) -> Arg<'a>
+    ensures rule { rule_of result ≡ option_rule name.entry.now }
+    ensures local { result.global ≡ false }
+{
+    Arg::new(alloc, name)
+        .long(name)
+        .value_name(value)
+        .action(ArgAction::Set)
+        .help(help)
+}
+
+/// The words that are no options, as often as one is given.
+fn drives<'a>(alloc: Global) -> Arg<'a>
+    ensures rule { rule_of result ≡ arguments_rule (codes "drive") }
+    ensures local { result.global ≡ false }
+{
+    Arg::new(alloc, "drive")
+        .value_name("DEVICE=DIR")
+        .action(ArgAction::Append)
+        .help("A drive and the folder of its reels [default: /dev/st0 in memory]")
+}

@@ -1,0 +1,85 @@
+//! What is wrong with words that clap takes.
+
+ghost use Rattle.rmtd_args.specs.Rmtd.{IsShown};
+
+use clap::error::ErrorKind;
+use std::fmt;
+
+/// Which rule the words of `rmtd` break. Its `Display` is the text for the user.
+#[derive(Clone, Copy)]
+pub(crate) enum Wrong<'a> {
+    /// Neither or both of `--stdio` and `--listen` are given.
+    Ways,
+    /// The capacity is no number.
+    Capacity,
+    /// The connections are no number.
+    Connections,
+    /// This word names a drive, and no bin is given.
+    NoBin(&'a str),
+    /// This word names one drive too many.
+    TooMany(&'a str),
+    /// This word names no drive.
+    Drive(&'a str),
+    /// This word names a drive again.
+    Again(&'a str),
+}
+
+impl Wrong<'_> {
+    /// The kind of clap's error.
+    pub(crate) fn kind(self) -> ErrorKind
+        ensures { ¬ (IsShown result) }
+    {
+        match self {
+            Wrong::Ways | Wrong::Again(_) => ErrorKind::ArgumentConflict,
+            Wrong::Capacity | Wrong::Connections | Wrong::Drive(_) => ErrorKind::ValueValidation,
+            Wrong::NoBin(_) => ErrorKind::MissingRequiredArgument,
+            Wrong::TooMany(_) => ErrorKind::TooManyValues,
+        }
+    }
+
+    /// What is said before the word at fault, that word, and what is said after it.
+    fn parts(&self) -> (&str, &str, &str) {
+        match self {
+            Wrong::Ways => (
+                "one of --stdio and --listen <ADDRESS> is given, and not both",
+                "",
+                "",
+            ),
+            Wrong::Capacity => (
+                "invalid value for '--capacity <BYTES>': a number is 0 to 9223372036854775807 in digits",
+                "",
+                "",
+            ),
+            Wrong::Connections => (
+                "invalid value for '--connections <N>': a number is 0 to 9223372036854775807 in digits",
+                "",
+                "",
+            ),
+            Wrong::NoBin(argument) => (
+                "the drive '",
+                argument,
+                "' is given, and --bin <DIR> is not",
+            ),
+            Wrong::TooMany(argument) => ("unexpected drive '", argument, "': there are at most 64"),
+            Wrong::Drive(argument) => (
+                "invalid drive '",
+                argument,
+                "': it is DEVICE=DIR, with a device of 1 to 255 bytes of one line, and a folder",
+            ),
+            Wrong::Again(argument) => (
+                "invalid drive '",
+                argument,
+                "': its device is named before",
+            ),
+        }
+    }
+}
+
+impl fmt::Display for Wrong<'_> {
+    fn fmt<W: fmt::Write>(&self, f: &mut fmt::Formatter<W>) -> fmt::Result {
+        let (before, argument, after) = self.parts();
+        f.write_str(before)?;
+        f.write_str(argument)?;
+        f.write_str(after)
+    }
+}

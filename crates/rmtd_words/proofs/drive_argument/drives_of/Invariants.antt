@@ -1,7 +1,0 @@
-use Rattle.std.proofs.Common.{◌≡◌, map, take}
-use Rattle.rmtd_words.specs.Drive.{plain_drive, split_of}
-use Rattle.rmtd_words.proofs.drive_argument.drives_of.Given as goal
-
--- the drives of the words before the place
-abbrev pub invariant-loop-argument : goal.invariant-loop-argument
-invariant-loop-argument l = map plain_drive l.drives.items ≡ map split_of (map (λ s. s.now) (take l.argument-index l.arguments))

@@ -1,5 +1,0 @@
-use Rattle.std.proofs.Common.{rules}
-use Rattle.rmtd_words.proofs.rmtd_line.line_in.Goals as goal
-
-pub returns : goal.returns
-returns c = search rules

@@ -1,0 +1,5 @@
+use Rattle.rsim_schedule.proofs.Played.{nothing_played}
+use Rattle.rsim_schedule.proofs.player.begin_run.Goals as goal
+
+pub returns-in-Err : goal.returns-in-Err
+returns-in-Err g c = nothing_played g.W.Write.contents c.args.world.now c.args.out.now

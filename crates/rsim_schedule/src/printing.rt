@@ -1,0 +1,82 @@
+//! What is printed while a schedule runs, and of one that ends early.
+ghost use Rattle.std.specs.Prelude.{◌≡◌, ◌≤◌, ◌++◌, Bool, length, codes, decimal, if◌then◌else◌, IfErr};
+ghost use Rattle.rdump_net.specs.Lines.{failure_line as line_of};
+ghost use Rattle.rmt_wire.specs.Print.{IsPrinted};
+ghost use Rattle.rsim_schedule.specs.Playing.{is_whole};
+ghost use Rattle.rsim_schedule.specs.Ending.{IsHaltTold};
+ghost use Rattle.rsim_schedule.specs.declared.halt.Halt.TheVariants.{StreamFailed};
+
+use crate::halt::Halt;
+use arrayvec::ArrayString;
+use dump_client::AttemptFault;
+use itoa::Buffer;
+use rdump_net::{LINE_ROOM, failure_line};
+use rmt_wire::{Counted, print_text};
+use std::io::Write;
+
+/// The status of a schedule that has a line at fault.
+const AT_FAULT: u8 = 1;
+
+/// The status where memory is refused, or a write failed.
+const FAILED: u8 = 3;
+
+/// Prints the line of an attempt that failed.
+pub(crate) fn print_failure<W: Write>(
+    volume: u32,
+    fault: AttemptFault,
+    out: &mut Counted<W>,
+) -> Result<(), Halt>
+    ensures { IsPrinted W.contents (line_of volume fault) out.old out.new (is_whole result) }
+{
+    print_all(failure_line(volume, fault).as_bytes(), out)
+}
+
+/// Prints a text whole.
+pub(crate) fn print_all<W: Write>(text: &[u8], out: &mut Counted<W>) -> Result<(), Halt>
+    ensures printed { IsPrinted W.contents text.now out.old out.new (is_whole result) }
+    ensures only { IfErr result (λ halt. halt ≡ StreamFailed) }
+{
+    if print_text(out, text) {
+        return Ok(());
+    }
+    Err(Halt::StreamFailed)
+}
+
+/// Prints why the line of that number ends the schedule, and answers the status. After a failed write nothing is printed.
+pub(crate) fn print_halt<W: Write>(number: usize, halt: Halt, out: &mut Counted<W>) -> u8
+    ensures { IsHaltTold W.contents number halt out.old result out.new }
+{
+    match halt {
+        Halt::BadLine => print_last(number, ": bad line\n", AT_FAULT, out),
+        Halt::NotPossible => print_last(number, ": not possible\n", AT_FAULT, out),
+        Halt::OutOfMemory => print_last(number, ": out of memory\n", FAILED, out),
+        Halt::StreamFailed => FAILED,
+    }
+}
+
+/// Prints what is wrong with the line of that number, and answers that status; where a write failed, that of a failure.
+fn print_last<W: Write>(number: usize, what: &str, status: u8, out: &mut Counted<W>) -> u8
+    requires { length what.now ≤ 16 }
+    ensures { (whole : Bool) × IsPrinted W.contents (codes "line " ++ decimal number ++ what.now) out.old out.new whole
+        × (result ≡ (if whole then status else FAILED)) }
+{
+    let line = halt_text(number, what);
+    if print_text(out, line.as_bytes()) {
+        status
+    } else {
+        FAILED
+    }
+}
+
+/// The line of a schedule that ends early.
+fn halt_text(number: usize, what: &str) -> ArrayString<LINE_ROOM>
+    requires { length what.now ≤ 16 }
+    ensures { result.bytes ≡ codes "line " ++ decimal number ++ what.now }
+{
+    let mut digits = Buffer::new();
+    let mut line = ArrayString::new();
+    line.push_str("line ");
+    line.push_str(digits.format(number as u64));
+    line.push_str(what);
+    line
+}

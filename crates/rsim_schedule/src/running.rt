@@ -1,0 +1,80 @@
+//! A schedule, from its first line to its report.
+ghost use Rattle.std.specs.Prelude.{◌≡◌, map};
+ghost use Rattle.world_model.specs.First.{AreGoodDrives, first_world};
+ghost use Rattle.rsim_schedule.specs.Drives.{plain_line};
+ghost use Rattle.rsim_schedule.specs.Ending.{IsScheduleRun, IsScheduled};
+
+use crate::drive_line::DriveLine;
+use crate::halt::Halt;
+use crate::lines::ScheduleLines;
+use crate::player::play_all;
+use crate::printing::{print_all, print_halt};
+use crate::report::report_of;
+use crate::setup::{read_drives, world_of};
+use rmt_wire::Counted;
+use std::alloc::Global;
+use std::io::Write;
+use tape_world::World;
+
+/// Runs a schedule: a text of one command a line. Prints on `out` each attempt that fails, as it fails, and at the end what its
+/// world has come to: what stands on each reel, the stacks, the bin, the volumes that were counted, and dumpdates.
+///
+/// At the first line at fault it prints in place of that `line 3: bad line` or `line 3: not possible`, with the number of the
+/// line, counted from 1. Where memory is refused at a line it prints `line 3: out of memory`. After a failed write it prints
+/// nothing more.
+///
+/// Answers the exit status of `rsim`: 0 where all lines were run, 1 where one is at fault, and 3 where memory was refused or a
+/// write failed.
+pub fn schedule<W: Write>(alloc: Global, text: &[u8], out: &mut Counted<W>) -> u8
+    ensures { IsScheduled W.contents out.old result out.new }
+{
+    let mut lines = ScheduleLines::new(text);
+    match run_all(alloc, &mut lines, out) {
+        Ok(()) => 0,
+        Err(halt) => print_halt(lines.number, halt, out),
+    }
+}
+
+/// Runs all lines, and prints the report.
+fn run_all<W: Write>(
+    alloc: Global,
+    lines: &mut ScheduleLines<'_>,
+    out: &mut Counted<W>,
+) -> Result<(), Halt>
+    ensures { IsScheduleRun W.contents out.old result out.new }
+{
+    let drives = read_drives(alloc, lines)?;
+    run_at(alloc, &drives, lines, out)
+}
+
+/// Runs the lines that follow those of the drives, and prints the report.
+fn run_at<W: Write>(
+    alloc: Global,
+    drives: &[DriveLine<'_>],
+    lines: &mut ScheduleLines<'_>,
+    out: &mut Counted<W>,
+) -> Result<(), Halt>
+    requires { AreGoodDrives (map plain_line drives.now) }
+    ensures { IsScheduleRun W.contents out.old result out.new }
+{
+    match world_of(alloc, drives) {
+        Ok(mut world) => play_and_report(alloc, &mut world, drives, lines, out),
+        Err(_) => Err(Halt::OutOfMemory),
+    }
+}
+
+/// Plays what is left in a world where nothing has happened yet, and prints the report.
+fn play_and_report<W: Write>(
+    alloc: Global,
+    world: &mut World,
+    drives: &[DriveLine<'_>],
+    lines: &mut ScheduleLines<'_>,
+    out: &mut Counted<W>,
+) -> Result<(), Halt>
+    requires { AreGoodDrives (map plain_line drives.now) × (world.old ≡ first_world (map plain_line drives.now)) }
+    ensures { IsScheduleRun W.contents out.old result out.new }
+{
+    play_all(alloc, world, lines, out)?;
+    let report = report_of(alloc, world, drives)?;
+    print_all(&report, out)
+}

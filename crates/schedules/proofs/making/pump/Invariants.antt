@@ -1,6 +1,0 @@
-use Rattle.std.proofs.Common.{true}
-use Rattle.schedules.specs.Playing.{IsPlayed}
-use Rattle.schedules.proofs.making.pump.Given as goal
-
-abbrev pub invariant-loop : goal.invariant-loop
-invariant-loop g l = IsPlayed g.W.Write.contents l.fn.world l.fn.out true l.world l.out

@@ -1,5 +1,0 @@
-use Rattle.schedules.proofs.Played.{nothing_played}
-use Rattle.schedules.proofs.player.begin_run.Goals as goal
-
-pub returns-in-Err : goal.returns-in-Err
-returns-in-Err g c = nothing_played g.W.Write.contents c.args.world.now c.args.out.now

@@ -1,8 +1,0 @@
-use Rattle.std.proofs.Common.{◌≡◌, ◌++◌, take}
-use Rattle.drives.specs.TapeLibrary.{names_of}
-use Rattle.schedules.specs.Report.{names_text}
-use Rattle.schedules.proofs.report.push_names.Given as goal
-
-abbrev pub invariant-loop-reel : goal.invariant-loop-reel
-invariant-loop-reel l =
-    l.text.items ≡ l.fn.text.items ++ l.argument ++ names_text (names_of (take l.reel-index l.reels))

@@ -1,8 +1,0 @@
--- The drives of a schedule. No public contract needs it.
-use Rattle.std.specs.Prelude.{map}
-use Rattle.tape_events.specs.First.{PlainDriveSpec}
-use Rattle.schedules.specs.declared.drive_line.DriveLine.{DriveLine}
-
--- a drive, as its line says
-abbrev pub plain_line : DriveLine → PlainDriveSpec
-plain_line d = record { name = d.device.now; capacity = d.capacity; reels = map (λ n. n.now) d.reels.items }

@@ -1,0 +1,254 @@
+-- Of a reel that a session may write on the last opening is its own, whatever happens.
+use Rattle.std.proofs.Common.{◌≡◌, ◌≢◌, ◌⊎◌, ℕ, suc, ◌<◌, ◌≤◌, List, [], ◌∷◌, ◌++◌, length, Contains, Option, Some, None, refl, sym, ap, subst, ◌∙◌, inl, inr, arith}
+use Rattle.std.specs.Prelude.{slice_index_or, option_to_list, if◌then◌else◌}
+use Rattle.std.specs.Option.{option_map}
+use Rattle.std.specs.List.{sum_by}
+use Rattle.std.proofs.lemmas.List.{append-nil, length-append, length-set}
+use Rattle.std.proofs.lemmas.Option.{same_Some}
+use Rattle.rmt_wire.specs.RequestReader.{held}
+use Rattle.drives.specs.TapeLibrary.{KeptReel, Drive, drive_with, TapeLibrary, drive_at, with_drive_at, slots_in, EachReelOnce}
+use Rattle.drives.specs.Arranging.{arranged}
+use Rattle.drives.proofs.Shops.{named, times_named, sum_by_with_drive}
+use Rattle.rmt_server.specs.declared.access.Access.{Access}
+use Rattle.rmt_server.specs.Access.{writes}
+use Rattle.rmt_server.specs.ServerState.{ServerState, server, ServerConnection, side}
+use Rattle.rmt_server.specs.Session.{PlainSession, SessionView, session_view, closed_library}
+use Rattle.rmt_server.specs.Session.PlainSession.{Idle, Offline, Online}
+use Rattle.rmt_server.specs.TroubledServe.{drive_in}
+use Rattle.world_model.specs.World.{World, Opening, with_numbered}
+use Rattle.world_model.specs.Changes.{side_of, with_side, ended_from, first_name, written_reel, opened_reel, opening, answered}
+use Rattle.world_model.specs.First.{PlainDriveSpec, first_world}
+use Rattle.world_model.specs.Kept.{AreTidy, AreLaid}
+use Rattle.world_model.specs.Standing.{IsFirstAway, online_drive_in, AreHeld}
+use Rattle.world_model.specs.Naming.{IsUnopenedSince}
+use Rattle.world_model.specs.Naming.{AreOpened}
+use Rattle.world_model.proofs.Numbers.{no_number, length_changed, pushed_is, numbered_more, numbered_last, numbered_within, numbered_first}
+use Rattle.world_model.proofs.Sides.{side_there, Sits, sits_here, sits_other, sits_is, joined_is}
+use Rattle.world_model.proofs.Held.{KeepsHeldOver, held_ended_by, held_all_ended_by}
+use Rattle.world_model.proofs.Laid.{IsOnlineElse, IsOpenElse, online_else, apart, alone_at, drive_other, drive_within, free_off, online_drive}
+use Rattle.world_model.proofs.NamedRequests.{use_of, Comes, stays, closes, opens, moves, step_comes}
+use Rattle.world_model.proofs.ServerMoves.{ServerMove, leaves, joins, reads, serves, ends, restarts, arranges, server_after, IsNoRequest}
+use Rattle.world_model.proofs.Moves as move
+use Rattle.world_model.proofs.Moves.{Move, moved, server_move, connections_more}
+use Rattle.world_model.proofs.Named.{first_times, comes_reel, written_is, opening_is}
+
+-- an opening that was the last of its reel, where one may have been added
+last_stays : (all : List Opening) (k j : ℕ) (reel : List ℕ) (opened : Option (List ℕ)) → ((r : List ℕ) → opened ≡ Some r → r ≢ reel) → IsUnopenedSince all k reel
+    → IsUnopenedSince (all ++ option_to_list (option_map (opening j) opened)) k reel
+last_stays all k j reel None differs last = subst (λ l. IsUnopenedSince l k reel) (sym (append-nil all)) last
+last_stays all k j reel (Some r) differs (i, at, behind) = (
+  i,
+  numbered_more all (opening j r ∷ []) i (opening k reel) at,
+  λ m o less there. elim (pushed_is all (opening j r) m o there) [
+    | inl before ↦ behind m o less before
+    | inr (last, new) ↦ (λ same. differs r refl (ap (λ (z : Opening). z.reel) (sym new) ∙ same))
+  ],
+)
+
+-- one that was added is the last
+last_new : (all : List Opening) (k : ℕ) (reel : List ℕ) → IsUnopenedSince (all ++ opening k reel ∷ []) k reel
+last_new all k reel = (
+  suc (length all),
+  numbered_last all (opening k reel),
+  λ m o less there. (
+      let within = numbered_within (all ++ opening k reel ∷ []) m o there in
+      let many = length-append all (opening k reel ∷ []) in
+      let one : length (opening k reel ∷ []) ≡ 1 = refl in
+      absurd (omega (arith, less, within, many, one))),
+)
+
+-- of each session that may write, the last opening of its reel is its own
+abbrev AreLast : ServerState → List Opening → Type 0
+AreLast h all = (k : ℕ) (s : ServerConnection) (reel : List ℕ) → side_of h k ≡ Some s → written_reel h.library s.session ≡ Some reel → IsUnopenedSince all k reel
+
+-- the reel that is written is told by the rack of its drive alone
+written_library : (s t : TapeLibrary) (session : PlainSession) (d : ℕ) → online_drive_in session ≡ Some d → drive_at s d ≡ drive_at t d → written_reel s session ≡ written_reel t session
+written_library s t Idle d on same = refl
+written_library s t (Offline drive access) d on same = refl
+written_library s t (Online drive access reel) d on same =
+    let its = same_Some drive d on in
+    ap (λ (r : Drive KeptReel). if writes access then Some (first_name r.stack) else None) (ap (drive_at s) its ∙ same ∙ ap (drive_at t) (sym its))
+
+-- and by the drive and what it was opened for
+abbrev written_by : TapeLibrary → Option (ℕ × Access) → Option (List ℕ)
+written_by s None = None
+written_by s (Some (drive, access)) = if writes access then Some (first_name (drive_at s drive).stack) else None
+
+written_use : (s : TapeLibrary) (session : PlainSession) → written_reel s session ≡ written_by s (use_of session)
+written_use s Idle = refl
+written_use s (Offline drive access) = refl
+written_use s (Online drive access reel) = refl
+
+-- One side turns, where the racks of the others' drives stay, and a reel that was opened is none of theirs.
+turn_last : (h u : ServerState) (k : ℕ) (s : ServerConnection) (o : Option ServerConnection) (all : List Opening) (opened : Option (List ℕ)) → Sits h k s o u
+    → ((d : ℕ) → IsOnlineElse h k d → drive_at u.library d ≡ drive_at h.library d)
+    → ((d : ℕ) → IsOnlineElse h k d → (r : List ℕ) → opened ≡ Some r → r ≢ first_name (drive_at u.library d).stack)
+    → ((x : ServerConnection) (reel : List ℕ) → o ≡ Some x → written_reel u.library x.session ≡ Some reel → IsUnopenedSince (all ++ option_to_list (option_map (opening k) opened)) k reel)
+    → AreLast h all → AreLast u (all ++ option_to_list (option_map (opening k) opened))
+turn_last h u k s o all opened t all_drives differs own l j x reel at written = elim (sits_is h k s o u t j x at) [
+  | inl (same, mine) ↦ subst (λ m. IsUnopenedSince (all ++ option_to_list (option_map (opening k) opened)) m reel) (sym same) (own x reel mine written)
+  | inr (other, was) ↦
+      let w = written_is u.library x.session reel written in
+      let elsewhere : IsOnlineElse h k w.0 = (j, other, (x, was, w.1)) in
+      let before : written_reel h.library x.session ≡ Some reel = sym (written_library u.library h.library x.session w.0 w.1 (all_drives w.0 elsewhere)) ∙ written in
+      last_stays all j k reel opened (λ r is same. differs w.0 elsewhere r is (same ∙ sym w.2)) (l j x reel was before)
+]
+
+-- the same where nothing was opened
+quiet_last : (h u : ServerState) (k : ℕ) (s : ServerConnection) (o : Option ServerConnection) (all : List Opening) → Sits h k s o u
+    → ((d : ℕ) → IsOnlineElse h k d → drive_at u.library d ≡ drive_at h.library d)
+    → ((x : ServerConnection) (reel : List ℕ) → o ≡ Some x → written_reel u.library x.session ≡ Some reel → IsUnopenedSince all k reel)
+    → AreLast h all → AreLast u all
+quiet_last h u k s o all t all_drives own l =
+    subst (AreLast u) (append-nil all) (turn_last h u k s o all None t all_drives (λ d elsewhere r is. absurd cc)
+    (λ x reel is written. subst (λ m. IsUnopenedSince m k reel) (sym (append-nil all)) (own x reel is written)) l)
+
+-- the racks of drives that others have open
+pub closed_else : (h : ServerState) (k : ℕ) (s : ServerConnection) → side_of h k ≡ Some s → AreHeld h → (session : PlainSession) → s.session ≡ session → (d : ℕ) → IsOpenElse h k d
+    → drive_at (closed_library h.library session) d ≡ drive_at h.library d
+closed_else h k s was a Idle is d elsewhere = refl
+closed_else h k s was a (Offline drive access) is d elsewhere = refl
+closed_else h k s was a (Online drive access reel) is d elsewhere =
+    drive_other h.library.drives drive d _ (drive_with [] []) (λ same. alone_at h k s drive a was (ap drive_in is) (subst (IsOpenElse h k) same elsewhere))
+
+pub comes_else : (holders : List ℕ) (h : ServerState) (k : ℕ) (s : ServerConnection) (after : SessionView) (opened : Option (List ℕ)) → side_of h k ≡ Some s → AreHeld h
+    → ((d : ℕ) → IsOpenElse h k d → drive_in after.session ≡ Some d → ⊥) → Comes holders (session_view h.library s.session) after opened
+    → (d : ℕ) → IsOpenElse h k d → drive_at after.library d ≡ drive_at h.library d
+comes_else holders h k s after opened was a apart (stays library session drive none) d elsewhere = ap (λ (v : TapeLibrary). drive_at v d) library
+comes_else holders h k s after opened was a apart (closes library session none) d elsewhere =
+    ap (λ (v : TapeLibrary). drive_at v d) library ∙ closed_else h k s was a s.session refl d elsewhere
+comes_else holders h k s after opened was a apart (opens drive access reel first within waits free library session new) d elsewhere =
+    ap (λ (v : TapeLibrary). drive_at v d) library
+    ∙ drive_other (closed_library h.library s.session).drives drive d _ (drive_with [] []) (λ same. apart d elsewhere (ap drive_in session ∙ ap Some (sym same)))
+    ∙ closed_else h k s was a s.session refl d elsewhere
+comes_else holders h k s after opened was a apart (moves drive access reel online library session none) d elsewhere =
+    ap (λ (v : TapeLibrary). drive_at v d) library
+    ∙ drive_other h.library.drives drive d _ (drive_with [] []) (λ same. alone_at h k s drive a was (ap drive_in online) (subst (IsOpenElse h k) same elsewhere))
+
+-- what the session itself may write on then, it could before, or it was opened
+pub comes_own : (holders : List ℕ) (before after : SessionView) (opened : Option (List ℕ)) (reel : List ℕ) → Comes holders before after opened → written_reel after.library after.session ≡ Some reel
+    → ((written_reel before.library before.session ≡ Some reel) × (opened ≡ None)) ⊎ (opened ≡ Some reel)
+comes_own holders before after opened reel (stays library session drive none) written =
+    inl (
+      written_use before.library before.session ∙ ap (written_by before.library) (sym session) ∙ ap (λ (v : TapeLibrary). written_by v (use_of after.session)) (sym library)
+          ∙ sym (written_use after.library after.session) ∙ written,
+      none,
+    )
+comes_own holders before after opened reel (closes library session none) written = let clash = sym (ap (written_reel after.library) session) ∙ written in absurd cc
+comes_own holders before after opened reel (opens drive access r first within waits free library session new) written = inr (new ∙ written)
+comes_own holders before after opened reel (moves drive access r online library session none) written = let clash = sym (ap (written_reel after.library) session) ∙ written in absurd cc
+
+-- two reels that are away have two names
+pub names_differ : (s : TapeLibrary) (d e : ℕ) → EachReelOnce s → d ≢ e → d < length s.drives → IsFirstAway (drive_at s d).stack → e < length s.drives → IsFirstAway (drive_at s e).stack
+    → first_name (drive_at s d).stack ≢ first_name (drive_at s e).stack
+names_differ s d e once other here away there gone same =
+    let name = first_name (drive_at s d).stack in
+    let t = with_drive_at s d (drive_with [] []) in
+    let still : drive_at t e ≡ drive_at s e = drive_other s.drives d e (drive_with [] []) (drive_with [] []) (λ is. other (sym is)) in
+    let one = sum_by_with_drive (named name) s d (drive_with [] []) here in
+    let two = sum_by_with_drive (named name) t e (drive_with [] []) (let many = length-set s.drives d (drive_with [] []) in omega (arith, there, many)) in
+    let its : sum_by (named name) (drive_at t e).stack ≡ sum_by (named name) (drive_at s e).stack = ap (λ (r : Drive KeptReel). sum_by (named name) r.stack) still in
+    let first = first_times (drive_at s d).stack away in
+    let second : 0 < sum_by (named name) (drive_at s e).stack
+    = subst (λ n. 0 < sum_by (named n) (drive_at s e).stack) (sym same) (first_times (drive_at s e).stack gone) in
+    let all = times_named name (slots_in s) in
+    let few = once name in
+    omega (arith, one, two, its, first, second, all, few)
+
+-- a side that is over
+over_last : (all : List Opening) → KeepsHeldOver (λ h. AreLast h all)
+over_last all h k s is a l =
+    quiet_last h (ended_from h k (Some s)) k s None all record { was = is; sides = refl }
+    (λ d elsewhere. closed_else h k s is a s.session refl d (online_else h k d elsewhere)) (λ x reel none written. absurd cc) l
+
+-- a side more, with nothing open
+joined_last : (h : ServerState) (all : List Opening) → AreLast h all → AreLast (with_side h) all
+joined_last h all l k s reel at written = elim (joined_is h k s at) [
+  | inl before ↦ l k s reel before written
+  | inr new ↦ (let clash : written_reel h.library Idle ≡ Some reel = ap (λ (z : ServerConnection). written_reel h.library z.session) new ∙ written in absurd cc)
+]
+
+-- an operator's order
+arranged_last : (h : ServerState) (d : ℕ) (names : List (List ℕ)) (all : List Opening) → AreHeld h → slice_index_or h.holders d 0 ≡ 0 → AreLast h all
+    → AreLast (server (arranged h.library d names) h.holders h.sides) all
+arranged_last h d names all a free l k s reel at written =
+    let w = written_is (arranged h.library d names) s.session reel written in
+    let other : w.0 ≢ d = λ same. free_off h d a free (k, s, at, w.1 ∙ ap Some same) in
+    l k s reel at (sym (written_library (arranged h.library d names) h.library s.session w.0 w.1 (drive_other h.library.drives d w.0 _ (drive_with [] []) other)) ∙ written)
+
+-- one request of a session
+served_last : (holders : List ℕ) (h u : ServerState) (k : ℕ) (s x : ServerConnection) (all : List Opening) (opened : Option (List ℕ)) → Sits h k s (Some x) u → Comes holders (session_view h.library s.session) (session_view u.library x.session) opened
+    → AreHeld h → AreHeld u → AreLaid u → EachReelOnce u.library → AreLast h all → AreLast u (all ++ option_to_list (option_map (opening k) opened))
+served_last holders h u k s x all opened t comes a b laid once l =
+    let here : side_of u k ≡ Some x = sits_here h k s (Some x) u t in
+    let there : (d : ℕ) → IsOnlineElse h k d → IsOnlineElse u k d
+    = λ d (j, other, (y, at, on)). (j, other, (y, sits_other h k j s (Some x) u t other ∙ at, on)) in
+    turn_last h u k s (Some x) all opened t (λ d elsewhere. comes_else holders h k s (session_view u.library x.session) opened t.was a (apart h u k s x t b) comes d (online_else h k d elsewhere))
+    (λ d elsewhere r is same. (
+    let w = written_is u.library x.session r (comes_reel holders (session_view h.library s.session) (session_view u.library x.session) opened comes r is) in
+    let other : w.0 ≢ d = λ e. apart h u k s x t b d (online_else h k d elsewhere) (online_drive x.session d (w.1 ∙ ap Some e)) in
+    let (j, unlike, (y, at, on)) = there d elsewhere in
+    names_differ u.library w.0 d once other (drive_within u k x w.0 b here (online_drive x.session w.0 w.1)) (laid.latched w.0 (k, x, here, w.1))
+    (drive_within u j y d b at (online_drive y.session d on)) (laid.latched d (j, y, at, on)) (w.2 ∙ same)))
+    (λ y reel same written. (
+    let its : written_reel u.library x.session ≡ Some reel = ap (λ (z : ServerConnection). written_reel u.library z.session) (same_Some x y same) ∙ written in
+    elim (comes_own holders (session_view h.library s.session) (session_view u.library x.session) opened reel comes its) [
+      | inl (before, none) ↦ last_stays all k k reel opened (λ r is. (let clash = sym none ∙ is in absurd cc)) (l k s reel t.was before)
+      | inr new ↦ subst (λ o. IsUnopenedSince (all ++ option_to_list (option_map (opening k) o)) k reel) (sym new) (last_new all k reel)
+    ]))
+    l
+
+-- what an event makes of the openings
+same_there : (w u : World) → u.opens ≡ w.opens → length w.connections ≤ length u.connections → AreOpened w → (o : Opening) → Contains u.opens o
+    → (1 ≤ o.connection) × (o.connection ≤ length u.connections)
+same_there w u made more n o among =
+    let before = n.there o (subst (λ l. Contains l o) made among) in
+    (before.0, (let few = before.1 in omega (arith, few, more)))
+
+served_there : (w u : World) (k : ℕ) (s : ServerConnection) (opened : Option (List ℕ)) → side_of w.server k ≡ Some s → u.opens ≡ w.opens ++ option_to_list (option_map (opening k) opened)
+    → length u.connections ≡ length w.connections → AreTidy w → AreOpened w → (o : Opening) → Contains u.opens o → (1 ≤ o.connection) × (o.connection ≤ length u.connections)
+served_there w u k s opened live made connections t n o among = elim (opening_is w.opens k opened o (subst (λ l. Contains l o) made among)) [
+  | inl before ↦ (let was = n.there o before in (was.0, (let few = was.1 in omega (arith, few, connections))))
+  | inr (reel, is, its) ↦ (
+      let member = side_there w.server k s live in
+      let within = numbered_within w.server.sides k (Some s) member in
+      let first = numbered_first w.server.sides k (Some s) member in
+      let paired = t.paired in
+      let same : o.connection ≡ k = ap (λ (z : Opening). z.connection) its in
+      (omega (arith, first, same), omega (arith, within, paired, connections, same)))
+]
+
+-- each event
+server_last : (h : ServerState) (m : ServerMove h) (all : List Opening) → IsNoRequest h m → AreHeld h → AreLast h all → AreLast (server_after h m) all
+server_last h (serves k s x library holders opened live unread comes held) all none a l = absurd none
+server_last h leaves all none a l = l
+server_last h joins all none a l = joined_last h all l
+server_last h (reads k s reached live unread) all none a l =
+    quiet_last h (server h.library h.holders (with_numbered h.sides k (Some (side reached s.session)))) k s (Some (side reached s.session)) all record { was = live; sides = refl }
+    (λ d elsewhere. refl)
+    (λ y reel same written. l k s reel live (ap (λ (z : ServerConnection). written_reel h.library z.session) (same_Some (side reached s.session) y same) ∙ written)) l
+server_last h (ends k) all none a l = held_ended_by (λ u. AreLast u all) (over_last all) h k a l
+server_last h restarts all none a l = held_all_ended_by (λ u. AreLast u all) (over_last all) h (length h.sides) a l
+server_last h (arranges d names within free) all none a l = arranged_last h d names all a free l
+
+pub opened_moved : (w : World) (m : Move w) → AreTidy w → AreHeld w.server → AreHeld (moved w m).server → AreLaid (moved w m).server → EachReelOnce (moved w m).server.library → AreOpened w
+    → AreOpened (moved w m)
+opened_moved w (move.serves t) tidy a b l once n =
+    let u = moved w (move.serves t) in
+    let o = opened_reel t.request t.library t.session in
+    record {
+      there = served_there w u t.k t.s o t.live refl (length_changed (answered t.request t.reply) w.connections t.k) tidy n;
+      last = served_last w.server.holders w.server u.server t.k t.s (side t.reached t.session) w.opens o record { was = t.live; sides = refl }
+          (step_comes t.trouble w.server.holders (session_view w.server.library t.s.session) t.request t.reply (session_view t.library t.session) t.served.step) a b l once n.last;
+    }
+opened_moved w m tidy a b l once n = record {
+  there = same_there w (moved w m) refl (connections_more w m) n;
+  last = server_last w.server (server_move w m) w.opens tt a n.last;
+}
+
+-- no side is there in the first world
+pub first_opened : (drives : List PlainDriveSpec) → AreOpened (first_world drives)
+first_opened drives = record {
+  there = λ o (k, within, is). absurd (omega (arith, within));
+  last = λ k s reel at written. absurd (no_number k (Some s) (side_there (first_world drives).server k s at));
+}

@@ -1,0 +1,194 @@
+-- What stays so, in the first world and after each event.
+use Rattle.std.proofs.Common.{◌≡◌, ℕ, zero, suc, List, [], ◌∷◌, length, map, replicate, Contains, Some, refl, sym, ap, subst, ◌∙◌, inl, inr, arith}
+use Rattle.std.specs.Prelude.{slice_get, slice_index_or}
+use Rattle.drives.specs.TapeLibrary.{kept_reel, slot, drive_with}
+use Rattle.std.proofs.lemmas.Bool.Decides.{eqb_tells}
+use Rattle.std.proofs.lemmas.List.{length-map, length-replicate}
+use Rattle.std.proofs.lemmas.Option.{same_Some}
+use Rattle.world_model.specs.World.{World}
+use Rattle.world_model.specs.Events.{PlainEvent}
+use Rattle.world_model.specs.First.{PlainDriveSpec, AreGoodDrives, blank_drive, first_world}
+use Rattle.world_model.specs.Steps.{Happens, Runs, none, one_more}
+use Rattle.world_model.specs.Standing.{AreThere}
+use Rattle.world_model.specs.Kept.{IsWorldKept}
+use Rattle.world_model.specs.Headline.{NoTwoHolders, DumpdatesGained, Headline, CountedReels}
+use Rattle.world_model.specs.Further.{SentRequests, LatchedReels, ClientsCounts, ReelsNotReopened, LabelledReels}
+use Rattle.world_model.specs.Naming.{SameNames}
+use Rattle.world_model.proofs.Numbers.{no_number}
+use Rattle.world_model.proofs.SentWire.{OneReading, DroppedWrites, OneReply}
+use Rattle.world_model.proofs.Lawfully.{Lawfully, lawful_moved}
+use Rattle.world_model.proofs.Owned.{Standings, owned_moved, first_owned}
+use Rattle.world_model.proofs.ToldAfter.{first_told, told_moved}
+use Rattle.world_model.proofs.LabelledAfter.{first_single, first_labelled, first_earned, single_moved, labelled_moved, earned_moved}
+use Rattle.world_model.proofs.Counted.{labelled_reels, counted_reels, reels_not_reopened}
+use Rattle.world_model.proofs.NotReopenedLooks.{Grounds}
+use Rattle.world_model.proofs.NotReopenedAfter.{first_not_reopened, not_reopened_moved}
+use Rattle.world_model.proofs.Tidy.{tidy_moved}
+use Rattle.world_model.proofs.Moves.{Move, happened, moved}
+use Rattle.world_model.proofs.Held.{held_moved, side_there}
+use Rattle.world_model.proofs.Laid.{laid_moved, online_drive, drive_within}
+use Rattle.world_model.proofs.Booked.{Goings, booked_moved}
+use Rattle.world_model.proofs.Named.{names_after, named_moved, first_named}
+use Rattle.world_model.proofs.Opened.{opened_moved, first_opened, names_differ}
+use Rattle.world_model.proofs.Writers.{writers_moved, first_writers}
+use Rattle.world_model.proofs.Readable.{readable_moved}
+
+no_member : {X : Type 0} (x : X) → Contains [] x → ⊥
+no_member x (k, within, is) = omega (arith, within)
+
+-- no drive has a holder
+no_holder : (n d k : ℕ) → slice_get (replicate n 0) d ≡ Some (suc k) → ⊥
+no_holder zero d k is = cc
+no_holder (suc n) zero k is = let clash : 0 ≡ suc k = same_Some 0 (suc k) is in omega (arith, clash)
+no_holder (suc n) (suc d) k is = no_holder n d k is
+
+-- each reel lies there
+blank_there : (capacity : ℕ) (names : List (List ℕ)) → AreThere (map (λ name. slot name (Some (kept_reel [] capacity))) names)
+blank_there capacity [] = tt
+blank_there capacity (name ∷ names) = ((kept_reel [] capacity, refl), blank_there capacity names)
+
+first_there : (drives : List PlainDriveSpec) (d : ℕ) → AreThere (slice_index_or (map blank_drive drives) d (drive_with [] [])).stack
+first_there [] d = tt
+first_there (drive ∷ drives) zero = blank_there drive.capacity drive.reels
+first_there (drive ∷ drives) (suc d) = first_there drives d
+
+pub first_kept : (drives : List PlainDriveSpec) → AreGoodDrives drives → IsWorldKept (first_world drives)
+first_kept drives good = record {
+  lawful = λ c is. absurd cc;
+  owned = first_owned (first_world drives) refl refl refl;
+  told = first_told drives;
+  single = first_single drives;
+  labelled = first_labelled drives;
+  counted = first_earned drives;
+  tidy = record { paired = refl; each = λ k l at. absurd (no_number k l at) };
+  held = record {
+    places = length-replicate (length drives) 0 ∙ sym (length-map drives blank_drive);
+    opened = λ k d s at drive. absurd (no_number k (Some s) (side_there (first_world drives).server k s at));
+    holds = λ k d at. absurd (no_holder (length drives) d k at);
+  };
+  laid = record {
+    latched = λ d (k, s, at, on). absurd (no_number k (Some s) (side_there (first_world drives).server k s at));
+    lying = λ d off. first_there drives d;
+    bin = tt;
+  };
+  booked = record {
+    last = λ c is. absurd cc;
+    begun = λ c is. absurd cc;
+    listed = λ c is. absurd cc;
+    kept = λ x is. absurd cc;
+    none = λ run past. refl;
+    earned = λ e among. absurd (no_member e among);
+    once = λ i j e f one other same. absurd (no_number i e one);
+    finished = λ c e is among same. absurd cc;
+    dates = refl;
+  };
+  once = first_named drives good;
+  opened = first_opened drives;
+  writers = first_writers drives;
+  not_reopened = first_not_reopened drives;
+  readable = λ k s at. absurd (no_number k (Some s) (side_there (first_world drives).server k s at));
+}
+
+-- What other crates say of a client, and of requests and replies.
+pub record Laws : Type 0 where
+  pub goings : Goings
+  pub lawfully : Lawfully
+  pub standings : Standings
+  pub reading : OneReading
+  pub dropped : DroppedWrites
+  pub reply : OneReply
+
+grounds : (w : World) → IsWorldKept w → Grounds w
+grounds w k = record {
+  held = k.held;
+  laid = k.laid;
+  named = k.once;
+  opened = k.opened;
+  writers = k.writers;
+  told = k.told;
+  single = k.single;
+  labelled = k.labelled;
+  earned = k.counted;
+  not_reopened = k.not_reopened;
+}
+
+kept_moved : Laws → (w : World) (m : Move w) → IsWorldKept w → IsWorldKept (moved w m)
+kept_moved g w m k =
+    let held = held_moved w m k.held in
+    let laid = laid_moved w m k.held k.laid in
+    let named = named_moved w m k.held held laid k.once in
+    let owned = owned_moved g.standings w m k.owned in
+    let told = told_moved g.reading g.dropped g.reply w m k.lawful k.owned k.tidy k.booked k.told in
+    let single = single_moved g.reading g.dropped w m k.held k.told k.opened k.single in
+    let earned = earned_moved g.reading g.dropped g.reply w m k.held k.owned k.told k.single k.counted in
+    record {
+      lawful = lawful_moved g.lawfully w m k.booked k.lawful;
+      owned = owned;
+      told = told;
+      single = single;
+      labelled = labelled_moved g.reading g.dropped w m k.held held laid named.once k.told k.opened k.single k.labelled;
+      counted = earned;
+      tidy = tidy_moved w m k.tidy;
+      held = held;
+      laid = laid;
+      booked = booked_moved g.goings w m k.lawful k.booked;
+      once = named;
+      opened = opened_moved w m k.tidy k.held held laid named.once k.opened;
+      writers = writers_moved w m k.opened k.writers;
+      not_reopened = not_reopened_moved g.reading g.dropped g.reply w m (grounds w k) k.owned k.lawful record { owned = owned; told = told; single = single; earned = earned };
+      readable = readable_moved w m k.readable;
+    }
+
+pub kept_after : Laws → (w u : World) (event : PlainEvent) → IsWorldKept w → Happens w event u → IsWorldKept u
+kept_after g w u event k happens = let m = happened w event u happens in subst IsWorldKept (sym m.1) (kept_moved g w m.0 k)
+
+-- after every list of events
+pub runs_kept : Laws → (first w : World) (events : List PlainEvent) → IsWorldKept first → Runs first events w → IsWorldKept w
+runs_kept g first w events k none = k
+runs_kept g first w events k (one_more {before = before} event run happens) = kept_after g before w event (runs_kept g first before _ k run) happens
+
+pub kept_names : (w u : World) (event : PlainEvent) → IsWorldKept w → Happens w event u → SameNames w.server.library u.server.library
+kept_names w u event k happens = names_after w event u happens k.held
+
+pub no_two_holders : (w : World) → IsWorldKept w → NoTwoHolders w
+no_two_holders w kept j k d one other =
+    same_Some j k (sym (kept.held.opened j d one.0 one.1 one.2) ∙ kept.held.opened k d other.0 other.1 other.2)
+
+pub dumpdates_gained : (w : World) → IsWorldKept w → DumpdatesGained w
+dumpdates_gained w kept = record { dates = kept.booked.dates; once = kept.booked.once; earned = kept.booked.earned }
+
+pub reels_counted : (w : World) → IsWorldKept w → CountedReels w
+reels_counted w kept = counted_reels w kept.held kept.laid kept.once kept.writers kept.told kept.labelled kept.counted kept.not_reopened
+
+pub not_reopened_reels : (w : World) → IsWorldKept w → ReelsNotReopened w
+not_reopened_reels w kept = reels_not_reopened w kept.told kept.writers kept.not_reopened
+
+pub reels_labelled : (w : World) → IsWorldKept w → LabelledReels w
+reels_labelled w kept = labelled_reels w kept.held kept.laid kept.once kept.labelled
+
+pub sent_requests : (w : World) → IsWorldKept w → SentRequests w
+sent_requests w kept k d has = elim ((kept.told.each k has.0 has.1).sent d has.2) [
+  | inl settled ↦ inl settled.sent
+  | inr (b, step, begun, pending) ↦ inr pending.sent
+]
+
+pub latched_reels : (w : World) → IsWorldKept w → LatchedReels w
+latched_reels w kept = record {
+  first = λ k d s at on. (kept.laid.latched d (k, s, at, on), kept.held.opened k d s at (online_drive s.session d on));
+  once = λ j k d e s t one on two off same. elim (eqb_tells d e) [
+    | inl (equal, its) ↦ no_two_holders w kept j k e (s, one, online_drive s.session e (on ∙ ap Some its)) (t, two, online_drive t.session e off)
+    | inr (unequal, other) ↦
+        absurd (names_differ w.server.library d e kept.once.once other (drive_within w.server j s d kept.held one (online_drive s.session d on)) (kept.laid.latched d (j, s, one, on))
+        (drive_within w.server k t e kept.held two (online_drive t.session e off)) (kept.laid.latched e (k, t, two, off)) same)
+  ];
+}
+
+pub headline : (w : World) → IsWorldKept w → Headline w
+headline w kept = record {
+  counted_reels = reels_counted w kept;
+  no_two_holders = no_two_holders w kept;
+  dumpdates_gained = dumpdates_gained w kept;
+}
+
+pub clients_counts : (w : World) → IsWorldKept w → ClientsCounts w
+clients_counts w kept = record { listed = kept.booked.listed; none = kept.booked.none }
