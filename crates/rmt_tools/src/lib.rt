@@ -7,7 +7,7 @@ mod memory_peer;
 pub use hold_table::{HoldSeat, HoldTable, TableHand};
 pub use memory_peer::MemoryPeer;
 pub use rdump_args::{DumpLine, ListLine, ListedReels, MtLine, RdumpLine, ReadLine, rdump_args};
-pub use rdump_commands::{rdump, run_client, run_dates, run_dump, run_mt, run_read, run_words};
+pub use rdump_commands::{rdump, run_arguments, run_client, run_dates, run_dump, run_mt, run_read};
 pub use rdump_files::{
     Clearing, DumpEnd, DumperFault, FileFailed, Gauge, PayloadFile, ProgressLine, ReplacedFile,
     ResumedDumpFault, Shown, UpdateFault, WholeFile, base_date, date_text, dates, dump_and_update,
@@ -24,7 +24,7 @@ pub use reel_check::{
     one_volume,
 };
 pub use reel_files::{FileMedium, FolderDrive, FolderFault, FolderStacks};
-pub use rmtd_args::{DriveWord, LineFault, ServerLine, server_line, server_words};
+pub use rmtd_args::{DriveArgument, LineFault, ServerLine, server_line, server_words};
 pub use rmtd_serve::{
     Begun, Connections, Incoming, ListenerSetup, MemoryServer, TapeServer, begin, exit_status,
     folder_stacks, run_stdio, seat_stacks, serve_at, serve_connections, serve_many, start,

@@ -234,7 +234,7 @@ static DRIVE: [&str; 7] = [
 fn arguments_of_the_server(rt: HostRuntime) {
     let read = server_line(rt.alloc(), &DRIVE);
     let wanted =
-        "Ok(ServerLine { stdio: false, listen: Some(\"127.0.0.1:0\"), capacity: 9223372036854775807, connections: Some(7), bin: Some(\"/bin\"), drives: [DriveWord { device: \"/dev/st0\", folder: \"/srv/a=b\" }] })";
+        "Ok(ServerLine { stdio: false, listen: Some(\"127.0.0.1:0\"), capacity: 9223372036854775807, connections: Some(7), bin: Some(\"/bin\"), drives: [DriveArgument { device: \"/dev/st0\", folder: \"/srv/a=b\" }] })";
     assert!(rt; is_shown(rt.alloc(), &read, wanted));
 }
 
