@@ -1,2 +1,2 @@
--- What an address is.
+-- The form of an address.
 pub mod Address

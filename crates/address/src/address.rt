@@ -5,8 +5,10 @@ ghost use Rattle.address.specs.Address.{HasPort, HasNoColon, IsBracketed, IsHost
 use rmt_wire::argument::number_of;
 use rmt_wire::find_byte;
 
-/// Whether a text is an address: a host, a colon and a port. A host has at least one byte, and one that has a colon, as an address
-/// of IPv6, stands in brackets. A port is a number of 16 bits, in digits alone.
+/// Whether a text is an address: a host, a colon and a port.
+///
+/// A host has at least one byte. If it contains a colon, as an IPv6 address does, it must be in
+/// brackets. A port is a number of 16 bits, written in digits only.
 pub fn is_address(text: &str) -> bool
     ensures { IsTrue result ↔ HasPort text.now }
 {
@@ -16,28 +18,30 @@ pub fn is_address(text: &str) -> bool
     }
 }
 
-/// What stands before the last colon of a text, and what stands after it. None where there is no colon.
+/// Returns what is before the last colon of a text, and what is after it. Returns `None` if there
+/// is no colon.
 fn split_port(text: &str) -> Option<(&str, &str)>
     ensures { IsSplitAtColon text.now (option_map (λ parts. (parts.0.now, parts.1.now)) result) }
 {
     text.rsplit_once(':')
 }
 
-/// Whether these texts say a host and a port.
+/// Whether these texts are a host and a port.
 fn is_host_and_port(host: &str, port: &str) -> bool
     ensures { IsTrue result ↔ IsHost host.now × IsPort port.now }
 {
     is_host(host) && is_port(port)
 }
 
-/// Whether a text says a host. One with a colon, as an address of IPv6, stands in brackets.
+/// Whether a text is a host. If it contains a colon, as an IPv6 address does, it must be in
+/// brackets.
 fn is_host(text: &str) -> bool
     ensures { IsTrue result ↔ IsHost text.now }
 {
     is_plain(text.as_bytes()) || is_bracketed(text.as_bytes())
 }
 
-/// Whether a text has a byte and no colon.
+/// Whether a text has at least one byte and no colon.
 fn is_plain(text: &[u8]) -> bool
     ensures { IsTrue result ↔ HasNoColon text.now }
 {
@@ -47,7 +51,7 @@ fn is_plain(text: &[u8]) -> bool
     }
 }
 
-/// Whether a text begins with a bracket and ends with its counterpart.
+/// Whether a text begins with `[` and ends with `]`.
 fn is_bracketed(text: &[u8]) -> bool
     ensures { IsTrue result ↔ IsBracketed text.now }
 {
@@ -57,7 +61,7 @@ fn is_bracketed(text: &[u8]) -> bool
     }
 }
 
-/// Whether a text says a port: a number of 16 bits, in digits alone.
+/// Whether a text is a port: a number of 16 bits, written in digits only.
 fn is_port(text: &str) -> bool
     ensures { IsTrue result ↔ IsPort text.now }
 {

@@ -1,4 +1,4 @@
-//! What a reader is fed, and whether it gives all of it again.
+//! Feeding a reader, and checking that it returns all of it.
 
 ghost use Rattle.std.specs.Prelude.{◌<◌};
 
@@ -8,16 +8,16 @@ use std::alloc::{AllocError, Global};
 /// What a reader is fed.
 #[derive(Clone, Copy, PartialEq, Eq)]
 pub enum Kind {
-    /// Writes of the greatest record.
+    /// Writes of the largest record.
     Requests,
-    /// Replies with the greatest record.
+    /// Replies with the largest record as data.
     Replies,
-    /// Errors whose text has as many bytes.
+    /// Errors whose text is as long as the largest record.
     Errors,
 }
 
 impl Kind {
-    /// The kind of this name.
+    /// Returns the kind of this name, if there is one.
     pub fn named(name: &str) -> Option<Kind> {
         match name {
             "requests" => Some(Kind::Requests),
@@ -28,7 +28,7 @@ impl Kind {
     }
 }
 
-/// One request or reply of this kind, as it is sent.
+/// Returns one request or reply of this kind, as it is sent. Fails if an allocation fails.
 fn text(alloc: Global, kind: Kind) -> Result<Vec<u8>, AllocError> {
     let (line, end): (&[u8], &[u8]) = match kind {
         Kind::Requests => (b"W262144\n", b""),
@@ -41,7 +41,8 @@ fn text(alloc: Global, kind: Kind) -> Result<Vec<u8>, AllocError> {
     Ok(text)
 }
 
-/// Whether the reader gives the one request of this text, once its last piece came.
+/// Whether the reader returns the one request of this text, and only after its last piece. `piece`
+/// is in bytes.
 fn gives_request(reader: &mut RequestReader, text: &[u8], piece: usize) -> bool
     requires { 0 < piece }
 {
@@ -55,7 +56,8 @@ fn gives_request(reader: &mut RequestReader, text: &[u8], piece: usize) -> bool
     is_given
 }
 
-/// Whether the reader gives the one reply of this text, once its last piece came.
+/// Whether the reader returns the one reply of this text, and only after its last piece. `piece` is
+/// in bytes.
 fn gives_reply(reader: &mut ReplyReader, text: &[u8], piece: usize) -> bool
     requires { 0 < piece }
 {
@@ -71,7 +73,10 @@ fn gives_reply(reader: &mut ReplyReader, text: &[u8], piece: usize) -> bool
     is_given
 }
 
-/// Whether a reader that is fed so many of this kind, in pieces of so many bytes, gives each of them.
+/// Feeds a reader with `count` of this kind, in pieces of `piece` bytes. Returns whether it
+/// returned each of them.
+///
+/// Fails if an allocation fails.
 pub fn feed(alloc: Global, kind: Kind, count: u32, piece: usize) -> Result<bool, AllocError>
     requires { 0 < piece }
 {

@@ -1,5 +1,5 @@
-//! Feeds one of the two readers of `rmt_wire` with a stream in memory, piece by piece, and takes what it gives after each
-//! piece. It prints nothing: `bench/feed.py` measures how long it takes.
+//! Feeds one of the two readers of `rmt_wire` with a stream in memory, piece by piece, and takes
+//! what it returns after each piece. It prints nothing: `bench/feed.py` measures how long it takes.
 #![tactic(auto)]
 
 ghost use Rattle.std.specs.Prelude.{◌<◌};
@@ -10,10 +10,10 @@ use feed::{Kind, feed};
 use std::process::ExitCode;
 use std::{env, io};
 
-/// What the program ends with where its words are wrong, or a reader gave other than it was fed.
+/// The exit status if the arguments are wrong, or if a reader did not return what it was fed.
 const WRONG: u8 = 1;
 
-/// What is fed, how often, and in pieces of how many bytes.
+/// The arguments: the kind of input, how often it is fed, and the length of each piece, in bytes.
 #[derive(Drop)]
 struct Arguments {
     kind: Kind,
@@ -22,7 +22,8 @@ struct Arguments {
     ghost some_bytes: { 0 < piece },
 }
 
-/// The three words `KIND COUNT PIECE`, if they are that.
+/// Reads the arguments `KIND COUNT PIECE`. Returns `None` if they are not these three, or if
+/// `PIECE` is 0.
 fn arguments_of(rt: &HostRuntime) -> io::Result<Option<Arguments>> {
     let mut arguments = env::args(rt)?.skip(1);
     let (Some(kind), Some(count), Some(piece), None) = (
@@ -46,7 +47,7 @@ fn arguments_of(rt: &HostRuntime) -> io::Result<Option<Arguments>> {
     }
 }
 
-/// Feeds a reader as the words say. With other words it ends with status 1.
+/// Feeds a reader as the arguments say. With wrong arguments it exits with status 1.
 fn main(rt: HostRuntime) -> io::Result<ExitCode> {
     let Some(Arguments { kind, count, piece }) = arguments_of(&rt)? else {
         return Ok(ExitCode::from(WRONG));

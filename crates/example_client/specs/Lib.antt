@@ -1,2 +1,2 @@
--- Whole says when a dump is whole, and why one stopped.
+-- Whole: when a dump is whole, and why one stopped.
 pub mod Whole

@@ -9,13 +9,14 @@ use Rattle.dump_client.specs.declared.stage.Stage.TheVariants.{Finished}
 use Rattle.example_client.specs.declared.volumes.Stopped.{Stopped}
 use Rattle.example_client.specs.declared.volumes.Stopped.TheVariants.{NotUnderWay, OutOfMemory}
 
--- the run is finished: its counted volumes follow one another from the first block, and are all its blocks
+-- The run is finished. Its counted volumes follow one another from the first block, and are all its
+-- blocks.
 pub record IsWhole (at : Standing) : Type 0 where
   pub finished : at.stage ≡ Finished
   pub volumes : AreVolumes at.run 1 0 at.counts
   pub covered : Covers at.run at.counts
 
--- why a dump ends that cannot start its next attempt
+-- Why a dump ends that cannot start its next attempt.
 abbrev pub stopped_by : StartFault → Stopped
 stopped_by starts.WrongState = NotUnderWay
 stopped_by starts.OutOfMemory = OutOfMemory

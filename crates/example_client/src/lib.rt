@@ -1,8 +1,9 @@
-//! A client of a dump over a server in memory, as an example to copy: it writes a run's volumes, one after the other.
+//! A dump client of a server in memory, as an example to copy. It writes a run's volumes, one after
+//! the other.
 //!
-//! `Server` is the other end: it answers one request at a time. `dump` is the loop round a `dump_client::Client`, which makes the
-//! requests, hears the replies, and counts a volume once its reel was taken away. The tests of the examples have a server that
-//! keeps what is written.
+//! A `Server` answers one request at a time. `dump` is the loop around a `dump_client::Client`. The
+//! client makes the requests, reads the replies, and counts a volume once its reel was taken away.
+//! The tests of the examples have a server that keeps what is written.
 #![tactic(auto)]
 
 mod server;

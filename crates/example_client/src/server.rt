@@ -1,10 +1,10 @@
-//! The other end of a dump: an example to copy.
+//! The server of a dump: an example to copy.
 use std::alloc::AllocError;
 
 /// A server that answers each request at once.
 pub trait Server {
-    /// Puts the reply to one whole request after the bytes of `reply`.
+    /// Appends the reply to one whole request to `reply`.
     ///
-    /// It fails only where memory is refused. A connection that has ended is a reply of no bytes.
+    /// Fails only if an allocation fails. If the connection has ended, it appends nothing.
     fn answer(&mut self, request: &[u8], reply: &mut Vec<u8>) -> Result<(), AllocError>;
 }

@@ -1,4 +1,4 @@
-//! The loop round a client: an example to copy.
+//! The loop around a client: an example to copy.
 ghost use Rattle.std.specs.Prelude.{OnOk};
 ghost use Rattle.example_client.specs.Whole.{IsWhole};
 
@@ -6,14 +6,15 @@ use crate::server::Server;
 use dump_client::{AttemptFault, Blocks, Client, Progress, StartFault, State};
 use std::alloc::{AllocError, Global};
 
-/// Why a dump ended before all its blocks were counted. What was counted until then stays counted.
+/// Why a dump ended before all its blocks were counted. Volumes that were counted stay counted.
 #[derive(Clone, Copy, Debug, PartialEq, Eq)]
 pub enum Stopped {
-    /// An attempt failed so.
+    /// An attempt failed with this error.
     Failed(AttemptFault),
-    /// The run had stopped before: the client asks whether an attempt is tried again, or was told to abandon the run.
+    /// The run had stopped before: the client asks whether to retry an attempt, or the run was
+    /// abandoned.
     NotUnderWay,
-    /// Memory was refused.
+    /// An allocation failed.
     OutOfMemory,
 }
 
@@ -42,7 +43,9 @@ impl From<StartFault> for Stopped {
     }
 }
 
-/// Sends the client's next request, and gives it the whole reply.
+/// Sends the client's next request to the server, and gives the whole reply to the client.
+///
+/// Fails if the attempt fails, or if an allocation fails.
 fn exchange<B: Blocks + Drop, S: Server>(
     client: &mut Client<B>,
     server: &mut S,
@@ -62,7 +65,7 @@ fn exchange<B: Blocks + Drop, S: Server>(
     }
 }
 
-/// Tells the client that no more comes.
+/// Reports to the client that no more bytes come. Fails if the attempt fails.
 fn end<B: Blocks + Drop>(client: &mut Client<B>) -> Result<(), Stopped> {
     match client.ended() {
         Progress::Failed(fault) => Err(Stopped::Failed(fault)),
@@ -70,10 +73,10 @@ fn end<B: Blocks + Drop>(client: &mut Client<B>) -> Result<(), Stopped> {
     }
 }
 
-/// Has a client write all volumes that its run has left, each in one attempt.
+/// Makes a client write all volumes that are left of its run, each in one attempt.
 ///
-/// Ok says that the run is finished: the volumes that the client counted, each whole, are all its blocks in order. It stops at the
-/// first attempt that fails.
+/// Returns `Ok` if the run is finished: the counted volumes are whole and are all its blocks, in
+/// order. Stops at the first attempt that fails. The errors are those of `Stopped`.
 pub fn dump<B: Blocks + Drop, S: Server>(
     alloc: Global,
     client: &mut Client<B>,

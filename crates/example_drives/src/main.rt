@@ -9,10 +9,11 @@ use rmt_wire::{Counted, RequestReader};
 use std::alloc::Global;
 use std::process::ExitCode;
 
-/// How many bytes each reel takes.
+/// The capacity of each reel, in bytes.
 const CAPACITY: u64 = 1 << 20;
 
-/// Two drives, `/dev/st0` and `/dev/st1`, each with an empty reel. None where memory is refused.
+/// Makes two drives, `/dev/st0` and `/dev/st1`, each with an empty reel. Returns `None` if an
+/// allocation fails.
 fn two_drives(alloc: Global) -> Option<ListStacks>
     ensures { IfSome result (λ stacks. length stacks.library.drives ≡ 2) }
 {
@@ -24,7 +25,8 @@ fn two_drives(alloc: Global) -> Option<ListStacks>
     Some(stacks)
 }
 
-/// Serves standard input and standard output by one session. None where a stream failed, or memory is refused.
+/// Serves standard input and standard output with one session. Returns `None` if a stream or an
+/// allocation fails.
 fn serve_streams(rt: &HostRuntime) -> Option<Served> {
     let stacks = two_drives(rt.alloc())?;
     let mut holds = LocalHolds::new(rt.alloc(), 2).ok()?;
@@ -45,7 +47,7 @@ fn serve_streams(rt: &HostRuntime) -> Option<Served> {
     .ok()
 }
 
-/// Ends with 0 where the requests ended between two of them, and else with 1.
+/// Exits with 0 if the input ended between two requests, else with 1.
 fn main(rt: HostRuntime) -> ExitCode {
     ExitCode::from(u8::from(serve_streams(&rt) != Some(Served::End)))
 }

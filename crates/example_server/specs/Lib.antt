@@ -1,2 +1,2 @@
--- Serving says what the tape answers, and what serving it does.
+-- Serving: the replies of the tape, and what serving it does.
 pub mod Serving

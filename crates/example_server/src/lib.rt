@@ -1,7 +1,8 @@
-//! A server of a tape that keeps nothing, as an example to copy: it reads requests from any stream and answers each.
+//! A server of a tape that keeps nothing, as an example to copy. It reads requests from any stream
+//! and replies to each.
 //!
-//! `answer` is what such a tape says to a request. `serve` is the loop round it, over `rmt_wire` alone: a reader that
-//! splits the bytes into requests, and a writer of replies.
+//! `answer` returns the reply of such a tape to a request. `serve` is the loop around it. It needs
+//! only `rmt_wire`: a reader that splits the bytes into requests, and a writer of replies.
 #![tactic(auto)]
 
 mod reply;

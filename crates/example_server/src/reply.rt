@@ -1,4 +1,4 @@
-//! What a tape that keeps nothing answers: an example to copy.
+//! The replies of a tape that keeps nothing: an example to copy.
 ghost use Rattle.std.specs.Prelude.{◌≡◌, List, ℕ};
 ghost use Rattle.rmt_wire.specs.Lent.{plain_request, plain_reply};
 ghost use Rattle.rmt_wire.specs.Request.{SpellsRequest};
@@ -8,8 +8,10 @@ ghost use Rattle.example_server.specs.Serving.{answer_to};
 use rmt_wire::errno::EINVAL;
 use rmt_wire::{Reply, Request};
 
-/// The reply to a request that was read. Each is done at once: a write takes all its bytes, a read finds none, and an
-/// operation is answered with its count. A write whose bytes were dropped is an error.
+/// Returns the reply to a request that was read.
+///
+/// Each request is done at once. A write takes all its bytes, and a read finds none. The reply to
+/// an operation is its count. The reply to a write whose bytes were dropped is the error `EINVAL`.
 pub fn answer(request: &Request<'_>) -> Reply<'static>
     requires { (text : List ℕ) × SpellsRequest text (plain_request request.now) }
     ensures value { plain_reply result ≡ answer_to (plain_request request.now) }

@@ -10,7 +10,7 @@ use std::io::{Read, Write};
 /// Why a server stopped before the end of its stream, or at an end inside a request.
 #[derive(Clone, Copy, Debug, PartialEq, Eq)]
 pub enum Stop {
-    /// The stream of requests ended inside one, has bytes that are none, or failed.
+    /// The stream of requests ended inside one, contains bytes that are not a request, or failed.
     Requests(StreamFault),
     /// The stream of replies failed.
     Replies(OutputFault),
@@ -38,10 +38,11 @@ impl From<OutputFault> for Stop {
     }
 }
 
-/// Answers the requests of a stream, one reply to each, up to its end.
+/// Replies to the requests of a stream, one reply to each, until its end.
 ///
-/// It stops at the first bytes that are no request, at a stream that ends inside one, and where a read or a write fails.
-/// The reader has given all that was pushed. It takes no memory.
+/// Stops with `Stop::Requests` at the first bytes that are not a request, at a stream that ends
+/// inside one, and if a read fails. Stops with `Stop::Replies` if a write fails. The reader must be
+/// empty: it has given all bytes that were pushed to it. Allocates nothing.
 #[tactic(auto, using(std::proofs::lemmas::Result::err_from_is_err_and))]
 pub fn serve<R: Read, W: Write>(
     requests: &mut RequestReader,

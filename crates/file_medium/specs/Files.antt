@@ -1,14 +1,15 @@
--- A file of the system as a medium. Public contracts cite it.
+-- A file of the operating system as a medium. Public contracts cite it.
 use Rattle.std.specs.Prelude.{ℕ, Bool}
 use Rattle.tape.specs.Medium.{MediumKind, medium_kind}
 
--- what is told of a file: how many calls have failed, how often it was cut to nothing, whether a call was asked for that changes it,
--- also one that failed, and nothing of its bytes
+-- The view of a file, which has nothing of its bytes. `failures` counts the calls that failed.
+-- `truncations` counts the cuts to length 0 that succeeded. `written` says whether an append or a
+-- cut was called, even one that failed.
 pub record FileCount : Type 0 where
   pub failures : ℕ
   pub truncations : ℕ
   pub written : Bool
 
--- any call of a file can fail
+-- The bytes of a file are unknown, and any call of it can fail.
 abbrev pub file_kind : MediumKind FileCount
 file_kind = medium_kind (λ _ _. ⊥) (λ m. m.failures) (λ _. Unit {0}) (λ _. 0)

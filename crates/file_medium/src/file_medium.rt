@@ -1,4 +1,4 @@
-//! A medium that is a file of the system.
+//! A medium that is a file of the operating system.
 
 ghost use Rattle.std.specs.Prelude.{◌≡◌, ◌≢◌, ◌++◌, ◌≤◌, ◌↔◌, false, true, IfOk, None, Ok, OnErr, OnOk, length};
 ghost use Rattle.tape.specs.Failures.{raised};
@@ -15,11 +15,15 @@ use std::os::unix::fs::FileExt;
 use tape::{Medium, MediumFailed};
 use window::{LENGTH_SIZE, WINDOW_SIZE, Window};
 
-/// A medium that is a file of the system. It tells nothing of its bytes, and any call of it can fail.
+/// A medium that is a file of the operating system. The contracts promise nothing about its bytes,
+/// and any call of it can fail.
 ///
-/// The file has to be open for what is asked of it, and nothing else may write to it or cut it meanwhile: what was asked of
-/// the system once is kept. That is the length, until a call fails that changes it; and the last few bytes that were read
-/// where a length was asked for, until a call changes the file or fails.
+/// The file must be open for the calls that are made. Nothing else may write to it or cut it
+/// meanwhile, because some results of the system are kept:
+///
+/// - the length, until a call that changes it fails;
+/// - the last few bytes that were read when a length was read, until a call changes the file or
+///   fails.
 #[derive(Drop)]
 pub struct FileMedium {
     file: File,
@@ -31,10 +35,10 @@ pub struct FileMedium {
     is_written: bool,
 }
 
-/// A call that failed.
+/// The last call that failed.
 #[derive(Clone, Copy)]
 struct FailedCall {
-    /// How many failed before it, up to the greatest `u64`.
+    /// How many calls failed before it, at most the greatest `u64`.
     before: u64,
     /// Why it failed.
     reason: io::Error,
@@ -52,9 +56,10 @@ impl Model for FileMedium {
 }
 
 impl FileMedium {
-    /// The medium that is this file. It makes no call of the system.
+    /// Makes a medium of this file. Makes no call of the system.
     ///
-    /// A file that is added to has to be open to append (`OpenOptions::append`): its bytes are written where it ends.
+    /// A file to which bytes are appended must be open to append (`OpenOptions::append`): bytes are
+    /// written at its end.
     pub fn new(file: File) -> FileMedium
         ensures count { result.failures ≡ 0 }
         ensures begun { result.truncations ≡ 0 }
@@ -71,8 +76,10 @@ impl FileMedium {
         }
     }
 
-    /// The medium that is this file, which may only be read. It makes no call of the system, and a write or a cut fails without one,
-    /// for the reason that the reel may only be read.
+    /// Makes a medium of this file that may only be read. Makes no call of the system.
+    ///
+    /// An append fails, and so does a cut that would shorten the file. The file is unchanged then,
+    /// and the reason is `PermissionDenied`.
     pub fn read_only(file: File) -> FileMedium
         ensures count { result.failures ≡ 0 }
         ensures begun { result.truncations ≡ 0 }
@@ -83,34 +90,36 @@ impl FileMedium {
         medium
     }
 
-    /// The file, for what a medium has no call for: its metadata, and a lock on it.
+    /// Returns the file, for calls that a medium does not have: its metadata, and a lock on it.
     pub fn file(&self) -> &File {
         &self.file
     }
 
-    /// How often the file was cut to nothing, by cuts that went well. It stays at the greatest `u64`.
+    /// Returns how many cuts to length 0 succeeded, also of an empty file. The count stops at the
+    /// greatest `u64`.
     pub fn truncations(&self) -> u64
         ensures { result ≡ self.now.truncations }
     {
         self.truncations
     }
 
-    /// Whether it was written to or cut, or was to be: an append or a cut was asked for, also one that failed.
+    /// Whether an append or a cut was called, even one that failed.
     pub fn is_written(&self) -> bool
         ensures { result ≡ self.now.written }
     {
         self.is_written
     }
 
-    /// Writes to the device what the system keeps of the file. A failure is not counted here.
+    /// Makes the system write its buffered data of the file to the device. A failure is not counted
+    /// here.
     ///
-    /// Answers the system's error. The system tells once what it could not write, and forgets it then: a sync after one that
-    /// failed says nothing of what was written before that one.
+    /// Fails with the system's error. The system reports only once what it could not write. So a
+    /// sync after a failed one guarantees nothing about what was written before the failed one.
     pub fn sync(&self) -> io::Result<()> {
         self.file.sync_all()
     }
 
-    /// Why the last call failed that the system refused. None where none has.
+    /// Returns why the last failed call failed. Returns `None` if no call has failed.
     pub fn last_error(&self) -> Option<io::Error>
         ensures { result ≡ None ↔ self.now.failures ≡ 0 }
     {
@@ -120,7 +129,7 @@ impl FileMedium {
         }
     }
 
-    /// Counts a failure, and keeps why it came.
+    /// Counts a failure and keeps its reason. Returns the value of a success.
     fn count<T: Drop>(&mut self, found: io::Result<T>) -> Result<T, MediumFailed>
         ensures same { OnOk result (self.new ≡ self.old) }
         ensures failed { OnErr result (self.new ≡ record self.old { failures = raised self.old.failures }) }
@@ -137,14 +146,14 @@ impl FileMedium {
         }
     }
 
-    /// Counts a cut to nothing.
+    /// Counts a cut to length 0.
     fn begin(&mut self)
         ensures { self.new ≡ record self.old { truncations = raised self.old.truncations } }
     {
         self.truncations = self.truncations.saturating_add(1);
     }
 
-    /// Fails where the file may only be read.
+    /// Fails with `PermissionDenied` if the file may only be read.
     fn may_write(&self) -> io::Result<()> {
         if self.is_read_only {
             let words = "the reel may only be read";
@@ -153,7 +162,7 @@ impl FileMedium {
         Ok(())
     }
 
-    /// Forgets what the system was asked for, before a call changes it.
+    /// Drops the kept length and bytes, before a call changes the file.
     fn forget(&mut self)
         ensures { self.new ≡ self.old }
     {
@@ -161,7 +170,7 @@ impl FileMedium {
         self.window = None;
     }
 
-    /// Adds the frame, the bytes and the frame at the end, which is at this offset.
+    /// Appends the frame, the bytes and the frame. `end` is the present length of the file.
     fn write_at_end(&mut self, end: u64, frame: &[u8], bytes: &[u8]) -> Result<(), MediumFailed>
         ensures same { OnOk result (self.new ≡ self.old) }
         ensures failed { OnErr result (self.new ≡ record self.old { failures = raised self.old.failures }) }
@@ -175,7 +184,7 @@ impl FileMedium {
         Ok(())
     }
 
-    /// Reads a length, and keeps it with the bytes after it.
+    /// Reads a length, and keeps it with the bytes after it if they are there.
     fn read_length(&mut self, at: u64, into: &mut [u8]) -> io::Result<usize>
         ensures same { length into.new ≡ length into.old }
         ensures bound { IfOk result (λ n. n ≤ length into.new) }
@@ -191,7 +200,8 @@ impl FileMedium {
         Ok(count)
     }
 
-    /// Copies bytes from this offset on out of the window, where all that `into` takes are there.
+    /// Copies the bytes from offset `at` on out of the window, if it has all that fit in `into`.
+    /// Returns whether it has.
     fn read_window(&self, at: u64, into: &mut [u8]) -> bool
         ensures { length into.new ≡ length into.old }
     {
@@ -205,7 +215,7 @@ impl FileMedium {
         true
     }
 
-    /// Cuts the file to this length, which is less than it has.
+    /// Cuts the file to `len` bytes, which is less than it has.
     fn shorten(&mut self, len: u64) -> Result<(), MediumFailed>
         ensures same { OnOk result (self.new ≡ self.old) }
         ensures failed { OnErr result (self.new ≡ record self.old { failures = raised self.old.failures }) }
@@ -267,7 +277,7 @@ impl Medium for FileMedium {
         self.write_at_end(end, &[], bytes)
     }
 
-    /// It is one call of the system, where the system takes all of it at once.
+    /// Makes one call of the system to write, if the system takes all of it at once.
     fn append_framed(&mut self, frame: &[u8], bytes: &[u8]) -> Result<(), MediumFailed>
         ensures call { IsMediumCall file_kind self.old (Append (frame.now ++ (bytes.now ++ frame.now)) result) self.new }
         ensures same { OnOk result (self.new ≡ record self.old { written = true }) }
@@ -306,7 +316,8 @@ impl Medium for FileMedium {
     ghost bounded = { λ _ _ told. absurd told };
 }
 
-/// How many bytes the file has. What is no plain file, as a block device, tells it by where it ends.
+/// Returns how many bytes the file has. For anything but a regular file, such as a block device,
+/// this is the offset of its end.
 fn length_of(mut file: &File) -> io::Result<u64> {
     let found = file.metadata()?;
     if found.is_file() {
@@ -315,22 +326,24 @@ fn length_of(mut file: &File) -> io::Result<u64> {
     file.seek(SeekFrom::End(0))
 }
 
-/// The offset after the frame, the bytes and the frame from this one on, where a `u64` counts it.
+/// Returns the offset after the frame, the bytes and the frame, which begin at `at`. Returns `None`
+/// if a `u64` cannot hold it.
 fn offset_behind(at: u64, frame: &[u8], bytes: &[u8]) -> Option<u64> {
     let within = at.checked_add(frame.len() as u64)?;
     let behind = within.checked_add(bytes.len() as u64)?;
     behind.checked_add(frame.len() as u64)
 }
 
-/// Writes the frame, the bytes and the frame at the end of a file that is open to append: by one call of the system where it
-/// takes them all.
+/// Writes the frame, the bytes and the frame at the end of a file that is open to append. Makes one
+/// call of the system if it takes them all.
 ///
-/// Answers the system's error, or `WriteZero` where it takes nothing. A call that was interrupted is made again.
+/// Fails with the system's error, or with `WriteZero` if the system takes nothing. Repeats a call
+/// that was interrupted.
 fn write_framed(file: &File, frame: &[u8], bytes: &[u8]) -> io::Result<()> {
     let frame = IoSlice::new(frame);
     let mut parts = [frame, IoSlice::new(bytes), frame];
     let mut rest = parts.as_mut_slice();
-    // Parts that have no bytes are done.
+    // Drops parts that have no bytes.
     IoSlice::advance_slices(&mut rest, 0);
     for _ in 0..u64::MAX {
         if rest.is_empty() {
@@ -346,10 +359,10 @@ fn write_framed(file: &File, frame: &[u8], bytes: &[u8]) -> io::Result<()> {
     Err(io::Error::from(ErrorKind::Interrupted))
 }
 
-/// Reads from this offset on, until so many bytes are there, the buffer is full or the file ends. Answers how many bytes it
-/// read.
+/// Reads from offset `at` on, until at least `least` bytes are there, the buffer is full or the
+/// file ends. Returns how many bytes it read.
 ///
-/// Answers the system's error. A call that was interrupted is made again.
+/// Fails with the system's error. Repeats a call that was interrupted.
 fn fill(file: &File, at: u64, into: &mut [u8], least: usize) -> io::Result<usize>
     ensures bound { IfOk result (λ n. n ≤ length into.new) }
     ensures same { length into.new ≡ length into.old }

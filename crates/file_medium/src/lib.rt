@@ -1,7 +1,7 @@
-//! A file of the system as a medium.
+//! A file of the operating system as a medium.
 //!
-//! It tells nothing of what lies in the file. How often the system failed is counted. `reserve_std_fds` sees to it that no file gets
-//! the place of a standard stream.
+//! The contracts promise nothing about the file's content. Failed calls are counted.
+//! `reserve_std_fds` makes sure that no file gets the descriptor of a standard stream.
 #![tactic(auto)]
 
 mod file_medium;

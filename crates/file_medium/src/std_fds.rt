@@ -1,4 +1,4 @@
-//! The places of the standard streams.
+//! The file descriptors of the standard streams.
 
 use std::fs::{self, File};
 use std::os::fd::{AsRawFd, IntoRawFd};
@@ -7,10 +7,13 @@ use std::rt::Files;
 /// How many standard streams there are.
 const PLACES: i32 = 3;
 
-/// Takes the place of each standard stream that the program was started without, before it opens anything: the first file or
-/// connection would get that place, and what is written to the stream would go into it.
+/// Reserves the descriptor of each standard stream that the program was started without.
 ///
-/// What has the place is the folder `/`, which can neither be written to nor read as a file. Where `/` can't be opened the places stay free.
+/// Call it before the program opens anything. Otherwise the first file or connection would get such
+/// a descriptor, and what is written to the stream would be written into it.
+///
+/// It opens the folder `/` there, which can neither be written to nor read as a file. If `/` can't
+/// be opened, the descriptors stay free.
 pub fn reserve_std_fds<R: Files<File = File>>(rt: &R) {
     for _ in 0..PLACES {
         match fs::open(rt, "/") {

@@ -1,2 +1,2 @@
--- Printing: text of others as it may be printed.
+-- Printing: text from others in a form that is safe to print.
 pub mod Printing

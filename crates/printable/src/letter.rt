@@ -1,9 +1,10 @@
-//! One character as it may be printed.
+//! One character in a form that is safe to print.
 ghost use Rattle.std.specs.Prelude.{◌≡◌, false};
 ghost use Rattle.std.specs.Char.{is_control};
 ghost use Rattle.printable.specs.Printing.{plain_char, plain_line_char};
 
-/// A character as it may be printed: a control character (U+0000 to U+001F, U+007F to U+009F) as `?`, each other one as it is.
+/// Returns a character that is safe to print: `?` for a control character (U+0000 to U+001F, U+007F
+/// to U+009F), else the character itself.
 pub fn plain_char(letter: char) -> char
     ensures value { result ≡ plain_char letter }
     ensures harmless { is_control result ≡ false }
@@ -12,7 +13,7 @@ pub fn plain_char(letter: char) -> char
     if letter.is_control() { '?' } else { letter }
 }
 
-/// A character as it may be printed in a text of several lines: the same, but a line feed as it is.
+/// Like `plain_char`, but returns a line feed unchanged, for a text of several lines.
 pub fn plain_line_char(letter: char) -> char
     ensures value { result ≡ plain_line_char letter }
 {

@@ -1,5 +1,8 @@
-//! Text of others as it may be printed, on standard error and at a terminal: a name of a file, a label of a reel, an error text
-//! of a peer. Each control character and what is no UTF-8 stand as `?`, so that nothing of it ends a line or controls a terminal.
+//! Text from others in a form that is safe to print on standard error and at a terminal. Examples
+//! are a file name, a label of a reel, and an error text of a peer.
+//!
+//! Each control character is printed as `?`, and so is each byte sequence that is not UTF-8. So no
+//! such text can end a line or control a terminal.
 #![tactic(auto)]
 
 mod letter;

@@ -1,4 +1,4 @@
-//! A text of several lines as it may be printed.
+//! A text of several lines in a form that is safe to print.
 ghost use Rattle.std.specs.Prelude.{◌≡◌, Some};
 ghost use Rattle.std.specs.Fmt.{WritesOnOk};
 ghost use Rattle.printable.specs.Printing.{plain_lines};
@@ -6,8 +6,8 @@ ghost use Rattle.printable.specs.Printing.{plain_lines};
 use crate::letter::plain_line_char;
 use std::fmt::{self, Display, Formatter, Write};
 
-/// A text of several lines in which words of others stand, to print: each control character but the line feed stands as `?`. Printing
-/// takes no memory.
+/// A text of several lines that contains text from others. It prints each control character but the
+/// line feed as `?`. Printing allocates nothing.
 #[derive(Clone, Copy)]
 pub struct PlainLines<'a>(pub &'a str);
 
@@ -19,7 +19,7 @@ impl Display for PlainLines<'_> {
     }
 }
 
-/// Writes a text of several lines as it may be printed.
+/// Writes a text of several lines in a form that is safe to print.
 fn write_lines<W: Write>(text: &str, f: &mut Formatter<W>) -> fmt::Result
     ensures { WritesOnOk W.write_str_gives f.old result (plain_lines text.now) f.new }
 {

@@ -1,4 +1,4 @@
-//! Bytes of others as they may be printed.
+//! Bytes from others in a form that is safe to print.
 ghost use Rattle.std.specs.Prelude.{◌≡◌, length, Some};
 ghost use Rattle.std.specs.Fmt.{WritesOnOk};
 ghost use Rattle.printable.specs.Printing.{mark_of, plain_text, printable};
@@ -6,12 +6,13 @@ ghost use Rattle.printable.specs.Printing.{mark_of, plain_text, printable};
 use crate::letter::plain_char;
 use std::fmt::{self, Display, Formatter, Write};
 
-/// Bytes of others, to print: each control character stands as `?`, a line feed among them, and so does each sequence of bytes that is no
-/// UTF-8, as long as `utf8_chunks` has it. All else stands as it is. Printing takes no memory.
+/// Bytes from others, to print. Each control character is printed as `?`, also a line feed. Each
+/// byte sequence that is not UTF-8, as `utf8_chunks` divides them, is printed as one `?`. All else
+/// is printed unchanged. Printing allocates nothing.
 #[derive(Clone, Copy)]
 pub struct PlainBytes<'a>(pub &'a [u8]);
 
-/// A text of others, to print.
+/// Returns the bytes of a text from others, to print.
 pub fn plain(text: &str) -> PlainBytes<'_>
     ensures { result.0.now ≡ text.now }
 {
@@ -26,7 +27,7 @@ impl Display for PlainBytes<'_> {
     }
 }
 
-/// Writes bytes as they may be printed.
+/// Writes bytes in a form that is safe to print.
 fn write_bytes<W: Write>(bytes: &[u8], f: &mut Formatter<W>) -> fmt::Result
     ensures { WritesOnOk W.write_str_gives f.old result (printable bytes.now) f.new }
 {
@@ -38,7 +39,7 @@ fn write_bytes<W: Write>(bytes: &[u8], f: &mut Formatter<W>) -> fmt::Result
     Ok(())
 }
 
-/// Writes a text as it may be printed.
+/// Writes a text in a form that is safe to print.
 fn write_text<W: Write>(text: &str, f: &mut Formatter<W>) -> fmt::Result
     ensures { WritesOnOk W.write_str_gives f.old result (plain_text text.now) f.new }
 {
@@ -48,7 +49,7 @@ fn write_text<W: Write>(text: &str, f: &mut Formatter<W>) -> fmt::Result
     Ok(())
 }
 
-/// Writes what stands for bytes that are no text, if there are any.
+/// Writes `?` for bytes that are not UTF-8, if there are any.
 fn write_mark<W: Write>(bytes: &[u8], f: &mut Formatter<W>) -> fmt::Result
     ensures { WritesOnOk W.write_str_gives f.old result (mark_of (length bytes.now)) f.new }
 {

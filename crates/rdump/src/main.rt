@@ -5,7 +5,9 @@ use rdump_commands::rdump;
 use std::io::IsTerminal;
 use std::process::ExitCode;
 
-/// Does what the words ask, and ends with its status. Standard error shows the progress of a dump where it is a terminal.
+/// Runs the client with its arguments, and exits with its status.
+///
+/// If standard error is a terminal, it shows the progress of a dump there.
 fn main(rt: HostRuntime) -> ExitCode {
     let stderr = rt.stderr();
     let terminal = stderr.is_terminal().then_some(stderr);

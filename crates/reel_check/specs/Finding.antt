@@ -1,4 +1,4 @@
--- What functions that read a reel find. No public contract needs it.
+-- What the functions that read a reel find. No public contract needs it.
 use Rattle.std.specs.Prelude.{◌≡◌, ℕ, ◌+◌, ◌<◌, ◌^◌, List, [], ◌∷◌, ◌++◌, length, drop, Option, Some, None}
 use Rattle.std.specs.List.{All}
 use Rattle.tape.specs.Tape.{PlainEntry, IsTapeEntry}
@@ -9,28 +9,28 @@ use Rattle.reel_check.specs.Holding.{IsVolume}
 use Rattle.reel_check.specs.Contents.{Tally, IsTally}
 use Rattle.reel_check.specs.declared.holding.Volume.{Volume}
 
--- the entries are this volume's
+-- The entries are this volume.
 abbrev pub IsOfVolume : Volume → List PlainEntry → Type 0
 IsOfVolume v entries = IsVolume v.label v.blocks v.block_bytes v.end entries
 
--- The bytes begin with an entry of this length (0 for a mark), or with none.
+-- The bytes begin with an entry of this length, 0 for a mark. `None` if they begin with no entry.
 abbrev pub IsNextLength : List ℕ → Option ℕ → Type 0
 IsNextLength bytes None = IsTail bytes
 IsNextLength bytes (Some n) = (written : List ℕ) × (rest : List ℕ) × IsFirst bytes written rest × (n ≡ length written)
 
--- the entry that these bytes begin with, of this length, is told to a tally
+-- The entry of this length that these bytes begin with is added to a tally.
 abbrev pub TellsEntry : List ℕ → ℕ → Tally → Tally → Type 0
 TellsEntry bytes n old new =
     (written rest : List ℕ) (f : IsFirst bytes written rest) → n ≡ length written → (done : List PlainEntry) → length done + 1 < 2 ^ 64 →
     IsTally old done → IsTally new (done ++ f.entry ∷ [])
 
--- the record of this length whose bytes stand first here is told to a tally
+-- The record whose bytes are the first `n` of these is added to a tally.
 abbrev pub TellsRecord : List ℕ → ℕ → Tally → Tally → Type 0
 TellsRecord there n old new =
     (written rest : List ℕ) → there ≡ written ++ rest → n ≡ length written → (done : List PlainEntry) → length done + 1 < 2 ^ 64 →
     IsTally old done → IsTally new (done ++ Record written ∷ [])
 
--- the bytes before this offset are the images of entries, which the tally was told
+-- The bytes before this offset are the images of entries that were added to the tally.
 pub record IsToldUpTo (bytes : List ℕ) (at : ℕ) (t : Tally) : Type 0 where
   pub done : List PlainEntry
   pub whole : bytes ≡ images_of done ++ drop at bytes
@@ -38,6 +38,6 @@ pub record IsToldUpTo (bytes : List ℕ) (at : ℕ) (t : Tally) : Type 0 where
   pub lawful : All IsTapeEntry done
   pub tally : IsTally t done
 
--- the bytes spell what the tally was told, and these entries end at this offset
+-- The tally is that of the entries that the bytes spell, and they end at this offset.
 abbrev pub IsToldOf : List ℕ → ℕ → Tally → Type 0
 IsToldOf bytes end t = (entries : List PlainEntry) → SpellsReel bytes entries → (end ≡ length (images_of entries)) × IsTally t entries

@@ -1,4 +1,5 @@
--- What a reel holds, as its entries say it: a volume, whole or not, nothing, or something else. Public contracts cite it.
+-- What a reel holds, as its entries show it: a volume, whole or not, nothing, or something else.
+-- Public contracts cite it.
 use Rattle.std.specs.Prelude.{◌≡◌, ◌≢◌, ◌⊎◌, ℕ, List, [], ◌∷◌, ◌++◌, All, length, map}
 use Rattle.tape.specs.Tape.{PlainEntry}
 use Rattle.tape.specs.Tape.PlainEntry.{Record, Mark}
@@ -8,13 +9,14 @@ use Rattle.reel_check.specs.declared.holding.Holding.TheVariants.{Empty, Volume,
 use Rattle.reel_check.specs.declared.holding.VolumeEnd.{VolumeEnd}
 use Rattle.reel_check.specs.declared.holding.VolumeEnd.TheVariants.{NoMark, OneMark, MoreAfterMark}
 
--- what follows the blocks of a volume: nothing, one mark and nothing else, or a mark and more
+-- What follows the blocks of a volume: nothing, one mark and nothing else, or a mark and more.
 abbrev pub IsEnd : VolumeEnd → List PlainEntry → Type 0
 IsEnd NoMark rest = rest ≡ []
 IsEnd OneMark rest = rest ≡ Mark ∷ []
 IsEnd MoreAfterMark rest = (entry : PlainEntry) × (more : List PlainEntry) × (rest ≡ Mark ∷ entry ∷ more)
 
--- The entries are a label, so many blocks of this length, and this end. Where there is no block, the length is 0.
+-- The entries are a label, `count` blocks of `size` bytes each, and this end. Without a block the
+-- size is 0.
 pub record IsVolume (l : PlainLabel) (count size : ℕ) (end : VolumeEnd) (entries : List PlainEntry) : Type 0 where
   pub blocks : List (List ℕ)
   pub rest : List PlainEntry
@@ -25,19 +27,20 @@ pub record IsVolume (l : PlainLabel) (count size : ℕ) (end : VolumeEnd) (entri
   pub none : blocks ≡ [] → size ≡ 0
   pub end_is : IsEnd end rest
 
--- a mark comes first
+-- A mark comes first.
 pub record BeginsWithMark (entries : List PlainEntry) : Type 0 where
   pub rest : List PlainEntry
   pub whole : entries ≡ Mark ∷ rest
 
--- a record comes first that is no label
+-- A record that is not a label comes first.
 pub record BeginsWithoutLabel (entries : List PlainEntry) : Type 0 where
   pub bytes : List ℕ
   pub rest : List PlainEntry
   pub whole : entries ≡ Record bytes ∷ rest
   pub no_label : (l : PlainLabel) → IsLabel l → bytes ≢ label_record l
 
--- after a label come records of one length, at least one, and then, before any mark, a record of another length
+-- After a label come one or more records of one length, and then, before any mark, a record of
+-- another length.
 pub record HasTwoLengths (entries : List PlainEntry) : Type 0 where
   pub label : PlainLabel
   pub first : List ℕ
@@ -49,7 +52,8 @@ pub record HasTwoLengths (entries : List PlainEntry) : Type 0 where
   pub same : All (λ block. length block ≡ length first) blocks
   pub differs : length other ≢ length first
 
--- what the entries of a reel are said to be: none at all, a volume, or what is no volume of a dump
+-- What the entries of a reel are: none at all, a volume, or something that is not a volume of a
+-- dump.
 abbrev pub IsHolding : Holding → List PlainEntry → Type 0
 IsHolding Empty entries = entries ≡ []
 IsHolding (Volume v) entries = IsVolume v.label v.blocks v.block_bytes v.end entries

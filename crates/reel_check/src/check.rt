@@ -1,4 +1,4 @@
-//! What a record file holds, read from front to end.
+//! Reading a record file from front to end, to find what it holds.
 
 ghost use Rattle.std.specs.Prelude.{◌≡◌, ◌≢◌, ◌+◌, ◌<◌, ◌≤◌, ◌^◌, ℕ, List, [], IfOk, OnErr, OnOk, IsErr, drop, length};
 ghost use Rattle.tape.specs.Tape.{PlainEntry};
@@ -14,12 +14,14 @@ use crate::{ReelContents, ReelTally};
 use dump_run::LABEL_BYTES;
 use tape::{Medium, MediumFailed};
 
-/// What a record file holds. It is read once, entry by entry from front to end, and is not changed.
+/// Returns what a record file holds. Reads it once, entry by entry from front to end, and does not
+/// change it.
 ///
-/// The bytes of a record are read in pieces as long as `room`, so that a disk that cannot give them is found out. With an empty `room`
-/// the lengths alone are read, and a first record that may be a label. It takes no memory.
+/// The bytes of each record are read in pieces as long as `room`, so that a read error of the disk
+/// is noticed. With an empty `room`, only lengths are read, and a first entry that may be a label.
+/// Allocates nothing.
 ///
-/// Answers `MediumFailed` where a call of the medium failed.
+/// Fails with `MediumFailed` if a call of the medium failed.
 pub fn check_reel<M: Medium>(medium: &mut M, room: &mut [u8]) -> Result<ReelContents, MediumFailed>
     ensures told { (bytes : List ℕ) (entries : List PlainEntry) → M.holds medium.old bytes → SpellsReel bytes entries →
         IfOk result (λ c. IsContents c bytes entries) }
@@ -39,7 +41,7 @@ pub fn check_reel<M: Medium>(medium: &mut M, room: &mut [u8]) -> Result<ReelCont
     })
 }
 
-/// The tally of the entries of a record file, and the offset where they end.
+/// Returns the tally of the entries of a record file, and the offset of their end.
 fn add_entries<M: Medium>(medium: &mut M, room: &mut [u8]) -> Result<(ReelTally, u64), MediumFailed>
     ensures { IsMediumRun (medium_kind_of M.Medium)
         (λ old new. (new ≡ old) × IfOk result (λ p. IsToldOf old p.1 p.0)) 0 (IsErr result) medium.old medium.new }
@@ -53,7 +55,7 @@ fn add_entries<M: Medium>(medium: &mut M, room: &mut [u8]) -> Result<(ReelTally,
     Ok((tally, at))
 }
 
-/// Tells the entry of this length that stands from an offset on.
+/// Adds the entry of this length at offset `at` to the tally. A mark has the length 0.
 fn add_entry<M: Medium>(
     medium: &mut M,
     at: u64,
@@ -73,7 +75,9 @@ fn add_entry<M: Medium>(
     add_record(medium, at + LENGTH_BYTES, length as usize, room, tally)
 }
 
-/// Tells the record of this length whose bytes stand from an offset on. Only the bytes of a first one that may be a label count.
+/// Adds the record of this length to the tally. Its bytes begin at offset `at`.
+///
+/// Only the bytes of a first entry that may be a label are given to the tally.
 fn add_record<M: Medium>(
     medium: &mut M,
     at: u64,
@@ -94,7 +98,7 @@ fn add_record<M: Medium>(
     Ok(())
 }
 
-/// Tells the record of a label's length whose bytes stand from an offset on.
+/// Adds the record of a label's length to the tally. Its bytes begin at offset `at`.
 fn add_label<M: Medium>(medium: &mut M, at: u64, tally: &mut ReelTally) -> Result<(), MediumFailed>
     ensures { IsMediumRun (medium_kind_of M.Medium)
         (λ old new. (new ≡ old) × IfOk result (λ _. TellsRecord (drop at old) label_bytes tally.old tally.new)) 0 (IsErr result)
@@ -106,7 +110,8 @@ fn add_label<M: Medium>(medium: &mut M, at: u64, tally: &mut ReelTally) -> Resul
     Ok(())
 }
 
-/// Reads so many bytes from an offset on, in pieces as long as `room`.
+/// Reads `length` bytes from offset `at` on, in pieces as long as `room`. Reads nothing if `room`
+/// is empty.
 fn pass_bytes<M: Medium>(
     medium: &mut M,
     at: u64,

@@ -1,19 +1,19 @@
-//! What is told of a reel.
+//! The result of checking a reel.
 
 use crate::Holding;
 
 /// What a record file holds.
 #[derive(Drop)]
 pub struct ReelContents {
-    /// What its entries are.
+    /// What its entries are: a volume, nothing or something else.
     pub holding: Holding,
-    /// How many records there are, the label among them, and those after a mark too.
+    /// How many records there are, including the label and those after a mark.
     pub records: u64,
     /// How many marks there are.
     pub marks: u64,
     /// How many bytes the file has.
     pub bytes: u64,
-    /// How many of them stand after the last entry that is read from the front: what a write left that was stopped, or a damaged entry
-    /// and all that follows it.
+    /// How many bytes follow the last entry that can be read from the front. They are what a
+    /// stopped write left, or a damaged entry and all that follows it.
     pub tail: u64,
 }

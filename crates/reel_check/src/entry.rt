@@ -1,4 +1,4 @@
-//! The entry that stands in a record file from an offset on.
+//! The entry at an offset of a record file.
 
 ghost use Rattle.std.specs.Prelude.{◌≡◌, ◌<◌, ◌≤◌, ◌^◌, IfOk, IfSome, IsErr, drop};
 ghost use Rattle.tape.specs.RecordFile.{length_bytes, medium_kind_of};
@@ -8,16 +8,17 @@ ghost use Rattle.reel_check.specs.Finding.{IsNextLength};
 use rmt_wire::RECORD_LIMIT;
 use tape::{Medium, MediumFailed};
 
-/// The bytes of a length in the file. One stands before a record's bytes, one after them, and one is a mark.
+/// How many bytes a length takes in the file. One length precedes a record's bytes and one follows
+/// them. A mark is one length.
 pub(crate) const LENGTH_BYTES: u64 = 4;
 
-/// No medium that tells its bytes has so many.
+/// More bytes than a medium has whose bytes are known, by the law `bounded` of `Medium`.
 const OFFSET_LIMIT: u64 = 1 << 63;
 
-/// The greatest length of a record, as it stands in a file.
+/// The greatest length of a record, in the type of a length in a record file.
 const LENGTH_LIMIT: u32 = RECORD_LIMIT as u32;
 
-/// How many bytes an entry of this length takes. A length of 0 is a mark's.
+/// Returns how many bytes an entry of this length takes. A mark has the length 0.
 pub(crate) fn size_of(length: u32) -> u64
     ensures { result ≡ size_by_length length }
 {
@@ -28,7 +29,9 @@ pub(crate) fn size_of(length: u32) -> u64
     }
 }
 
-/// The length of the entry that stands from an offset on, 0 for a mark. No length where none stands there whole: that is the end.
+/// Returns the length of the entry that begins at an offset, 0 for a mark.
+///
+/// Returns `None` if no whole entry begins there: that is the end.
 pub(crate) fn next_length<M: Medium>(medium: &mut M, at: u64) -> Result<Option<u32>, MediumFailed>
     ensures run { IsMediumRun (medium_kind_of M.Medium)
         (λ old new. (new ≡ old) × IfOk result (IsNextLength (drop at old))) 0 (IsErr result) medium.old medium.new }
@@ -55,7 +58,7 @@ pub(crate) fn next_length<M: Medium>(medium: &mut M, at: u64) -> Result<Option<u
     Ok(Some(length))
 }
 
-/// The length that stands from an offset on, where 4 bytes are there.
+/// Reads the length at an offset. Returns `None` if fewer than 4 bytes are there.
 fn length_at<M: Medium>(medium: &mut M, at: u64) -> Result<Option<u32>, MediumFailed>
     ensures { IsMediumRun (medium_kind_of M.Medium)
         (λ old new. (new ≡ old) × IfOk result (BeginsWith (drop at old))) 0 (IsErr result) medium.old medium.new }
@@ -68,7 +71,7 @@ fn length_at<M: Medium>(medium: &mut M, at: u64) -> Result<Option<u32>, MediumFa
     Ok(Some(length_in(bytes)))
 }
 
-/// The length that these bytes are.
+/// Returns the length that these bytes encode, in little-endian order.
 fn length_in(bytes: [u8; 4]) -> u32
     ensures { length_bytes result ≡ bytes }
 {

@@ -1,4 +1,4 @@
-//! What a reel is said to hold.
+//! What a reel holds, as its entries show it.
 
 ghost use Rattle.std.specs.Prelude.{◌≡◌, ◌≢◌, ◌+◌, ◌<◌, ◌^◌, ℕ, List, [], ◌∷◌, ◌++◌, length};
 ghost use Rattle.tape.specs.Tape.{PlainEntry};
@@ -14,7 +14,7 @@ use dump_run::VolumeLabel;
 /// What follows the blocks of a volume on its reel.
 #[derive(Clone, Copy, Debug, PartialEq, Eq)]
 pub enum VolumeEnd {
-    /// Nothing: the mark is missing, as after a dump that was cut.
+    /// Nothing: the mark is missing, as after a dump that was cut short.
     NoMark,
     /// One mark, and nothing after it: the volume is whole.
     OneMark,
@@ -25,11 +25,11 @@ pub enum VolumeEnd {
 /// A volume on a reel.
 #[derive(Drop)]
 pub struct Volume {
-    /// What its label says.
+    /// The label, as it was read.
     pub label: VolumeLabel,
     /// How many blocks there are: the records between the label and the first mark, or the end.
     pub blocks: u64,
-    /// The bytes of each block; 0 where there is none.
+    /// How many bytes each block has; 0 if there is no block.
     pub block_bytes: usize,
     /// What follows the blocks.
     pub end: VolumeEnd,
@@ -40,14 +40,15 @@ pub struct Volume {
 pub enum Holding {
     /// No record and no mark.
     Empty,
-    /// A label and blocks of one length, whole or not.
+    /// A label and blocks of one length. The volume may be whole or not.
     Volume(Volume),
-    /// Something else: a mark comes first, or a record that is no label, or blocks of two lengths come after a label.
+    /// Something else: a mark comes first, or a record that is not a label, or blocks of two
+    /// lengths follow a label.
     Foreign,
 }
 
 impl Holding {
-    /// What is held where these bytes are the record that comes next.
+    /// Returns what is held if a record of these bytes comes next.
     pub(crate) fn with_record(self, bytes: &[u8]) -> Holding
         ensures { (entries : List PlainEntry) → length entries + 1 < 2 ^ 64 → IsHolding self entries →
             IsHolding result (entries ++ Record bytes.now ∷ []) }
@@ -58,7 +59,8 @@ impl Holding {
         }
     }
 
-    /// What is held where a record of this length comes next that is no label of a volume.
+    /// Returns what is held if a record of this length comes next. If it is the first entry, it
+    /// does not have a label's length.
     pub(crate) fn with_other(self, len: usize) -> Holding
         requires { self ≡ Empty → len ≢ label_bytes }
         ensures { (bytes : List ℕ) (entries : List PlainEntry) → len ≡ length bytes → length entries + 1 < 2 ^ 64 →
@@ -70,7 +72,7 @@ impl Holding {
         }
     }
 
-    /// What is held where a mark comes next.
+    /// Returns what is held if a mark comes next.
     pub(crate) fn with_mark(self) -> Holding
         ensures { (entries : List PlainEntry) → IsHolding self entries → IsHolding result (entries ++ Mark ∷ []) }
     {
@@ -80,7 +82,7 @@ impl Holding {
         }
     }
 
-    /// What is held where these bytes are the only record.
+    /// Returns what is held if a record of these bytes is the only one.
     fn begun_by(bytes: &[u8]) -> Holding
         ensures { IsHolding result (Record bytes.now ∷ []) }
     {
@@ -97,7 +99,8 @@ impl Holding {
 }
 
 impl Volume {
-    /// What is held where a record of this length comes next: a block, as long as no mark came.
+    /// Returns what is held if a record of this length comes next. It is a block, unless a mark
+    /// came.
     fn with_record(self, len: usize) -> Holding
         ensures { (bytes : List ℕ) (entries : List PlainEntry) → len ≡ length bytes → length entries + 1 < 2 ^ 64 →
             IsOfVolume self entries → IsHolding result (entries ++ Record bytes ∷ []) }
@@ -108,7 +111,7 @@ impl Volume {
         }
     }
 
-    /// What is held where a block of this length comes next.
+    /// Returns what is held if a block of this length comes next.
     fn with_block(self, len: usize) -> Holding
         requires { self.end ≡ NoMark }
         ensures { (bytes : List ℕ) (entries : List PlainEntry) → len ≡ length bytes → length entries + 1 < 2 ^ 64 →
@@ -124,7 +127,7 @@ impl Volume {
         })
     }
 
-    /// The volume where a mark comes next.
+    /// Returns the volume if a mark comes next.
     fn with_mark(self) -> Volume
         ensures { (entries : List PlainEntry) → IsOfVolume self entries → IsOfVolume result (entries ++ Mark ∷ []) }
     {
@@ -137,7 +140,7 @@ impl Volume {
         }
     }
 
-    /// The volume where more comes after its mark.
+    /// Returns the volume if more comes after its mark.
     fn with_more(self) -> Volume
         requires { self.end ≢ NoMark }
         ensures { (entries : List PlainEntry) (next : PlainEntry) → IsOfVolume self entries → IsOfVolume result (entries ++ next ∷ []) }

@@ -1,4 +1,4 @@
-//! Laws of what a reel holds, each the contract of a call that does nothing.
+//! Laws of what a reel holds. Each is the contract of a function that does nothing.
 
 ghost use Rattle.std.specs.Prelude.{◌≡◌, ◌≢◌, ◌≤◌, ℕ, All, List, [], ◌∷◌, ◌++◌, length, map};
 ghost use Rattle.std.specs.Int.{IsInRange};
@@ -13,7 +13,7 @@ ghost use Rattle.reel_check.specs.declared.holding.VolumeEnd.TheVariants.{OneMar
 
 use dump_run::one_label;
 
-/// Entries are said to be one thing alone.
+/// Law: a list of entries has at most one `Holding`.
 ///
 /// It does nothing: its contract is a law of the definitions.
 pub fn one_holding()
@@ -22,8 +22,8 @@ pub fn one_holding()
     one_label();
 }
 
-/// Two reels that have the same label, as many blocks of the same length, and the same end are said to hold the same, whatever the
-/// bytes of their blocks are: a volume has no checksum.
+/// Law: two reels have the same `Holding` if they have the same label, as many blocks of the same
+/// length, and the same end. The bytes of their blocks do not matter: a volume has no checksum.
 ///
 /// It does nothing: its contract is a law of the definitions.
 pub fn one_volume()
@@ -33,8 +33,8 @@ pub fn one_volume()
     one_label();
 }
 
-/// What a dump leaves on a reel that it counts is a whole volume: the label of a volume of a run, blocks of the run's size, and one mark. So it is
-/// without blocks.
+/// Law: what a dump leaves on a reel that it counts is a whole volume. It has the label of
+/// a volume of a run, blocks of the run's size, and one mark. The same is true without blocks.
 ///
 /// It does nothing: its contract is a law of the definitions.
 pub fn dumped_volume()

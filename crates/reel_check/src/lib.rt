@@ -1,7 +1,8 @@
 //! What a reel holds: whose volume it is, how many blocks it has, and whether it is whole.
 //!
-//! `check_reel` reads a record file from front to end and tells its `ReelContents`. `ReelTally` is told the entries of a reel one after the other,
-//! wherever they come from, and says what they are: a `Holding`.
+//! `check_reel` reads a record file from front to end and returns its `ReelContents`. `ReelTally`
+//! takes the entries of a reel one after the other, from any source, and determines what they are:
+//! a `Holding`.
 #![tactic(auto)]
 
 mod check;

@@ -1,4 +1,4 @@
-//! Entries that are told one after the other.
+//! A tally of entries that come one after the other.
 
 ghost use Rattle.std.specs.Prelude.{◌≡◌, ◌≢◌, ◌↔◌, ◌+◌, ◌<◌, ◌^◌, ℕ, IsTrue, List, [], ◌∷◌, ◌++◌, length};
 ghost use Rattle.tape.specs.Tape.{PlainEntry};
@@ -11,7 +11,7 @@ use crate::Holding;
 use std::marker::Model;
 use std::mem;
 
-/// What the entries of a reel are, as far as they were told. It keeps one label, and takes no memory.
+/// What the entries of a reel are so far. It keeps at most one label, and allocates nothing.
 #[derive(Drop)]
 pub struct ReelTally {
     holding: Holding,
@@ -28,7 +28,7 @@ impl Model for ReelTally {
 }
 
 impl ReelTally {
-    /// That of no entries.
+    /// Makes the tally of no entries.
     pub fn new() -> ReelTally
         ensures { IsTally result [] }
     {
@@ -39,8 +39,9 @@ impl ReelTally {
         }
     }
 
-    /// A record of these bytes comes next: 1 to `rmt_wire::RECORD_LIMIT` of them. The first record is read as a label, and of the
-    /// others only the length counts.
+    /// Adds a record of these bytes, 1 to `rmt_wire::RECORD_LIMIT` of them.
+    ///
+    /// If it is the first entry, it is read as a label. Otherwise only its length counts.
     pub fn record(&mut self, bytes: &[u8])
         ensures { (entries : List PlainEntry) → length entries + 1 < 2 ^ 64 → IsTally self.old entries →
             IsTally self.new (entries ++ Record bytes.now ∷ []) }
@@ -50,7 +51,7 @@ impl ReelTally {
         self.records = self.records.saturating_add(1);
     }
 
-    /// A mark comes next.
+    /// Adds a mark.
     pub fn mark(&mut self)
         ensures { (entries : List PlainEntry) → length entries + 1 < 2 ^ 64 → IsTally self.old entries →
             IsTally self.new (entries ++ Mark ∷ []) }
@@ -60,35 +61,35 @@ impl ReelTally {
         self.marks = self.marks.saturating_add(1);
     }
 
-    /// What the entries are, as far as they were told.
+    /// Returns what the entries are so far.
     pub fn holding(&self) -> &Holding
         ensures { result.now ≡ self.now.holding }
     {
         &self.holding
     }
 
-    /// How many records there were.
+    /// Returns how many records came.
     pub fn records(&self) -> u64
         ensures { result ≡ self.now.records }
     {
         self.records
     }
 
-    /// How many marks there were.
+    /// Returns how many marks came.
     pub fn marks(&self) -> u64
         ensures { result ≡ self.now.marks }
     {
         self.marks
     }
 
-    /// What the entries are, where no more are told.
+    /// Returns what the entries are, once no more come.
     pub fn into_holding(self) -> Holding
         ensures { result ≡ self.holding }
     {
         self.holding
     }
 
-    /// A record of this length comes next, which is not the first or has no label's length.
+    /// Adds a record of this length. It is not the first entry, or does not have a label's length.
     pub(crate) fn other_record(&mut self, len: usize)
         requires { self.old.holding ≡ Empty → len ≢ label_bytes }
         ensures { (bytes : List ℕ) (entries : List PlainEntry) → len ≡ length bytes → length entries + 1 < 2 ^ 64 →
@@ -99,7 +100,7 @@ impl ReelTally {
         self.records = self.records.saturating_add(1);
     }
 
-    /// Whether no record and no mark was told.
+    /// Whether no record and no mark came.
     pub(crate) fn is_empty(&self) -> bool
         ensures { IsTrue result ↔ (self.now.holding ≡ Empty) }
     {

@@ -6,10 +6,10 @@ use rmtd_serve::{Begun, Connections, ErrorLog, ListenerSetup, close_table, serve
 use std::io;
 use std::process::ExitCode;
 
-/// Does what the words ask, and ends with its status.
+/// Runs the server with its arguments, and exits with its status.
 ///
-/// It starts the threads of the connections itself: the runtime has threads in `main` alone. Once the last connection has ended it
-/// closes the table of who holds which drive.
+/// It starts the threads of the connections itself, because the runtime allows threads only in
+/// `main`. After the last connection has ended, it closes the table of the drives' holders.
 fn main(rt: HostRuntime) -> io::Result<ExitCode> {
     let mut input = Counted::new(rt.stdin());
     let mut output = Counted::new(rt.stdout());

@@ -1,4 +1,4 @@
-//! The simulator of a dump client, a tape server and strangers.
+//! The simulator of a dump client, a tape server and other clients.
 #![tactic(auto)]
 
 use rmt_wire::Counted;
@@ -6,14 +6,14 @@ use rsim_schedule::rsim;
 use std::process::ExitCode;
 use std::{env, io};
 
-/// What the program ends with where its words can't be read, and where nothing can be told.
+/// The exit status if the arguments cannot be read, or if `rsim` fails.
 const FAILED: u8 = 1;
 
-/// Does what the words ask, and ends with its status.
+/// Runs the simulator with its arguments, and exits with its status.
 fn main(rt: HostRuntime) -> ExitCode {
     let mut out = Counted::new(rt.stdout());
     let status = match arguments(&rt) {
-        // An error could not be told.
+        // An error could not be printed, or an allocation failed.
         Ok(arguments) => rsim(&rt, &arguments, &mut out).unwrap_or(FAILED),
         Err(error) => {
             let _ = eprintln!(rt; "rsim: the words could not be read: {error}");
@@ -23,7 +23,9 @@ fn main(rt: HostRuntime) -> ExitCode {
     ExitCode::from(status)
 }
 
-/// The words that the program was called with, its own name first. Each growth that is refused is answered.
+/// Returns the arguments of the program, with its own name first.
+///
+/// Fails if the arguments cannot be read, or if an allocation fails.
 fn arguments(rt: &HostRuntime) -> io::Result<Vec<String>> {
     let mut arguments = Vec::new(rt.alloc());
     for argument in env::args(rt)? {

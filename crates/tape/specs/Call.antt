@@ -6,12 +6,12 @@ use Rattle.tape.specs.Tape.TapeRequest.{Write, Read, WriteMarks, ForwardFiles, B
 use Rattle.tape.specs.Tape.TapeAnswer.{Done, Gave, Fault}
 use Rattle.tape.specs.declared.fault.TapeFault.TheVariants.{Device, Full, EndOrMark, BadOperation, OutOfMemory}
 
--- spacing has a fault only from a count of 1 on
+-- The answers of spacing. It fails only if its count is at least 1.
 abbrev pub CanSpace : ℕ → TapeAnswer → Type 0
 CanSpace count answer = (answer ≡ Done) ⊎ ((0 < count) × ((answer ≡ Fault EndOrMark) ⊎ (answer ≡ Fault Device)))
 
--- The answers that a call can have, whatever stands on the tape: a read gives at most what was asked, and
--- marks have a fault only from a count of 1 on.
+-- The answers that a call can have, whatever is on the tape. A read gives at most the bytes that it
+-- asked for. Marks fail only if their count is at least 1.
 abbrev pub CanAnswer : TapeRequest → TapeAnswer → Type 0
 CanAnswer (Write bytes) answer = (answer ≡ Done) ⊎ (answer ≡ Fault Full) ⊎ (answer ≡ Fault Device) ⊎ (answer ≡ Fault OutOfMemory)
 CanAnswer (Read count) answer = ((bytes : List ℕ) × (length bytes ≤ count) × (answer ≡ Gave bytes)) ⊎ (answer ≡ Fault Device)
@@ -25,8 +25,10 @@ CanAnswer Rewind answer = answer ≡ Done
 CanAnswer Nothing answer = answer ≡ Done
 CanAnswer Unknown answer = answer ≡ Fault BadOperation
 
--- what reels of a kind promise: the tape that they tell, how many bytes they take, the count of failures, whether the
--- device can fail, what they promise of a call beside what every reel promises, and whether a call can ask for memory
+-- The promises of a kind of reel. `holds` relates it to its tape, if the tape is known. `capacity`
+-- is in bytes. `failures` counts the failures of its device, and `can_fail` says whether that can
+-- fail. `makes` is what a call promises in addition to the promises of every reel. `grows` says
+-- whether a call can allocate.
 pub record ReelKind (S : Type 0) : Type 1 where
   pub holds : S → Tape → Type 0
   pub capacity : S → ℕ
@@ -35,28 +37,29 @@ pub record ReelKind (S : Type 0) : Type 1 where
   pub makes : S → S → TapeRequest → TapeAnswer → Type 0
   pub grows : Bool
 
+-- A kind of reel with these promises.
 abbrev pub reel_kind : {S : Type 0} → (S → Tape → Type 0) → (S → ℕ) → (S → ℕ) → (S → Type 0)
     → (S → S → TapeRequest → TapeAnswer → Type 0) → Bool → ReelKind S
 reel_kind holds capacity failures can_fail makes grows =
     record { holds = holds; capacity = capacity; failures = failures; can_fail = can_fail; makes = makes; grows = grows }
 
--- one call of a reel
+-- One call of a reel, with its answer.
 pub record IsTapeCall {S : Type 0} (r : ReelKind S) (old new : S) (request : TapeRequest) (answer : TapeAnswer) : Type 0 where
-  -- where the reel tells, the call is a step of its tape
+  -- If the tape is known, the call is a step of it.
   pub step : Steps r.holds old new (λ t u. TapeStep (r.capacity old) t request answer u)
-  -- and whether it tells or not, the answer is one that the call can have
+  -- Even if the tape is unknown, the answer is one that the call can have.
   pub can : CanAnswer request answer
-  -- the device is at fault only where it failed in the call
+  -- The answer is `Device` only if the device failed in the call.
   pub device : answer ≡ Fault Device → HasRisen (r.failures old) (r.failures new)
-  -- and where it failed in the call, that is the answer
+  -- If the device failed in the call, the answer is `Device`.
   pub failed : (r.failures new ≡ r.failures old) ⊎ (answer ≡ Fault Device)
-  -- it is at fault only where it can fail, which no call brings about
+  -- The answer is `Device` only if the device can fail. No call makes it able to.
   pub able : answer ≡ Fault Device → r.can_fail old
   pub quiet : r.can_fail new → r.can_fail old
-  -- memory is wanting only where the reel grows
+  -- The answer is `OutOfMemory` only if the reel can allocate.
   pub memory : answer ≡ Fault OutOfMemory → IsTrue r.grows
-  -- the count of failures does not fall
+  -- The count of failures does not fall.
   pub counted : r.failures old ≤ r.failures new
   pub same_capacity : r.capacity new ≡ r.capacity old
-  -- and what this kind of reel promises beside that
+  -- The call keeps the promises of this kind of reel.
   pub made : r.makes old new request answer

@@ -1,5 +1,5 @@
--- In reading order: Tape, Failures, Call, Trouble (any reel); Medium, RecordFile, Media (its bytes); Fuse, Stops (a medium that stops);
--- List (in memory); FileSteps, Scan.
+-- In reading order: Tape, Failures, Call, Trouble (any reel); Medium, RecordFile, Media (its
+-- bytes); Fuse, Stops (a medium that stops); List (in memory); FileSteps, Scan.
 pub mod Tape
 pub mod Call
 pub mod Failures

@@ -1,4 +1,5 @@
--- A record file: a reel's entries as bytes (the format is this project's own). Public contracts cite it.
+-- A record file: a reel's entries as bytes (the format is this project's own). Public contracts
+-- cite it.
 use Rattle.std.specs.Prelude.{◌≡◌, ◌≢◌, ◌⊎◌, ◌&&◌, ◌==◌, if◌then◌else◌, ℕ, zero, suc, ◌+◌, ◌*◌, ◌<◌, ◌≤◌, false, List, [], ◌∷◌, ◌++◌, length, take, drop, flat_map, nat_eq, nat_le, Option, Some, None, refl}
 use Rattle.std.specs.Coded.{Coded, code_by, coded×, coded_ℕ}
 use Rattle.std.specs.Int.{w32, to_le_bytes, from_le_bytes}
@@ -13,40 +14,42 @@ use Rattle.tape.specs.Medium.{MediumKind, medium_kind}
 use Rattle.tape.specs.declared.medium.Medium.{Ghosts as MediumPromise}
 use Rattle.tape.specs.declared.fault.TapeFault.TheVariants.{Device}
 
--- a length as it stands in the file: 4 bytes, little-endian
+-- A length as it is in the file: 4 bytes, little-endian.
 unfoldable pub length_bytes : ℕ → List ℕ
 length_bytes n = to_le_bytes w32 n
 
--- the image of an entry: a record's bytes between its length and its length, and a mark as a length of 0
+-- The image of an entry. A record's is its length, its bytes and its length again. A mark's is the
+-- length 0.
 abbrev pub image_of : PlainEntry → List ℕ
 image_of (Record bytes) = length_bytes (length bytes) ++ (bytes ++ length_bytes (length bytes))
 image_of Mark = length_bytes 0
 
--- the images of the entries, joined
+-- The images of the entries, joined.
 abbrev pub images_of : List PlainEntry → List ℕ
 images_of entries = flat_map image_of entries
 
--- no beginning of these bytes is the image of an entry, where a record has so many bytes at most
+-- The bytes do not begin with the image of an entry whose record has at most `most` bytes.
 abbrev pub IsTailUpTo : ℕ → List ℕ → Type 0
 IsTailUpTo most tail = (entry : PlainEntry) (rest : List ℕ) → IsEntryUpTo most entry → tail ≢ image_of entry ++ rest
 
--- the same, where a record has at most as many as the wire can say
+-- The same for records of at most `RECORD_LIMIT` bytes.
 abbrev pub IsTail : List ℕ → Type 0
 IsTail tail = IsTailUpTo RECORD_LIMIT tail
 
--- The bytes spell these entries, where a record has so many bytes at most: their images, and then a tail, which is ignored.
+-- The bytes spell these entries: they are the images of the entries and a tail, which is ignored. A
+-- record has at most `most` bytes.
 pub record SpellsReelUpTo (most : ℕ) (bytes : List ℕ) (entries : List PlainEntry) : Type 0 where
   pub tail : List ℕ
   pub whole : bytes ≡ images_of entries ++ tail
   pub is_tail : IsTailUpTo most tail
   pub lawful : All (IsEntryUpTo most) entries
 
--- the same, where a record has at most as many as the wire can say
+-- The same for records of at most `RECORD_LIMIT` bytes.
 abbrev pub SpellsReel : List ℕ → List PlainEntry → Type 0
 SpellsReel bytes entries = SpellsReelUpTo RECORD_LIMIT bytes entries
 
--- What a writer leaves whose records have so many bytes at most, whenever it is stopped: the images of entries, and a beginning of one
--- image more, perhaps all of it.
+-- What a writer leaves whenever it is stopped: the images of entries, and the beginning of one more
+-- image, perhaps all of it. Its records have at most `most` bytes.
 pub record IsWrittenUpTo (most : ℕ) (bytes : List ℕ) : Type 0 where
   pub entries : List PlainEntry
   pub next : PlainEntry
@@ -62,34 +65,34 @@ pub record IsFile (bytes : List ℕ) (offset : ℕ) (t : Tape) : Type 0 where
   pub spelled : SpellsReel bytes (entries_of t)
   pub offset_is : offset ≡ length (images_of t.before)
 
--- the entry that begins the bytes, where one does: the one of the length that stands first, if its image stands there
+-- The entry whose image the bytes begin with, if there is one.
 unfoldable pub first_in : List ℕ → Option PlainEntry
 first_in bytes =
     let n = from_le_bytes w32 (take 4 bytes) in
     let entry = if n == 0 then Mark else Record (take n (drop 4 bytes)) in
     if nat_le n RECORD_LIMIT && starts_with nat_eq bytes (image_of entry) then Some entry else None
 
--- the entries whose images begin the bytes, one after the other, and so many at most
+-- The entries whose images the bytes begin with, one after the other, but at most so many.
 unfoldable pub entries_within : ℕ → List ℕ → List PlainEntry
 entries_within zero bytes = []
 entries_within (suc most) bytes =
     elim (first_in bytes) [ None ↦ [] | Some entry ↦ entry ∷ entries_within most (drop (length (image_of entry)) bytes) ]
 
--- the entries that the bytes spell: of so many bytes there are no more than so many
+-- The entries that the bytes spell. There are at most as many entries as bytes.
 abbrev pub entries_in : List ℕ → List PlainEntry
 entries_in bytes = entries_within (length bytes) bytes
 
--- the tape that the bytes spell, its place at this offset
+-- The tape that the bytes spell, with its place at this offset.
 abbrev pub tape_in : ℕ → List ℕ → Tape
 tape_in offset bytes = tape (entries_in (take offset bytes)) (entries_in (drop offset bytes))
 
--- what a reel on a medium is: the medium, the offset of its place in bytes, and how many bytes the reel takes
+-- The view of a reel on a medium: the medium, the offset of the place, and the capacity, in bytes.
 pub record FileTape (M : Type 0) : Type 0 where
   pub medium : M
   pub offset : ℕ
   pub capacity : ℕ
 
--- it is stored as the tuple of its fields
+-- It is stored as the tuple of its fields.
 abbrev pub file_tape_code : {M : Type 0} → Coded M → Coded (FileTape M)
 file_tape_code {M} code =
     code_by
@@ -99,29 +102,29 @@ file_tape_code {M} code =
     (λ p. record { medium = p.0; offset = p.1.0; capacity = p.1.1 })
     (λ _. refl)
 
--- where the medium tells its bytes, the reel tells the tape that they spell
+-- If the medium's bytes are known, the reel holds the tape that they spell.
 abbrev pub HoldsTape : {M : Type 0} → (M → List ℕ → Type 0) → FileTape M → Tape → Type 0
 HoldsTape holds r t = (bytes : List ℕ) × holds r.medium bytes × IsFile bytes r.offset t
 
--- how many bytes a call is to add to its medium
+-- How many bytes a call adds to the medium at most.
 abbrev pub image_added : TapeRequest → ℕ
 image_added (Write bytes) = length bytes + 8
 image_added (WriteMarks count) = 4 * count
 image_added _ = 0
 
--- What a call of a reel on such a medium promises beside what every reel promises: the device is at fault only where the
--- medium can fail, or its room is short of what was to be written; no call makes the medium able to fail, and the room
--- is used up by what is written alone.
+-- What a call of a reel on such a medium promises in addition to the promises of every reel. The
+-- answer is `Device` only if the medium can fail, or if its room is too small for what was to be
+-- written. No call makes the medium able to fail. Only written bytes use up its room.
 pub record IsFileCall {M : Type 0} (m : MediumKind M) (old new : FileTape M) (request : TapeRequest) (answer : TapeAnswer) : Type 0 where
   pub cause : answer ≡ Fault Device → m.can_fail old.medium ⊎ (m.spare old.medium < image_added request)
   pub quiet : m.can_fail new.medium → m.can_fail old.medium
   pub room : m.spare old.medium ≤ m.spare new.medium + image_added request
 
--- what media of a type promise
+-- The promises of media of a type.
 abbrev pub medium_kind_of : {M : Type 0} → MediumPromise M → MediumKind M
 medium_kind_of m = medium_kind m.holds m.failures m.can_fail m.spare
 
--- What a reel on such a medium promises. Each device can fail, as far as every reel says it.
+-- The promises of a reel on such a medium. Among those of every reel, its device can always fail.
 abbrev pub file_reel_kind : {M : Type 0} → MediumKind M → ReelKind (FileTape M)
 file_reel_kind m =
     reel_kind (HoldsTape m.holds) (λ r. r.capacity) (λ r. m.failures r.medium) (λ _. Unit {0})

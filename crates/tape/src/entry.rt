@@ -1,14 +1,14 @@
-//! An entry of a reel: a record or a mark, and the room that it takes.
+//! An entry of a reel: a record or a mark, and how much of the capacity it takes.
 
-/// What a record takes of a reel beside its bytes, in bytes.
+/// How many bytes of a reel's capacity a record takes in addition to its own bytes.
 pub(crate) const RECORD_FRAME: u64 = 8;
 
-/// What a mark takes of a reel, in bytes.
+/// How many bytes of a reel's capacity a mark takes.
 pub(crate) const MARK_SIZE: u64 = 4;
 
-/// What stands on a tape at one place.
+/// An entry of a tape.
 ///
-/// A record takes its length and 8 bytes more of the reel's capacity, and a mark takes 4 bytes.
+/// A record takes its length plus 8 bytes of the reel's capacity. A mark takes 4 bytes.
 #[derive(Debug, Drop)]
 pub enum Entry {
     /// A record, of 1 to 262,144 bytes.

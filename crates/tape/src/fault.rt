@@ -1,34 +1,37 @@
-//! Why a call of a reel is not carried out.
+//! The errors of a reel's calls.
 
 use crate::MediumFailed;
 use std::alloc::AllocError;
 use thiserror::Error;
 
-/// Why a call of a reel was not carried out.
+/// Why a call of a reel failed.
 ///
-/// After each of these but `EndOrMark` the place and the entries before it are as they were before the call.
+/// After each of these but `EndOrMark`, the place and the entries before it are unchanged.
 #[derive(Clone, Copy, Debug, PartialEq, Eq, Error)]
 pub enum TapeFault {
     /// The medium failed in the call.
     ///
-    /// After a read, and after spacing, the entries from the place on are as they were too. After a write of a record they are as they
-    /// were, or gone, or the new record alone; after a write of marks they are as they were, or gone, or so many of
-    /// the new marks as were written, up to all of them.
+    /// After a read or spacing, the entries from the place on are unchanged too. After a write of a
+    /// record they are unchanged, or gone, or replaced by the record. After a write of marks they
+    /// are unchanged, or gone, or replaced by some or all of the marks.
     #[error("Device")]
     Device,
-    /// There is no room: the record and a mark after it, or the marks, are beyond the capacity. Nothing changed.
+    /// The record and a mark after it, or the marks, exceed the capacity. Nothing changed.
     ///
-    /// It comes before `Device` and `OutOfMemory`: without room a write answers only this.
+    /// A write checks the room first. Without room it fails with this, and never with `Device` or
+    /// `OutOfMemory`.
     #[error("Full")]
     Full,
-    /// Spacing met the end, the beginning or a mark before its count was reached. The entries are as they were. The
-    /// place is the end or the beginning, or past the mark that was met: after it forward, before it back.
+    /// Spacing met the end, the beginning or a mark before its count was reached.
+    ///
+    /// The entries are unchanged. The place is the end or the beginning, or past the mark: after
+    /// it if spacing forward, before it if spacing back.
     #[error("EndOrMark")]
     EndOrMark,
-    /// The number is no operation of a reel. Nothing changed.
+    /// The number is not an operation of a reel. Nothing changed.
     #[error("BadOperation")]
     BadOperation,
-    /// There was room on the reel, but a growth in memory was refused. Nothing changed.
+    /// There was room on the reel, but an allocation failed. Nothing changed.
     #[error("OutOfMemory")]
     OutOfMemory,
 }

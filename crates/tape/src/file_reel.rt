@@ -1,4 +1,4 @@
-//! A reel whose entries lie on a medium.
+//! A reel whose entries are on a medium.
 
 ghost use Rattle.std.specs.Prelude.{◌≡◌, ◌+◌, ◌*◌, ◌^◌, ◌<◌, ◌≤◌, ◌↔◌, List, ℕ, IfErr, IsErr, OnErr, IsTrue, MatchResult, [], ◌∷◌, length, replicate, false};
 ghost use Rattle.tape.specs.Tape.{PlainEntry, IsRecord, tape, done_answer};
@@ -19,9 +19,10 @@ use rmt_wire::mtio::{MTBSF, MTBSR, MTFSF, MTFSR, MTNOP, MTREW, MTWEOF};
 use std::marker::Model;
 use walk::{Way, walk_files, walk_records};
 
-/// A reel whose entries lie on a medium, as a record file.
+/// A reel whose entries are on a medium, as a record file.
 ///
-/// It keeps the offset of its place and nothing of the entries: spacing reads lengths alone, and no call takes memory.
+/// It keeps the offset of its place and no entries. Spacing reads only lengths, and no call of
+/// `Reel` allocates.
 #[derive(Drop)]
 pub struct FileReel<M: Medium> {
     medium: M,
@@ -40,14 +41,14 @@ impl<M: Medium> Model for FileReel<M> {
 }
 
 impl<M: Medium> FileReel<M> {
-    /// The medium that the reel lies on.
+    /// Returns the medium that the reel is on.
     pub fn medium(&self) -> &M
         ensures { result.now ≡ self.now.medium }
     {
         &self.medium
     }
 
-    /// Gives the medium back as it is, so that it can be opened again. It makes no call of the medium.
+    /// Returns the medium as it is, so that it can be opened again. Makes no call of the medium.
     pub fn into_medium(self) -> M
         ensures { result ≡ self.medium }
     {
@@ -55,10 +56,11 @@ impl<M: Medium> FileReel<M> {
         medium
     }
 
-    /// The reel that lies on this medium, at its beginning, and takes so many bytes. It makes no call of the medium.
+    /// Opens the reel on this medium, at its beginning, with a capacity in bytes. Makes no call of
+    /// the medium.
     ///
-    /// What the medium has beyond the last whole entry is ignored, until the next write cuts it off. Entries beyond the
-    /// capacity are there like others.
+    /// Ignores bytes after the last whole entry; the next write cuts them off. Entries beyond the
+    /// capacity can be read like others.
     pub fn open(medium: M, capacity: u64) -> FileReel<M>
         ensures told { (bytes : List ℕ) (entries : List PlainEntry) →
             M.holds medium bytes → SpellsReel bytes entries → HoldsTape M.holds result (tape [] entries) }
@@ -73,14 +75,14 @@ impl<M: Medium> FileReel<M> {
         }
     }
 
-    /// The offset of its place, in bytes.
+    /// Returns the offset of the place, in bytes.
     pub(crate) fn offset(&self) -> u64
         ensures { result ≡ self.now.offset }
     {
         self.offset
     }
 
-    /// Whether so many bytes have their room from the place on.
+    /// Whether `size` bytes fit in the capacity from the place on.
     pub(crate) fn has_room(&self, size: u64) -> bool
         ensures answer { IsTrue result ↔ (self.now.offset + size ≤ self.now.capacity) }
         ensures bound { self.now.capacity < 2 ^ 64 }
@@ -88,16 +90,16 @@ impl<M: Medium> FileReel<M> {
         self.offset <= self.capacity && size <= self.capacity - self.offset
     }
 
-    /// Goes to an offset, which is to be that of a place.
+    /// Moves to `offset`, which must be the offset of a place.
     pub(crate) fn stand_at(&mut self, offset: u64)
         ensures { self.new ≡ record self.old { offset = offset } }
     {
         self.offset = offset;
     }
 
-    /// Cuts off what stands from the place on.
+    /// Cuts off all entries from the place on.
     ///
-    /// Answers `Device`. The entries are the same then, or cut.
+    /// Fails with `Device` if the medium fails. The entries are unchanged then, or cut.
     pub(crate) fn cut(&mut self) -> Result<(), TapeFault>
         ensures run { IsReelRun (medium_kind_of M.Medium) (PutsEntries [] result) 0 (IsErr result) self.old self.new }
         ensures device { IfErr result (λ fault. fault ≡ Device) }
@@ -106,9 +108,10 @@ impl<M: Medium> FileReel<M> {
         Ok(())
     }
 
-    /// Puts a record at the place, with nothing after it, and goes past it.
+    /// Writes a record at the place, with nothing after it, and moves past it.
     ///
-    /// Answers `Device`. The place is the same then, and from it on stands what stood, nothing, or the record.
+    /// Fails with `Device` if the medium fails. The place is unchanged then. After it remain the
+    /// old entries, none, or the record.
     pub(crate) fn put_record(&mut self, bytes: &[u8]) -> Result<(), TapeFault>
         requires record_is { IsRecord bytes.now }
         requires room { self.old.offset + (length bytes.now + 8) < 2 ^ 64 }
@@ -121,9 +124,10 @@ impl<M: Medium> FileReel<M> {
         Ok(())
     }
 
-    /// Puts so many marks at the place, with nothing after them, and goes past them.
+    /// Writes `count` marks at the place, with nothing after them, and moves past them.
     ///
-    /// Answers `Device`. The place is the same then, and from it on stands what stood, or the first of the marks.
+    /// Fails with `Device` if the medium fails. The place is unchanged then. After it remain the
+    /// old entries, none, or some or all of the marks.
     pub(crate) fn put_marks(&mut self, count: u32) -> Result<(), TapeFault>
         requires { self.old.offset + 4 * count < 2 ^ 64 }
         ensures run { IsReelRun (medium_kind_of M.Medium) (PutsEntries (replicate count Mark) result)
@@ -135,7 +139,7 @@ impl<M: Medium> FileReel<M> {
         Ok(())
     }
 
-    /// Writes so many marks at the place.
+    /// Writes `count` marks at the place, as `Reel::op` does.
     fn write_marks(&mut self, count: u32) -> Result<(), TapeFault>
         ensures { IsTapeCall (file_reel_kind (medium_kind_of M.Medium)) self.old self.new (WriteMarks count) (done_answer result) }
     {
@@ -148,7 +152,7 @@ impl<M: Medium> FileReel<M> {
         self.put_marks(count)
     }
 
-    /// Goes past so many marks on the way, or as far as it goes.
+    /// Moves past `count` marks, or to the end or the beginning if there are fewer.
     fn space_files(&mut self, way: Way, count: u32) -> Result<(), TapeFault>
         ensures { IsTapeCall (file_reel_kind (medium_kind_of M.Medium)) self.old self.new (files_request way count) (done_answer result) }
     {
@@ -157,7 +161,7 @@ impl<M: Medium> FileReel<M> {
         walked.answer()
     }
 
-    /// Goes past so many records on the way, or past the first mark, or as far as it goes.
+    /// Moves past `count` records, or past the first mark, or to the end or the beginning.
     fn space_records(&mut self, way: Way, count: u32) -> Result<(), TapeFault>
         ensures { IsTapeCall (file_reel_kind (medium_kind_of M.Medium)) self.old self.new (records_request way count) (done_answer result) }
     {
@@ -168,9 +172,9 @@ impl<M: Medium> FileReel<M> {
 }
 
 impl FileReel<MemoryMedium> {
-    /// Makes room in memory for so many bytes more. The bytes and the place are the same.
+    /// Reserves memory for `count` more bytes. The bytes and the place are unchanged.
     ///
-    /// Answers `OutOfMemory`, and nothing changed then.
+    /// Fails with `OutOfMemory` if the allocation fails. Nothing changed then.
     pub(crate) fn reserve(&mut self, count: u64) -> Result<(), TapeFault>
         ensures room { MatchResult result (λ _. count ≤ self.new.medium.spare) (λ fault. (fault ≡ OutOfMemory) × (self.new ≡ self.old)) }
         ensures asked { OnErr result (self.old.medium.spare < count) }

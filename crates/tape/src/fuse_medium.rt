@@ -1,4 +1,4 @@
-//! A medium that fails at a call that it is told.
+//! A medium that fails at a chosen call.
 
 ghost use Rattle.std.specs.Prelude.{◌≡◌, ◌⊎◌, ◌++◌, ◌<◌, if◌then◌else◌, IsErr, OnOk, Some, length, take};
 ghost use Rattle.std.specs.Result.{is_err};
@@ -10,12 +10,17 @@ ghost use Rattle.tape.specs.Medium.MediumCall.{Len, ReadAt, Append, Cut};
 use crate::{Medium, MediumFailed};
 use std::marker::Model;
 
-/// A medium on another one, that is told which of its calls fails: to see what stands on it after a stop there.
+/// A medium around another one that fails at a chosen call, to show what a stop there leaves.
 ///
-/// Its calls are numbered from 0: each `len`, `read_at`, `append`, `append_framed` and `cut` is one. A call that is told to fail
-/// fails. An append of these adds its first bytes, as many as are told, with a frame or without; a cut is made where that number is
-/// above 0, and else is not; and a call that reads asks nothing of the medium within, and leaves its buffer as it is. Each other
-/// call is the one of the medium within, and goes well only where no call of that failed. Each call that fails is counted once.
+/// Its calls are numbered from 0. Each `len`, `read_at`, `append`, `append_framed` and `cut` is
+/// one call. A call that is due to fail acts as follows, and fails:
+///
+/// - `append` and `append_framed` add the first `left` of the bytes that they would add.
+/// - `cut` cuts if `left` is above 0.
+/// - `len` and `read_at` make no call of the inner medium, and leave the buffer unchanged.
+///
+/// Each other call is passed to the inner medium, and succeeds only if no call of that failed.
+/// Each call that fails is counted once.
 #[derive(Drop)]
 pub struct FuseMedium<M: Medium> {
     inner: M,
@@ -36,8 +41,10 @@ impl<M: Medium> Model for FuseMedium<M> {
 }
 
 impl<M: Medium> FuseMedium<M> {
-    /// A medium on this one, whose call number `at` fails, and each call after it too, or none of them where `once`. An append that
-    /// is told to fail adds its first `left` bytes.
+    /// Makes a medium around `inner` that fails at call number `at`, counted from 0.
+    ///
+    /// If `once`, no later call is made to fail; else each later call fails too. An append that is
+    /// due to fail adds its first `left` bytes.
     pub fn new(inner: M, at: u64, left: usize, once: bool) -> FuseMedium<M>
         ensures { result ≡ record { inner = inner; to_go = Some at; left = left; once = once; failures = 0 } }
     {
@@ -50,7 +57,7 @@ impl<M: Medium> FuseMedium<M> {
         }
     }
 
-    /// Gives the medium within back as it is, so that it can be opened again. It makes no call of it.
+    /// Returns the inner medium as it is, so that it can be opened again. Makes no call of it.
     pub fn into_inner(self) -> M
         ensures { result ≡ self.inner }
     {
@@ -58,7 +65,7 @@ impl<M: Medium> FuseMedium<M> {
         inner
     }
 
-    /// Counts a call. Answers whether it is told to fail, and counts that failure too.
+    /// Counts a call and returns whether it is due to fail. If so, counts the failure too.
     fn stops(&mut self) -> bool
         ensures answer { result ≡ is_due self.old.to_go }
         ensures new { self.new ≡ record self.old {
@@ -74,7 +81,7 @@ impl<M: Medium> FuseMedium<M> {
         is_due
     }
 
-    /// Passes on what the medium within answered, and counts it where that is a failure.
+    /// Returns the result of the inner medium, `answer`. Counts it if it is a failure.
     fn pass<T>(&mut self, answer: Result<T, MediumFailed>) -> Result<T, MediumFailed>
         ensures same { result ≡ answer }
         ensures new { self.new ≡ record self.old { failures = if is_err answer then raised self.old.failures else self.old.failures } }
@@ -208,7 +215,9 @@ impl<M: Medium> Medium for FuseMedium<M> {
     ghost bounded = { λ f x told. M.bounded f.inner x told };
 }
 
-/// How many calls come before the one that fails, after one call more.
+/// Returns how many calls come before the next that is due to fail, after one more call.
+///
+/// `None` means that no call is due to fail any more.
 fn count_down(to_go: Option<u64>, once: bool) -> Option<u64>
     ensures { result ≡ counted_down once to_go }
 {
@@ -219,7 +228,7 @@ fn count_down(to_go: Option<u64>, once: bool) -> Option<u64>
     }
 }
 
-/// Adds the first `left` of these bytes, or all where there are fewer.
+/// Appends the first `left` of these bytes, or all if there are fewer. Ignores a failure.
 fn leave<M: Medium>(medium: &mut M, left: usize, bytes: &[u8])
     ensures { IsLeft (medium_kind M.holds M.failures M.can_fail M.spare) medium.old (take left bytes.now) medium.new }
 {
@@ -227,7 +236,7 @@ fn leave<M: Medium>(medium: &mut M, left: usize, bytes: &[u8])
     let _ = medium.append(&bytes[..count]);
 }
 
-/// Adds the first `left` bytes of the frame, the bytes and the frame, up to a call that fails.
+/// Appends the first `left` bytes of frame, bytes and frame. Stops at a call that fails.
 fn leave_framed<M: Medium>(medium: &mut M, left: usize, frame: &[u8], bytes: &[u8])
     ensures { IsLeft (medium_kind M.holds M.failures M.can_fail M.spare) medium.old
         (take left (frame.now ++ (bytes.now ++ frame.now))) medium.new }

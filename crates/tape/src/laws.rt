@@ -1,4 +1,4 @@
-//! Laws of tapes and record files, each the contract of a call that does nothing.
+//! Laws of tapes and record files. Each is the contract of a function that does nothing.
 
 ghost use Rattle.std.specs.Prelude.{◌≡◌, ◌≢◌, ◌↔◌, ◌≤◌, ◌<◌, ◌^◌, ℕ, List};
 ghost use Rattle.tape.specs.Tape.{PlainEntry, Tape, TapeRequest, TapeAnswer};
@@ -12,8 +12,10 @@ ghost use Rattle.tape.specs.declared.laws.TheConstants.{OLDER_RECORD_LIMIT};
 
 use rmt_wire::RECORD_LIMIT;
 
-/// One call on a tape whose device is told how it fails next is a step of that tape, and with no trouble the device is
-/// not at fault. So each step of a `TroubledReel` is a call as every reel promises it.
+/// Law: each step of a device with a trouble (`DeviceStep`) is a step of its tape (`TapeStep`).
+///
+/// With `Trouble::None`, no step fails with `Device`. Each step of a `TroubledReel` keeps the
+/// promises of every `Reel`.
 ///
 /// It does nothing: its contract is a law of the definitions.
 pub fn device_steps()
@@ -24,7 +26,7 @@ pub fn device_steps()
         TroubledStep old new request answer → IsTroubledCall old new request answer }
 {}
 
-/// Each list of bytes spells one list of entries, and at an offset it has one tape at most.
+/// Law: each list of bytes spells one list of entries, and at an offset at most one tape.
 ///
 /// It does nothing: its contract is a law of the definitions.
 pub fn one_spelling()
@@ -32,13 +34,16 @@ pub fn one_spelling()
     ensures tape { (bytes : List ℕ) (offset : ℕ) (t : Tape) → IsFile bytes offset t → t ≡ tape_in offset bytes }
 {}
 
-/// The greatest number of bytes of a record before `rmt_wire::RECORD_LIMIT` was raised: the one limit that servers of
-/// earlier versions wrote reels with.
+/// The greatest length of a record, in bytes, before `rmt_wire::RECORD_LIMIT` was raised.
+///
+/// It is the only limit that servers of earlier versions wrote reels with.
 pub const OLDER_RECORD_LIMIT: usize = 65536;
 
-/// A reel that was written with records of at most `OLDER_RECORD_LIMIT` bytes, also where its last write was stopped
-/// inside, spells the same entries where records of `rmt_wire::RECORD_LIMIT` bytes are allowed. So the greater limit
-/// changes no reel that a server with the older one wrote.
+/// Law: a reel that was written with the older limit spells the same entries under the new one.
+///
+/// The older limit is `OLDER_RECORD_LIMIT`, the new one `rmt_wire::RECORD_LIMIT`. The law also
+/// covers a reel whose last write was stopped halfway. It follows that raising the limit changes
+/// no reel that an older server wrote.
 ///
 /// It does nothing: its contract is a law of the definitions.
 pub fn older_reels()
@@ -48,7 +53,7 @@ pub fn older_reels()
     same_entries(OLDER_RECORD_LIMIT, RECORD_LIMIT);
 }
 
-/// The same of any two limits below 2^32, of which the older one is not greater.
+/// The law of `older_reels`, for any two limits below 2^32 with `older` at most `newer`.
 fn same_entries(older: usize, newer: usize)
     requires order { older ≤ newer }
     requires range { newer < 2 ^ 32 }

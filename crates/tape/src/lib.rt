@@ -1,9 +1,12 @@
-//! Reels of tape: records and marks, a place among them, and what each call does to both.
+//! Reels of tape: their records and marks, their place, and what each call does to them.
 //!
-//! A reel is a list of entries with a capacity in bytes. `Reel` is what every reel promises; `ListReel` keeps
-//! its entries in memory, and `TroubledReel` is such a reel whose next device call can be told to fail. A `FileReel` has
-//! them on a `Medium`, as a record file. `FuseMedium` is a medium that is told which of its calls fails:
-//! `write_and_reopen` and `mark_and_reopen` say what a write leaves that stopped there.
+//! A reel is a list of entries with a capacity in bytes. The place is where the next call acts.
+//! `Reel` is the trait of all reels. `ListReel` keeps its entries in memory. `TroubledReel` is a
+//! `ListReel` whose next device call can be made to fail. `FileReel` keeps its entries on a
+//! `Medium`, as a record file.
+//!
+//! `FuseMedium` is a medium that fails at a chosen call. `write_and_reopen` and `mark_and_reopen`
+//! show what remains of a write that stopped there.
 #![tactic(auto)]
 
 mod entry;

@@ -20,9 +20,10 @@ use rmt_wire::mtio::MTWEOF;
 use std::alloc::Global;
 use std::marker::Model;
 
-/// A reel in memory, seen as its tape and its capacity in bytes. Its entries lie in memory as a record file.
+/// A reel in memory. Its view is its tape and its capacity in bytes.
 ///
-/// It always tells its tape, and no device of it fails: no call answers `Device`.
+/// It stores its entries as a record file. Its tape is always known. Its device never fails, so
+/// no call returns `Device`.
 #[derive(Drop)]
 pub struct ListReel {
     reel: FileReel<MemoryMedium>,
@@ -39,7 +40,7 @@ impl Model for ListReel {
 }
 
 impl ListReel {
-    /// An empty reel of this capacity, in bytes. It takes no memory yet.
+    /// Makes an empty reel with this capacity, in bytes. Allocates nothing yet.
     pub fn new(alloc: Global, capacity: u64) -> ListReel
         ensures blank { result.tape ≡ tape [] [] }
         ensures capacity { result.capacity ≡ capacity }
@@ -49,10 +50,11 @@ impl ListReel {
         }
     }
 
-    /// The length of the record that is entry number `i`, counted from 0 at the beginning; 0 for a mark, which alone
-    /// has none. No number where there are no more than `i` entries.
+    /// Returns the length of entry number `i`, counted from 0 at the beginning.
     ///
-    /// Copies the first bytes of the record, as many as `into` takes, to the front of `into`, and changes no more of it.
+    /// A mark, and nothing else, has the length 0. Returns `None` if there are at most `i` entries.
+    /// Copies the first bytes of the record to the front of `into`, as many as fit. The rest of
+    /// `into` is unchanged.
     pub fn entry(&self, i: usize, into: &mut [u8]) -> Option<usize>
         ensures told { result ≡ told_length (entry_at i self.now.tape) }
         ensures copied { into.new ≡ with_front (told_bytes (entry_at i self.now.tape)) into.old }
@@ -64,9 +66,10 @@ impl ListReel {
         Some(bytes.len())
     }
 
-    /// Writes a record at the place, by a device that fails as `trouble` says.
+    /// Writes a record at the place, with a device that fails as `trouble` says.
     ///
-    /// Answers `Full` and `OutOfMemory`, and nothing changed then. Answers `Device` where there is a trouble.
+    /// Fails with `Full` if there is no room, and with `OutOfMemory` if an allocation fails.
+    /// Nothing changed then. Otherwise fails with `Device` if there is a trouble.
     pub(crate) fn write_record(&mut self, bytes: &[u8], trouble: Trouble) -> Result<(), TapeFault>
         requires { IsRecord bytes.now }
         ensures step { DeviceStep self.old.capacity trouble self.old.tape (Write bytes.now) (done_answer result) self.new.tape }
@@ -80,9 +83,11 @@ impl ListReel {
         put_record(&mut self.reel, bytes, trouble)
     }
 
-    /// Writes so many marks at the place, by a device that fails as `trouble` says.
+    /// Writes `count` marks at the place, with a device that fails as `trouble` says.
     ///
-    /// Answers `Full` and `OutOfMemory`, and nothing changed then. Answers `Device` where there is a trouble.
+    /// Fails with `Full` if there is no room, and with `OutOfMemory` if an allocation fails.
+    /// Nothing changed then. Otherwise fails with `Device` if there is a trouble. A count of 0
+    /// never fails.
     pub(crate) fn write_marks(&mut self, count: u32, trouble: Trouble) -> Result<(), TapeFault>
         ensures step { DeviceStep self.old.capacity trouble self.old.tape (WriteMarks count) (done_answer result) self.new.tape }
         ensures capacity { self.new.capacity ≡ self.old.capacity }
@@ -155,7 +160,7 @@ impl Reel for ListReel {
     }
 }
 
-/// Copies the first of the bytes, as many as `into` takes.
+/// Copies the first bytes to the front of `into`, as many as fit.
 fn copy_front(bytes: &[u8], into: &mut [u8])
     ensures { into.new ≡ with_front bytes.now into.old }
 {

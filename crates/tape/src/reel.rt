@@ -1,4 +1,4 @@
-//! A reel: what every kind of reel does.
+//! The trait of reels.
 
 ghost use Rattle.std.specs.Prelude.{◌≡◌, ◌≤◌, ℕ, Bool, IfOk, length};
 ghost use Rattle.tape.specs.Tape.{Tape, TapeRequest, TapeAnswer, IsRecord, op_request, done_answer, given_answer};
@@ -8,51 +8,54 @@ ghost use Rattle.tape.specs.Call.{IsTapeCall, reel_kind};
 
 use crate::TapeFault;
 
-/// A reel of tape, seen as the entries before its place and those after it.
+/// A reel of tape. Its tape is the entries before its place and those after it.
 ///
-/// A reel tells its tape or tells nothing, as std's readers do with their bytes: what a clause says of entries
-/// holds where it tells.
+/// `holds` relates a reel to its tape. If the tape is unknown, it relates the reel to nothing, as
+/// std's readers do with their bytes. A clause about entries applies only if the tape is known.
 pub trait Reel {
-    /// The tape that the reel holds, where it tells.
+    /// Relates the reel to its tape, if the tape is known.
     ghost holds: { Self → Tape → Type 0 };
 
-    /// How many bytes the reel takes.
+    /// The capacity of the reel, in bytes.
     ghost capacity: { Self → ℕ };
 
-    /// How often the device has failed, up to the greatest `u64`.
+    /// How often the device has failed, at most the greatest `u64`.
     ghost failures: { Self → ℕ };
 
-    /// That the device can fail in the next call. No call makes it able to.
+    /// Whether the device can fail in the next call. No call makes it able to.
     ghost can_fail: { Self → Type 0 };
 
-    /// What a call of this kind of reel promises beside what it promises of every reel.
+    /// The promises of a call of this kind of reel, in addition to those of every reel.
     ghost makes: { Self → Self → TapeRequest → TapeAnswer → Type 0 };
 
-    /// Whether a call can ask for memory.
+    /// Whether a call can allocate.
     ghost GROWS: { Bool };
 
-    /// Whether a call can ask for memory. Where it cannot, no call answers `OutOfMemory`.
+    /// Whether a call can allocate. If not, no call returns `OutOfMemory`.
     const GROWS: bool;
 
-    /// Writes one record, of 1 to 262,144 bytes, at the place. What stood from there on is lost, and the place is
-    /// after the record, at the end.
+    /// Writes one record, of 1 to 262,144 bytes, at the place. All entries from there on are lost.
+    /// The place is then after the record, at the end.
     ///
-    /// It needs room for its length and 12 bytes more from the place on: 8 for the record and 4 for a mark, so that
-    /// a mark still fits after it. The room is looked at before the device and before memory.
+    /// The record needs room for its length plus 12 bytes from the place on. It takes 8 of these,
+    /// and 4 are kept so that a mark still fits after it. The room is checked before the device
+    /// and before memory.
     ///
-    /// Answers `Full` where there is not that room, and `OutOfMemory`; nothing changed then. Answers `Device` where
-    /// the medium failed: the place and the entries before it stay, and from the place on stands what stood before,
-    /// nothing, or the record.
+    /// Fails with `Full` without that room, and with `OutOfMemory` if an allocation fails. Nothing
+    /// changed then. Fails with `Device` if the medium failed. The place and the entries before it
+    /// are unchanged then. From the place on remain the old entries, none, or the record.
     fn write(&mut self, bytes: &[u8]) -> Result<(), TapeFault>
         requires { IsRecord bytes.now }
         ensures { IsTapeCall (reel_kind holds capacity failures can_fail makes GROWS) self.old self.new
             (Write bytes.now) (done_answer result) };
 
-    /// Copies the first bytes of the record at the place, as many as `into` takes, to the front of `into`, and
-    /// passes the record whole: what it has beyond that is skipped. Answers how many bytes it copied: 0 at a mark,
-    /// which it passes, and at the end, where it stays. The entries stay as they are.
+    /// Reads the record at the place and moves past it.
     ///
-    /// Answers `Device` where the medium failed. The place did not move then.
+    /// Copies the first bytes of the record to the front of `into`, as many as fit, and skips the
+    /// rest of the record. Returns how many bytes it copied. At a mark it moves past the mark and
+    /// returns 0. At the end it stays and returns 0. The entries are unchanged.
+    ///
+    /// Fails with `Device` if the medium failed. The place is unchanged then.
     fn read(&mut self, into: &mut [u8]) -> Result<usize, TapeFault>
         ensures bound { IfOk result (λ n. n ≤ length into.new) }
         ensures call { IsTapeCall (reel_kind holds capacity failures can_fail makes GROWS) self.old self.new
@@ -60,35 +63,39 @@ pub trait Reel {
 
     /// Carries out an operation of rmt(8)'s `I` request, by its number in mtio.
     ///
-    /// - 0, `MTWEOF`: writes `count` marks at the place, of 4 bytes each. What stood from there on is lost, and the
-    ///   place is after the marks, at the end. A count of 0 changes nothing and is done.
-    /// - 1, `MTFSF`: goes forward, after the last of `count` marks. With fewer marks ahead it goes to the end, and
-    ///   answers `EndOrMark`.
-    /// - 2, `MTBSF`: goes back, before the last of `count` marks, counted back. With fewer marks it goes to the
-    ///   beginning, and answers `EndOrMark`.
-    /// - 3, `MTFSR`: goes forward over `count` records. Where it meets a mark first it stops after the mark, and where
-    ///   it meets the end, there; both answer `EndOrMark`.
-    /// - 4, `MTBSR`: goes back over `count` records. Where it meets a mark first it stops before the mark, and where it
-    ///   meets the beginning, there; both answer `EndOrMark`.
-    /// - 5, `MTREW`: goes to the beginning, whatever the count.
+    /// - 0, `MTWEOF`: writes `count` marks, of 4 bytes each, at the place. All entries from there
+    ///   on are lost. The place is then after the marks, at the end.
+    /// - 1, `MTFSF`: moves forward past `count` marks, to after the last of them. If there are
+    ///   fewer, it moves to the end and fails with `EndOrMark`.
+    /// - 2, `MTBSF`: moves back past `count` marks, to before the last of them. If there are fewer,
+    ///   it moves to the beginning and fails with `EndOrMark`.
+    /// - 3, `MTFSR`: moves forward past `count` records. If it meets a mark first, it stops after
+    ///   the mark. If it meets the end, it stops there. Both fail with `EndOrMark`.
+    /// - 4, `MTBSR`: moves back past `count` records. If it meets a mark first, it stops before the
+    ///   mark. If it meets the beginning, it stops there. Both fail with `EndOrMark`.
+    /// - 5, `MTREW`: moves to the beginning, whatever the count.
     /// - 7, `MTNOP`: does nothing, whatever the count.
     ///
-    /// Operations 1 to 4 leave the entries as they are, and a count of 0 leaves the place too and is done.
+    /// Operations 1 to 4 leave the entries unchanged. With a count of 0, operations 0 to 4 change
+    /// nothing and succeed.
     ///
-    /// Answers `BadOperation` to any other number, and nothing changed then. The other faults come from a count of 1 on.
-    /// Spacing answers `Device` where the medium failed, and nothing changed then. Marks answer `Full` where there is no
-    /// room for all of them, and `OutOfMemory`, and nothing changed then; `Device` where the medium failed: the place and
-    /// the entries before it stay, and from the place on stands what stood before, nothing, or any number of the marks
-    /// up to the count. The room is looked at first.
+    /// Fails with `BadOperation` for any other number. Nothing changed then. The other errors need
+    /// a count of at least 1. Spacing (1 to 4) fails with `Device` if the medium failed. Nothing
+    /// changed then.
+    ///
+    /// `MTWEOF` checks the room first. It fails with `Full` if the marks do not all fit, and with
+    /// `OutOfMemory` if an allocation fails. Nothing changed then. It fails with `Device` if the
+    /// medium failed. The place and the entries before it are unchanged then. From the place on
+    /// remain the old entries, none, or some or all of the marks.
     fn op(&mut self, op: u32, count: u32) -> Result<(), TapeFault>
         ensures { IsTapeCall (reel_kind holds capacity failures can_fail makes GROWS) self.old self.new
             (op_request op count) (done_answer result) };
 
-    /// Goes to the beginning. The entries stay as they are. It never fails.
+    /// Moves to the beginning. The entries are unchanged. Never fails.
     fn rewind(&mut self)
         ensures { IsTapeCall (reel_kind holds capacity failures can_fail makes GROWS) self.old self.new Rewind Done };
 
-    /// How often the device has failed. It stays at the greatest `u64`.
+    /// Returns how often the device has failed. The count stops at the greatest `u64`.
     fn failures(&self) -> u64
         ensures { result ≡ failures self.now };
 }

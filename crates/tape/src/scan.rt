@@ -1,4 +1,4 @@
-//! The entries that the bytes of a record file spell.
+//! Reading the entries of a record file.
 
 ghost use Rattle.std.specs.Prelude.{◌≡◌, ◌++◌, ◌<◌, ◌^◌, List, ℕ, IfOk, MatchOption, length};
 ghost use Rattle.std.specs.List.{slice_get};
@@ -11,11 +11,9 @@ use crate::Entry;
 use rmt_wire::RECORD_LIMIT;
 use std::alloc::{AllocError, Global};
 
-/// The entries that the bytes of a record file spell, from its beginning to the last whole one.
+/// Reads the entries of a record file, from its beginning to the last whole one.
 ///
-/// What stands after that is no entry, and is ignored.
-///
-/// Answers `AllocError` where a growth in memory is refused.
+/// Ignores the bytes after that one. Fails with `AllocError` if an allocation fails.
 pub fn read_entries(alloc: Global, file: &[u8]) -> Result<Vec<Entry>, AllocError>
     ensures { IfOk result (λ entries. SpellsReel file.now (plain_entries entries.items)) }
 {
@@ -29,8 +27,9 @@ pub fn read_entries(alloc: Global, file: &[u8]) -> Result<Vec<Entry>, AllocError
     Ok(entries)
 }
 
-/// The bytes of the entry that is number `i` in a record file, counted from 0; a mark has none. None where there are no
-/// more than `i` entries.
+/// Returns the bytes of entry number `i` of a record file, counted from 0. A mark has none.
+///
+/// Returns `None` if there are at most `i` entries.
 pub(crate) fn nth_entry(file: &[u8], i: usize) -> Option<&[u8]>
     ensures { MatchOption result (slice_get (entries_in file.now) i ≡ None) (λ bytes. IsNth file.now i bytes.now) }
 {
@@ -43,7 +42,7 @@ pub(crate) fn nth_entry(file: &[u8], i: usize) -> Option<&[u8]>
     Some(bytes)
 }
 
-/// The entry of these bytes: a mark where there are none.
+/// Makes an entry of these bytes: a record, or a mark if there are none.
 fn entry_of(alloc: Global, bytes: &[u8]) -> Result<Entry, AllocError>
     ensures { IfOk result (λ made. (entry : PlainEntry) → IsTapeEntry entry → bytes.now ≡ bytes_of entry → plain_of made ≡ entry) }
 {
@@ -54,7 +53,9 @@ fn entry_of(alloc: Global, bytes: &[u8]) -> Result<Entry, AllocError>
     Ok(Entry::Record(copy))
 }
 
-/// The bytes of the entry whose image begins these, and what stands after the image. None where no image does.
+/// Returns the bytes of the first entry, and what follows its image.
+///
+/// Returns `None` if the bytes do not begin with the image of an entry.
 fn first_entry(bytes: &[u8]) -> Option<(&[u8], &[u8])>
     ensures { MatchOption result (IsTail bytes.now) (λ p. IsFirst bytes.now p.0.now p.1.now) }
 {
@@ -65,8 +66,10 @@ fn first_entry(bytes: &[u8]) -> Option<(&[u8], &[u8])>
     split_record(length, rest)
 }
 
-/// The bytes of a record of this length, of whose image these stand after the first length, and what stands after the image.
-/// None where it is not whole.
+/// Returns the bytes of a record of this length, and what follows its image.
+///
+/// `rest` is what follows the first length of the image. Returns `None` if the image is not whole
+/// or the length is above `RECORD_LIMIT`.
 fn split_record(length: usize, rest: &[u8]) -> Option<(&[u8], &[u8])>
     requires some { 0 < length }
     requires small { length < 2 ^ 32 }
@@ -84,7 +87,9 @@ fn split_record(length: usize, rest: &[u8]) -> Option<(&[u8], &[u8])>
     Some((record, behind))
 }
 
-/// The length that these bytes begin with, and what stands after it. None where they are fewer than 4.
+/// Returns the length that these bytes begin with, and what follows it.
+///
+/// Returns `None` if there are fewer than 4 bytes.
 fn split_length(bytes: &[u8]) -> Option<(usize, &[u8])>
     ensures { MatchOption result (length bytes.now < 4) (λ p. (p.0 < 2 ^ 32) × (bytes.now ≡ length_bytes p.0 ++ p.1.now)) }
 {

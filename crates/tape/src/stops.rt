@@ -1,4 +1,4 @@
-//! A write that is stopped at any call of the medium, and the reel opened again.
+//! A write that stops at any call of the medium, and the reel opened again.
 
 ghost use Rattle.std.specs.Prelude.{◌≡◌, ◌≢◌, ◌⊎◌, ◌+◌, ◌*◌, ◌<◌, ◌∷◌, [], Err, length};
 ghost use Rattle.tape.specs.Tape.{IsRecord, done_answer, entries_of};
@@ -11,7 +11,7 @@ ghost use Rattle.tape.specs.declared.fault.TapeFault.TheVariants.{Device, OutOfM
 use crate::{FileReel, FuseMedium, Medium, Reel, TapeFault};
 use rmt_wire::mtio::MTWEOF;
 
-/// The reel that lies on what a stopped medium has, opened anew with this capacity.
+/// Opens the reel again on the inner medium of its `FuseMedium`, with a capacity in bytes.
 pub fn reopened<M: Medium>(reel: FileReel<FuseMedium<M>>, capacity: u64) -> FileReel<M>
     ensures stood { Reopens M.holds reel result (λ t u. u ≡ entries_of t) }
     ensures medium { result.medium ≡ reel.medium.inner }
@@ -20,11 +20,12 @@ pub fn reopened<M: Medium>(reel: FileReel<FuseMedium<M>>, capacity: u64) -> File
     FileReel::open(reel.into_medium().into_inner(), capacity)
 }
 
-/// Writes a record to a reel whose medium stops at a call that it was told, and opens the reel anew, with this capacity, on what
-/// is left there.
+/// Writes a record to a reel whose medium stops at a chosen call. Then opens the reel again on what
+/// remains there, with a capacity in bytes.
 ///
-/// Whichever call that is, the entries before the place stand, and after them what stood, nothing, or the record. It never
-/// answers `OutOfMemory`.
+/// Returns the result of the write, and the reel. Whichever call stops, the entries before the
+/// place remain. After them are the old entries, none, or the record. The result is never
+/// `OutOfMemory`.
 pub fn write_and_reopen<M: Medium>(
     reel: FileReel<FuseMedium<M>>,
     bytes: &[u8],
@@ -43,11 +44,12 @@ pub fn write_and_reopen<M: Medium>(
     (written, reopened(reel, capacity))
 }
 
-/// Writes marks to a reel whose medium stops at a call that it was told, and opens the reel anew, with this capacity, on what is
-/// left there.
+/// Writes marks to a reel whose medium stops at a chosen call. Then opens the reel again on what
+/// remains there, with a capacity in bytes.
 ///
-/// Whichever call that is, the entries before the place stand, and after them what stood, or any number of the marks. It never
-/// answers `OutOfMemory`.
+/// Returns the result of the write, and the reel. Whichever call stops, the entries before the
+/// place remain. After them are the old entries, or any number of the marks. The result is never
+/// `OutOfMemory`.
 pub fn mark_and_reopen<M: Medium>(
     reel: FileReel<FuseMedium<M>>,
     count: u32,

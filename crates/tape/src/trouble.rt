@@ -1,4 +1,4 @@
-//! A trouble: how the next device call fails.
+//! A trouble: an injected fault of the next device call.
 
 ghost use Rattle.std.specs.Prelude.{◌≡◌, ◌≢◌, ◌≤◌, IfSome, MatchResult};
 ghost use Rattle.tape.specs.Trouble.{IsTroubleLeft};
@@ -9,23 +9,24 @@ use crate::TapeFault;
 
 /// How the next device call of a `TroubledReel` fails.
 ///
-/// A failed call leaves the place and the entries before it. The three kinds of failure differ in a write of a record
-/// or of marks: they say what stands from the place on afterwards. In all other calls they are one.
+/// A failed call leaves the place and the entries before it unchanged. In a write, the kind of
+/// trouble determines what remains from the place on. In all other calls the kinds are alike.
 #[derive(Clone, Copy, Debug, PartialEq, Eq)]
 pub enum Trouble {
-    /// It does not fail.
+    /// The call does not fail.
     None,
-    /// It fails, and what stood before a write still stands.
+    /// The call fails. A write leaves the old entries from the place on.
     Kept,
-    /// It fails, and nothing stands after a write.
+    /// The call fails. A write leaves nothing from the place on.
     Lost,
-    /// It fails, and so many of the entries that a write was to put there stand, or all where these are fewer: from
-    /// 1 on the whole record, or so many marks up to their count. With 0 it is as `Lost`.
+    /// The call fails. A write leaves this many of its entries, or all if it has fewer.
+    ///
+    /// With 1 or more a record remains whole. With 0 it is like `Lost`.
     Written(u32),
 }
 
 impl Trouble {
-    /// How many of so many entries that are written stand afterwards; no number where what stood before stands.
+    /// Returns how many of `count` written entries remain. Returns `None` if the old ones remain.
     pub(crate) fn left(self, count: u32) -> Option<u32>
         ensures within { IfSome result (λ n. n ≤ count) }
         ensures left { IsTroubleLeft self count result }
@@ -38,7 +39,7 @@ impl Trouble {
         }
     }
 
-    /// What a device call answers that meets this trouble: `Device` but for `Trouble::None`.
+    /// Returns the result of a device call with this trouble: `Device`, but `Ok` for `None`.
     pub(crate) fn answer(self) -> Result<(), TapeFault>
         ensures { MatchResult result (λ _. self ≡ None) (λ fault. (fault ≡ Device) × (self ≢ None)) }
     {

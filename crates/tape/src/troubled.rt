@@ -1,4 +1,4 @@
-//! A reel in memory whose device calls can be told to fail.
+//! A reel in memory whose device calls can be made to fail.
 
 ghost use Rattle.std.specs.Prelude.{◌≡◌, ◌≢◌, ◌≤◌, ◌↔◌, IfOk, MatchBool, length, true};
 ghost use Rattle.std.specs.List.{All};
@@ -16,12 +16,13 @@ use crate::{ListReel, Reel, TapeFault, Trouble};
 use rmt_wire::mtio::{MTBSR, MTWEOF};
 use std::marker::Model;
 
-/// A reel in memory whose next device call can be told to fail, and how.
+/// A reel in memory whose next device call can be made to fail.
 ///
-/// A device call is a read, a write or marks that have room, and spacing; with a count of 0 neither marks nor spacing
-/// make one. Any other call, and one that is refused for want of memory, leaves the trouble that was set.
+/// These are device calls: a read, a write or marks that have room, and spacing. With a count of 0,
+/// marks and spacing make no device call. A trouble that was set is kept through any other call,
+/// and through one that fails with `OutOfMemory`.
 ///
-/// It always tells its tape.
+/// Its tape is always known.
 #[derive(Drop)]
 pub struct TroubledReel {
     reel: ListReel,
@@ -38,7 +39,7 @@ impl Model for TroubledReel {
 }
 
 impl TroubledReel {
-    /// The reel with no trouble, and no device call that has failed.
+    /// Makes a reel of `reel`, with no trouble set and no failed device call.
     pub fn new(reel: ListReel) -> TroubledReel
         ensures tape { result.tape ≡ reel.tape }
         ensures capacity { result.capacity ≡ reel.capacity }
@@ -52,25 +53,25 @@ impl TroubledReel {
         }
     }
 
-    /// Sets how the next device call fails, in place of what was set before.
+    /// Sets how the next device call fails, and replaces what was set before.
     pub fn set(&mut self, trouble: Trouble)
         ensures { self.new ≡ record self.old { trouble = trouble } }
     {
         self.trouble = trouble;
     }
 
-    /// How the next device call fails. It is `Trouble::None` once a call has failed.
+    /// Returns how the next device call fails. After a failure it is `Trouble::None`.
     pub fn next_trouble(&self) -> Trouble
         ensures { result ≡ self.now.trouble }
     {
         self.trouble
     }
 
-    /// The length of the record that is entry number `i`, counted from 0 at the beginning; 0 for a mark, which alone
-    /// has none. No number where there are no more than `i` entries.
+    /// Returns the length of entry number `i`, counted from 0 at the beginning.
     ///
-    /// Copies the first bytes of the record, as many as `into` takes, to the front of `into`, and changes no more of it.
-    /// It is no device call, and never fails.
+    /// A mark, and nothing else, has the length 0. Returns `None` if there are at most `i` entries.
+    /// Copies the first bytes of the record to the front of `into`, as many as fit. The rest of
+    /// `into` is unchanged. It makes no device call and never fails.
     pub fn entry(&self, i: usize, into: &mut [u8]) -> Option<usize>
         ensures told { result ≡ told_length (entry_at i self.now.tape) }
         ensures copied { into.new ≡ with_front (told_bytes (entry_at i self.now.tape)) into.old }
@@ -87,7 +88,7 @@ impl TroubledReel {
         self.trouble.answer().is_err()
     }
 
-    /// Counts a failed device call, and ends the trouble that it met.
+    /// Counts a failed device call, clears its trouble, and returns `Device`.
     fn fail(&mut self) -> TapeFault
         ensures fault { result ≡ Device }
         ensures counted { self.new ≡ record self.old { trouble = None; failures = raised self.old.failures } }
@@ -97,7 +98,7 @@ impl TroubledReel {
         TapeFault::Device
     }
 
-    /// Writes so many marks, as `Reel::op` does.
+    /// Writes `count` marks, as `Reel::op` does.
     fn write_marks(&mut self, count: u32) -> Result<(), TapeFault>
         ensures { TroubledStep self.old self.new (WriteMarks count) (done_answer result) }
     {

@@ -1,24 +1,24 @@
-//! What was read of a file where a length was asked for.
+//! The bytes of a file that were read when a length was read.
 
 ghost use Rattle.std.specs.Prelude.{◌≡◌, IfSome, length};
 
-/// How many bytes a length in a record file has.
+/// How many bytes a length takes in a record file.
 pub(super) const LENGTH_SIZE: usize = 4;
 
-/// How many bytes are read where a length is asked for: that after a record, and that of the next.
+/// How many bytes are read for a length: the length after a record, and that of the next entry.
 pub(super) const WINDOW_SIZE: usize = 2 * LENGTH_SIZE;
 
-/// Bytes that were read of a file, and the offset that they stand at.
+/// Bytes that were read from a file, and their offset.
 #[derive(Clone, Copy)]
 pub(super) struct Window {
-    /// The offset of the first.
+    /// The offset of the first byte.
     pub(super) at: u64,
     /// The bytes.
     pub(super) bytes: [u8; WINDOW_SIZE],
 }
 
 impl Window {
-    /// So many bytes from this offset on, where all of them are here.
+    /// Returns `count` bytes from offset `at` on, if the window has all of them.
     pub(super) fn find(&self, at: u64, count: usize) -> Option<&[u8]>
         ensures { IfSome result (λ found. length found.now ≡ count) }
     {

@@ -1,4 +1,4 @@
-//! The image of an entry on a medium: how it is found there, and how it is put there.
+//! The image of an entry on a medium: how it is read and how it is written.
 
 ghost use Rattle.std.specs.Prelude.{◌≡◌, ◌+◌, ◌*◌, ◌<◌, ◌≤◌, ◌^◌, IfOk, IfSome, IsErr, length, drop, replicate};
 ghost use Rattle.tape.specs.Tape.{IsRecord};
@@ -13,16 +13,16 @@ use crate::entry::{MARK_SIZE, RECORD_FRAME};
 use crate::{Medium, MediumFailed};
 use rmt_wire::RECORD_LIMIT;
 
-/// No medium that tells its bytes has so many.
+/// More bytes than a medium has whose bytes are known, by the law `bounded` of `Medium`.
 const OFFSET_LIMIT: u64 = 1 << 63;
 
-/// The greatest length of a record, as it stands in a file.
+/// The greatest length of a record, in the type of a length in a record file.
 const LENGTH_LIMIT: u32 = RECORD_LIMIT as u32;
 
 /// How many zero bytes are written at once.
 const ROW: usize = 4096;
 
-/// How many bytes an entry of this length takes. A length of 0 is a mark's.
+/// Returns how many bytes an entry of this length takes. A mark has the length 0.
 pub(super) fn size_of(length: u32) -> u64
     ensures { result ≡ size_by_length length }
 {
@@ -33,14 +33,14 @@ pub(super) fn size_of(length: u32) -> u64
     }
 }
 
-/// The length that these bytes are.
+/// Returns the length that these bytes encode, in little-endian order.
 fn length_in(bytes: [u8; 4]) -> u32
     ensures { length_bytes result ≡ bytes }
 {
     u32::from_le_bytes(bytes)
 }
 
-/// The length that stands from an offset on, where 4 bytes are there.
+/// Reads the length at an offset. Returns `None` if fewer than 4 bytes are there.
 fn length_at<M: Medium>(medium: &mut M, at: u64) -> Result<Option<u32>, MediumFailed>
     ensures { IsMediumRun (medium_kind_of M.Medium)
         (λ old new. (new ≡ old) × IfOk result (BeginsWith (drop at old))) 0 (IsErr result) medium.old medium.new }
@@ -53,8 +53,9 @@ fn length_at<M: Medium>(medium: &mut M, at: u64) -> Result<Option<u32>, MediumFa
     Ok(Some(length_in(bytes)))
 }
 
-/// The length of the entry that stands from an offset on, 0 for a mark. No length where none stands there whole: that
-/// is the end.
+/// Returns the length of the entry that begins at an offset, 0 for a mark.
+///
+/// Returns `None` if no whole entry begins there: that is the end.
 pub(super) fn next_length<M: Medium>(medium: &mut M, at: u64) -> Result<Option<u32>, MediumFailed>
     ensures run { LooksAlong (medium_kind_of M.Medium) at result
         (λ bytes t length. length ≡ first_length (ahead Forward t)) medium.old medium.new }
@@ -81,7 +82,9 @@ pub(super) fn next_length<M: Medium>(medium: &mut M, at: u64) -> Result<Option<u
     Ok(Some(length))
 }
 
-/// The length of the entry that ends at an offset, 0 for a mark. No length where none does: that is the beginning.
+/// Returns the length of the entry that ends at an offset, 0 for a mark.
+///
+/// Returns `None` if no entry ends there: that is the beginning.
 pub(super) fn last_length<M: Medium>(medium: &mut M, at: u64) -> Result<Option<u32>, MediumFailed>
     ensures run { LooksAlong (medium_kind_of M.Medium) at result
         (λ bytes t length. length ≡ first_length (ahead Back t)) medium.old medium.new }
@@ -99,7 +102,7 @@ pub(super) fn last_length<M: Medium>(medium: &mut M, at: u64) -> Result<Option<u
     Ok(Some(length))
 }
 
-/// Adds the image of a record: its length, its bytes, and its length again.
+/// Appends the image of a record: its length, its bytes, and its length again.
 fn append_record<M: Medium>(medium: &mut M, bytes: &[u8]) -> Result<(), MediumFailed>
     requires { IsRecord bytes.now }
     ensures { IsMediumRun (medium_kind_of M.Medium)
@@ -109,7 +112,7 @@ fn append_record<M: Medium>(medium: &mut M, bytes: &[u8]) -> Result<(), MediumFa
     medium.append_framed(&length, bytes)
 }
 
-/// Adds so many zero bytes, a row of them at a time.
+/// Appends `count` zero bytes, one row at a time. `row` contains only zeros.
 fn append_zeros<M: Medium>(medium: &mut M, row: &[u8], count: u64) -> Result<(), MediumFailed>
     requires zeros { row.now ≡ replicate (length row.now) 0 }
     requires some { 0 < length row.now }
@@ -125,9 +128,10 @@ fn append_zeros<M: Medium>(medium: &mut M, row: &[u8], count: u64) -> Result<(),
     Ok(())
 }
 
-/// Puts a record at an offset, with nothing after it.
+/// Writes a record at an offset, with nothing after it.
 ///
-/// Answers `MediumFailed`. The bytes are the same then, or from the offset on stand the first bytes of its image.
+/// Fails if the medium fails. The bytes are unchanged then, or they are cut at the offset and
+/// followed by the first bytes of the record's image.
 pub(super) fn put_record<M: Medium>(
     medium: &mut M,
     at: u64,
@@ -141,9 +145,10 @@ pub(super) fn put_record<M: Medium>(
     append_record(medium, bytes)
 }
 
-/// Puts so many marks at an offset, with nothing after them.
+/// Writes `count` marks at an offset, with nothing after them.
 ///
-/// Answers `MediumFailed`. The bytes are the same then, or from the offset on stand the first bytes of their images.
+/// Fails if the medium fails. The bytes are unchanged then, or they are cut at the offset and
+/// followed by the first bytes of the marks' images.
 pub(super) fn put_marks<M: Medium>(medium: &mut M, at: u64, count: u32) -> Result<(), MediumFailed>
     ensures { IsMediumRun (medium_kind_of M.Medium)
         (IsImageWritten at (replicate (4 * count) 0) result) (4 * count) (IsErr result) medium.old medium.new }

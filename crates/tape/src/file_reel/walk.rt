@@ -9,35 +9,35 @@ ghost use Rattle.tape.specs.declared.file_reel.walk.Way.TheVariants.{Forward, Ba
 use super::image::{last_length, next_length, size_of};
 use crate::{Medium, MediumFailed, TapeFault};
 
-/// A way along a reel.
+/// A direction along a reel.
 #[derive(Clone, Copy)]
 pub(super) enum Way {
-    /// To the end.
+    /// Towards the end.
     Forward,
-    /// To the beginning.
+    /// Towards the beginning.
     Back,
 }
 
 /// An entry that was passed.
 #[derive(Drop)]
 struct PassedEntry {
-    /// The offset on its other side.
+    /// The offset at its far side, in the direction of the walk.
     at: u64,
     /// Whether it is a mark.
     is_mark: bool,
 }
 
-/// Where a walk ended.
+/// The outcome of a walk.
 #[derive(Drop)]
 pub(super) struct Walked {
-    /// The offset that it came to.
+    /// The offset at which it ended.
     pub(super) at: u64,
-    /// How many of the count were not met.
+    /// How many marks or records of the count were not met.
     left: u32,
 }
 
 impl Walked {
-    /// Answers `EndOrMark` where the walk ended before its count was reached.
+    /// Fails with `EndOrMark` if the walk ended before its count was reached.
     pub(super) fn answer(&self) -> Result<(), TapeFault>
         ensures { MatchResult result (λ _. self.now.left ≡ 0) (λ fault. (fault ≡ EndOrMark) × (0 < self.now.left)) }
     {
@@ -48,7 +48,7 @@ impl Walked {
     }
 }
 
-/// Passes the entry after an offset. None is there at the end.
+/// Passes the entry after an offset. Returns `None` at the end.
 fn pass_next<M: Medium>(medium: &mut M, at: u64) -> Result<Option<PassedEntry>, MediumFailed>
     ensures run { LooksAlong (medium_kind_of M.Medium) at result (HasPassed Forward) medium.old medium.new }
     ensures nearer { IfOk result (λ passed. IfSome passed (λ p. way_left Forward p.at < way_left Forward at)) }
@@ -62,7 +62,7 @@ fn pass_next<M: Medium>(medium: &mut M, at: u64) -> Result<Option<PassedEntry>, 
     }))
 }
 
-/// Passes the entry before an offset. None is there at the beginning.
+/// Passes the entry before an offset. Returns `None` at the beginning.
 fn pass_last<M: Medium>(medium: &mut M, at: u64) -> Result<Option<PassedEntry>, MediumFailed>
     ensures run { LooksAlong (medium_kind_of M.Medium) at result (HasPassed Back) medium.old medium.new }
     ensures nearer { IfOk result (λ passed. IfSome passed (λ p. way_left Back p.at < way_left Back at)) }
@@ -76,7 +76,7 @@ fn pass_last<M: Medium>(medium: &mut M, at: u64) -> Result<Option<PassedEntry>, 
     }))
 }
 
-/// Passes the entry that is next on the way from an offset. None is there at the end, and at the beginning.
+/// Passes the next entry from an offset in this direction. Returns `None` if there is none.
 fn pass<M: Medium>(medium: &mut M, way: Way, at: u64) -> Result<Option<PassedEntry>, MediumFailed>
     ensures run { LooksAlong (medium_kind_of M.Medium) at result (HasPassed way) medium.old medium.new }
     ensures nearer { IfOk result (λ passed. IfSome passed (λ p. way_left way p.at < way_left way at)) }
@@ -87,9 +87,9 @@ fn pass<M: Medium>(medium: &mut M, way: Way, at: u64) -> Result<Option<PassedEnt
     }
 }
 
-/// Walks past so many marks, or as far as there are entries.
+/// Walks past `count` marks, or as far as there are entries.
 ///
-/// Answers `MediumFailed`. A count of 0 calls nothing.
+/// Fails if the medium fails. With a count of 0 it makes no call of the medium.
 pub(super) fn walk_files<M: Medium>(
     medium: &mut M,
     way: Way,
@@ -113,9 +113,9 @@ pub(super) fn walk_files<M: Medium>(
     Ok(Walked { at, left })
 }
 
-/// Walks past so many records, or as far as past the first mark, or as far as there are entries.
+/// Walks past `count` records. Stops early after the first mark it passes, or if no entry is left.
 ///
-/// Answers `MediumFailed`. A count of 0 calls nothing.
+/// Fails if the medium fails. With a count of 0 it makes no call of the medium.
 pub(super) fn walk_records<M: Medium>(
     medium: &mut M,
     way: Way,

@@ -1,4 +1,4 @@
-//! The device of a reel in memory, which can fail in a write.
+//! The device of a reel in memory, whose writes can be made to fail.
 
 ghost use Rattle.std.specs.Prelude.{◌≡◌, ◌≢◌, ◌+◌, ◌*◌, ◌≤◌, ◌<◌, ◌^◌, MatchResult, [], ◌∷◌, length, replicate};
 ghost use Rattle.tape.specs.Failures.{Steps};
@@ -12,9 +12,11 @@ ghost use Rattle.tape.specs.declared.trouble.Trouble.TheVariants.{None};
 
 use crate::{FileReel, MemoryMedium, TapeFault, Trouble};
 
-/// Puts a record at the place, with nothing after it, by a device that fails as `trouble` says. It takes no memory.
+/// Writes a record at the place, with nothing after it, with a device that fails as `trouble` says.
+/// Allocates nothing.
 ///
-/// Answers `Device` where there is a trouble, which says what stands from the place on. The place is the same then.
+/// Fails with `Device` if there is a trouble, which determines what remains from the place on. The
+/// place is unchanged then.
 pub(super) fn put_record(
     reel: &mut FileReel<MemoryMedium>,
     bytes: &[u8],
@@ -38,10 +40,11 @@ pub(super) fn put_record(
     settle(reel, start, trouble)
 }
 
-/// Puts so many marks at the place, with nothing after them, by a device that fails as `trouble` says. It takes no
-/// memory.
+/// Writes `count` marks at the place, with nothing after them, with a device that fails as
+/// `trouble` says. Allocates nothing.
 ///
-/// Answers `Device` where there is a trouble, which says what stands from the place on. The place is the same then.
+/// Fails with `Device` if there is a trouble, which determines what remains from the place on. The
+/// place is unchanged then.
 pub(super) fn put_marks(
     reel: &mut FileReel<MemoryMedium>,
     count: u32,
@@ -60,7 +63,9 @@ pub(super) fn put_marks(
     settle(reel, start, trouble)
 }
 
-/// Ends a write that began at an offset: in a trouble the reel stands there again.
+/// Ends a write that began at offset `start`.
+///
+/// If there is a trouble, moves the reel back to `start` and fails with `Device`.
 fn settle(reel: &mut FileReel<MemoryMedium>, start: u64, trouble: Trouble) -> Result<(), TapeFault>
     ensures { MatchResult result (λ _. (trouble ≡ None) × (reel.new ≡ reel.old))
         (λ fault. (fault ≡ Device) × (trouble ≢ None) × (reel.new ≡ record reel.old { offset = start })) }
