@@ -1,2 +1,2 @@
--- What the words of `rdump` may ask.
+-- The limits of the arguments of `rdump`.
 pub mod Rdump

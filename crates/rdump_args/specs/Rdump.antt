@@ -1,4 +1,4 @@
--- What the words of `rdump` may ask. Public contracts cite it.
+-- The limits of the arguments of `rdump`. Public contracts cite it.
 use Rattle.std.specs.Prelude.{◌≤◌, ◌<◌, ℕ, Option, None, Some, IfSome, IsSome, IsTrue, ⊤, length}
 use Rattle.std.specs.Borrow.{Bor}
 use Rattle.clap.specs.Arguments.{Text}
@@ -17,32 +17,33 @@ use Rattle.rdump_args.specs.declared.list_line.ListedReels.{ListedReels}
 use Rattle.rdump_args.specs.declared.list_line.ListedReels.TheVariants.{Paths, Drive}
 use Rattle.rdump_args.specs.declared.tape_line.MtLine.{MtLine}
 
--- a name and a level that are asked for are those of an entry
+-- a name and a level, if given, are those that an entry can have
 abbrev pub IsDatesAsked : Option (Bor Text × ℕ) → Type 0
 IsDatesAsked None = ⊤
 IsDatesAsked (Some (name, level)) = IsName name.now × (level ≤ 9)
 
--- the numbers of a run are within what words can say
+-- the numbers of a run are at most `ARGUMENT_LIMIT`
 abbrev pub IsDumpLine : DumpLine → Type 0
 IsDumpLine line = (line.level ≤ ARGUMENT_LIMIT) × (line.block ≤ ARGUMENT_LIMIT) × IfSome line.date (λ n. n ≤ ARGUMENT_LIMIT)
 
--- a length that a text can say; every volume is read to its place
+-- the length is at most `ARGUMENT_LIMIT`; with `--all` each block is written at its place
 abbrev pub IsReadLine : ReadLine → Type 0
 IsReadLine line = IsDevice line.device.now × IfSome line.length (λ n. n ≤ ARGUMENT_LIMIT) × (IsTrue line.all → IsTrue line.place)
 
--- a path at least, or a drive
+-- at least one path, or a drive
 abbrev pub IsListedReels : ListedReels → Type 0
 IsListedReels (Paths paths) = 0 < length paths.items
 IsListedReels (Drive to device) = IsDevice device.now × HasPort to.now
 
--- a number of blocks is one that a dump can have, and stands with a dumpdates file alone
+-- the number of blocks, if given, is one that a dump can have, and there is a dumpdates file
 abbrev pub IsListLine : ListLine → Type 0
 IsListLine line = IsListedReels line.reels × IfSome line.blocks (λ n. (n ≤ NUMBER_LIMIT) × IsSome line.dumpdates)
 
--- a device, and an operation with a count that a request can name
+-- a device, an operation and a count that a request can name
 abbrev pub IsMtLine : MtLine → Type 0
 IsMtLine line = IsDevice line.device.now × (line.op ≤ MTNOP) × (line.count ≤ NUMBER_LIMIT)
 
+-- the parsed arguments of one of the commands, within their limits
 abbrev pub IsRdumpLine : RdumpLine → Type 0
 IsRdumpLine (Dump line) = IsDumpLine line × HasPort line.to.now
 IsRdumpLine (Read line) = IsReadLine line × HasPort line.to.now

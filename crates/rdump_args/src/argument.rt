@@ -1,42 +1,42 @@
-//! The words of a command, and the command that takes them.
+//! The arguments of a command, as data, and how clap gets them.
 use crate::fault::ArgumentFault;
 use clap::{Arg, ArgAction, ArgMatches, Command};
 use std::alloc::{AllocError, Global};
 
-/// How a word is given.
+/// How an argument is given.
 #[derive(Clone, Copy)]
 pub(crate) enum Form {
-    /// As `--NAME VALUE`, and it is required.
+    /// `--NAME VALUE`, and it is required.
     Required,
-    /// As `--NAME VALUE`.
+    /// `--NAME VALUE`.
     Optional,
-    /// As `--NAME VALUE`, and where it is given this word is given too.
+    /// `--NAME VALUE`, and it requires the argument of this name.
     With(&'static str),
-    /// As `--NAME`, without a value.
+    /// `--NAME`, without a value.
     Flag,
-    /// By its value alone, at its place, and it is required.
+    /// A value alone, by its position, and it is required.
     Place,
-    /// By their values alone, at their place, as often as one is given.
+    /// Values alone, by their position; there may be any number.
     Many,
 }
 
-/// A word of a command.
+/// An argument of a command.
 #[derive(Clone, Copy)]
 pub(crate) struct ArgumentSpec {
-    /// The word without its dashes.
+    /// The name, without dashes.
     pub name: &'static str,
-    /// What stands for its value in the help.
+    /// The name of its value in the help.
     pub value: &'static str,
-    /// What the help says of it.
+    /// The text in the help.
     pub help: &'static str,
     /// How it is given.
     pub form: Form,
-    /// What is said where it is required and missing.
+    /// The message if it is required and missing.
     pub missing: &'static str,
 }
 
 impl ArgumentSpec {
-    /// The server.
+    /// The address of the server.
     pub const TO: ArgumentSpec = ArgumentSpec {
         name: "to",
         value: "ADDRESS",
@@ -45,7 +45,7 @@ impl ArgumentSpec {
         missing: "--to is required",
     };
 
-    /// The drive.
+    /// The device of the drive.
     pub const DEVICE: ArgumentSpec = ArgumentSpec {
         name: "device",
         value: "DEVICE",
@@ -54,7 +54,7 @@ impl ArgumentSpec {
         missing: "--device is required",
     };
 
-    /// Whether it is required.
+    /// Whether the argument is required.
     fn is_required(&self) -> bool {
         match self.form {
             Form::Required | Form::Place => true,
@@ -63,7 +63,7 @@ impl ArgumentSpec {
     }
 }
 
-/// Adds a command with these words.
+/// Appends a command with these arguments. Fails if an allocation fails.
 pub(crate) fn push_command<'a>(
     alloc: Global,
     (name, about): (&'static str, &'static str),
@@ -76,7 +76,7 @@ pub(crate) fn push_command<'a>(
     }
 }
 
-/// What clap knows of these words, in order.
+/// Builds clap's arguments for these, in order. Fails if an allocation fails.
 pub(crate) fn args_of<'a>(
     alloc: Global,
     arguments: &[ArgumentSpec],
@@ -88,7 +88,7 @@ pub(crate) fn args_of<'a>(
     Ok(args)
 }
 
-/// Adds what clap knows of a word.
+/// Appends clap's argument for this one. Fails if an allocation fails.
 fn push_arg<'a>(
     alloc: Global,
     argument: &ArgumentSpec,
@@ -100,7 +100,7 @@ fn push_arg<'a>(
     }
 }
 
-/// What clap knows of a word that needs no other.
+/// Builds clap's argument for one that requires no other.
 fn arg_of<'a>(alloc: Global, argument: &ArgumentSpec) -> Arg<'a> {
     match argument.form {
         Form::Flag => flag(alloc, argument),
@@ -110,19 +110,19 @@ fn arg_of<'a>(alloc: Global, argument: &ArgumentSpec) -> Arg<'a> {
     }
 }
 
-/// `--NAME VALUE`.
+/// Builds `--NAME VALUE`.
 fn option<'a>(alloc: Global, argument: &ArgumentSpec) -> Arg<'a> {
     valued(alloc, argument).long(argument.name)
 }
 
-/// `--NAME`.
+/// Builds `--NAME`.
 fn flag<'a>(alloc: Global, argument: &ArgumentSpec) -> Arg<'a> {
     plain(alloc, argument)
         .long(argument.name)
         .action(ArgAction::SetTrue)
 }
 
-/// A word that has a value.
+/// Builds an argument that has a value.
 fn valued<'a>(alloc: Global, argument: &ArgumentSpec) -> Arg<'a> {
     plain(alloc, argument)
         .value_name(argument.value)
@@ -130,12 +130,12 @@ fn valued<'a>(alloc: Global, argument: &ArgumentSpec) -> Arg<'a> {
         .action(ArgAction::Set)
 }
 
-/// A word, with what the help says of it.
+/// Builds an argument with its text in the help.
 fn plain<'a>(alloc: Global, argument: &ArgumentSpec) -> Arg<'a> {
     Arg::new(alloc, argument.name).help(argument.help)
 }
 
-/// Adds an item to a vector, where there is one.
+/// Appends an item to a vector. Fails if an allocation fails, or if making the item failed.
 fn push<T: Drop>(items: &mut Vec<T>, item: Result<T, AllocError>) -> Result<(), AllocError> {
     match item {
         Ok(item) => Ok(items.push(item)?),
@@ -143,7 +143,8 @@ fn push<T: Drop>(items: &mut Vec<T>, item: Result<T, AllocError>) -> Result<(), 
     }
 }
 
-/// What is wrong where one of these words is required and not given.
+/// Checks that each of these arguments that is required is given. Fails with the message of the
+/// first that is not.
 pub(crate) fn check_given(
     matches: &ArgMatches<'_>,
     arguments: &[ArgumentSpec],
@@ -156,7 +157,7 @@ pub(crate) fn check_given(
     Ok(())
 }
 
-/// The value of a word, which is empty where it is not given.
+/// Returns the value of an argument, or an empty text if it is not given.
 pub(crate) fn value_in<'a>(matches: &ArgMatches<'a>, name: &str) -> &'a str {
     match matches.get_str(name) {
         Some(value) => value,
@@ -164,7 +165,7 @@ pub(crate) fn value_in<'a>(matches: &ArgMatches<'a>, name: &str) -> &'a str {
     }
 }
 
-/// Whether a word without a value is given.
+/// Whether an argument without a value is given.
 pub(crate) fn is_given(matches: &ArgMatches<'_>, name: &str) -> bool {
     matches.get_str(name) == Some("true")
 }

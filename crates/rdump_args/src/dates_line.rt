@@ -1,4 +1,4 @@
-//! The words of `rdump dates`.
+//! The arguments of `rdump dates`.
 ghost use Rattle.std.specs.Prelude.{◌≡◌, ◌↔◌, ℕ, ◌≤◌, ◌+◌, ◌∷◌, [], IfOk, IfSome, IsSome, IsTrue};
 ghost use Rattle.dumpdates.specs.Entry.{IsName};
 ghost use Rattle.rdump_args.specs.Rdump.{IsDatesAsked, IsRdumpLine};
@@ -9,17 +9,17 @@ use crate::rdump_line::RdumpLine;
 use clap::ArgMatches;
 use dumpdates::Entry;
 
-/// What is said of a name that no entry has.
+/// The message for a name that no entry can have.
 const BAD_NAME: &str =
     "invalid value for '--name <NAME>': a name is 1 to 255 bytes of printable ASCII without a space";
 
-/// What is said of a level that no entry has.
+/// The message for a level that no entry can have.
 const BAD_LEVEL: &str = "invalid value for '--level <LEVEL>': a level is one digit, 0 to 9";
 
-/// What is said of a name without a level, and of a level without a name.
+/// The message for a name without a level, or a level without a name.
 const ONE_ALONE: &str = "--name and --level are given together or not at all";
 
-/// The line of `rdump dates` that clap's matches say.
+/// Returns the line of `rdump dates` in clap's matches.
 pub(crate) fn dates_in<'a>(matches: &ArgMatches<'a>) -> Result<RdumpLine<'a>, ArgumentFault>
     ensures { IfOk result IsRdumpLine }
 {
@@ -32,7 +32,8 @@ pub(crate) fn dates_in<'a>(matches: &ArgMatches<'a>) -> Result<RdumpLine<'a>, Ar
     }
 }
 
-/// The name and the level that are asked for by these words, and what is wrong with them where no entry has such.
+/// Returns the name and the level to look for, if both are given. Fails if only one is given, or if
+/// no entry can have it.
 fn asked<'a>(
     name: Option<&'a str>,
     level: Option<&str>,
@@ -51,7 +52,7 @@ fn asked<'a>(
     }
 }
 
-/// The level that a word says, which is one digit and nothing else.
+/// Returns the level in this text, which must be exactly one digit.
 fn level_of(argument: &str) -> Option<u8>
     ensures value { IfSome result (λ n. (n ≤ 9) × (argument.now ≡ (48 + n) ∷ [])) }
     ensures given { (n : ℕ) → n ≤ 9 → argument.now ≡ (48 + n) ∷ [] → IsSome result }
@@ -69,7 +70,7 @@ fn is_name(name: &str) -> bool
     Entry::new(name, 0, 0).is_some()
 }
 
-/// The words of `rdump dates`.
+/// The arguments of `rdump dates`.
 pub(crate) static DATES_WORDS: [ArgumentSpec; 3] = [
     ArgumentSpec {
         name: "file",

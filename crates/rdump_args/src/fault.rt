@@ -1,22 +1,23 @@
-//! What is wrong with words that clap takes.
+//! Faults in arguments that clap accepts.
 use clap::error::ErrorKind;
 
-/// What is wrong with words that clap takes.
+/// A fault in arguments that clap accepts. The text in a variant is for the user.
 #[derive(Clone, Copy)]
 pub(crate) enum ArgumentFault {
     /// No command is given.
     NoCommand,
-    /// A word is missing.
+    /// An argument is missing.
     Missing(&'static str),
-    /// The value of a word is none that it can have.
+    /// The value of an argument is not a valid one.
     Value(&'static str),
-    /// Words are given that exclude each other.
+    /// Two arguments exclude each other.
     Conflict(&'static str),
-    /// Memory was refused.
+    /// An allocation failed.
     OutOfMemory,
 }
 
 impl ArgumentFault {
+    /// Returns the kind of clap's error.
     pub(crate) fn kind(self) -> ErrorKind {
         match self {
             ArgumentFault::NoCommand => ErrorKind::MissingSubcommand,
@@ -27,6 +28,7 @@ impl ArgumentFault {
         }
     }
 
+    /// Returns the text for the user.
     pub(crate) fn text(self) -> &'static str {
         match self {
             ArgumentFault::NoCommand => "a command is required",

@@ -1,5 +1,5 @@
-//! The words of `rdump`, read by clap: what they ask of it (`rdump_args`), and what is told of a value that is past a limit
-//! (`dump_error`).
+//! The arguments of `rdump`, parsed by clap (`rdump_args`), and the error for a value that exceeds
+//! a limit (`dump_error`).
 #![tactic(auto)]
 
 mod argument;

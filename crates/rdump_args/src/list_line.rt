@@ -1,4 +1,4 @@
-//! The words of `rdump ls`.
+//! The arguments of `rdump ls`.
 ghost use Rattle.std.specs.Prelude.{◌≤◌, ◌<◌, ◌≡◌, IfOk, IfSome, IsSome, length};
 ghost use Rattle.rdump_args.specs.Rdump.{IsListLine, IsListedReels};
 
@@ -10,49 +10,51 @@ use rmt_wire::NUMBER_LIMIT;
 use rmt_wire::argument::number_of;
 use std::alloc::Global;
 
-/// What the words ask of `rdump ls`.
+/// The parsed arguments of `rdump ls`.
 #[derive(Debug, Drop)]
 pub struct ListLine<'a> {
-    /// The reels that are listed.
+    /// The reels to list.
     pub reels: ListedReels<'a>,
-    /// The dumpdates file whose dumps are looked for on these reels, and None where none is looked for.
+    /// The dumpdates file with the dumps to look for on these reels, or None to look for none.
     pub dumpdates: Option<&'a str>,
-    /// How many blocks each of those dumps has, up to `rmt_wire::NUMBER_LIMIT`, and None where no word says it. It is
-    /// given with a dumpdates file alone.
+    /// How many blocks each of those dumps has, up to `rmt_wire::NUMBER_LIMIT`, or None if no
+    /// argument gives it. It is given only with a dumpdates file.
     pub blocks: Option<u64>,
 }
 
 /// The reels that `rdump ls` lists.
 #[derive(Debug, Drop)]
 pub enum ListedReels<'a> {
-    /// The record files at these paths, and those in the folders among them. There is one path at least.
+    /// The record files at these paths, and those in the folders among them. There is at least one
+    /// path.
     Paths(Vec<&'a str>),
     /// The first reel of a drive's stack.
     Drive {
-        /// Where the server listens: a host and a port.
+        /// The address that the server listens at: a host and a port.
         to: &'a str,
-        /// The drive at the server: 1 to 255 bytes of one line.
+        /// The device of the drive at the server: 1 to 255 bytes of one line.
         device: &'a str,
     },
 }
 
-/// What is said where no reel is named.
+/// The message if no reel is named.
 const NO_REEL: &str = "a FILE or a FOLDER is required, or --to and --device";
 
-/// What is said of a file or a folder and a drive.
+/// The message if both paths and a drive are named.
 const BOTH_KINDS: &str = "a FILE or a FOLDER is given, or --to and --device, and not both";
 
-/// What is said of an address without a device, and of a device without an address.
+/// The message for an address without a device, or a device without an address.
 const HALF_A_DRIVE: &str = "--to and --device are given together or not at all";
 
-/// What is said of blocks without a dumpdates file.
+/// The message for a number of blocks without a dumpdates file.
 const BLOCKS_ALONE: &str = "--blocks is given with --dumpdates only";
 
-/// What is said of a number of blocks that is none.
+/// The message for a number of blocks that is not valid.
 const BAD_BLOCKS: &str =
     "invalid value for '--blocks <N>': a dump has 0 to 2147483647 blocks, in digits";
 
-/// What clap's matches ask of `rdump ls`. Memory is for the paths.
+/// Returns the line of `rdump ls` in clap's matches. It allocates for the paths. Fails if that
+/// allocation fails or a rule is broken.
 pub(crate) fn list_in<'a>(
     alloc: Global,
     matches: &ArgMatches<'a>,
@@ -71,7 +73,8 @@ pub(crate) fn list_in<'a>(
     }
 }
 
-/// The number of blocks that a text says, if one is given, where this is the dumpdates file.
+/// Returns the number of blocks in `text`, if there is a text. Fails if it is not a number up to
+/// `NUMBER_LIMIT`, or if there is no dumpdates file.
 fn blocks_of(text: Option<&str>, dumpdates: Option<&str>) -> Result<Option<u64>, ArgumentFault>
     ensures { IfOk result (λ blocks. IfSome blocks (λ n. (n ≤ NUMBER_LIMIT) × IsSome dumpdates.entry)) }
 {
@@ -85,7 +88,7 @@ fn blocks_of(text: Option<&str>, dumpdates: Option<&str>) -> Result<Option<u64>,
     }
 }
 
-/// The reels that clap's matches name.
+/// Returns the reels that clap's matches name.
 fn reels_in<'a>(alloc: Global, matches: &ArgMatches<'a>) -> Result<ListedReels<'a>, ArgumentFault>
     ensures { IfOk result IsListedReels }
 {
@@ -96,7 +99,8 @@ fn reels_in<'a>(alloc: Global, matches: &ArgMatches<'a>) -> Result<ListedReels<'
     }
 }
 
-/// The reels that these paths name, or this address and this device.
+/// Returns the reels that these paths name, or the one of this address and device. Fails if neither
+/// is given, or both are.
 fn reels_of<'a>(
     alloc: Global,
     paths: &[&'a str],
@@ -113,7 +117,8 @@ fn reels_of<'a>(
     }
 }
 
-/// The first reel of a drive at this server.
+/// Returns the first reel of a drive at this server. Fails if the address or the device is not
+/// valid.
 fn drive_reel<'a>(to: &'a str, device: &'a str) -> Result<ListedReels<'a>, ArgumentFault>
     ensures { IfOk result IsListedReels }
 {
@@ -121,7 +126,7 @@ fn drive_reel<'a>(to: &'a str, device: &'a str) -> Result<ListedReels<'a>, Argum
     Ok(ListedReels::Drive { to, device })
 }
 
-/// The reels at these paths.
+/// Returns the reels at these paths. Fails if an allocation fails.
 fn path_reels<'a>(alloc: Global, paths: &[&'a str]) -> Result<ListedReels<'a>, ArgumentFault>
     requires { 0 < length paths.now }
     ensures { IfOk result IsListedReels }
@@ -132,7 +137,7 @@ fn path_reels<'a>(alloc: Global, paths: &[&'a str]) -> Result<ListedReels<'a>, A
     }
 }
 
-/// The words of `rdump ls`.
+/// The arguments of `rdump ls`.
 pub(crate) static LIST_WORDS: [ArgumentSpec; 5] = [
     ArgumentSpec {
         name: "path",

@@ -1,4 +1,4 @@
-//! The words of `rdump`.
+//! The arguments of `rdump`.
 
 ghost use Rattle.std.specs.Prelude.{◌≡◌, IfOk};
 ghost use Rattle.clap.specs.Values.{kind_of};
@@ -17,37 +17,41 @@ use clap::{ArgMatches, Command, Error};
 use std::alloc::{AllocError, Global};
 use std::convert::AsStr;
 
-/// What the words ask of `rdump`.
+/// The parsed arguments of `rdump`.
 #[derive(Debug, Drop)]
 pub enum RdumpLine<'a> {
-    /// To dump a payload.
+    /// Dump a payload.
     Dump(DumpLine<'a>),
-    /// To read a volume back.
+    /// Read a volume back.
     Read(ReadLine<'a>),
-    /// To list what reels hold.
+    /// List what reels contain.
     List(ListLine<'a>),
-    /// To do one operation at a drive.
+    /// Do one operation at a drive.
     Mt(MtLine<'a>),
-    /// To ask a dumpdates file.
+    /// Print a dumpdates file, or a base date from it.
     Dates {
-        /// Where the file is.
+        /// The path of the file.
         file: &'a str,
-        /// The name and the level whose base date is asked for, and None where the text is. The name is one of an
-        /// entry, 1 to 255 bytes of printable ASCII without a space, and the level is 0 to 9.
+        /// The name and the level whose base date to print, or None to print the file. The name is
+        /// valid for an entry: 1 to 255 bytes of printable ASCII without a space. The level is 0 to
+        /// 9.
         asked: Option<(&'a str, u8)>,
     },
 }
 
-/// Reads the words of `rdump`, of which the first is the name of the program itself. They are those of one of its
-/// commands:
+/// Parses the arguments of `rdump`; the first is the name of the program itself. They are those of
+/// one of its commands:
 ///
-/// `dump --to ADDRESS --device D --fs NAME --level L --payload FILE --block BYTES --dumpdates FILE [--date SECONDS]
-/// [--checkpoint FILE] [--update] [--protect]`, `read --to ADDRESS --device D --out FILE [--place] [--all] [--length BYTES]`,
-/// `ls FILE|FOLDER... [--dumpdates FILE [--blocks N]]`, `ls --to ADDRESS --device D [--dumpdates FILE [--blocks N]]`,
-/// `mt --to ADDRESS --device D OP COUNT`, and `dates --file FILE [--name NAME --level LEVEL]`.
+/// - `dump --to ADDRESS --device D --fs NAME --level L --payload FILE --block BYTES --dumpdates
+///   FILE [--date SECONDS] [--checkpoint FILE] [--update] [--protect]`
+/// - `read --to ADDRESS --device D --out FILE [--place] [--all] [--length BYTES]`
+/// - `ls FILE|FOLDER... [--dumpdates FILE [--blocks N]]`
+/// - `ls --to ADDRESS --device D [--dumpdates FILE [--blocks N]]`
+/// - `mt --to ADDRESS --device D OP COUNT`
+/// - `dates --file FILE [--name NAME --level LEVEL]`
 ///
-/// Answers an error where the words are bad, or ask for help or the version, or memory is refused; its kind tells which,
-/// and its text is meant for the user.
+/// Fails if the arguments are bad, if they ask for help or the version, or if an allocation fails.
+/// The error's kind says which, and its text is for the user.
 pub fn rdump_args<'a, S: AsStr>(alloc: Global, arguments: &'a [S]) -> Result<RdumpLine<'a>, Error>
     ensures { IfOk result IsRdumpLine }
 {
@@ -57,7 +61,7 @@ pub fn rdump_args<'a, S: AsStr>(alloc: Global, arguments: &'a [S]) -> Result<Rdu
     }
 }
 
-/// The line that the words say to the command.
+/// Returns the line that the arguments give to this command.
 fn line_of<'a, S: AsStr>(
     alloc: Global,
     rdump: &mut Command<'a>,
@@ -71,7 +75,7 @@ fn line_of<'a, S: AsStr>(
     }
 }
 
-/// The line that clap's matches say.
+/// Returns the line in clap's matches. If they break a rule, fails with the error for the user.
 fn matched<'a>(alloc: Global, matches: &ArgMatches<'a>) -> Result<RdumpLine<'a>, Error>
     ensures { IfOk result IsRdumpLine }
 {
@@ -81,7 +85,7 @@ fn matched<'a>(alloc: Global, matches: &ArgMatches<'a>) -> Result<RdumpLine<'a>,
     }
 }
 
-/// The name of the command that clap's matches say, which is empty where they say none.
+/// Returns the name of the command in clap's matches, or an empty text if there is none.
 fn name_in<'a>(matches: &ArgMatches<'a>) -> &'a str {
     match matches.subcommand() {
         Some((name, _)) => name,
@@ -89,16 +93,18 @@ fn name_in<'a>(matches: &ArgMatches<'a>) -> &'a str {
     }
 }
 
-/// What is told where a value of `rdump dump` is past a limit that no word has: this text, and the usage of the command.
+/// Returns the error for a value of `rdump dump` that exceeds a limit that parsing does not check.
+/// It shows this text and the usage of the command.
 ///
-/// The error's kind is `ValueValidation`. It fails where memory is refused.
+/// The error's kind is `ValueValidation`. Fails if an allocation fails.
 pub fn dump_error(alloc: Global, text: &str) -> Result<Error, AllocError>
     ensures { IfOk result (λ error. kind_of error ≡ ValueValidation) }
 {
     error_of(alloc, "dump", ErrorKind::ValueValidation, text)
 }
 
-/// An error of this kind in the words of the command of this name: this text, and the usage of the command.
+/// Returns an error of this kind for the command of this name: this text, and the usage of the
+/// command. Fails if an allocation fails.
 fn error_of(alloc: Global, name: &str, kind: ErrorKind, text: &str) -> Result<Error, AllocError>
     ensures { IfOk result (λ error. kind_of error ≡ kind) }
 {
@@ -107,7 +113,7 @@ fn error_of(alloc: Global, name: &str, kind: ErrorKind, text: &str) -> Result<Er
     command.error(kind, text)
 }
 
-/// What the usage calls the command of this name.
+/// Returns the full name of a command for the usage.
 fn whole_name(name: &str) -> &'static str {
     match name {
         "dump" => "rdump dump",
@@ -119,7 +125,7 @@ fn whole_name(name: &str) -> &'static str {
     }
 }
 
-/// The line that clap's matches say.
+/// Returns the line in clap's matches. Fails if a required argument is missing or a rule is broken.
 fn line_in<'a>(alloc: Global, matches: &ArgMatches<'a>) -> Result<RdumpLine<'a>, ArgumentFault>
     ensures { IfOk result IsRdumpLine }
 {
@@ -132,7 +138,7 @@ fn line_in<'a>(alloc: Global, matches: &ArgMatches<'a>) -> Result<RdumpLine<'a>,
     }
 }
 
-/// The line that clap's matches of the words of this command say, of which those that are required are given.
+/// Returns the line in clap's matches of this command's arguments. The required ones are given.
 fn named_in<'a>(
     alloc: Global,
     name: &str,
@@ -150,7 +156,7 @@ fn named_in<'a>(
     }
 }
 
-/// The command `rdump` with all of its words.
+/// Builds the command `rdump` with all of its arguments.
 fn rdump_command<'a>(alloc: Global) -> Result<Command<'a>, AllocError> {
     match commands(alloc) {
         Ok(commands) => named(alloc).subcommands(commands),
@@ -158,7 +164,7 @@ fn rdump_command<'a>(alloc: Global) -> Result<Command<'a>, AllocError> {
     }
 }
 
-/// The command `rdump` without its words.
+/// Builds the command `rdump` without its arguments.
 fn named<'a>(alloc: Global) -> Command<'a> {
     Command::new(alloc, "rdump")
         .about("Dump client for the remote magtape protocol of rmt(8)")
@@ -167,7 +173,7 @@ fn named<'a>(alloc: Global) -> Command<'a> {
         .arg_required_else_help(true)
 }
 
-/// Its commands, in the order of the help.
+/// Builds the commands of `rdump`, in the order of the help.
 fn commands<'a>(alloc: Global) -> Result<Vec<Command<'a>>, AllocError> {
     let mut commands = Vec::new(alloc);
     for said in &COMMANDS {
@@ -176,7 +182,7 @@ fn commands<'a>(alloc: Global) -> Result<Vec<Command<'a>>, AllocError> {
     Ok(commands)
 }
 
-/// The names of its commands, with what the help says of each.
+/// The names of the commands, and the text of each in the help.
 static COMMANDS: [(&str, &str); 5] = [
     (
         "dump",
@@ -200,7 +206,7 @@ static COMMANDS: [(&str, &str); 5] = [
     ),
 ];
 
-/// The words of the command of this name.
+/// Returns the arguments of the command of this name.
 fn arguments_of(name: &str) -> &'static [ArgumentSpec] {
     match name {
         "dump" => &DUMP_WORDS,

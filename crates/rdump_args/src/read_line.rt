@@ -1,4 +1,4 @@
-//! The words of `rdump read`.
+//! The arguments of `rdump read`.
 ghost use Rattle.std.specs.Prelude.{◌≤◌, IfOk, IfSome, IsTrue};
 ghost use Rattle.address.specs.Address.{HasPort};
 ghost use Rattle.rdump_args.specs.Rdump.{IsReadLine};
@@ -10,30 +10,32 @@ use crate::fault::ArgumentFault;
 use clap::ArgMatches;
 use rmt_wire::argument::number_of;
 
-/// What the words ask of `rdump read`.
+/// The parsed arguments of `rdump read`.
 #[derive(Clone, Copy, Debug)]
 pub struct ReadLine<'a> {
-    /// Where the server listens: a host and a port.
+    /// The address that the server listens at: a host and a port.
     pub to: &'a str,
-    /// The drive at the server: 1 to 255 bytes of one line.
+    /// The device of the drive at the server: 1 to 255 bytes of one line.
     pub device: &'a str,
-    /// Where the volume's blocks are written.
+    /// The path of the file that the volume's blocks are written to.
     pub out: &'a str,
-    /// Whether each block is written at the place that it has in the dump, in a file that is never emptied. It is so
-    /// with `all`.
+    /// Whether to write each block at its place in the dump, and never empty the file. It is true
+    /// if `all` is.
     pub place: bool,
-    /// Whether the volumes of the stack are read one after the other, and each goes to the bin once it was read.
+    /// Whether to read all volumes of the stack, one after the other, and move each reel to the bin
+    /// once it was read.
     pub all: bool,
-    /// To how many bytes the file is cut at the end, up to `rmt_wire::argument::ARGUMENT_LIMIT`, and None where it is
-    /// not cut.
+    /// The length in bytes to which the file is cut at the end, up to
+    /// `rmt_wire::argument::ARGUMENT_LIMIT`, or None not to cut it.
     pub length: Option<u64>,
 }
 
-/// What is said of a length that is no number.
+/// The message for a length that is not a number.
 const BAD_LENGTH: &str =
     "invalid value for '--length <BYTES>': a length is 0 to 9223372036854775807, in digits";
 
-/// What clap's matches ask of `rdump read`.
+/// Returns the line of `rdump read` in clap's matches. Fails if the address or the device is not
+/// valid, or the length is not a number.
 pub(crate) fn read_in<'a>(matches: &ArgMatches<'a>) -> Result<ReadLine<'a>, ArgumentFault>
     ensures { IfOk result (λ line. IsReadLine line × HasPort line.to.now) }
 {
@@ -50,14 +52,14 @@ pub(crate) fn read_in<'a>(matches: &ArgMatches<'a>) -> Result<ReadLine<'a>, Argu
     })
 }
 
-/// Whether each block is written at its place, where `--all` and `--place` are given or not.
+/// Whether to write each block at its place, given whether `--all` and `--place` are given.
 fn has_places(all: bool, place: bool) -> bool
     ensures { IsTrue all → IsTrue result }
 {
     all || place
 }
 
-/// The length that a text says, if one is given.
+/// Returns the length in this text, if there is a text. Fails if it is not a number.
 fn length_of(text: Option<&str>) -> Result<Option<u64>, ArgumentFault>
     ensures { IfOk result (λ length. IfSome length (λ n. n ≤ ARGUMENT_LIMIT)) }
 {
@@ -70,7 +72,7 @@ fn length_of(text: Option<&str>) -> Result<Option<u64>, ArgumentFault>
     }
 }
 
-/// The words of `rdump read`.
+/// The arguments of `rdump read`.
 pub(crate) static READ_WORDS: [ArgumentSpec; 6] = [
     ArgumentSpec::TO,
     ArgumentSpec::DEVICE,

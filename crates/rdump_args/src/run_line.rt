@@ -1,4 +1,4 @@
-//! The words of `rdump dump`.
+//! The arguments of `rdump dump`.
 ghost use Rattle.std.specs.Prelude.{◌≤◌, IfOk, IfSome};
 ghost use Rattle.address.specs.Address.{HasPort};
 ghost use Rattle.rdump_args.specs.Rdump.{IsDumpLine};
@@ -10,46 +10,47 @@ use crate::fault::ArgumentFault;
 use clap::ArgMatches;
 use rmt_wire::argument::number_of;
 
-/// What the words ask of `rdump dump`. The device, the name and the numbers may be none that a run can have: numbers are 0
-/// to 9223372036854775807.
+/// The parsed arguments of `rdump dump`. Whether a run can have this device, name and numbers is
+/// not checked here; each number is 0 to 9223372036854775807.
 #[derive(Clone, Copy, Debug)]
 pub struct DumpLine<'a> {
-    /// Where the server listens: a host and a port.
+    /// The address that the server listens at: a host and a port.
     pub to: &'a str,
-    /// The drive at the server.
+    /// The device of the drive at the server.
     pub device: &'a str,
     /// The name of the file system.
     pub fs: &'a str,
     /// The level of the dump.
     pub level: u64,
-    /// Where the payload is.
+    /// The path of the payload.
     pub payload: &'a str,
-    /// The bytes of a block.
+    /// The size of a block in bytes.
     pub block: u64,
-    /// Where the dumpdates file is.
+    /// The path of the dumpdates file.
     pub dumpdates: &'a str,
-    /// The date of the dump, in seconds since 1970 began, UTC, and None where it is that of the clock.
+    /// The date of the dump, in seconds since 1970 began, UTC, or None to take the clock's.
     pub date: Option<u64>,
-    /// Where the checkpoint of the dump is kept, and None where it is not.
+    /// The path of the file that keeps the checkpoint, or None to keep none.
     pub checkpoint: Option<&'a str>,
-    /// Whether the dump is entered in the dumpdates file once it is complete.
+    /// Whether to enter the dump in the dumpdates file once it is complete.
     pub update: bool,
-    /// Whether each attempt looks at the reel first, and writes on no reel of another dump.
+    /// Whether each attempt first looks at the reel, and never writes on a reel of another dump.
     pub protect: bool,
 }
 
-/// What is said of a level that is no number.
+/// The message for a level that is not a number.
 const BAD_LEVEL: &str = "invalid value for '--level <LEVEL>': a level is 0 to 9, in digits";
 
-/// What is said of a block size that is no number.
+/// The message for a block size that is not a number.
 const BAD_BLOCK: &str =
     "invalid value for '--block <BYTES>': a block is 1 to 262144 bytes, in digits";
 
-/// What is said of a date that is no number.
+/// The message for a date that is not a number.
 const BAD_DATE: &str =
     "invalid value for '--date <SECONDS>': a date is 0 to 253402300799, in digits";
 
-/// What clap's matches ask of `rdump dump`.
+/// Returns the line of `rdump dump` in clap's matches. Fails if the address is not valid or a
+/// number is not one.
 pub(crate) fn dump_in<'a>(matches: &ArgMatches<'a>) -> Result<DumpLine<'a>, ArgumentFault>
     ensures { IfOk result (λ line. IsDumpLine line × HasPort line.to.now) }
 {
@@ -76,7 +77,8 @@ pub(crate) fn dump_in<'a>(matches: &ArgMatches<'a>) -> Result<DumpLine<'a>, Argu
     }
 }
 
-/// The numbers that these texts say: the level, the bytes of a block, and the date if one is given.
+/// Returns the numbers in these texts: the level, the size of a block, and the date if one is
+/// given. Fails if a text is not a number.
 fn numbers_in(
     level: &str,
     block: &str,
@@ -97,7 +99,7 @@ fn numbers_in(
     }
 }
 
-/// The date that a text says, if one is given, and None where it says none.
+/// Returns the date in this text, if there is a text. None if the text is not a number.
 fn date_in(text: Option<&str>) -> Option<Option<u64>>
     ensures { IfSome result (λ date. IfSome date (λ n. n ≤ ARGUMENT_LIMIT)) }
 {
@@ -107,7 +109,7 @@ fn date_in(text: Option<&str>) -> Option<Option<u64>>
     }
 }
 
-/// The words of `rdump dump`.
+/// The arguments of `rdump dump`.
 pub(crate) static DUMP_WORDS: [ArgumentSpec; 11] = [
     ArgumentSpec::TO,
     ArgumentSpec::DEVICE,

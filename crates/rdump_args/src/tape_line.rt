@@ -1,4 +1,4 @@
-//! The words of `rdump mt`.
+//! The arguments of `rdump mt`.
 ghost use Rattle.std.specs.Prelude.{◌≤◌, IfOk, IfSome};
 ghost use Rattle.address.specs.Address.{HasPort};
 ghost use Rattle.rdump_args.specs.Rdump.{IsMtLine};
@@ -11,27 +11,28 @@ use rmt_wire::NUMBER_LIMIT;
 use rmt_wire::argument::number_of;
 use rmt_wire::mtio::{MTBSF, MTBSR, MTFSF, MTFSR, MTNOP, MTOFFL, MTREW, MTWEOF};
 
-/// What the words ask of `rdump mt`.
+/// The parsed arguments of `rdump mt`.
 #[derive(Clone, Copy, Debug)]
 pub struct MtLine<'a> {
-    /// Where the server listens: a host and a port.
+    /// The address that the server listens at: a host and a port.
     pub to: &'a str,
-    /// The drive at the server: 1 to 255 bytes of one line.
+    /// The device of the drive at the server: 1 to 255 bytes of one line.
     pub device: &'a str,
-    /// The operation by its number, one of `rmt_wire::mtio`.
+    /// The number of the operation, one of `rmt_wire::mtio`.
     pub op: u32,
-    /// Its count, up to `rmt_wire::NUMBER_LIMIT`.
+    /// The count of the operation, up to `rmt_wire::NUMBER_LIMIT`.
     pub count: u32,
 }
 
-/// What is said of an operation that is none.
+/// The message for a name that is no operation.
 const BAD_OP: &str =
     "invalid value for '<OP>': it is one of weof, fsf, bsf, fsr, bsr, rewind, offline, nop";
 
-/// What is said of a count that is none.
+/// The message for a count that is not valid.
 const BAD_COUNT: &str = "invalid value for '<COUNT>': a count is 0 to 2147483647 in digits";
 
-/// What clap's matches ask of `rdump mt`.
+/// Returns the line of `rdump mt` in clap's matches. Fails if the address, the device, the
+/// operation or the count is not valid.
 pub(crate) fn mt_in<'a>(matches: &ArgMatches<'a>) -> Result<MtLine<'a>, ArgumentFault>
     ensures { IfOk result (λ line. IsMtLine line × HasPort line.to.now) }
 {
@@ -47,7 +48,8 @@ pub(crate) fn mt_in<'a>(matches: &ArgMatches<'a>) -> Result<MtLine<'a>, Argument
     }
 }
 
-/// The operation that a word says, and the count that a text says.
+/// Returns the number of the operation of this name, and the count in this text. Fails if one of
+/// them is not valid.
 fn operation_of(op: &str, count: &str) -> Result<(u32, u32), ArgumentFault>
     ensures { IfOk result (λ found. (found.0 ≤ MTNOP) × (found.1 ≤ NUMBER_LIMIT)) }
 {
@@ -60,7 +62,7 @@ fn operation_of(op: &str, count: &str) -> Result<(u32, u32), ArgumentFault>
     }
 }
 
-/// The number of an operation (mtio), by its word in mt(1).
+/// Returns the number of an operation (mtio), given its name in mt(1).
 fn op_of(argument: &str) -> Option<u32>
     ensures { IfSome result (λ op. op ≤ MTNOP) }
 {
@@ -77,7 +79,7 @@ fn op_of(argument: &str) -> Option<u32>
     }
 }
 
-/// The count that a text says.
+/// Returns the count in this text, or None if it is not a number up to `NUMBER_LIMIT`.
 fn count_of(text: &str) -> Option<u32>
     ensures { IfSome result (λ n. n ≤ NUMBER_LIMIT) }
 {
@@ -88,7 +90,7 @@ fn count_of(text: &str) -> Option<u32>
     Some(number as u32)
 }
 
-/// The words of `rdump mt`.
+/// The arguments of `rdump mt`.
 pub(crate) static MT_WORDS: [ArgumentSpec; 4] = [
     ArgumentSpec::TO,
     ArgumentSpec::DEVICE,

@@ -1,3 +1,3 @@
--- Words: what is said of a reel; Status: the exit statuses.
+-- Words: the verdict on a reel; Status: the exit statuses.
 pub mod Words
 pub mod Status

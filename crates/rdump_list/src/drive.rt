@@ -1,4 +1,4 @@
-//! The line of a drive.
+//! The reel of a drive, for its line.
 ghost use Rattle.dump_run.specs.Run.{IsDevice};
 
 use crate::ListSystem;
@@ -9,7 +9,8 @@ use rdump_net::{ReadFault, SocketPeer};
 use reel_check::{ReelContents, ReelTally};
 use std::alloc::AllocError;
 
-/// The reel that is first on the stack of this drive. None where no session can be had, which is told.
+/// Reads the first reel on the stack of this drive. If there is no session, it prints why and
+/// returns None. Fails if an allocation fails.
 pub(crate) fn drive_reel<R: ListSystem>(
     rt: &R,
     to: &str,
@@ -30,7 +31,7 @@ pub(crate) fn drive_reel<R: ListSystem>(
     }
 }
 
-/// The reel on this drive, of which this was told.
+/// Makes the listed reel of this drive from its tally.
 fn reel_of<R: ListSystem>(
     rt: &R,
     device: &str,
@@ -51,7 +52,7 @@ fn reel_of<R: ListSystem>(
     })
 }
 
-/// Tells why no session can be had, by the system's reason where there is one.
+/// Prints why there is no session, with the system's reason if there is one.
 fn report_fault<R: ListSystem>(rt: &R, to: &str, fault: ReadFault, peer: &SocketPeer<'_, R>) {
     let to = plain(to);
     let _ = match (fault, peer.failure()) {

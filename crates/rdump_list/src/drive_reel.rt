@@ -1,6 +1,7 @@
-//! The reel that is first on a drive's stack, told over a connection. Nothing is written.
+//! Reading the first reel of a drive's stack over a connection. Nothing is written.
 //!
-//! Only what was done decides: a refusal may be a fault of the device, and a read that gives nothing met a mark or the end.
+//! Only operations that were done decide: a refusal may be a fault of the device, and a read that
+//! returns nothing met a mark or the end.
 ghost use Rattle.rmt_wire.specs.Number.{IsLine};
 
 use crate::spacing::{Stop, can_space, next_record, no_reply, rewind, space};
@@ -12,8 +13,11 @@ use rmt_wire::mtio::{MTBSF, MTBSR, MTFSF, MTFSR};
 use rmt_wire::{NUMBER_LIMIT, Request};
 use std::alloc::Global;
 
-/// Reads the reel that is first on the stack of this drive, over a connection of its own, and tells its entries to the tally. Answers why it could
-/// not be told, if so.
+/// Reads the first reel on the stack of this drive, over a connection of its own, and adds its
+/// entries to the tally.
+///
+/// Returns why the reel's contents could not be determined, if so. Fails if an allocation fails,
+/// the connection cannot be made or ends, the open is refused, or the bytes that come are no reply.
 ///
 /// The device is one line of at most `LINE_LIMIT` bytes.
 pub(crate) fn read_drive<P: Peer>(
@@ -39,7 +43,7 @@ pub(crate) fn read_drive<P: Peer>(
     }
 }
 
-/// Opens the drive, reads its reel, and closes it. What the close is answered changes nothing.
+/// Opens the drive, reads its reel, and closes it. It ignores the reply to the close.
 fn read_open<P: Peer>(
     caller: &mut PeerCaller,
     peer: &mut P,
@@ -73,7 +77,7 @@ fn open<P: Peer>(caller: &mut PeerCaller, peer: &mut P, device: &[u8]) -> Result
     }
 }
 
-/// Reads the reel of the drive that is open, and tells its entries to the tally.
+/// Reads the reel of the opened drive, and adds its entries to the tally.
 fn read_reel<P: Peer>(
     caller: &mut PeerCaller,
     peer: &mut P,
@@ -88,7 +92,7 @@ fn read_reel<P: Peer>(
     }
 }
 
-/// Reads record after record, until a read gives nothing, or what is there is no volume.
+/// Reads record after record until a read returns nothing, or until the records are no volume.
 fn read_records<P: Peer>(
     caller: &mut PeerCaller,
     peer: &mut P,
@@ -107,7 +111,8 @@ fn read_records<P: Peer>(
     Err(Stop::Undetermined(Undetermined::TooManyRecords))
 }
 
-/// The first read gave nothing: a mark comes first, where one is gone over. Else the reel may be empty.
+/// Looks for a mark at the beginning, after the first read returned nothing. If spacing over one is
+/// refused, the reel may be empty.
 fn look_for_mark<P: Peer>(
     caller: &mut PeerCaller,
     peer: &mut P,
@@ -121,7 +126,8 @@ fn look_for_mark<P: Peer>(
     Ok(())
 }
 
-/// The read after the last record gave nothing. Where a record stands right before the place, that read met the end.
+/// Looks for what follows the last record, after a read returned nothing. If a record is right
+/// before this place, that read met the end.
 fn look_after<P: Peer>(
     caller: &mut PeerCaller,
     peer: &mut P,
@@ -143,7 +149,7 @@ fn look_after<P: Peer>(
     Ok(())
 }
 
-/// Goes to the place right after the mark that comes after so many records.
+/// Moves to the place right after the mark that follows this many records.
 fn go_after_mark<P: Peer>(caller: &mut PeerCaller, peer: &mut P, records: u64) -> Result<(), Stop> {
     rewind(caller, peer)?;
     if records > u64::from(NUMBER_LIMIT) {
@@ -153,8 +159,9 @@ fn go_after_mark<P: Peer>(caller: &mut PeerCaller, peer: &mut P, records: u64) -
     space(caller, peer, MTFSF, 1)
 }
 
-/// Whether the read right after the first mark, which gave nothing, went over a second one. Back over one mark stands either a record,
-/// or the first mark.
+/// Whether the read right after the first mark, which returned nothing, passed a second one. If a
+/// record is right before the place that spacing back over one mark leads to, there is no second
+/// mark.
 fn has_second_mark<P: Peer>(caller: &mut PeerCaller, peer: &mut P) -> Result<bool, Stop> {
     space(caller, peer, MTBSF, 1)?;
     if can_space(caller, peer, MTBSR)? {

@@ -1,25 +1,27 @@
-//! What reels have of a dump.
+//! The volumes of a dump that are on the reels.
 use crate::reel::ListedReel;
 use crate::words::push_count;
 use dumpdates::Entry;
 use reel_check::Volume;
 use std::alloc::{AllocError, Global};
 
-/// What reels have of a dump, from its first block on. Only volumes with their mark count.
+/// The volumes of a dump that are on the reels, from its first block on. Only volumes with their
+/// mark count.
 #[derive(Clone, Copy)]
 pub(crate) enum DumpFound {
-    /// Not one volume.
+    /// No volume was found.
     NoVolume,
-    /// The volume of this number is not there, and each before it is.
+    /// The volume of this number is missing, and no earlier one is.
     Missing { volume: u64 },
-    /// The volume of this number does not begin where one before it ends.
+    /// The volume of this number does not begin where an earlier one ends: it begins at block
+    /// `first`, not `end`.
     Displaced { volume: u64, first: u64, end: u64 },
-    /// Each volume from 1 to this number, with the blocks before this one.
+    /// Each volume from 1 to `last`, with all blocks before block `end`.
     Volumes { last: u32, end: u64 },
 }
 
-/// A volume with its mark that is reached from the first block of its dump on: each volume before it is there, and begins where one before
-/// that ends.
+/// A volume with its mark that continues its dump from the first block: each earlier volume is
+/// there, and each begins where the one before it ends.
 #[derive(Clone, Copy)]
 struct Reached {
     volume: u32,
@@ -29,9 +31,11 @@ struct Reached {
 }
 
 impl DumpFound {
-    /// What these reels have of the dump of this entry. They are sorted.
+    /// Returns what these reels have of the dump of this entry. The reels must be sorted. Fails if
+    /// an allocation fails.
     ///
-    /// Several may have a volume of one number, as after a fault, with different blocks. The volumes that reach farthest are taken.
+    /// Several reels may have a volume of the same number with different blocks, for example after
+    /// a fault. The volumes that reach farthest are taken.
     pub(crate) fn of(
         alloc: Global,
         reels: &[ListedReel],
@@ -52,7 +56,8 @@ impl DumpFound {
         })
     }
 
-    /// Whether nothing is missing, as far as that can be said: where the number of all blocks is given, they are all there.
+    /// Whether nothing is missing, as far as is known: if the number of blocks of the dump is
+    /// given, all of them must be there.
     pub(crate) fn is_complete(self, blocks: Option<u64>) -> bool {
         match (self, blocks) {
             (DumpFound::Volumes { .. }, None) => true,
@@ -61,7 +66,8 @@ impl DumpFound {
         }
     }
 
-    /// Appends it, where the dump has so many blocks.
+    /// Appends what was found, in words. `blocks` is the number of blocks of the dump, if given.
+    /// Fails if an allocation fails.
     pub(crate) fn push(self, text: &mut Vec<u8>, blocks: Option<u64>) -> Result<(), AllocError> {
         match self {
             DumpFound::NoVolume => text.extend_from_slice(b"no volume"),
@@ -77,7 +83,7 @@ impl DumpFound {
 }
 
 impl Reached {
-    /// This volume.
+    /// Returns this volume as a reached one.
     fn of(volume: &Volume) -> Reached {
         Reached {
             volume: volume.label.volume(),
@@ -87,7 +93,8 @@ impl Reached {
         }
     }
 
-    /// Whether another volume goes on where this one ends. Volumes of one dump are based on one date, and have blocks of one length.
+    /// Whether `next` continues where this volume ends. Volumes of one dump are based on the same
+    /// date, and have blocks of the same length.
     fn leads_to(&self, next: &Volume) -> bool {
         let is_next = u64::from(next.label.volume()) == u64::from(self.volume) + 1;
         let goes_on = u64::from(next.label.first()) == self.end;
@@ -97,7 +104,7 @@ impl Reached {
     }
 }
 
-/// The volume on a reel, where it has its mark and is of the dump of this entry.
+/// Returns the volume on a reel, if it has its mark and is of the dump of this entry.
 fn volume_of<'a>(reel: &'a ListedReel, entry: Entry<'_>) -> Option<&'a Volume> {
     let volume = reel.ended_volume()?;
     let label = &volume.label;
@@ -109,18 +116,19 @@ fn volume_of<'a>(reel: &'a ListedReel, entry: Entry<'_>) -> Option<&'a Volume> {
     }
 }
 
-/// Whether a volume is the first of its dump, and begins with its first block, or goes on where one that is reached ends.
+/// Whether a volume is the first of its dump and begins at block 0, or continues where a reached
+/// volume ends.
 fn is_reached(reached: &[Reached], volume: &Volume) -> bool {
     let is_first = volume.label.volume() == 1 && volume.label.first() == 0;
     is_first || reached.iter().rev().any(|before| before.leads_to(volume))
 }
 
-/// The greatest number of volumes that are reached, or 0.
+/// Returns the greatest number of a reached volume, or 0 if there is none.
 fn last_of(reached: &[Reached]) -> u32 {
     reached.iter().map(|it| it.volume).max().unwrap_or(0)
 }
 
-/// The first volume of the dump of this entry with a greater number.
+/// Returns the first volume of this entry's dump whose number is greater than `last`.
 fn next_after<'a>(reels: &'a [ListedReel], entry: Entry<'_>, last: u32) -> Option<&'a Volume> {
     for reel in reels {
         if let Some(volume) = volume_of(reel, entry) {
@@ -132,7 +140,8 @@ fn next_after<'a>(reels: &'a [ListedReel], entry: Entry<'_>, last: u32) -> Optio
     None
 }
 
-/// What is said where volumes up to the number `last` are reached, and this one, which comes next, is not.
+/// Returns what was found if the volumes up to `last` are reached and `next`, the following one on
+/// the reels, is not.
 fn stopped(reached: &[Reached], last: u32, next: &Volume) -> DumpFound {
     let volume = u64::from(last) + 1;
     let first = u64::from(next.label.first());
@@ -144,13 +153,13 @@ fn stopped(reached: &[Reached], last: u32, next: &Volume) -> DumpFound {
     }
 }
 
-/// The farthest block at which a reached volume of this number ends, or 0.
+/// Returns the farthest block at which a reached volume of this number ends, or 0 if there is none.
 fn end_of(reached: &[Reached], volume: u32) -> u64 {
     let ends = reached.iter().filter(|it| it.volume == volume);
     ends.map(|it| it.end).max().unwrap_or(0)
 }
 
-/// What is said where all volumes that are there are reached, or there is none.
+/// Returns what was found if all volumes on the reels are reached, or if there are none.
 fn farthest(reached: &[Reached]) -> DumpFound {
     match reached.iter().max_by_key(|it| (it.end, it.volume)) {
         Some(it) => DumpFound::Volumes {
@@ -161,7 +170,8 @@ fn farthest(reached: &[Reached]) -> DumpFound {
     }
 }
 
-/// Appends that volumes are there with the blocks before this one, of so many.
+/// Appends that the volumes up to `last` are there with all blocks before block `end`, of `blocks`
+/// blocks if given.
 fn push_volumes(
     text: &mut Vec<u8>,
     last: u32,
@@ -184,7 +194,7 @@ fn push_volumes(
     }
 }
 
-/// Appends that the blocks from one to another are missing.
+/// Appends that the blocks from `first` to `last` are missing.
 fn push_missing(text: &mut Vec<u8>, first: u64, last: u64) -> Result<(), AllocError> {
     if first == last {
         return push_count(text, b"block ", first, b" is missing");

@@ -1,4 +1,4 @@
-//! The dumps of a dumpdates file, and what reels have of them.
+//! The dumps of a dumpdates file, and what was found of them.
 use crate::ListSystem;
 use crate::dump_found::DumpFound;
 use crate::fault::report;
@@ -11,7 +11,8 @@ use std::alloc::{AllocError, Global};
 use std::fs;
 use std::io::Write;
 
-/// The dumpdates file at this path. None where it can't be read, or is none, which is told.
+/// Reads the dumpdates file at this path. If it cannot be read or is not valid, it prints why and
+/// returns None. Fails if an allocation fails.
 pub(crate) fn read_dates<R: ListSystem>(rt: &R, path: &str) -> Result<Option<Dates>, AllocError> {
     let bytes = match fs::read(rt, path) {
         Ok(bytes) => bytes,
@@ -31,8 +32,9 @@ pub(crate) fn read_dates<R: ListSystem>(rt: &R, path: &str) -> Result<Option<Dat
     }
 }
 
-/// Prints an empty line, and what these reels, which are sorted, have of each dump of a dumpdates file. Each dump has so many blocks,
-/// where that is given. Answers whether nothing is missing.
+/// Prints an empty line, and one line for each dump of a dumpdates file: what was found of it on
+/// these reels. The reels must be sorted. `blocks` is the number of blocks of each dump, if given.
+/// Returns whether nothing is missing. Fails if an allocation fails.
 pub(crate) fn print_dumps<W: Write>(
     alloc: Global,
     out: &mut Printer<W>,

@@ -2,7 +2,9 @@
 use crate::ListSystem;
 use std::io::{self, BufRead, BufReader};
 
-/// The names in a folder that do not begin with a dot, in the order of their bytes. A link to a folder is followed.
+/// Returns the names in a folder that do not begin with a dot, in the order of their bytes. If
+/// `folder` is a link to a folder, it is followed. Fails if the folder cannot be read or an
+/// allocation fails.
 pub(crate) fn names_in<R: ListSystem>(rt: &R, folder: &str) -> io::Result<Vec<Vec<u8>>> {
     let path = format!(in rt.alloc(); "{folder}/")?;
     let listed = BufReader::new(rt.alloc(), rt.open_dir(path.as_str())?)?;

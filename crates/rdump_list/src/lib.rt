@@ -1,8 +1,9 @@
-//! What `rdump ls` does: says what reels hold, and what they have of the dumps of a dumpdates file.
+//! The command `rdump ls`: lists what reels contain, and which volumes of the dumps in a dumpdates
+//! file are on them.
 //!
-//! `run_ls` is all of it; it uses the runtime through `ListSystem`. Record files are read where they lie, and the reel that is first on
-//! a drive's stack over a connection. Nothing is written to either. What is said of a reel is `push_words`, and `is_whole` says of which
-//! one it is `whole`.
+//! `run_ls` is the whole command; it uses the runtime through `ListSystem`. It reads record files
+//! in place, and the first reel of a drive's stack over a connection. It writes to neither.
+//! `push_words` appends the verdict on a reel, and `is_whole` decides whether that is `whole`.
 #![tactic(auto)]
 
 mod drive;

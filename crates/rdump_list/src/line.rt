@@ -1,11 +1,12 @@
-//! The line of a reel.
+//! The line that is printed for a reel.
 use crate::reel::{ListedReel, Source};
 use crate::words::{push_count, push_words};
 use printable::plain_char;
 use reel_check::{Holding, ReelContents, Volume};
 use std::alloc::AllocError;
 
-/// Appends the line of a reel, with its line feed: its path, what it holds, and what is said of it.
+/// Appends the line of a reel, with its line feed: its path, what it contains, and the verdict on
+/// it. Fails if an allocation fails.
 pub(crate) fn push_line(text: &mut Vec<u8>, reel: &ListedReel) -> Result<(), AllocError> {
     push_path(text, reel.path.as_str())?;
     text.extend_from_slice(b": ")?;
@@ -26,7 +27,7 @@ pub(crate) fn push_line(text: &mut Vec<u8>, reel: &ListedReel) -> Result<(), All
     text.extend_from_slice(b"\n")
 }
 
-/// Appends a path. A character of it that ends a line, or controls a terminal, stands as `?`.
+/// Appends a path. A character that ends a line or controls a terminal is replaced by `?`.
 fn push_path(text: &mut Vec<u8>, path: &str) -> Result<(), AllocError> {
     for letter in path.chars() {
         let mut room = [0; 4];
@@ -36,7 +37,7 @@ fn push_path(text: &mut Vec<u8>, path: &str) -> Result<(), AllocError> {
     Ok(())
 }
 
-/// Appends what a record file holds, in numbers, up to the words.
+/// Appends the numbers of a record file's contents, up to the verdict.
 fn push_contents(text: &mut Vec<u8>, contents: &ReelContents) -> Result<(), AllocError> {
     match &contents.holding {
         Holding::Empty => {}
@@ -52,7 +53,8 @@ fn push_contents(text: &mut Vec<u8>, contents: &ReelContents) -> Result<(), Allo
     push_count(text, b"", contents.bytes, b" bytes: ")
 }
 
-/// Appends what a reel on a drive holds, in numbers, up to the words: nothing where it is no volume.
+/// Appends the numbers of the contents of a reel on a drive, up to the verdict. Appends nothing if
+/// it is no volume.
 fn push_drive(text: &mut Vec<u8>, reel: &ListedReel) -> Result<(), AllocError> {
     match reel.volume() {
         Some(volume) => {
@@ -63,7 +65,7 @@ fn push_drive(text: &mut Vec<u8>, reel: &ListedReel) -> Result<(), AllocError> {
     }
 }
 
-/// Appends what a label says, and the number and the length of the blocks.
+/// Appends the fields of a label, and the number and the length of the blocks.
 fn push_volume(text: &mut Vec<u8>, volume: &Volume) -> Result<(), AllocError> {
     let label = &volume.label;
     text.extend_from_slice(label.name().as_bytes())?;

@@ -1,4 +1,4 @@
-//! `rdump ls`.
+//! The command `rdump ls`.
 ghost use Rattle.std.specs.Prelude.{IfOk};
 ghost use Rattle.dump_run.specs.Run.{IsDevice};
 ghost use Rattle.rdump_list.specs.Status.{IsListStatus};
@@ -17,11 +17,17 @@ use rdump_args::{ListLine, ListedReels};
 use std::alloc::{AllocError, Global};
 use std::io::{self, Write};
 
-/// Lists reels, as `rdump ls` does: prints a line for each, sorted, and after an empty line one for each dump of a dumpdates file, where
-/// the words name one. Nothing is written to a reel.
+/// Runs `rdump ls`: lists reels, one line each, sorted. If a dumpdates file is given, it prints an
+/// empty line and then one line for each of its dumps. Nothing is written to a reel.
 ///
-/// Answers the exit status: 0 where there is a reel, all are whole, and no volume is missing; 1 where a file can't be read, no session with the
-/// drive can be had, memory was refused, or a write failed; and else 3. What is at fault is told on standard error, and refused memory on standard output.
+/// Returns the exit status:
+///
+/// - 0 if there is a reel, all reels are whole, and no volume is missing.
+/// - 1 if a file cannot be read, there is no session with the drive, an allocation fails, or a
+///   write fails.
+/// - 3 otherwise.
+///
+/// Errors are printed on standard error; out of memory is printed on standard output.
 pub fn run_ls<R: ListSystem>(rt: &R, line: ListLine<'_>) -> u8
     requires { IsListLine line }
     ensures { IsListStatus result }
@@ -35,7 +41,7 @@ pub fn run_ls<R: ListSystem>(rt: &R, line: ListLine<'_>) -> u8
     }
 }
 
-/// Lists the reels, and answers the status.
+/// Lists the reels. Returns the exit status. Fails if an allocation fails.
 fn list<R: ListSystem>(rt: &R, line: &ListLine<'_>) -> Result<u8, AllocError>
     requires { IsListLine line.now }
     ensures { IfOk result IsListStatus }
@@ -61,8 +67,8 @@ fn list<R: ListSystem>(rt: &R, line: &ListLine<'_>) -> Result<u8, AllocError>
     ))
 }
 
-/// Whether there is a reel. Where there is none, though all that was named could be read, that is told: of a shelf with no reel nothing is
-/// whole.
+/// Whether there is a reel. If there is none although everything named could be read, it prints
+/// that on standard error. Without a reel nothing is whole.
 fn has_reel<R: ListSystem>(rt: &R, reels: &[ListedReel], are_read: bool) -> bool {
     if reels.is_empty() && are_read {
         let _ = eprintln!(rt; "rdump: no reel was found");
@@ -70,7 +76,7 @@ fn has_reel<R: ListSystem>(rt: &R, reels: &[ListedReel], are_read: bool) -> bool
     !reels.is_empty()
 }
 
-/// The reels that the words name, and whether all could be read.
+/// Returns the reels that the arguments name, and whether all could be read.
 fn read_reels<R: ListSystem>(
     rt: &R,
     reels: &ListedReels<'_>,
@@ -83,7 +89,7 @@ fn read_reels<R: ListSystem>(
     }
 }
 
-/// The reels at these paths, and whether all could be read.
+/// Returns the reels at these paths, and whether all could be read.
 fn read_paths<R: ListSystem>(
     rt: &R,
     paths: &[&str],
@@ -95,7 +101,7 @@ fn read_paths<R: ListSystem>(
     Ok(lister.into_reels())
 }
 
-/// The first reel on the stack of a drive, and whether a session was had.
+/// Returns the first reel on the stack of a drive, and whether there was a session.
 fn read_first<R: ListSystem>(
     rt: &R,
     to: &str,
@@ -113,7 +119,7 @@ fn read_first<R: ListSystem>(
     }
 }
 
-/// Prints the lines of reels. Answers whether all are whole.
+/// Prints the lines of the reels. Returns whether all are whole.
 fn print_reels<W: Write>(
     alloc: Global,
     out: &mut Printer<W>,
@@ -130,7 +136,8 @@ fn print_reels<W: Write>(
     Ok(are_whole)
 }
 
-/// Prints what is left. Answers whether all was printed, and tells where not.
+/// Prints what is left in the buffer. Returns whether everything was printed; if not, it prints an
+/// error.
 fn end<R: ListSystem, W: Write + Drop>(rt: &R, mut out: Printer<W>) -> bool {
     let is_printed = out.end();
     if !is_printed {

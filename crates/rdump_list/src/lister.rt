@@ -1,4 +1,4 @@
-//! Record files that are read where they lie.
+//! Record files, read in place.
 use crate::ListSystem;
 use crate::fault::{report, say};
 use crate::folder::names_in;
@@ -9,13 +9,13 @@ use std::alloc::AllocError;
 use std::fs::{self, File};
 use std::io::{self, ErrorKind};
 
-/// So many bytes of a record are read at once.
+/// How many bytes of a record are read at once.
 const ROOM: usize = 65536;
 
-/// What is said where a path leads to something else.
+/// The message for a path that is neither a plain file nor a folder.
 const NO_FILE: &str = "it is no plain file and no folder";
 
-/// What reads record files, one after the other.
+/// Reads record files, one after the other, and collects what they contain.
 #[derive(Drop)]
 pub(crate) struct Lister<'a, R: ListSystem> {
     rt: &'a R,
@@ -25,7 +25,8 @@ pub(crate) struct Lister<'a, R: ListSystem> {
 }
 
 impl<'a, R: ListSystem> Lister<'a, R> {
-    /// One that has read nothing. It takes 65,536 bytes.
+    /// Makes a lister that has read nothing. It allocates 65,536 bytes. Fails if an allocation
+    /// fails.
     pub(crate) fn new(rt: &'a R) -> Result<Self, AllocError> {
         let Ok(room) = Box::new(rt.alloc(), [0; ROOM]) else {
             return Err(AllocError);
@@ -38,12 +39,13 @@ impl<'a, R: ListSystem> Lister<'a, R> {
         })
     }
 
-    /// The reels that were read, and whether all could be.
+    /// Returns the reels that were read, and whether all could be read.
     pub(crate) fn into_reels(self) -> (Vec<ListedReel>, bool) {
         (self.reels, !self.has_failed)
     }
 
-    /// Reads the record file at this path, or those in this folder. Why one can't be read is told. It fails where memory is refused.
+    /// Reads the record file at this path, or those in this folder. If one cannot be read, it
+    /// prints why and continues. Fails if an allocation fails.
     pub(crate) fn read(&mut self, path: &str) -> Result<(), AllocError> {
         match fs::metadata(self.rt, path) {
             Ok(found) if found.is_dir() => self.read_folder(path),
@@ -56,8 +58,8 @@ impl<'a, R: ListSystem> Lister<'a, R> {
         }
     }
 
-    /// Reads the plain files in a folder, in the order of their names' bytes. A folder or a link is none. Names that begin with a
-    /// dot are passed over.
+    /// Reads the plain files in a folder, in the order of their names' bytes. It skips folders,
+    /// links, and names that begin with a dot.
     fn read_folder(&mut self, folder: &str) -> Result<(), AllocError> {
         match names_in(self.rt, folder) {
             Ok(names) => self.read_names(folder, &names),
@@ -80,7 +82,7 @@ impl<'a, R: ListSystem> Lister<'a, R> {
         Ok(())
     }
 
-    /// Reads the file that was listed at this path, where it is a plain one, and still there.
+    /// Reads the file at this path of a folder's listing, if it is a plain file and still exists.
     fn read_listed(&mut self, path: &str) -> Result<(), AllocError> {
         match fs::symlink_metadata(self.rt, path) {
             Ok(found) if found.is_file() => self.read_file(path),
@@ -102,7 +104,8 @@ impl<'a, R: ListSystem> Lister<'a, R> {
         }
     }
 
-    /// What the plain file at this path holds. None where the system failed while it was read.
+    /// Returns what the plain file at this path contains, or None if the system failed while it was
+    /// read. Fails if it cannot be opened or is no plain file.
     fn contents_of(&mut self, path: &str) -> io::Result<Option<ReelContents>> {
         let file = File::open(self.rt, path)?;
         if !file.metadata()?.is_file() {
@@ -112,7 +115,7 @@ impl<'a, R: ListSystem> Lister<'a, R> {
         Ok(check_reel(&mut medium, self.room.as_mut_slice()).ok())
     }
 
-    /// Keeps what a record file holds.
+    /// Adds a record file with its contents to the list.
     fn keep(&mut self, path: &str, contents: ReelContents) -> Result<(), AllocError> {
         let path = String::from_str(self.rt.alloc(), path)?;
         self.reels.push(ListedReel {
@@ -123,13 +126,14 @@ impl<'a, R: ListSystem> Lister<'a, R> {
         Ok(())
     }
 
-    /// Tells why a path can't be read.
+    /// Prints why a path cannot be read, and remembers the failure.
     fn say(&mut self, path: &str, why: &str) {
         self.has_failed = true;
         say(self.rt, path, why);
     }
 
-    /// Tells the system's reason why a path can't be read.
+    /// Prints the system's reason why a path cannot be read, and remembers the failure. Fails if
+    /// the reason is out of memory.
     fn report(&mut self, path: &str, error: io::Error) -> Result<(), AllocError> {
         self.has_failed = true;
         report(self.rt, path, error)

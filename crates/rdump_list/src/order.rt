@@ -1,7 +1,7 @@
 //! The order of reels.
 use crate::reel::ListedReel;
 
-/// Where a reel stands in the list: by its volume, and after all volumes where it has none.
+/// The sort key of a reel: its volume, or after all volumes if it has none.
 #[derive(PartialEq, Eq, PartialOrd, Ord, Drop)]
 struct Place<'a> {
     has_none: bool,
@@ -12,7 +12,7 @@ struct Place<'a> {
     path: &'a str,
 }
 
-/// Where this reel stands.
+/// Returns the sort key of this reel.
 fn place_of(reel: &ListedReel) -> Place<'_> {
     let path = reel.path.as_str();
     match reel.volume() {
@@ -35,8 +35,8 @@ fn place_of(reel: &ListedReel) -> Place<'_> {
     }
 }
 
-/// Sorts reels by the name, level, date and number of their volumes, and then by their paths. Those without a volume come after
-/// all others.
+/// Sorts reels by the name, level, date and number of their volumes, and then by their paths. Those
+/// without a volume come last.
 pub(crate) fn sort(reels: &mut [ListedReel]) {
     reels.sort_unstable_by(|one, other| place_of(one).cmp(&place_of(other)));
 }

@@ -1,11 +1,11 @@
-//! Lines that are printed by large pieces.
+//! Lines that are printed in large pieces.
 use std::alloc::{AllocError, Global};
 use std::io::Write;
 
-/// So many bytes are kept before they are printed.
+/// How many bytes are kept before they are printed.
 const PIECE: usize = 65536;
 
-/// Lines on their way to a stream.
+/// Buffers lines for a stream.
 #[derive(Drop)]
 pub(crate) struct Printer<W> {
     out: W,
@@ -14,7 +14,7 @@ pub(crate) struct Printer<W> {
 }
 
 impl<W: Write> Printer<W> {
-    /// Lines to this stream, of which there is none so far.
+    /// Makes an empty buffer for this stream.
     pub(crate) fn new(alloc: Global, out: W) -> Self {
         Printer {
             out,
@@ -23,7 +23,7 @@ impl<W: Write> Printer<W> {
         }
     }
 
-    /// Prints a text after those before.
+    /// Appends a text, and prints the buffer once it is full. Fails if an allocation fails.
     pub(crate) fn print(&mut self, text: &[u8]) -> Result<(), AllocError> {
         self.text.extend_from_slice(text)?;
         if self.text.len() >= PIECE {
@@ -32,13 +32,13 @@ impl<W: Write> Printer<W> {
         Ok(())
     }
 
-    /// Prints what is left. Answers whether all was printed.
+    /// Prints what is left. Returns whether everything was printed.
     pub(crate) fn end(&mut self) -> bool {
         self.flush();
         !self.has_failed
     }
 
-    /// Writes what is kept. After a write that failed nothing more is written.
+    /// Writes what is kept. After a failed write it writes nothing more.
     fn flush(&mut self) {
         if !self.has_failed {
             self.has_failed = self.out.write_all(&self.text).is_err();

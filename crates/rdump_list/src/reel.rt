@@ -1,32 +1,34 @@
-//! A reel that is listed.
+//! A listed reel.
 use crate::undetermined::Undetermined;
 use crate::words::is_whole;
 use reel_check::{Holding, ReelContents, Volume, VolumeEnd};
 
-/// Where a reel was read.
+/// The source that a reel was read from.
 #[derive(Clone, Copy)]
 pub(crate) enum Source {
-    /// It is a record file.
+    /// A record file.
     File,
-    /// It lies on a drive: its bytes are not told, and of what is no volume nothing is counted.
+    /// A drive. Its bytes are not known, and if it is no volume, its records and marks are not all
+    /// counted.
     Drive,
-    /// It lies on a drive, and could not be told for this reason. Its contents are what was read of it.
+    /// A drive, but the contents could not be determined for this reason. They are what was read
+    /// until then.
     Undetermined(Undetermined),
 }
 
-/// A reel that is listed. It keeps one label.
+/// A listed reel. It holds at most one label.
 #[derive(Drop)]
 pub(crate) struct ListedReel {
-    /// The path of its file, or its drive.
+    /// The path of its file, or the device name of its drive.
     pub(crate) path: String,
-    /// What it holds.
+    /// The contents that were read.
     pub(crate) contents: ReelContents,
-    /// Where it was read.
+    /// The source that it was read from.
     pub(crate) source: Source,
 }
 
 impl ListedReel {
-    /// The volume on it, whole or not.
+    /// Returns the volume on it, whole or not.
     pub(crate) fn volume(&self) -> Option<&Volume> {
         match &self.contents.holding {
             Holding::Volume(volume) => Some(volume),
@@ -34,7 +36,7 @@ impl ListedReel {
         }
     }
 
-    /// Whether it is said to be whole.
+    /// Whether the verdict on it is `whole`.
     pub(crate) fn is_whole(&self) -> bool {
         match self.source {
             Source::File | Source::Drive => is_whole(&self.contents),
@@ -42,7 +44,8 @@ impl ListedReel {
         }
     }
 
-    /// The volume on it, where one mark and nothing else comes after its blocks, but for bytes that make no entry: so it is read back whole.
+    /// Returns the volume on it, if exactly one mark follows its blocks. Bytes that make no entry
+    /// may follow too. Such a volume can be read back whole.
     pub(crate) fn ended_volume(&self) -> Option<&Volume> {
         match (self.source, self.volume()) {
             (Source::File | Source::Drive, Some(volume)) if volume.end == VolumeEnd::OneMark => {

@@ -1,4 +1,4 @@
-//! Requests to a drive that is open, and what they are answered.
+//! Requests to an opened drive, and their replies.
 ghost use Rattle.std.specs.Prelude.{◌≤◌};
 ghost use Rattle.rmt_wire.specs.declared.limits.TheConstants.{NUMBER_LIMIT};
 ghost use Rattle.rmt_wire.specs.declared.mtio.TheConstants.{MTNOP};
@@ -8,16 +8,16 @@ use rdump_net::{CallFault, KeptReply, Peer, PeerCaller, ReadFault};
 use rmt_wire::mtio::MTREW;
 use rmt_wire::{RECORD_LIMIT, Request};
 
-/// Why a reel is not told.
+/// Why reading a reel stopped.
 #[derive(Clone, Copy)]
 pub(crate) enum Stop {
-    /// It could not be, for this reason, and the session goes on.
+    /// Its contents cannot be determined, for this reason. The session is still open.
     Undetermined(Undetermined),
-    /// The session ended, or could not be had.
+    /// There is no session, or it ended.
     Fault(ReadFault),
 }
 
-/// A call that has no reply.
+/// Converts the fault of a call.
 pub(crate) fn no_reply(fault: CallFault) -> ReadFault {
     match fault {
         CallFault::ConnectionEnded => ReadFault::ConnectionEnded,
@@ -26,7 +26,7 @@ pub(crate) fn no_reply(fault: CallFault) -> ReadFault {
     }
 }
 
-/// Does an operation of mtio. Answers the number of the error where it is refused.
+/// Does an mtio operation. Returns the number of the error if it is refused.
 fn operate<P: Peer>(
     caller: &mut PeerCaller,
     peer: &mut P,
@@ -44,7 +44,7 @@ fn operate<P: Peer>(
     }
 }
 
-/// Rewinds the reel. Where that is refused the reel can't be told.
+/// Rewinds the reel. If that is refused, its contents cannot be determined.
 pub(crate) fn rewind<P: Peer>(caller: &mut PeerCaller, peer: &mut P) -> Result<(), Stop> {
     match operate(caller, peer, MTREW, 1)? {
         None => Ok(()),
@@ -52,7 +52,7 @@ pub(crate) fn rewind<P: Peer>(caller: &mut PeerCaller, peer: &mut P) -> Result<(
     }
 }
 
-/// Goes over records or marks. Where that is refused the reel can't be told.
+/// Spaces over records or marks. If that is refused, the reel's contents cannot be determined.
 pub(crate) fn space<P: Peer>(
     caller: &mut PeerCaller,
     peer: &mut P,
@@ -68,7 +68,8 @@ pub(crate) fn space<P: Peer>(
     }
 }
 
-/// Goes over one record or mark. Answers whether it was done: a refusal may mean that there is none, or a fault of the device.
+/// Spaces over one record or mark. Returns whether that was done: a refusal may mean that there is
+/// none, or be a fault of the device.
 pub(crate) fn can_space<P: Peer>(
     caller: &mut PeerCaller,
     peer: &mut P,
@@ -79,7 +80,7 @@ pub(crate) fn can_space<P: Peer>(
     Ok(operate(caller, peer, op, 1)?.is_none())
 }
 
-/// The next record. Empty at a mark and at the end.
+/// Reads the next record. Returns nothing at a mark and at the end.
 pub(crate) fn next_record<P: Peer>(caller: &mut PeerCaller, peer: &mut P) -> Result<Vec<u8>, Stop> {
     let read = Request::Read {
         count: RECORD_LIMIT as u32,
@@ -92,7 +93,7 @@ pub(crate) fn next_record<P: Peer>(caller: &mut PeerCaller, peer: &mut P) -> Res
     }
 }
 
-/// What was asked was refused.
+/// Returns the stop for a refused request.
 fn refused(asked: Asked, number: u32) -> Stop {
     Stop::Undetermined(Undetermined::Refused { asked, number })
 }

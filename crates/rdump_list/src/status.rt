@@ -1,16 +1,18 @@
 //! The exit statuses of `rdump ls`.
 ghost use Rattle.rdump_list.specs.Status.{IsListStatus};
 
-/// The status where all reels are whole, and all volumes that are looked for are there.
+/// The exit status if all reels are whole, and all volumes that were looked for are there.
 const WHOLE: u8 = 0;
 
-/// The status where a file can't be read, no session can be had, memory was refused, or a write failed.
+/// The exit status if a file cannot be read, there is no session, an allocation fails, or a write
+/// fails.
 pub(crate) const FAILED: u8 = 1;
 
-/// The status where a reel is not whole, or a volume is missing.
+/// The exit status if a reel is not whole, or a volume is missing.
 const NOT_WHOLE: u8 = 3;
 
-/// The status where all was read and printed, or not, and all is whole, or not. That something failed is said first.
+/// Returns the exit status, given whether everything was read and printed, and whether everything
+/// is whole. A failure to read or print takes precedence.
 pub(crate) fn status_of(is_done: bool, is_whole: bool) -> u8
     ensures { IsListStatus result }
 {

@@ -1,10 +1,10 @@
-//! What `rdump ls` uses of the runtime.
+//! The parts of the runtime that `rdump ls` uses.
 use std::fs::File;
 use std::net::Net;
 use std::rt::{Clock, Files};
 
-/// What `rdump ls` uses of the runtime: memory, the streams that it prints to, files, sockets, and the clock, by which a connection
-/// waits after one that failed.
+/// The parts of the runtime that `rdump ls` uses: memory, the streams that it prints to, files,
+/// sockets, and the clock, which times the wait before a connection that follows a failed one.
 pub trait ListSystem: AllocGlobal + Clock + Eprint + Files<File = File> + Net + Print {}
 
 impl<R: AllocGlobal + Clock + Eprint + Files<File = File> + Net + Print> ListSystem for R {}

@@ -1,31 +1,32 @@
-//! Why a reel on a drive could not be told.
+//! Why the contents of a reel on a drive could not be determined.
 use crate::words::push_count;
 use std::alloc::AllocError;
 
-/// What was asked of a drive.
+/// A request to a drive.
 #[derive(Clone, Copy)]
 pub(crate) enum Asked {
-    /// To rewind.
+    /// The rewind.
     Rewind,
-    /// To read a record.
+    /// The read of a record.
     Read,
-    /// To go over records or marks.
+    /// The spacing over records or marks.
     Spacing,
 }
 
-/// Why a reel on a drive could not be told.
+/// Why the contents of a reel on a drive could not be determined.
 #[derive(Clone, Copy)]
 pub(crate) enum Undetermined {
-    /// Nothing could be read, and no mark be gone over: the reel may be empty, and its device may have failed.
+    /// No record was read, and spacing over a mark was refused: the reel may be empty, or the
+    /// device may have failed.
     NoRecord,
-    /// An answer was this error, which may be a fault of the device.
+    /// The reply to a request was this error, which may be a fault of the device.
     Refused { asked: Asked, number: u32 },
-    /// It has more records than one request goes over.
+    /// The reel has more records than one request can space over.
     TooManyRecords,
 }
 
 impl Undetermined {
-    /// Appends it.
+    /// Appends the reason, in words. Fails if an allocation fails.
     pub(crate) fn push(self, text: &mut Vec<u8>) -> Result<(), AllocError> {
         text.extend_from_slice(b"cannot be told: ")?;
         match self {
@@ -41,7 +42,7 @@ impl Undetermined {
     }
 }
 
-/// What was asked, in words.
+/// Returns the name of a request for the line.
 fn words_of(asked: Asked) -> &'static [u8] {
     match asked {
         Asked::Rewind => b"the rewind",

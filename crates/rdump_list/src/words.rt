@@ -1,4 +1,4 @@
-//! What is said of a reel.
+//! The verdict on a reel, in words.
 ghost use Rattle.std.specs.Prelude.{◌≡◌, ◌++◌, ◌↔◌, IsTrue, OnOk, codes, decimal};
 ghost use Rattle.rdump_list.specs.Words as spec;
 ghost use Rattle.rdump_list.specs.Words.{IsWhole, end_words, holding_words, is_end, tail_words, words_of};
@@ -7,8 +7,8 @@ use itoa::Buffer;
 use reel_check::{Holding, ReelContents, Volume, VolumeEnd};
 use std::alloc::AllocError;
 
-/// Whether a reel is whole: a volume with one mark after its blocks, and nothing after that, not a byte. Of these reels, and of no
-/// others, `whole` is said.
+/// Whether a reel is whole: a volume with one mark after its blocks, and nothing after that, not
+/// even a byte. The verdict on these reels, and on no others, is `whole`.
 pub fn is_whole(contents: &ReelContents) -> bool
     ensures holds { IsTrue result ↔ IsWhole contents.now }
     ensures said { IsTrue result ↔ (words_of contents.now ≡ codes "whole") }
@@ -16,11 +16,14 @@ pub fn is_whole(contents: &ReelContents) -> bool
     contents.tail == 0 && has_one_mark(&contents.holding)
 }
 
-/// Appends what is said of a reel: `whole`; `empty`; `no mark: 3 whole blocks`; `more after the mark`; or `not a volume of rdump`.
-/// Bytes that stand after the last entry that is read from the front are told after it, as `no mark: 3 whole blocks, tail of 5 bytes`, and
-/// in place of `whole` and of `empty`, as `tail of 5 bytes`.
+/// Appends the verdict on a reel: `whole`; `empty`; `no mark: 3 whole blocks`;
+/// `more after the mark`; or `not a volume of rdump`.
 ///
-/// It fails where memory is refused.
+/// If bytes follow the last readable entry, the verdict ends with their number:
+/// `no mark: 3 whole blocks, tail of 5 bytes`. This replaces `whole` and `empty`:
+/// `tail of 5 bytes`.
+///
+/// Fails if an allocation fails.
 pub fn push_words(text: &mut Vec<u8>, contents: &ReelContents) -> Result<(), AllocError>
     ensures { OnOk result (text.new.items ≡ text.old.items ++ words_of contents.now) }
 {
@@ -35,7 +38,7 @@ pub fn push_words(text: &mut Vec<u8>, contents: &ReelContents) -> Result<(), All
     push_tail(text, contents.tail)
 }
 
-/// Whether entries are a volume with one mark after its blocks, and nothing after it.
+/// Whether the entries are a volume with one mark after its blocks, and nothing after it.
 fn has_one_mark(holding: &Holding) -> bool
     ensures { result ≡ spec.is_one_mark holding.now }
 {
@@ -45,7 +48,7 @@ fn has_one_mark(holding: &Holding) -> bool
     }
 }
 
-/// Whether what is said of entries is said of no reel that has a tail: it is `whole`, or `empty`.
+/// Whether a tail replaces the verdict on these entries, which is `whole` or `empty`.
 fn is_said_alone(holding: &Holding) -> bool
     ensures { result ≡ spec.is_said_alone holding.now }
 {
@@ -56,7 +59,7 @@ fn is_said_alone(holding: &Holding) -> bool
     }
 }
 
-/// Whether one mark comes after the blocks of a volume, and nothing after it.
+/// Whether exactly one mark and nothing else follows the blocks of a volume.
 fn is_one_mark(end: VolumeEnd) -> bool
     ensures { result ≡ is_end end }
 {
@@ -67,7 +70,7 @@ fn is_one_mark(end: VolumeEnd) -> bool
     }
 }
 
-/// Appends what is said of entries.
+/// Appends the verdict on the entries.
 fn push_holding(text: &mut Vec<u8>, holding: &Holding) -> Result<(), AllocError>
     ensures { OnOk result (text.new.items ≡ text.old.items ++ holding_words holding.now) }
 {
@@ -78,7 +81,7 @@ fn push_holding(text: &mut Vec<u8>, holding: &Holding) -> Result<(), AllocError>
     }
 }
 
-/// Appends what is said of a volume.
+/// Appends the verdict on a volume.
 fn push_end(text: &mut Vec<u8>, volume: &Volume) -> Result<(), AllocError>
     ensures { OnOk result (text.new.items ≡ text.old.items ++ end_words volume.now.end volume.now.blocks) }
 {
@@ -89,7 +92,7 @@ fn push_end(text: &mut Vec<u8>, volume: &Volume) -> Result<(), AllocError>
     }
 }
 
-/// Appends what is said of bytes after those of the entries.
+/// Appends the number of bytes after the entries.
 fn push_tail(text: &mut Vec<u8>, bytes: u64) -> Result<(), AllocError>
     ensures { OnOk result (text.new.items ≡ text.old.items ++ tail_words bytes) }
 {

@@ -1,4 +1,4 @@
--- A request that is sent to a peer, and what comes back. Public contracts stand on it (through Calls).
+-- A request to a peer, and its reply. Public contracts rely on it (through Calls).
 use Rattle.std.specs.Prelude.{◌≡◌, ◌≢◌, ◌⊎◌, ◌≤◌, ◌<◌, ◌-◌, ◌^◌, ℕ, false, List, [], ◌∷◌, ◌++◌, map, length, Option, Some, None, Result, Ok, Err}
 use Rattle.rmt_wire.specs.declared.limits.TheConstants.{READER_LIMIT}
 use Rattle.rmt_wire.specs.Reply.{PlainReply, Wanted, SpellsReply}
@@ -16,7 +16,7 @@ use Rattle.rdump_net.specs.declared.fault.CallFault.TheVariants.{ConnectionEnded
 use Rattle.rdump_net.specs.declared.peer.Passed.{Passed}
 use Rattle.rdump_net.specs.declared.peer.Passed.TheVariants.{Sent, Given, Ended}
 
--- data answer a read, and a number all others
+-- the kind of reply to a request: data for a read, and a number for any other
 abbrev pub wanted_by : PlainRequest → Wanted
 wanted_by (Open device mode) = Number
 wanted_by Close = Number
@@ -25,15 +25,16 @@ wanted_by (WriteDropped count) = Number
 wanted_by (Read count) = DataUpTo count
 wanted_by (Op op count) = Number
 
--- what came is no reply: none by the grammar, one with more after it, or one that does not end in 2^64 - 1 bytes
+-- these bytes are no reply: they break the grammar, or more bytes follow the reply, or 2^64 - 1
+-- bytes or more hold no whole reply
 abbrev pub IsNoReply : Wanted → List ℕ → Type 0
 IsNoReply wanted bytes =
     ((fault : WireFault) × ReplyGives (Some wanted) bytes (Err fault) bytes)
     ⊎ ((reply : PlainReply) × (rest : List ℕ) × ReplyGives (Some wanted) bytes (Ok (Some reply)) rest × (rest ≢ []))
     ⊎ (ReplyGives (Some wanted) bytes (Ok None) bytes × (2 ^ 64 - 1 ≤ length bytes))
 
--- what a peer gives to one who waits for a reply: that reply, alone; or its connection ends in it; or no reply comes; or one comes
--- for which there is no memory
+-- What a peer sends while a reply is awaited: that reply alone, a part of one before the connection
+-- ends, bytes that are no reply, or a reply for which an allocation fails.
 abbrev pub Brings : Wanted → Result PlainReply CallFault → List Passed → Type 0
 Brings wanted (Ok reply) passed = (bytes : List ℕ) × SpellsReply bytes reply wanted × (passed ≡ map Given bytes)
 Brings wanted (Err ConnectionEnded) passed =
@@ -43,28 +44,31 @@ Brings wanted (Err OutOfMemory) passed =
     (bytes : List ℕ) × (reply : PlainReply) × (rest : List ℕ) × ReplyGives (Some wanted) bytes (Ok (Some reply)) rest
     × (passed ≡ map Given bytes)
 
--- what passes in a call: the request is sent, once, and then comes what the peer brings; or the connection ends while it is sent; or
--- there is no memory for it
+-- What passes in a call: the request is sent once, and then the peer's bytes come. Or the
+-- connection ends while the request is sent, or an allocation for it fails.
 abbrev pub IsPeerCall : PlainRequest → Result PlainReply CallFault → List Passed → Type 0
 IsPeerCall request result passed =
     ((more : List Passed) × Brings (wanted_by request) result more × (passed ≡ map Sent (request_text request) ++ more))
     ⊎ ((result ≡ Err ConnectionEnded) × AreBytesSent (request_text request) false passed)
     ⊎ ((result ≡ Err OutOfMemory) × (passed ≡ []))
 
--- the same over a peer
+-- a reply was awaited over a peer, with this result
 abbrev pub IsReplyHeard : {P : Type 0} → (P → List Passed → Type 0) → Wanted → Result PlainReply CallFault → P → P → Type 0
 IsReplyHeard tells wanted result p p' = (passed : List Passed) × Brings wanted result passed × Logs tells p p' passed
 
+-- a call was made over a peer, with this result
 abbrev pub IsCalled : {P : Type 0} → (P → List Passed → Type 0) → PlainRequest → Result PlainReply CallFault → P → P → Type 0
 IsCalled tells request result p p' = (passed : List Passed) × IsPeerCall request result passed × Logs tells p p' passed
 
--- these bytes came since a reply of this kind was waited for, and are a beginning of one, for the rest of which there is room
+-- these bytes came since a reply of this kind was awaited; they are the beginning of one, and there
+-- is room for the rest
 pub record IsReplyAwaited (wanted : Wanted) (h : ReplyHeld) (bytes : List ℕ) : Type 0 where
   pub unread : ReplyUnread h (Some wanted) bytes
   pub begun : ReplyGives (Some wanted) bytes (Ok None) bytes
   pub room : length h.kept < READER_LIMIT
 
--- what a reader gives of the bytes that it holds, and where it stands then; a fault stays, whatever follows
+-- What a reader returns of the bytes that it holds, and its state then. A fault stays, whatever
+-- bytes follow.
 abbrev pub IsFront : Wanted → List ℕ → Result (Option KeptReply) CallFault → ReplyHeld → Type 0
 IsFront wanted bytes (Ok None) new = IsReplyAwaited wanted new bytes
 IsFront wanted bytes (Ok (Some answer)) new =
@@ -75,7 +79,7 @@ IsFront wanted bytes (Err OutOfMemory) new =
     (reply : PlainReply) × (rest : List ℕ) × ReplyGives (Some wanted) bytes (Ok (Some reply)) rest
 IsFront wanted bytes (Err ConnectionEnded) new = ⊥
 
--- all the bytes are a beginning of a reply, or a reply, alone, or none of these
+-- the bytes are the beginning of a reply, or exactly one reply, or neither
 abbrev pub IsTaken : Wanted → List ℕ → Result (Option KeptReply) CallFault → ReplyHeld → Type 0
 IsTaken wanted bytes (Ok None) new = IsReplyAwaited wanted new bytes
 IsTaken wanted bytes (Ok (Some answer)) new = SpellsReply bytes (plain_kept answer) wanted

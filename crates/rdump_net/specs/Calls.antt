@@ -1,4 +1,5 @@
--- Calls over a peer, one after the other, each after the reply to the one before. Public contracts stand on it (through Reading).
+-- Calls over a peer, each after the reply to the one before. Public contracts rely on it (through
+-- Reading).
 use Rattle.std.specs.Prelude.{◌≡◌, ◌⊎◌, Bool, true, false, List, [], ◌∷◌, ◌++◌, Option, Some, None, Ok, Err}
 use Rattle.rmt_wire.specs.Reply.{PlainReply}
 use Rattle.rmt_wire.specs.Reply.PlainReply.{Done, Data, Error}
@@ -10,25 +11,27 @@ use Rattle.rdump_net.specs.declared.fault.CallFault.TheVariants.{ConnectionEnded
 use Rattle.rdump_net.specs.declared.peer.Passed.{Passed}
 use Rattle.rdump_net.specs.declared.peer.Passed.TheVariants.{Connected, Ended}
 
+-- the request was done: its reply is a number
 abbrev pub is_done : PlainReply → Bool
 is_done (Done n) = true
 is_done (Data bytes) = false
 is_done (Error n text) = false
 
--- What passed from the connection on, with the replies so far: what is asked next after some replies is said by `next`.
+-- What passed since the connection was made, with the replies so far. `next` gives the next request
+-- after some replies, if there is one.
 pub data CallsFollow (next : List PlainReply → Option PlainRequest) : List PlainReply → List Passed → Type 0 where
   begins : CallsFollow next [] (Connected ∷ [])
   one_more : {replies : List PlainReply} {passed more : List Passed} (request : PlainRequest) (reply : PlainReply)
       → CallsFollow next replies passed → next replies ≡ Some request → IsPeerCall request (Ok reply) more
       → CallsFollow next (replies ++ reply ∷ []) (passed ++ more)
 
--- no call was made, since there was no connection, or no memory for replies
+-- no call was made: there was no connection, or an allocation for replies failed
 abbrev pub NotBegun : CallFault → List Passed → Type 0
 NotBegun ConnectionEnded passed = passed ≡ Ended ∷ []
 NotBegun OutOfMemory passed = passed ≡ []
 NotBegun Botched passed = ⊥
 
--- how the calls end: nothing more is asked, or the next call has no reply, or none was made
+-- how the calls end: no request is left, or the next call gets no reply, or no call was made
 abbrev pub Stops : (List PlainReply → Option PlainRequest) → Option CallFault → List PlainReply → List Passed → Type 0
 Stops next None replies passed = CallsFollow next replies passed × (next replies ≡ None)
 Stops next (Some fault) replies passed =
@@ -36,7 +39,7 @@ Stops next (Some fault) replies passed =
     × (next replies ≡ Some request) × IsPeerCall request (Err fault) more × (passed ≡ before ++ more))
     ⊎ ((replies ≡ []) × NotBegun fault passed)
 
--- further calls, from these replies on to those
+-- further calls, after which the replies `replies` have become `later`
 pub record Extends {P : Type 0} (next : List PlainReply → Option PlainRequest) (tells : P → List Passed → Type 0) (p p' : P)
     (replies later : List PlainReply) : Type 0 where
   pub more : List Passed

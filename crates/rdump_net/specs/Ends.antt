@@ -1,21 +1,24 @@
--- A peer with the streams that are written to, as they are at one time, and what tells of them. Public contracts cite it.
+-- A peer with the streams that are written to, at one time, and their logs. Public contracts cite
+-- it.
 use Rattle.std.specs.Prelude.{ℕ, List, Option}
 use Rattle.rmt_wire.specs.Counted.{Counting}
 use Rattle.rdump_net.specs.declared.peer.Passed.{Passed}
 
--- a peer, and one stream
+-- a peer, and one output stream
 pub record StreamEnds (P W : Type 0) : Type 0 where
   pub peer : P
   pub out : Counting W
 
+-- makes a `StreamEnds`
 abbrev pub stream_ends : {P W : Type 0} → P → Counting W → StreamEnds P W
 stream_ends peer out = record { peer = peer; out = out }
 
--- what passed at the peer, and what the stream holds
+-- the logs of these two: what passed at the peer, and what the stream holds
 pub record StreamKind (P W : Type 0) : Type 1 where
   pub tells : P → List Passed → Type 0
   pub contents : W → Option (List ℕ)
 
+-- makes a `StreamKind`
 abbrev pub stream_kind : {P W : Type 0} → (P → List Passed → Type 0) → (W → Option (List ℕ)) → StreamKind P W
 stream_kind tells contents = record { tells = tells; contents = contents }
 
@@ -25,14 +28,16 @@ pub record CopyEnds (P F W : Type 0) : Type 0 where
   pub file : Counting F
   pub out : Counting W
 
+-- makes a `CopyEnds`
 abbrev pub copy_ends : {P F W : Type 0} → P → Counting F → Counting W → CopyEnds P F W
 copy_ends peer file out = record { peer = peer; file = file; out = out }
 
--- what passed at the peer, and what the file and the output hold
+-- the logs of these three: what passed at the peer, and what the file and the output hold
 pub record CopyKind (P F W : Type 0) : Type 1 where
   pub tells : P → List Passed → Type 0
   pub filed : F → Option (List ℕ)
   pub contents : W → Option (List ℕ)
 
+-- makes a `CopyKind`
 abbrev pub copy_kind : {P F W : Type 0} → (P → List Passed → Type 0) → (F → Option (List ℕ)) → (W → Option (List ℕ)) → CopyKind P F W
 copy_kind tells filed contents = record { tells = tells; filed = filed; contents = contents }

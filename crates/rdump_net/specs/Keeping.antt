@@ -1,4 +1,4 @@
--- A dump whose checkpoint is kept. Public contracts cite it.
+-- A dump that keeps its checkpoint. Public contracts cite it.
 use Rattle.std.specs.Prelude.{◌≡◌, ◌⊎◌, ℕ, Bool, true, false, List, [], ◌∷◌, ◌++◌, Option, Some, option_map, codes, Vec}
 use Rattle.std.specs.Global.{Global}
 use Rattle.rmt_wire.specs.Counted.{Counting}
@@ -13,22 +13,22 @@ use Rattle.rdump_net.specs.declared.conclusion.Conclusion.{Conclusion}
 use Rattle.rdump_net.specs.declared.conclusion.Conclusion.TheVariants.{Complete, Unkept}
 use Rattle.rdump_net.specs.declared.peer.Passed.{Passed}
 
--- these texts were put, after all that had been
+-- these texts were appended to the keeper's log
 abbrev pub PutsOn : {K : Type 0} → (K → List (List ℕ) → Type 0) → K → K → List (List ℕ) → Type 0
 PutsOn puts old new texts = (log : List (List ℕ)) → puts old log → puts new (log ++ texts)
 
--- the text, where it was put
+-- the text, if it was put
 abbrev pub put_if : List ℕ → Bool → List (List ℕ)
 put_if text true = text ∷ []
 put_if text false = []
 
--- the text that was put last is that of the checkpoint of a client that stands there
+-- the last text put is the checkpoint of a client in this state
 abbrev pub IsKept : List (List ℕ) → Standing → Type 0
 IsKept texts at = (before : List (List ℕ)) × (texts ≡ before ++ checkpoint_text at.run at.counts ∷ [])
 
--- What a dump did so far: what passed at the peer, what was printed, the texts that were put, and where the client stands. An attempt
--- starts only where the text that was put last is that of the client's checkpoint. A text is put once the lines of all that it counts
--- are printed.
+-- What a dump did so far: what passed at the peer, what was printed, the texts that were put, and
+-- the client's state. An attempt starts only if the last text put is the client's checkpoint. A
+-- text is put only after the lines of all volumes counted in it are printed.
 pub data KeptDump (told : List (List ℕ) → Type 0) (start : Standing) (first : List ℕ)
     : List Passed → List ℕ → List (List ℕ) → Standing → List ℕ → Type 0 where
   none : KeptDump told start first [] [] [] start first
@@ -48,21 +48,24 @@ pub record KeptEnds (B P W K : Type 0) : Type 0 where
   pub out : Counting W
   pub keeper : K
 
+-- makes a `KeptEnds`
 abbrev pub kept_ends : {B P W K : Type 0} → ClientHeld B → P → Counting W → K → KeptEnds B P W K
 kept_ends client peer out keeper = record { client = client; peer = peer; out = out; keeper = keeper }
 
--- what they tell: the source its blocks, the peer what passed, the output what was written, the keeper what was put
+-- the logs of these four: the source's blocks, what passed at the peer, what was written to the
+-- output, the texts that were put
 pub record KeptKind (B P W K : Type 0) : Type 1 where
   pub holds : B → List (List ℕ) → Type 0
   pub tells : P → List Passed → Type 0
   pub contents : W → Option (List ℕ)
   pub puts : K → List (List ℕ) → Type 0
 
+-- makes a `KeptKind`
 abbrev pub kept_kind : {B P W K : Type 0} → (B → List (List ℕ) → Type 0) → (P → List Passed → Type 0) → (W → Option (List ℕ))
     → (K → List (List ℕ) → Type 0) → KeptKind B P W K
 kept_kind holds tells contents puts = record { holds = holds; tells = tells; contents = contents; puts = puts }
 
--- what a dump did, where this was printed of it, is what the peer and the keeper tell
+-- what a dump did while it printed `text`, which is what the peer and the keeper logged
 pub record HasKept {B P W K : Type 0} (k : KeptKind B P W K) (old new : KeptEnds B P W K) (text : List ℕ) (fed : List ℕ) : Type 0 where
   pub passed : List Passed
   pub texts : List (List ℕ)
@@ -72,7 +75,7 @@ pub record HasKept {B P W K : Type 0} (k : KeptKind B P W K) (old new : KeptEnds
   pub logs : Logs k.tells old.peer new.peer passed
   pub put : PutsOn k.puts old.keeper new.keeper texts
 
--- the line of a checkpoint that could not be kept
+-- the line that is printed if the checkpoint could not be kept
 abbrev pub unkept_line : List ℕ
 unkept_line = codes "checkpoint not written\n"
 
@@ -81,14 +84,14 @@ abbrev pub IsKeptConclusion : Bool → Standing → List ℕ → Conclusion → 
 IsKeptConclusion whole at last Unkept = last ≡ unkept_line
 IsKeptConclusion whole at last end = IsConclusion whole at last end
 
--- What a dump did up to its end. Where it is complete, and is not as it was at the start, the text that was put last is that of the
--- client's checkpoint.
+-- What a dump did up to its end. If it is complete, and the client's state changed, the last text
+-- put is the client's checkpoint.
 pub record HasKeptTo {B P W K : Type 0} (k : KeptKind B P W K) (old new : KeptEnds B P W K) (end : Conclusion) (text : List ℕ) (fed : List ℕ) : Type 0 where
   pub has : HasKept k old new text fed
   pub last : end ≡ Complete → (new.client.at ≡ old.client.at) ⊎ IsKept has.texts new.client.at
 
--- A dump whose checkpoint is kept. Up to the last text that was put all was printed whole; then come the lines that are left, and the
--- last line.
+-- A dump that keeps its checkpoint. All that it printed up to the last text put was printed whole.
+-- Then come the remaining lines and the last line.
 pub record IsDumpKept {B P W K : Type 0} (k : KeptKind B P W K) (old new : KeptEnds B P W K) (end : Conclusion) : Type 0 where
   pub text : List ℕ
   pub rest : List ℕ
@@ -102,16 +105,17 @@ pub record IsDumpKept {B P W K : Type 0} (k : KeptKind B P W K) (old new : KeptE
   pub lines : DumpLines old.client.at.counts new.client.at.counts (text ++ rest)
   pub ends : IsKeptConclusion whole new.client.at last end
 
--- a text that was kept, as bytes
+-- the bytes of a text that was kept
 abbrev pub plain_kept : Option (Vec ℕ Global) → Option (List ℕ)
 plain_kept kept = option_map (λ held. held.items) kept
 
--- The text is kept: it was put, unless it is what was kept last. Or it is not, and none was put.
+-- The result of keeping a text. True: the text was put, unless it was the last one kept. False:
+-- nothing was put.
 abbrev pub IsKeptUp : {K : Type 0} → (K → List (List ℕ) → Type 0) → List ℕ → Option (List ℕ) → Bool → Option (List ℕ) → K → K → Type 0
 IsKeptUp puts text old true new k k' =
     (new ≡ Some text) × (((old ≡ Some text) × PutsOn puts k k' []) ⊎ PutsOn puts k k' (text ∷ []))
 IsKeptUp puts text old false new k k' = PutsOn puts k k' []
 
--- the line was printed, and the dump ends so
+-- the line was printed, perhaps not whole, and the dump ends as `Unkept`
 abbrev pub IsUnkept : {W : Type 0} → (W → Option (List ℕ)) → Counting W → Counting W → Conclusion → Type 0
 IsUnkept contents out out' end = (end ≡ Unkept) × ((whole : Bool) × IsPrinted contents unkept_line out out' whole)

@@ -1,4 +1,4 @@
--- A reply that is kept, as the value that it is. Public contracts stand on it (through Operation).
+-- A kept reply as a plain value. Public contracts rely on it (through Operation).
 use Rattle.std.specs.Prelude.{Result, Ok, Err}
 use Rattle.rmt_wire.specs.Reply.{PlainReply}
 use Rattle.rmt_wire.specs.Reply.PlainReply.{Done, Data, Error}
@@ -6,12 +6,13 @@ use Rattle.rdump_net.specs.declared.kept_reply.KeptReply.{KeptReply}
 use Rattle.rdump_net.specs.declared.kept_reply.KeptReply.TheVariants as kept
 use Rattle.rdump_net.specs.declared.fault.CallFault.{CallFault}
 
+-- the plain value of a kept reply
 abbrev pub plain_kept : KeptReply → PlainReply
 plain_kept (kept.Done number) = Done number
 plain_kept (kept.Data bytes) = Data bytes.items
 plain_kept (kept.Error number text) = Error number text.items
 
--- what a call answers, with its reply as a value
+-- the result of a call, with its reply as a plain value
 abbrev pub told_reply : Result KeptReply CallFault → Result PlainReply CallFault
 told_reply (Ok answer) = Ok (plain_kept answer)
 told_reply (Err fault) = Err fault

@@ -1,4 +1,6 @@
--- In reading order: Peer, Talk, Lines (a dump), Keeping (one whose checkpoint is kept); KeptReply, Call, Calls (requests); Ends; Operation (mtio); Reading (a volume); Look, Protection (a reel before it is written).
+-- In reading order: Peer, Talk, Lines (a dump), Keeping (a dump that keeps its checkpoint);
+-- KeptReply, Call, Calls (requests); Ends; Operation (mtio); Reading (a volume); Look, Protection
+-- (a reel before it is written).
 pub mod Peer
 pub mod Talk
 pub mod Lines

@@ -1,4 +1,5 @@
--- A look at the reel that is first on a drive: its requests, and what it finds. Public contracts cite it.
+-- A look at the beginning of a drive's first reel: its requests, and what it finds. Public
+-- contracts cite it.
 use Rattle.std.specs.Prelude.{◌≡◌, ℕ, List, [], ◌∷◌, Option, Some, None, Result, Ok, Err, if◌then◌else◌, nat_eq, Vec}
 use Rattle.std.specs.Global.{Global}
 use Rattle.dump_run.specs.Label.{label_bytes}
@@ -20,24 +21,26 @@ use Rattle.rdump_net.specs.declared.look.LookFault.{LookFault}
 use Rattle.rdump_net.specs.declared.look.LookFault.TheVariants.{Refused, NoReply}
 use Rattle.rdump_net.specs.declared.peer.Passed.{Passed}
 
--- what a reel begins with: a record with these bytes, a mark, or nothing
+-- the beginning of a reel: a record with these bytes, a mark, or nothing
 pub data PlainFront : Type 0 where
   Record : List ℕ → PlainFront
   Mark : PlainFront
   Empty : PlainFront
 
+-- the plain value of a `ReelFront`
 abbrev pub plain_front : ReelFront → PlainFront
 plain_front (fronts.Record bytes) = Record bytes.items
 plain_front fronts.Mark = Mark
 plain_front fronts.Empty = Empty
 
--- what a look finds: that, or that this request was refused with this number
+-- what a look finds: the beginning of the reel, or that this request was refused with this number
 pub data Finding : Type 0 where
   Front : PlainFront → Finding
   Refusal : LookRequest → ℕ → Finding
 
--- what is asked next: the open, the rewind, the read; where it gave no record the rewind again, and a mark is gone over; then the close;
--- then nothing
+-- The stages of a look, each named for its next request: the open, the rewind, the read. If the
+-- read returned no bytes, the rewind again and spacing over a mark. Then the close, and then
+-- nothing.
 pub data LookStage : Type 0 where
   Opening : LookStage
   Rewinding : LookStage
@@ -47,6 +50,7 @@ pub data LookStage : Type 0 where
   Closing : Finding → LookStage
   Closed : Finding → LookStage
 
+-- the request that a stage makes, if it makes one
 abbrev pub request_at : List ℕ → LookStage → Option PlainRequest
 request_at device Opening = Some (Open device O_RDONLY)
 request_at device Rewinding = Some (Op MTREW 1)
@@ -56,21 +60,23 @@ request_at device Spacing = Some (Op MTFSF 1)
 request_at device (Closing finding) = Some Close
 request_at device (Closed finding) = None
 
--- a read that gives no bytes met a mark or the end
+-- the stage after a read: no bytes mean a mark or the end of the reel
 abbrev pub after_read : List ℕ → LookStage
 after_read [] = RewindingAgain
 after_read (b ∷ bytes) = Closing (Front (Record (b ∷ bytes)))
 
--- the end has no mark before it where going over one is refused with EIO
+-- the stage after spacing over a mark was refused with error `n`: with EIO there is no mark, and
+-- the reel is empty
 abbrev pub after_space : ℕ → LookStage
 after_space n = if nat_eq n EIO then Closing (Front Empty) else Closing (Refusal asked.Space n)
 
--- a look is closed with what it found, but where that is no refusal and the close is refused
+-- the stage after the close was refused: the earlier finding stays if it is a refusal, else the
+-- refused close is the finding
 abbrev pub after_close : Finding → ℕ → LookStage
 after_close (Front front) n = Closed (Refusal asked.Close n)
 after_close (Refusal named number) n = Closed (Refusal named number)
 
--- where a look stands after a reply; of the wrong kind none comes
+-- the stage after a reply; a reply of the wrong kind does not occur
 abbrev pub stage_then : LookStage → PlainReply → LookStage
 stage_then Opening (Error n text) = Closed (Refusal asked.Open n)
 stage_then Opening reply = Rewinding
@@ -87,17 +93,20 @@ stage_then (Closing finding) (Error n text) = after_close finding n
 stage_then (Closing finding) reply = Closed finding
 stage_then (Closed finding) reply = Closed finding
 
+-- the stage after several replies
 abbrev pub stage_from : LookStage → List PlainReply → LookStage
 stage_from stage [] = stage
 stage_from stage (reply ∷ replies) = stage_from (stage_then stage reply) replies
 
+-- the stage after all replies so far
 abbrev pub stage_after : List PlainReply → LookStage
 stage_after replies = stage_from Opening replies
 
+-- the next request after these replies
 abbrev pub next_of : List ℕ → List PlainReply → Option PlainRequest
 next_of device replies = request_at device (stage_after replies)
 
--- how a look ends: all was asked, and this was found; or the next request has no reply
+-- how a look ends: all requests were made and this was found, or the next request gets no reply
 abbrev pub LookEnds : List ℕ → List PlainReply → List Passed → Result ReelFront LookFault → Type 0
 LookEnds device replies passed (Ok front) = Stops (next_of device) None replies passed × (stage_after replies ≡ Closed (Front (plain_front front)))
 LookEnds device replies passed (Err (Refused named number)) =
@@ -117,26 +126,27 @@ Goes tells device from to p p' =
     (replies : List PlainReply) → stage_after replies ≡ from
     → (later : List PlainReply) × Extends (next_of device) tells p p' replies later × (stage_after later ≡ to)
 
--- further calls from a stage on, of which one has no reply
+-- further calls from a stage on, of which the last gets no reply
 abbrev pub Fails : {P : Type 0} → (P → List Passed → Type 0) → List ℕ → LookStage → CallFault → P → P → Type 0
 Fails tells device from fault p p' =
     (replies : List PlainReply) → stage_after replies ≡ from
     → (later : List PlainReply) × Finishes (next_of device) tells p p' replies (Some fault) later
 
--- further calls from a stage on, up to the one that has what was found
+-- further calls from a stage on, up to the stage that has the finding
 abbrev pub IsLookPart : {P : Type 0} → (P → List Passed → Type 0) → List ℕ → LookStage → (Finding → LookStage) → P → P
     → Result ReelFront LookFault → Type 0
 IsLookPart tells device from to p p' (Ok front) = Goes tells device from (to (Front (plain_front front))) p p'
 IsLookPart tells device from to p p' (Err (Refused named number)) = Goes tells device from (to (Refusal named number)) p p'
 IsLookPart tells device from to p p' (Err (NoReply fault)) = Fails tells device from fault p p'
 
--- a call, wherever this request is the next one
+-- one call at this stage
 abbrev pub IsAnsweredAt : {P : Type 0} → (P → List Passed → Type 0) → List ℕ → LookStage → LookRequest → P → P → Result Unit LookFault → Type 0
 IsAnsweredAt tells device from named p p' (Ok x) = (n : ℕ) × Goes tells device from (stage_then from (Done n)) p p'
 IsAnsweredAt tells device from named p p' (Err (Refused other n)) =
     (other ≡ named) × ((text : List ℕ) × Goes tells device from (stage_then from (Error n text)) p p')
 IsAnsweredAt tells device from named p p' (Err (NoReply fault)) = Fails tells device from fault p p'
 
+-- one call at any stage that makes this request
 abbrev pub IsAnswered : {P : Type 0} → (P → List Passed → Type 0) → LookRequest → PlainRequest → P → P → Result Unit LookFault → Type 0
 IsAnswered tells named request p p' result =
     (device : List ℕ) (from : LookStage) → request_at device from ≡ Some request → IsAnsweredAt tells device from named p p' result
@@ -147,5 +157,6 @@ IsReadAt tells device p p' (Ok bytes) = Goes tells device Reading (after_read by
 IsReadAt tells device p p' (Err (Refused named n)) = Goes tells device Reading (Closing (Refusal named n)) p p'
 IsReadAt tells device p p' (Err (NoReply fault)) = Fails tells device Reading fault p p'
 
+-- the same, whatever the device
 abbrev pub IsFrontRead : {P : Type 0} → (P → List Passed → Type 0) → P → P → Result (Vec ℕ Global) LookFault → Type 0
 IsFrontRead tells p p' result = (device : List ℕ) → IsReadAt tells device p p' result

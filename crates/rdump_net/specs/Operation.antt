@@ -1,4 +1,4 @@
--- One operation of mtio: its requests, what is printed, and the status. Public contracts cite it.
+-- One mtio operation: its requests, what is printed, and the exit status. Public contracts cite it.
 use Rattle.std.specs.Prelude.{◌≡◌, ◌&&◌, ℕ, Bool, List, [], ◌∷◌, ◌++◌, length, codes, decimal, Option, Some, None, Result, Ok, Err, if◌then◌else◌, nat_eq}
 use Rattle.rmt_wire.specs.Counted.{Counting}
 use Rattle.rmt_wire.specs.Reply.{PlainReply}
@@ -14,39 +14,41 @@ use Rattle.rmt_wire.specs.Print.{IsPrinted}
 use Rattle.rdump_net.specs.declared.fault.CallFault.{CallFault}
 use Rattle.rdump_net.specs.declared.peer.Passed.{Passed}
 
--- a device is opened for reading and writing where marks are written, and else for reading
+-- the mode of the open: for reading and writing if the operation writes marks, else for reading
 abbrev pub mode_for : ℕ → ℕ
 mode_for op = if nat_eq op MTWEOF then O_RDWR else O_RDONLY
 
--- the open, then the operation, then the close; after an open that was refused, the close
+-- the next request: the open, then the operation, then the close; if the open was refused, the
+-- close alone
 abbrev pub next_of : List ℕ → ℕ → ℕ → List PlainReply → Option PlainRequest
 next_of device op count [] = Some (Open device (mode_for op))
 next_of device op count (opened ∷ []) = if is_done opened then Some (Op op count) else Some Close
 next_of device op count (opened ∷ reply ∷ []) = if is_done opened then Some Close else None
 next_of device op count (opened ∷ reply ∷ closed ∷ more) = None
 
--- the reply that is told: that to the operation, or to an open that was refused
+-- the reply that is printed: that to the operation, or that to an open that was refused
 abbrev pub told_of : List PlainReply → Option PlainReply
 told_of [] = None
 told_of (opened ∷ []) = if is_done opened then None else Some opened
 told_of (opened ∷ reply ∷ more) = if is_done opened then Some reply else Some opened
 
--- `A` and the number; `E`, the number, a space and the text
+-- the line of a reply: `A` and the number, or `E`, the number, a space and the text
 abbrev pub reply_line : PlainReply → List ℕ
 reply_line (Done n) = codes "A" ++ decimal n ++ codes "\n"
 reply_line (Data bytes) = codes "A" ++ decimal (length bytes) ++ codes "\n"
 reply_line (Error n text) = codes "E" ++ decimal n ++ codes " " ++ (text ++ codes "\n")
 
+-- the line that is printed, if there is a reply to print
 abbrev pub told_line : Option PlainReply → List ℕ
 told_line None = []
 told_line (Some reply) = reply_line reply
 
--- 0 where the operation was done, and that was printed
+-- the exit status: 0 if the operation was done and its reply was printed, else 3
 abbrev pub status_after : Option PlainReply → Bool → ℕ
 status_after None whole = 3
 status_after (Some reply) whole = if is_done reply && whole then 0 else 3
 
--- what an operation does over a peer, what it prints, and its status
+-- what an operation does over a peer, what it prints, and its exit status
 pub record IsMt {P W : Type 0} (kind : StreamKind P W) (device : List ℕ) (op count : ℕ) (old new : StreamEnds P W)
     (status : ℕ) : Type 0 where
   pub replies : List PlainReply
@@ -68,7 +70,7 @@ pub record IsOperated {P W : Type 0} (kind : StreamKind P W) (device : List ℕ)
   pub printed : IsPrinted kind.contents (told_line (told_of replies)) old.out new.out whole
   pub result : status ≡ status_after (told_of replies) whole
 
--- what is answered, up to the close, where what is asked next is said by `next`
+-- the calls up to the reply to print, after which the close is next; `next` gives the next request
 abbrev pub IsOperationReply : {P : Type 0} → (List PlainReply → Option PlainRequest) → (P → List Passed → Type 0) → P → P
     → Result PlainReply CallFault → Type 0
 IsOperationReply next tells p p' (Ok reply) =
@@ -77,7 +79,7 @@ IsOperationReply next tells p p' (Ok reply) =
 IsOperationReply next tells p p' (Err fault) =
     (replies : List PlainReply) × Finishes next tells p p' [] (Some fault) replies × (told_of replies ≡ None)
 
--- a reply is told
+-- a reply is printed, and this is the exit status
 abbrev pub IsReplyTold : {W : Type 0} → (W → Option (List ℕ)) → PlainReply → Counting W → Counting W → ℕ → Type 0
 IsReplyTold contents reply out out' status =
     (whole : Bool) × IsPrinted contents (reply_line reply) out out' whole × (status ≡ status_after (Some reply) whole)

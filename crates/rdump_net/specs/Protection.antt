@@ -1,4 +1,4 @@
--- Whether a dump may write on a reel, by what the reel begins with. Public contracts cite it.
+-- Whether a dump may write on a reel, decided from the reel's beginning. Public contracts cite it.
 use Rattle.std.specs.Prelude.{◌≡◌, ℕ, List, Option, Some, None}
 use Rattle.dump_run.specs.Label.{PlainLabel, ReadsLabel}
 use Rattle.rdump_net.specs.Look.{PlainFront}
@@ -6,33 +6,36 @@ use Rattle.rdump_net.specs.Look.PlainFront.{Record, Mark, Empty}
 use Rattle.rdump_net.specs.declared.protection.Protection.{Protection}
 use Rattle.rdump_net.specs.declared.protection.Protection.TheVariants as why
 
--- what tells one dump from another on a label
+-- what identifies a dump on a label
 pub record DumpKey : Type 0 where
   pub name : List ℕ
   pub level : ℕ
   pub date : ℕ
 
+-- makes a `DumpKey`
 abbrev pub dump_key : List ℕ → ℕ → ℕ → DumpKey
 dump_key name level date = record { name = name; level = level; date = date }
 
+-- the label is one of this dump
 abbrev pub IsLabelOf : DumpKey → PlainLabel → Type 0
 IsLabelOf key l = (l.name ≡ key.name) × (l.level ≡ key.level) × (l.date ≡ key.date)
 
--- a label of the dump may be written over, and no other
+-- a dump may write over its own label, and over no other
 abbrev pub IsLabelDecided : DumpKey → PlainLabel → Option Protection → Type 0
 IsLabelDecided key l None = IsLabelOf key l
 IsLabelDecided key l (Some why.OtherDump) = IsLabelOf key l → ⊥
 IsLabelDecided key l (Some why.NoLabel) = ⊥
 IsLabelDecided key l (Some why.Mark) = ⊥
 
--- a record that is a label, or none
+-- the decision for a record, which is a label or not
 abbrev pub IsRecordDecided : DumpKey → List ℕ → Option Protection → Type 0
 IsRecordDecided key bytes None = (l : PlainLabel) × ReadsLabel bytes (Some l) × IsLabelDecided key l None
 IsRecordDecided key bytes (Some why.OtherDump) = (l : PlainLabel) × ReadsLabel bytes (Some l) × IsLabelDecided key l (Some why.OtherDump)
 IsRecordDecided key bytes (Some why.NoLabel) = ReadsLabel bytes None
 IsRecordDecided key bytes (Some why.Mark) = ⊥
 
--- An empty reel may be written, and one with a label of this dump. All else may not, and this is why.
+-- A dump may write on an empty reel, and on one with its own label. For any other reel, the result
+-- says why not.
 abbrev pub IsDecided : DumpKey → PlainFront → Option Protection → Type 0
 IsDecided key Empty result = result ≡ None
 IsDecided key Mark result = result ≡ Some why.Mark

@@ -1,4 +1,5 @@
--- A volume that is read over a peer: its requests, what is printed and written, and how it ends. Public contracts cite it.
+-- Reading a volume over a peer: its requests, what is printed and written, and how it ends. Public
+-- contracts cite it.
 use Rattle.std.specs.Prelude.{◌≡◌, ◌⊎◌, ◌≤◌, ◌+◌, ◌-◌, ◌^◌, ◌&&◌, ℕ, Bool, true, false, List, [], ◌∷◌, ◌++◌, length, take, position, nat_eq, nat_lt, Option, Some, None, Result, Ok, Err, if◌then◌else◌, Vec}
 use Rattle.std.specs.Global.{Global}
 use Rattle.std.specs.List.{concat}
@@ -26,57 +27,58 @@ use Rattle.rdump_net.specs.declared.peer.Passed.{Passed}
 use Rattle.rdump_net.specs.declared.volume.AfterVolume.{AfterVolume}
 use Rattle.rdump_net.specs.declared.volume.AfterVolume.TheVariants.{Stay, Check, Offline}
 
--- the close, and nothing more
+-- the close, and nothing after it
 abbrev pub next_close : List PlainReply → Option PlainRequest
 next_close [] = Some Close
 next_close (closed ∷ more) = None
 
--- once all is known of the mark: the close, or the reel is taken away, and then the close
+-- once the mark is found or not looked for: the close, with `Offline` after taking the reel offline
 abbrev pub next_end : AfterVolume → List PlainReply → Option PlainRequest
 next_end Stay ends = next_close ends
 next_end Check ends = next_close ends
 next_end Offline [] = Some (Op MTOFFL 1)
 next_end Offline (taken ∷ ends) = if is_done taken then next_close ends else None
 
--- over the mark, behind the last record; where there is none to go over, the close
+-- space over the mark behind the last record; if that is refused, the close
 abbrev pub next_over : AfterVolume → List PlainReply → Option PlainRequest
 next_over goes [] = Some (Op MTFSF 1)
 next_over goes (Done k ∷ ends) = next_end goes ends
 next_over goes (Error k text ∷ ends) = next_close ends
 next_over goes (Data bytes ∷ ends) = None
 
--- forward over so many records, and then over the mark
+-- space forward over the `n` records, and then over the mark
 abbrev pub next_forward : AfterVolume → ℕ → List PlainReply → Option PlainRequest
 next_forward goes n [] = Some (Op MTFSR n)
 next_forward goes n (Done k ∷ ends) = next_over goes ends
 next_forward goes n (Error k text ∷ ends) = next_close ends
 next_forward goes n (Data bytes ∷ ends) = None
 
--- the same from the beginning, where they can be gone over at once
+-- rewind first; then the same, if one request can name `n` records
 abbrev pub next_again : AfterVolume → ℕ → List PlainReply → Option PlainRequest
 next_again goes n [] = Some (Op MTREW 1)
 next_again goes n (Done k ∷ ends) = if nat_lt NUMBER_LIMIT n then next_close ends else next_forward goes n ends
 next_again goes n (Error k text ∷ ends) = next_close ends
 next_again goes n (Data bytes ∷ ends) = None
 
--- back over a record: where that is done there is no mark. Where it is refused as at a mark, the other way round shows whether there is one
+-- Space back over one record. If that is done, there is no mark. If it is refused with EIO, as at a
+-- mark, look from the beginning.
 abbrev pub next_back : AfterVolume → ℕ → List PlainReply → Option PlainRequest
 next_back goes n [] = Some (Op MTBSR 1)
 next_back goes n (Done k ∷ ends) = next_close ends
 next_back goes n (Error k text ∷ ends) = if nat_eq k EIO then next_again goes n ends else next_close ends
 next_back goes n (Data bytes ∷ ends) = None
 
--- where the records ended, of which there are so many: the mark is looked for, unless the reel stays in any case
+-- after the last of `n` records: look for the mark, unless the reel stays unchecked
 abbrev pub next_mark : AfterVolume → ℕ → List PlainReply → Option PlainRequest
 next_mark Stay n ends = next_close ends
 next_mark Check n ends = next_back Check n ends
 next_mark Offline n ends = next_back Offline n ends
 
--- a reel of no record stays, and its mark is not looked for
+-- a reel without records stays, and no mark is looked for
 abbrev pub goes_of : AfterVolume → ℕ → AfterVolume
 goes_of after n = if nat_eq n 0 then Stay else after
 
--- reads, up to one that gives nothing, where so many records were read
+-- reads until one returns nothing, after `n` records
 abbrev pub next_read : AfterVolume → ℕ → List PlainReply → Option PlainRequest
 next_read after n [] = Some (Read RECORD_LIMIT)
 next_read after n (Data (b ∷ bytes) ∷ reads) = next_read after (n + 1) reads
@@ -84,68 +86,71 @@ next_read after n (Data [] ∷ ends) = next_mark (goes_of after n) n ends
 next_read after n (Done k ∷ reads) = None
 next_read after n (Error k text ∷ reads) = None
 
--- the open for reading, the rewind, the reads, what comes after them; nothing after a refusal before that
+-- The open for reading, the rewind, the reads, and what follows them. After a refusal of one of
+-- these, nothing more.
 abbrev pub next_of : List ℕ → AfterVolume → List PlainReply → Option PlainRequest
 next_of device after [] = Some (Open device O_RDONLY)
 next_of device after (opened ∷ []) = if is_done opened then Some (Op MTREW 1) else None
 next_of device after (opened ∷ rewound ∷ reads) = if is_done rewound then next_read after 0 reads else None
 
--- the records that the replies bring; none at a mark
+-- the records in the replies; the read at a mark adds an empty one
 abbrev pub records_of : List PlainReply → List (List ℕ)
 records_of [] = []
 records_of (Data bytes ∷ replies) = bytes ∷ records_of replies
 records_of (Done n ∷ replies) = records_of replies
 records_of (Error n text ∷ replies) = records_of replies
 
--- the first record is the label: its text ends at its first zero byte
+-- the bytes before this index, or all of them
 abbrev pub cut_at : Option ℕ → List ℕ → List ℕ
 cut_at None bytes = bytes
 cut_at (Some n) bytes = take n bytes
 
+-- the text of a label ends before its first zero byte
 abbrev pub text_of : List ℕ → List ℕ
 text_of bytes = cut_at (position (λ b. nat_eq b 0) bytes) bytes
 
+-- the text of the first record, which is the label
 abbrev pub label_text : List (List ℕ) → List ℕ
 label_text [] = []
 label_text (label ∷ records) = text_of label
 
--- the others are the file
+-- the records after the label are the file
 abbrev pub file_bytes : List (List ℕ) → List ℕ
 file_bytes [] = []
 file_bytes (label ∷ records) = concat records
 
--- what becomes of the reel, by its records: one of no record stays
+-- what to do with the reel, given its records: a reel without records stays
 abbrev pub goes_with : AfterVolume → List (List ℕ) → AfterVolume
 goes_with after [] = Stay
 goes_with after ([] ∷ records) = Stay
 goes_with after ((b ∷ label) ∷ records) = after
 
--- this was asked, and this replied
+-- this request was made and got this reply
 abbrev pub HasReply : (List PlainReply → Option PlainRequest) → List PlainReply → PlainRequest → PlainReply → Type 0
 HasReply next replies request reply =
     (before : List PlainReply) × (rest : List PlainReply) × (replies ≡ before ++ reply ∷ rest) × (next before ≡ Some request)
 
--- a mark stood where the records ended: it was gone over behind the last one
+-- a mark ends the records: spacing over it, behind the last record, was done
 abbrev pub IsMarkFound : (List PlainReply → Option PlainRequest) → List PlainReply → Type 0
 IsMarkFound next replies = (number : ℕ) × HasReply next replies (Op MTFSF 1) (Done number)
 
--- the same where that was looked for
+-- the same, if the mark was looked for
 abbrev pub IsMarkKnown : (List PlainReply → Option PlainRequest) → AfterVolume → List PlainReply → Type 0
 IsMarkKnown next Stay replies = Unit {0}
 IsMarkKnown next Check replies = IsMarkFound next replies
 IsMarkKnown next Offline replies = IsMarkFound next replies
 
--- none did: back from there is a record
+-- no mark ends the records: spacing back over a record was done
 abbrev pub IsMarkMissing : (List PlainReply → Option PlainRequest) → List PlainReply → Type 0
 IsMarkMissing next replies = (number : ℕ) × HasReply next replies (Op MTBSR 1) (Done number)
 
--- a refusal, or the rewind, after which there would be too many records to go over
+-- a refusal, or a rewind after which there are too many records for one request
 abbrev pub IsNoWay : PlainRequest → PlainReply → Type 0
 IsNoWay request (Done n) = request ≡ Op MTREW 1
 IsNoWay request (Error n text) = Unit {0}
 IsNoWay request (Data bytes) = ⊥
 
--- it cannot be told: after such a reply the close is asked
+-- it could not be determined: after such a reply the close is next
 abbrev pub IsUndetermined : (List PlainReply → Option PlainRequest) → List PlainReply → Type 0
 IsUndetermined next replies =
     (request : PlainRequest) × (reply : PlainReply) × (before : List PlainReply) × (rest : List PlainReply)
@@ -160,8 +165,9 @@ IsNamed asked.Read request = request ≡ Read RECORD_LIMIT
 IsNamed asked.Offline request = request ≡ Op MTOFFL 1
 IsNamed asked.Close request = request ≡ Close
 
--- why a volume was not read whole, by the replies so far and what passed. After a refusal nothing more is asked. A write fails while
--- records come. Where no mark is known to have stood, all was asked, the close too, whatever that was answered
+-- Why a volume was not read whole, given the replies so far and what passed. After `Refused` no
+-- request follows. `OutputFailed` occurs while records come. With `NoMark` and `Undetermined` all
+-- requests were made; the reply to the close, if any, does not matter.
 abbrev pub ReadFails : (List PlainReply → Option PlainRequest) → List PlainReply → List Passed → ReadFault → Type 0
 ReadFails next replies passed (Refused named number) =
     CallsFollow next replies passed
@@ -175,7 +181,7 @@ ReadFails next replies passed OutputFailed = CallsFollow next replies passed × 
 ReadFails next replies passed NoMark = (closing : Option CallFault) × Stops next closing replies passed × IsMarkMissing next replies
 ReadFails next replies passed Undetermined = (closing : Option CallFault) × Stops next closing replies passed × IsUndetermined next replies
 
--- all that came was printed and written
+-- everything that came was printed and written
 abbrev pub is_whole : Result Unit ReadFault → Bool
 is_whole (Ok x) = true
 is_whole (Err OutputFailed) = false
@@ -186,7 +192,8 @@ is_whole (Err OutOfMemory) = true
 is_whole (Err NoMark) = true
 is_whole (Err Undetermined) = true
 
--- the last reply is that to the close, which was done, and a mark stood where that was looked for
+-- how reading ends; on success the last reply says that the close was done, and a mark was found if
+-- it was looked for
 abbrev pub ReadEnds : (List PlainReply → Option PlainRequest) → AfterVolume → List PlainReply → List Passed → Result Unit ReadFault → Type 0
 ReadEnds next goes replies passed (Ok x) =
     CallsFollow next replies passed
@@ -195,7 +202,8 @@ ReadEnds next goes replies passed (Ok x) =
     × IsMarkKnown next goes replies
 ReadEnds next goes replies passed (Err fault) = ReadFails next replies passed fault
 
--- What reading a volume does over a peer, what it prints and writes, and its result: where not all was printed and written, it is that.
+-- What reading a volume does over a peer, what it prints and writes, and its result. The result is
+-- `OutputFailed` exactly if not all was printed and written.
 pub record IsRead {P F W : Type 0} (kind : CopyKind P F W) (device : List ℕ) (after : AfterVolume) (old new : CopyEnds P F W)
     (result : Result Unit ReadFault) : Type 0 where
   pub replies : List PlainReply
@@ -208,17 +216,17 @@ pub record IsRead {P F W : Type 0} (kind : CopyKind P F W) (device : List ℕ) (
   pub whole : named && filled ≡ is_whole result
   pub ends : ReadEnds (next_of device after) (goes_with after (records_of replies)) replies passed result
 
--- the status: 0 where the volume was read whole
+-- the exit status: 0 if the volume was read whole, else 3
 abbrev pub status_of : Result Unit ReadFault → ℕ
 status_of (Ok x) = 0
 status_of (Err fault) = 3
 
--- the status of a volume that was read from a reel that stays
+-- the exit status of `read_volume`, which leaves the reel in the drive
 abbrev pub IsReadStatus : {P F W : Type 0} → CopyKind P F W → List ℕ → CopyEnds P F W → CopyEnds P F W → ℕ → Type 0
 IsReadStatus kind device old new status =
     (read : Result Unit ReadFault) × (status ≡ status_of read) × IsRead kind device Stay old new read
 
--- records came so far, each of some bytes: there are so many with those before them
+-- the replies are records, none empty; with the `m` before them there are `n`
 abbrev pub AreRecords : ℕ → ℕ → List PlainReply → Type 0
 AreRecords m n [] = n ≡ m
 AreRecords m n (Data (b ∷ bytes) ∷ reads) = AreRecords (m + 1) n reads
@@ -232,13 +240,13 @@ IsAtLabel replies =
     (opened : PlainReply) × (rewound : PlainReply) × (replies ≡ opened ∷ rewound ∷ []) × (is_done rewound ≡ true)
     × (records_of replies ≡ [])
 
--- the label was read, and some records after it: so many with it
+-- the label was read, and perhaps records after it: `n` with the label
 abbrev pub IsVolumeReading : ℕ → List PlainReply → Type 0
 IsVolumeReading n replies =
     (opened : PlainReply) × (rewound : PlainReply) × (b : ℕ) × (bytes : List ℕ) × (reads : List PlainReply)
     × (replies ≡ opened ∷ rewound ∷ Data (b ∷ bytes) ∷ reads) × (is_done rewound ≡ true) × AreRecords 1 n reads
 
--- and then a read that gave nothing
+-- the same, and then a read returned nothing
 abbrev pub IsVolumeRead : ℕ → List PlainReply → Type 0
 IsVolumeRead n replies = (before : List PlainReply) × IsVolumeReading n before × (replies ≡ before ++ Data [] ∷ [])
 
@@ -249,7 +257,7 @@ pub record Breaks {P : Type 0} (next : List PlainReply → Option PlainRequest) 
   pub logs : Logs tells p p' more
   pub fails : (passed : List Passed) → CallsFollow next replies passed → ReadFails next later (passed ++ more) fault
 
--- one more call: its reply, or why it has none
+-- one more call: its reply, or why it gets none
 abbrev pub CallSteps : {P : Type 0} → (List PlainReply → Option PlainRequest) → (P → List Passed → Type 0) → P → P → List PlainReply
     → Result PlainReply ReadFault → Type 0
 CallSteps next tells p p' replies (Ok reply) = Extends next tells p p' replies (replies ++ reply ∷ [])
@@ -257,24 +265,24 @@ CallSteps next tells p p' replies (Err fault) =
     (later : List PlainReply) × Breaks next tells p p' replies fault later × (records_of later ≡ records_of replies)
     × (is_whole (Err fault) ≡ true)
 
--- a call that is to be done
+-- one more call, which succeeds only if its request is done
 abbrev pub IsDone : {P : Type 0} → (List PlainReply → Option PlainRequest) → (P → List Passed → Type 0) → P → P → List PlainReply
     → Result Unit ReadFault → Type 0
 IsDone next tells p p' replies (Ok x) =
     (reply : PlainReply) × (is_done reply ≡ true) × (records_of (reply ∷ []) ≡ []) × CallSteps next tells p p' replies (Ok reply)
 IsDone next tells p p' replies (Err fault) = CallSteps next tells p p' replies (Err fault)
 
--- nothing is asked after a refusal of what is asked now
+-- no request follows a refusal of the next one
 abbrev pub EndsAtRefusal : (List PlainReply → Option PlainRequest) → List PlainReply → Type 0
 EndsAtRefusal next replies = (number : ℕ) (text : List ℕ) → next (replies ++ Error number text ∷ []) ≡ None
 
--- the same wherever this request is the next one
+-- the same as `IsDone`, whenever this request is the next one
 abbrev pub IsDoneNext : {P : Type 0} → (P → List Passed → Type 0) → PlainRequest → P → P → Result Unit ReadFault → Type 0
 IsDoneNext tells request p p' result =
     (next : List PlainReply → Option PlainRequest) (replies : List PlainReply) → next replies ≡ Some request
     → EndsAtRefusal next replies → IsDone next tells p p' replies result
 
--- nothing where this is the answer to what was done, and else why it was not
+-- success if the reply says that the request was done, else the reason
 abbrev pub IsDoneBy : KeptReply → VolumeRequest → Result Unit ReadFault → Type 0
 IsDoneBy answer named (Ok x) = (number : ℕ) × (answer ≡ kept.Done number)
 IsDoneBy answer named (Err fault) =
@@ -288,13 +296,13 @@ IsBegun tells device after p p' (Ok x) =
     × Extends (next_of device after) tells p p' [] (opened ∷ rewound ∷ [])
 IsBegun tells device after p p' (Err fault) = CallSteps (next_of device after) tells p p' [] (Err fault)
 
--- calls up to a read that gives nothing, after so many records
+-- calls up to a read that returns nothing, after `n` records
 abbrev pub Reads : {P : Type 0} → (List PlainReply → Option PlainRequest) → (P → List Passed → Type 0) → P → P → List PlainReply
     → Result ℕ ReadFault → List PlainReply → Type 0
 Reads next tells p p' replies (Ok n) later = Extends next tells p p' replies later × IsVolumeRead n later
 Reads next tells p p' replies (Err fault) later = Breaks next tells p p' replies fault later
 
--- all that came was printed and written, however many records it were
+-- everything that came was printed and written, whatever the number of records
 abbrev pub is_copied : Result ℕ ReadFault → Bool
 is_copied (Ok n) = true
 is_copied (Err fault) = is_whole (Err fault)
@@ -308,17 +316,18 @@ pub record AreRecordsWritten {P F : Type 0} (next : List PlainReply → Option P
   pub written : IsPrinted kind.contents (concat more) old.out new.out (is_copied result)
   pub reads : Reads next kind.tells old.peer new.peer replies result later
 
--- the same wherever the label was read
+-- the same, whenever exactly the label was read before
 abbrev pub AreFurtherRecordsWritten : {P F : Type 0} → StreamKind P F → StreamEnds P F → StreamEnds P F → Result ℕ ReadFault → Type 0
 AreFurtherRecordsWritten kind old new result =
     (device : List ℕ) (after : AfterVolume) (replies : List PlainReply) → IsVolumeReading 1 replies
     → AreRecordsWritten (next_of device after) kind replies old new result
 
--- what is asked next is what this says of further replies
+-- from here on, `step` gives the next requests
 abbrev pub GoesOnBy : (List PlainReply → Option PlainRequest) → (List PlainReply → Option PlainRequest) → List PlainReply → Type 0
 GoesOnBy next step replies = (ends : List PlainReply) → next (replies ++ ends) ≡ step ends
 
--- calls up to where the records ended, of which there are so many: what is asked next is what comes after them
+-- calls up to the end of the records, of which there are `n`; from there `next_mark` gives the next
+-- requests
 abbrev pub ReadsVolume : {P : Type 0} → (List PlainReply → Option PlainRequest) → AfterVolume → (P → List Passed → Type 0) → P → P
     → List PlainReply → Result ℕ ReadFault → List PlainReply → Type 0
 ReadsVolume next after tells p p' replies (Ok n) later =
@@ -326,7 +335,7 @@ ReadsVolume next after tells p p' replies (Ok n) later =
     × (goes_with after (records_of later) ≡ goes_of after n)
 ReadsVolume next after tells p p' replies (Err fault) later = Breaks next tells p p' replies fault later
 
--- the label and the records are printed and written
+-- the label is printed and the records are written
 pub record IsCopied {P F W : Type 0} (next : List PlainReply → Option PlainRequest) (after : AfterVolume) (kind : CopyKind P F W)
     (replies : List PlainReply) (old new : CopyEnds P F W) (result : Result ℕ ReadFault) : Type 0 where
   pub later : List PlainReply
@@ -337,26 +346,26 @@ pub record IsCopied {P F W : Type 0} (next : List PlainReply → Option PlainReq
   pub whole : named && filled ≡ is_copied result
   pub reads : ReadsVolume next after kind.tells old.peer new.peer replies result later
 
--- the same wherever nothing was read so far
+-- the same, whenever nothing was read before
 abbrev pub IsCopiedAtLabel : {P F W : Type 0} → CopyKind P F W → CopyEnds P F W → CopyEnds P F W → Result ℕ ReadFault → Type 0
 IsCopiedAtLabel kind old new result =
     (device : List ℕ) (after : AfterVolume) (seen : List PlainReply) → IsAtLabel seen
     → IsCopied (next_of device after) after kind seen old new result
 
--- an operation that was done, or the number of the error that it was refused with
+-- an operation was done, or refused with this error number, or got no reply
 abbrev pub IsAnswered : {P : Type 0} → (List PlainReply → Option PlainRequest) → (P → List Passed → Type 0) → P → P → List PlainReply
     → Result (Option ℕ) ReadFault → Type 0
 IsAnswered next tells p p' replies (Ok None) = (number : ℕ) × CallSteps next tells p p' replies (Ok (Done number))
 IsAnswered next tells p p' replies (Ok (Some number)) = (text : List ℕ) × CallSteps next tells p p' replies (Ok (Error number text))
 IsAnswered next tells p p' replies (Err fault) = CallSteps next tells p p' replies (Err fault)
 
--- the same wherever it is asked next
+-- the same, whenever it is the next request
 abbrev pub IsAnsweredNext : {P : Type 0} → (P → List Passed → Type 0) → ℕ → ℕ → P → P → Result (Option ℕ) ReadFault → Type 0
 IsAnsweredNext tells op count p p' result =
     (next : List PlainReply → Option PlainRequest) (replies : List PlainReply) → next replies ≡ Some (Op op count)
     → IsAnswered next tells p p' replies result
 
--- why no mark is known to have stood
+-- why no mark was found
 abbrev pub IsUnmarked : (List PlainReply → Option PlainRequest) → List PlainReply → ReadFault → Type 0
 IsUnmarked next replies NoMark = IsMarkMissing next replies
 IsUnmarked next replies Undetermined = IsUndetermined next replies
@@ -366,7 +375,8 @@ IsUnmarked next replies ConnectionEnded = ⊥
 IsUnmarked next replies Botched = ⊥
 IsUnmarked next replies OutOfMemory = ⊥
 
--- the mark was looked for: it stood; or it is not known to have stood, and the close is next; or a call has no reply
+-- the result of looking for the mark: it was found, or not looked for; or it was not found, and the
+-- close is next; or a call got no reply
 abbrev pub IsLooked : {P : Type 0} → (List PlainReply → Option PlainRequest) → AfterVolume → (P → List Passed → Type 0) → P → P
     → List PlainReply → Result (Option ReadFault) ReadFault → Type 0
 IsLooked next goes tells p p' replies (Ok None) =
@@ -377,20 +387,20 @@ IsLooked next goes tells p p' replies (Ok (Some fault)) =
     × GoesOnBy next next_close later × IsUnmarked next later fault
 IsLooked next goes tells p p' replies (Err fault) = CallSteps next tells p p' replies (Err fault)
 
--- the same wherever this is what is asked next
+-- the same, whenever `step` gives the next requests
 abbrev pub IsLookedBy : {P : Type 0} → (AfterVolume → List PlainReply → Option PlainRequest) → (P → List Passed → Type 0) → P → P
     → Result (Option ReadFault) ReadFault → Type 0
 IsLookedBy step tells p p' result =
     (goes : AfterVolume) (next : List PlainReply → Option PlainRequest) (replies : List PlainReply)
     → GoesOnBy next (step goes) replies → IsLooked next goes tells p p' replies result
 
--- the same where the records ended, of which there are so many
+-- the same, at the end of `n` records
 abbrev pub IsLookedAtEnd : {P : Type 0} → (P → List Passed → Type 0) → AfterVolume → ℕ → P → P → Result (Option ReadFault) ReadFault → Type 0
 IsLookedAtEnd tells goes n p p' result =
     (next : List PlainReply → Option PlainRequest) (replies : List PlainReply) → GoesOnBy next (next_mark goes n) replies
     → IsLooked next goes tells p p' replies result
 
--- the reel is taken away, where it is to go, and the close is next; or why it is not
+-- the reel was taken offline, if it was to go, and the close is next; or why it was not
 abbrev pub IsTakenAway : {P : Type 0} → (List PlainReply → Option PlainRequest) → (P → List Passed → Type 0) → P → P
     → List PlainReply → Result Unit ReadFault → Type 0
 IsTakenAway next tells p p' replies (Ok x) =
@@ -398,7 +408,7 @@ IsTakenAway next tells p p' replies (Ok x) =
     × GoesOnBy next next_close (replies ++ taken)
 IsTakenAway next tells p p' replies (Err fault) = CallSteps next tells p p' replies (Err fault)
 
--- the same wherever all is known of the mark
+-- the same, whenever the mark was found or not looked for
 abbrev pub IsTakenAwayAtMark : {P : Type 0} → (P → List Passed → Type 0) → AfterVolume → P → P → Result Unit ReadFault → Type 0
 IsTakenAwayAtMark tells goes p p' result =
     (next : List PlainReply → Option PlainRequest) (replies : List PlainReply) → GoesOnBy next (next_end goes) replies
@@ -414,19 +424,19 @@ pub record Concludes {P : Type 0} (next : List PlainReply → Option PlainReques
   pub whole : is_whole result ≡ true
   pub ends : (passed : List Passed) → CallsFollow next replies passed → ReadEnds next goes later (passed ++ more) result
 
--- the same wherever it is not known that a mark stood
+-- the same, whenever no mark was found
 abbrev pub IsClosedUnmarked : {P : Type 0} → (P → List Passed → Type 0) → ReadFault → P → P → Result Unit ReadFault → Type 0
 IsClosedUnmarked tells fault p p' result =
     (goes : AfterVolume) (next : List PlainReply → Option PlainRequest) (replies : List PlainReply) → GoesOnBy next next_close replies
     → IsUnmarked next replies fault → Concludes next goes tells p p' replies result
 
--- the same wherever it did, or was not looked for
+-- the same, whenever a mark was found or not looked for
 abbrev pub IsConcludedAtMark : {P : Type 0} → (P → List Passed → Type 0) → AfterVolume → P → P → Result Unit ReadFault → Type 0
 IsConcludedAtMark tells goes p p' result =
     (next : List PlainReply → Option PlainRequest) (replies : List PlainReply) → GoesOnBy next (next_end goes) replies
     → IsMarkKnown next goes replies → Concludes next goes tells p p' replies result
 
--- the same where the records ended, of which there are so many
+-- the same, at the end of `n` records
 abbrev pub IsConcludedAtEnd : {P : Type 0} → (P → List Passed → Type 0) → AfterVolume → ℕ → P → P → Result Unit ReadFault → Type 0
 IsConcludedAtEnd tells goes n p p' result =
     (next : List PlainReply → Option PlainRequest) (replies : List PlainReply) → GoesOnBy next (next_mark goes n) replies
@@ -446,19 +456,19 @@ pub record IsThrough {P F W : Type 0} (kind : CopyKind P F W) (device : List ℕ
   pub ends : (passed : List Passed) → CallsFollow (next_of device after) [] passed
       → ReadEnds (next_of device after) (goes_with after (records_of replies)) replies (passed ++ more) result
 
--- a record, or why there is none
+-- reads a record, or fails with the reason
 abbrev pub IsRecordRead : {P : Type 0} → (List PlainReply → Option PlainRequest) → (P → List Passed → Type 0) → P → P → List PlainReply
     → Result (Vec ℕ Global) ReadFault → Type 0
 IsRecordRead next tells p p' replies (Ok bytes) = CallSteps next tells p p' replies (Ok (Data bytes.items))
 IsRecordRead next tells p p' replies (Err fault) = CallSteps next tells p p' replies (Err fault)
 
--- the same wherever this request is the next one
+-- the same, whenever this request is the next one
 abbrev pub IsRecordNext : {P : Type 0} → (P → List Passed → Type 0) → PlainRequest → P → P → Result (Vec ℕ Global) ReadFault → Type 0
 IsRecordNext tells request p p' result =
     (next : List PlainReply → Option PlainRequest) (replies : List PlainReply) → next replies ≡ Some request
     → EndsAtRefusal next replies → IsRecordRead next tells p p' replies result
 
--- a call that has no reply
+-- the fault of a call, as a fault of the volume
 abbrev pub read_fault : CallFault → ReadFault
 read_fault call.ConnectionEnded = ConnectionEnded
 read_fault call.Botched = Botched

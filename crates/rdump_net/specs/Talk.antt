@@ -1,4 +1,5 @@
--- What a client does over a peer: each call of the client, with what passed in it. Public contracts cite it.
+-- What a client does over a peer: each call of the client, and what passed in it. Public contracts
+-- cite it.
 use Rattle.std.specs.Prelude.{◌≡◌, ◌≢◌, ⊤, ℕ, Bool, true, false, List, [], ◌∷◌, ◌++◌, map, Result, Ok, Err}
 use Rattle.dump_client.specs.Standing.{Standing, StartedAt, AnsweredAt, FedAt, CutAt}
 use Rattle.dump_client.specs.Client.{ClientHeld, HasFed, AskedAt, unanswered}
@@ -10,25 +11,35 @@ use Rattle.rdump_net.specs.Peer.{AreBytesSent, Logs, connected}
 use Rattle.rdump_net.specs.declared.peer.Passed.{Passed}
 use Rattle.rdump_net.specs.declared.peer.Passed.TheVariants.{Given, Ended}
 
--- the connection goes on, and the client stands as it did; or the connection ended there, and the client is told
+-- the connection stays open, and the client's state is unchanged; or the connection ended, and the
+-- client learned of it
 abbrev pub GoesOn : Bool → Standing → List ℕ → Standing → List ℕ → Type 0
 GoesOn true at fed new later = (new ≡ at) × (later ≡ fed)
 GoesOn false at fed new later = (progress : Progress) × CutAt at.stage at progress new × (later ≡ [])
 
--- where an attempt may start: from any place, from none, or from this one alone
+-- an attempt may start from any state
 abbrev pub Anywhere : Standing → Type 0
 Anywhere at = ⊤
 
+-- no attempt may start
 abbrev pub Nowhere : Standing → Type 0
 Nowhere at = ⊥
 
+-- an attempt may start from this state alone
 abbrev pub Just : Standing → Standing → Type 0
 Just only at = at ≡ only
 
--- One call of the client, or one and the end of the connection in it: where it stood and the bytes since its last request before,
--- with what passed, and the same after. An attempt starts, and a connection is made for it; the next request is asked for and sent,
--- once, or none is to be had; what the peer gave is fed, all of it; the end of the connection is told; the operator's answer is.
--- An attempt starts only from where that is allowed.
+-- One call of the client, perhaps with the end of the connection in it. It has the client's state
+-- and the bytes since its last request, before and after, and what passed. `told` is what the
+-- client's source holds. An attempt starts only from a state that `allows` permits. The cases:
+--
+-- - `starts`: an attempt starts, and a connection is made for it.
+-- - `stays`: no attempt can start.
+-- - `asks`: the client makes the next request, and it is sent once.
+-- - `has_none`: the client makes no request.
+-- - `hears`: all the bytes that the peer sent are fed to the client.
+-- - `ends`: the client learns that the connection ended.
+-- - `answers`: the client gets the operator's answer.
 pub data TalkStep (told : List (List ℕ) → Type 0) (allows : Standing → Type 0) : Standing → List ℕ → List Passed → Standing → List ℕ → Type 0 where
   starts : {old new : Standing} {fed later : List ℕ} (room : ℕ) (begun : Standing) (made : Bool)
       → allows old → StartedAt old.stage old room (Ok tt) begun → GoesOn made begun fed new later
@@ -54,7 +65,7 @@ pub data Talks (told : List (List ℕ) → Type 0) (allows : Standing → Type 0
       → Talks told allows start first passed before fed → TalkStep told allows before fed more after later
       → Talks told allows start first (passed ++ more) after later
 
--- what passed in the calls between the client before and now is what passed at the peer
+-- the client's calls between `c` and `c'`, and what passed in them, which is what the peer logged
 pub record HasTalked {B P : Type 0} (told : List (List ℕ) → Type 0) (allows : Standing → Type 0) (tells : P → List Passed → Type 0)
     (c c' : ClientHeld B) (p p' : P) (fed : List ℕ) : Type 0 where
   pub passed : List Passed
@@ -63,13 +74,13 @@ pub record HasTalked {B P : Type 0} (told : List (List ℕ) → Type 0) (allows 
   pub keeps : HasFed c' later
   pub logs : Logs tells p p' passed
 
--- the client talked over the peer, and its source still tells what it told
+-- the client talked over the peer, and its source still holds what it held
 pub record TalksOver {B P : Type 0} (holds : B → List (List ℕ) → Type 0) (allows : Standing → Type 0) (tells : P → List Passed → Type 0)
     (c c' : ClientHeld B) (p p' : P) : Type 0 where
   pub same : (payload : List (List ℕ)) → holds c.source payload → holds c'.source payload
   pub talked : (fed : List ℕ) → HasFed c fed → HasTalked (holds c.source) allows tells c c' p p' fed
 
--- a call of the client while the peer is left alone, which starts no attempt
+-- one call of the client that does not use the peer and starts no attempt
 pub record TalksAlone {B : Type 0} (holds : B → List (List ℕ) → Type 0) (c c' : ClientHeld B) : Type 0 where
   pub same : (payload : List (List ℕ)) → holds c.source payload → holds c'.source payload
   pub talked : (fed : List ℕ) → HasFed c fed → (later : List ℕ) × TalkStep (holds c.source) Nowhere c.at fed [] c'.at later × HasFed c' later

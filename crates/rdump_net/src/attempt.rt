@@ -1,4 +1,4 @@
-//! One attempt of a client, on a connection of its own.
+//! One attempt of a client, over a connection of its own.
 ghost use Rattle.std.specs.Prelude.{◌≡◌, ℕ, List, OnErr};
 ghost use Rattle.dump_client.specs.Client.{HasFed};
 ghost use Rattle.rdump_net.specs.Lines.{HasGrown};
@@ -8,27 +8,28 @@ ghost use Rattle.rdump_net.specs.declared.attempt.Attempted.TheVariants.{NotStar
 use crate::Peer;
 use dump_client::{AttemptFault, Blocks, Client, Progress, StartFault, State};
 
-/// How many bytes are taken from a peer at once.
+/// How many bytes are received at once, at most.
 const PIECE: usize = 4096;
 
-/// How many bytes a peer gives at the end of its connection.
+/// The value that `Peer::receive` returns at the end of a connection.
 const NO_BYTES: usize = 0;
 
-/// What came of an attempt.
+/// The outcome of an attempt.
 #[derive(Clone, Copy)]
 pub(crate) enum Attempted {
-    /// It did not fail. It is over, and its volume is counted; or its turns ran out, and it goes on.
+    /// The attempt did not fail: it is over and its volume is counted, or its turns ran out and it
+    /// is still under way.
     Over,
-    /// It failed. The client asks whether it is tried again.
+    /// The attempt failed. The client now asks whether to retry.
     Failed(AttemptFault),
-    /// It did not start. The client is as it was.
+    /// The attempt did not start. The client is unchanged.
     NotStarted,
 }
 
-/// Has a client write its next volume over a new connection, which is ended then. `text` is room for requests. The peer is
-/// told where the attempt failed.
+/// Has a client write its next volume over a new connection, and then closes the connection.
 ///
-/// An attempt that is under way goes on over the connection that there is. Where there is none, that is its end.
+/// If an attempt is under way, it continues over the open connection; if none is open, the attempt
+/// ends. `text` is the buffer for requests. If the attempt fails, `Peer::attempt_failed` is called.
 pub(crate) fn attempt<B: Blocks, P: Peer>(
     client: &mut Client<B>,
     peer: &mut P,
@@ -52,7 +53,8 @@ pub(crate) fn attempt<B: Blocks, P: Peer>(
     }
 }
 
-/// Starts an attempt on a new connection, unless one is under way. Where no connection could be made, that is its end.
+/// Starts an attempt over a new connection, unless one is under way. If no connection can be made,
+/// that ends the attempt. Fails if the client cannot start; then it is unchanged.
 fn begin<B: Blocks, P: Peer>(client: &mut Client<B>, peer: &mut P) -> Result<Progress, StartFault>
     ensures talks { TalksOver B.holds (Just client.old.at) P.tells client.old client.new peer.old peer.new }
     ensures still { OnErr result (client.new.at ≡ client.old.at) }
@@ -68,7 +70,7 @@ fn begin<B: Blocks, P: Peer>(client: &mut Client<B>, peer: &mut P) -> Result<Pro
     Ok(client.ended())
 }
 
-/// Carries on with an attempt that has begun, unless that was its end.
+/// Continues an attempt that has begun, unless it ended at once.
 fn talk<B: Blocks, P: Peer>(
     client: &mut Client<B>,
     peer: &mut P,
@@ -83,7 +85,7 @@ fn talk<B: Blocks, P: Peer>(
     }
 }
 
-/// Sends request after request, each after the reply to the one before, up to the end of the attempt.
+/// Sends requests, each after the reply to the one before, until the attempt ends.
 fn converse<B: Blocks, P: Peer>(
     client: &mut Client<B>,
     peer: &mut P,
@@ -100,7 +102,7 @@ fn converse<B: Blocks, P: Peer>(
     Progress::Waiting
 }
 
-/// Sends the next request, where there is one to send, or takes what the peer gives.
+/// Sends the next request, if it is time for one, or receives what the peer sends.
 fn exchange<B: Blocks, P: Peer>(
     client: &mut Client<B>,
     peer: &mut P,
@@ -115,7 +117,7 @@ fn exchange<B: Blocks, P: Peer>(
     }
 }
 
-/// Makes the next request and sends it. Tells the client of the end, where it could not be sent whole.
+/// Builds the next request and sends it. If it cannot be sent whole, the client's attempt ends.
 fn ask<B: Blocks, P: Peer>(client: &mut Client<B>, peer: &mut P, text: &mut Vec<u8>) -> Progress
     ensures { TalksOver B.holds Nowhere P.tells client.old client.new peer.old peer.new }
 {
@@ -132,7 +134,8 @@ fn ask<B: Blocks, P: Peer>(client: &mut Client<B>, peer: &mut P, text: &mut Vec<
     }
 }
 
-/// Takes what the peer gives, and feeds it to the client, or tells it of the end.
+/// Receives bytes from the peer and feeds them to the client. At the end of the connection, the
+/// client's attempt ends.
 fn hear<B: Blocks, P: Peer>(client: &mut Client<B>, peer: &mut P) -> Progress
     ensures { TalksOver B.holds Nowhere P.tells client.old client.new peer.old peer.new }
 {

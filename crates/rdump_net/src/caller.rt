@@ -1,4 +1,4 @@
-//! One request that is sent to a peer, and its reply read whole.
+//! One request to a peer, and its whole reply.
 ghost use Rattle.std.specs.Prelude.{◌≡◌, ℕ, List, ◌++◌, Some};
 ghost use Rattle.rmt_wire.specs.Lent.{plain_request, plain_wanted};
 ghost use Rattle.rmt_wire.specs.Reply as kinds;
@@ -13,13 +13,14 @@ use crate::kept_reply::{KeptReply, keep};
 use rmt_wire::{ReplyReader, Request, Wanted, push_request};
 use std::alloc::{AllocError, Global};
 
-/// How many bytes are taken from a peer at once.
+/// How many bytes are received at once, at most.
 const PIECE: usize = 65536;
 
-/// What makes calls over a peer: the room for a request, for what comes at once, and for the reply.
+/// Makes calls to a peer. It holds the buffers for a request, for received bytes, and for the
+/// reply.
 ///
-/// It keeps nothing from one call for the next: what it promises of a call holds after any other, also after one that
-/// failed, and over another peer.
+/// No call affects a later one: its promises hold after any earlier call, even a failed one, and
+/// with any peer.
 #[derive(Drop)]
 pub struct PeerCaller {
     alloc: Global,
@@ -29,8 +30,8 @@ pub struct PeerCaller {
 }
 
 impl PeerCaller {
-    /// It reserves `rmt_wire::READER_LIMIT` bytes for replies and 65,536 for what comes at once, and fails only where these
-    /// are refused.
+    /// Makes a caller. It allocates `rmt_wire::READER_LIMIT` bytes for replies and 65,536 for
+    /// received bytes, and fails only if these allocations fail.
     pub fn new(alloc: Global) -> Result<PeerCaller, AllocError> {
         let Ok(piece) = Box::new(alloc, [0; PIECE]) else {
             return Err(AllocError);
@@ -43,15 +44,21 @@ impl PeerCaller {
         })
     }
 
-    /// Sends a request over the connection that there is, once, and waits for its reply, whole: data for a read, and a number
-    /// for all others. An error of the server is a reply too.
+    /// Sends a request once over the open connection, and waits for the whole reply: data for a
+    /// read, and a number for any other request. An error of the server is a reply too.
     ///
-    /// The device of an open is one line of at most `LINE_LIMIT` bytes. A read asks for at most `RECORD_LIMIT` bytes, and a
-    /// write has no more. All other numbers are at most `NUMBER_LIMIT`.
+    /// The device of an open is one line of at most `LINE_LIMIT` bytes. A read asks for at most
+    /// `RECORD_LIMIT` bytes, and a write has at most as many. All other numbers are at most
+    /// `NUMBER_LIMIT`.
     ///
-    /// It takes memory for the request, and for the data or the text of the reply: where either is refused it answers
-    /// `CallFault::OutOfMemory`. It answers `ConnectionEnded` where the connection ends before the reply is whole, or there
-    /// is none, and `Botched` where what comes is no reply to the request, or more bytes come with it.
+    /// It allocates for the request, and for the data or the text of the reply.
+    ///
+    /// Errors:
+    ///
+    /// - `OutOfMemory`: an allocation failed.
+    /// - `ConnectionEnded`: there is no connection, or it ended before the reply was whole.
+    /// - `Botched`: the bytes that came are no reply to the request, or more bytes follow the
+    ///   reply.
     pub fn call<P: Peer>(
         &mut self,
         peer: &mut P,
@@ -78,7 +85,7 @@ impl PeerCaller {
     }
 }
 
-/// The kind of reply that answers a request: data answer a read, and a number all others.
+/// Returns the kind of reply that a request gets: data for a read, and a number for any other.
 fn wanted_of(request: &Request<'_>) -> Wanted
     ensures { plain_wanted result ≡ wanted_by (plain_request request.now) }
 {
@@ -88,7 +95,8 @@ fn wanted_of(request: &Request<'_>) -> Wanted
     }
 }
 
-/// Waits for a reply of this kind, which is to begin with the next byte that the peer gives.
+/// Waits for a reply of this kind, which begins with the next byte that the peer sends. Fails as
+/// `call` does.
 fn hear<P: Peer>(
     alloc: Global,
     peer: &mut P,
@@ -115,7 +123,11 @@ fn hear<P: Peer>(
     Err(CallFault::Botched)
 }
 
-/// Takes a piece of what came to where a reply is waited for. None where all that came is a beginning of one.
+/// Feeds received bytes to the reader. Returns the reply once it is whole, and None if all bytes so
+/// far are only its beginning.
+///
+/// Fails with `Botched` if the bytes are no reply or more bytes follow it, and with `OutOfMemory`
+/// if an allocation fails.
 fn take(
     alloc: Global,
     reader: &mut ReplyReader,
@@ -142,7 +154,9 @@ fn take(
     Ok(None)
 }
 
-/// Keeps the reply that the reader gives of the bytes that it holds, if it gives one.
+/// Copies the reply at the front of the reader's bytes, or returns None if it is not whole yet.
+/// Fails with `Botched` if the bytes are no reply, and with `OutOfMemory` if the allocation for the
+/// copy fails.
 fn front(alloc: Global, reader: &mut ReplyReader) -> Result<Option<KeptReply>, CallFault>
     ensures { (wanted : kinds.Wanted) (bytes : List ℕ) → ReplyUnread reader.old (Some wanted) bytes →
         IsFront wanted bytes result reader.new }

@@ -2,18 +2,18 @@
 ghost use Rattle.std.specs.Prelude.{◌≡◌};
 ghost use Rattle.rdump_net.specs.Lines.{conclusion_status};
 
-/// The status of a dump that is complete.
+/// The exit status of a complete dump.
 const COMPLETE: u8 = 0;
 
-/// The status of a dump that ends in any other way.
+/// The exit status of a dump that ended in any other way.
 const ABNORMAL: u8 = 3;
 
-/// How a dump ends.
+/// How a dump ended.
 #[derive(Clone, Copy, Debug, PartialEq, Eq)]
 pub enum Conclusion {
-    /// The run is finished, and all was printed.
+    /// The run is finished, and every line was printed.
     Complete,
-    /// The operator gave it up, and all was printed.
+    /// The operator abandoned the dump, and every line was printed.
     Abandoned,
     /// A line could not be printed.
     PrintFailed,
@@ -22,7 +22,7 @@ pub enum Conclusion {
 }
 
 impl Conclusion {
-    /// The exit status of `rdump dump`: 0 where the dump is complete, and else 3.
+    /// Returns the exit status of `rdump dump`: 0 if the dump is complete, else 3.
     pub fn status(self) -> u8
         ensures { result ≡ conclusion_status self }
     {

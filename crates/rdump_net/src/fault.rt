@@ -1,21 +1,21 @@
-//! Why calls over a peer fail.
+//! Why calls to a peer fail.
 use thiserror::Error;
 
-/// Why a request has no reply.
+/// Why a request got no reply.
 #[derive(Clone, Copy, Debug, PartialEq, Eq, Error)]
 pub enum CallFault {
-    /// The connection ended before the reply came whole.
+    /// The connection ended before the whole reply came.
     #[error("the connection ended")]
     ConnectionEnded,
-    /// What came is no reply to it, or more than one.
+    /// The bytes that came are no reply to the request, or more than one reply.
     #[error("no reply by the protocol")]
     Botched,
-    /// Memory for the request or its reply was refused.
+    /// An allocation for the request or its reply failed.
     #[error("out of memory")]
     OutOfMemory,
 }
 
-/// A request of those that read a volume.
+/// A request that reading a volume makes.
 #[derive(Clone, Copy, Debug, PartialEq, Eq, Error)]
 pub enum VolumeRequest {
     /// The open of the device.
@@ -24,10 +24,10 @@ pub enum VolumeRequest {
     /// The rewind.
     #[error("rewind")]
     Rewind,
-    /// A read of a record.
+    /// The read of a record.
     #[error("read")]
     Read,
-    /// The operation that takes the reel away.
+    /// The operation that takes the reel offline (MTOFFL).
     #[error("offline")]
     Offline,
     /// The close.
@@ -38,25 +38,25 @@ pub enum VolumeRequest {
 /// Why a volume was not read whole.
 #[derive(Clone, Copy, Debug, PartialEq, Eq, Error)]
 pub enum ReadFault {
-    /// The server answered this request with the error of this number.
+    /// The server replied to this request with the error of this number.
     #[error("{asked} refused with E{number}")]
     Refused { asked: VolumeRequest, number: u32 },
-    /// No connection could be made, or it ended before the last reply came whole.
+    /// No connection could be made, or it ended before the whole of the last reply came.
     #[error("the connection ended")]
     ConnectionEnded,
-    /// What came is no reply to the request, or more than one.
+    /// The bytes that came are no reply to the request, or more than one reply.
     #[error("no reply by the protocol")]
     Botched,
-    /// Memory for a request or its reply was refused.
+    /// An allocation for a request or its reply failed.
     #[error("out of memory")]
     OutOfMemory,
-    /// The label could not be printed, or a record not written.
+    /// The label could not be printed, or a record could not be written.
     #[error("a write failed")]
     OutputFailed,
-    /// No mark ends the volume: the records go up to the end of the reel.
+    /// No mark ends the volume: its records reach to the end of the reel.
     #[error("no mark")]
     NoMark,
-    /// Whether a mark ends the volume could not be found out.
+    /// It could not be determined whether a mark ends the volume.
     #[error("cannot be told")]
     Undetermined,
 }

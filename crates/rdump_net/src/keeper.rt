@@ -1,16 +1,18 @@
-//! Where the checkpoint of a dump is kept.
+//! The store for a dump's checkpoint.
 ghost use Rattle.rdump_net.specs.Keeping.{PutsOn, put_if};
 
-/// Where the checkpoint of a dump is kept, as a text that is put in place of the one before.
+/// A store for the checkpoint of a dump: it holds one text, which each new one replaces.
 ///
-/// A keeper tells the texts that were put, in order, or tells nothing: what a clause says of it holds where it tells.
+/// An implementation may log the texts that were put, in order (the ghost `puts`). Clauses about
+/// that log hold only if it does.
 pub trait Keeper {
     ghost use Rattle.std.specs.Prelude.{List, ℕ};
 
-    /// The texts that were put so far, where it tells.
+    /// The texts that were put so far, in order, if this keeper logs them.
     ghost puts: { Self → List (List ℕ) → Type 0 };
 
-    /// Puts this text in place of the one before. Answers whether it could; where not, the one before stays.
+    /// Replaces the stored text by this one. Returns whether it could; if not, the earlier text
+    /// stays.
     fn keep(&mut self, text: &[u8]) -> bool
         ensures { PutsOn puts self.old self.new (put_if text.now result) };
 }

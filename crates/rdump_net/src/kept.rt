@@ -1,4 +1,4 @@
-//! A dump whose checkpoint is kept.
+//! A dump that keeps its checkpoint.
 ghost use Rattle.std.specs.Prelude.{◌≡◌, IsTrue, Some};
 ghost use Rattle.dump_run.specs.Checkpoint.{checkpoint_text};
 ghost use Rattle.rdump_net.specs.Keeping.{IsDumpKept, IsKeptUp, IsUnkept, kept_ends, kept_kind, plain_kept};
@@ -10,14 +10,17 @@ use rmt_wire::{Counted, print_text};
 use std::alloc::Global;
 use std::io::{Read, Write};
 
-/// Has a client write its run over a peer, as `dump` does, and keeps its checkpoint: before the first attempt, and after each
-/// count, once the line of the count is printed. A run that is finished or abandoned at the start is not kept.
+/// Has a client write its run over a peer, as `dump` does, and keeps its checkpoint with `keeper`.
 ///
-/// Where the keeper refuses, or memory for the text is refused, it prints `checkpoint not written` and does nothing more: no
-/// attempt starts, and no dump is complete that counted a volume here, but where the checkpoint that was kept last is the client's.
-/// After an attempt that failed it takes no memory for the text.
+/// It keeps the checkpoint before the first attempt, and after each count once the count's line is
+/// printed. It keeps nothing for a run that is finished or abandoned at the start.
 ///
-/// Answers how the dump ended.
+/// If the keeper fails, or an allocation for the text fails, it prints `checkpoint not written`,
+/// starts no further attempt, and returns `Unkept`. It returns `Complete` for a run that it has
+/// changed only if the last text kept is the client's checkpoint. After a failed attempt it
+/// allocates nothing for the text.
+///
+/// Returns how the dump ended: see `Conclusion`.
 pub fn dump_kept<B: Blocks, P: Peer, R: Read, W: Write, K: Keeper>(
     alloc: Global,
     client: &mut Client<B>,
@@ -48,8 +51,11 @@ pub fn dump_kept<B: Blocks, P: Peer, R: Read, W: Write, K: Keeper>(
     finish(client, out)
 }
 
-/// Keeps the checkpoint of a client, unless that is what was kept last. Answers whether it is kept. `text` is where the checkpoint's
-/// text is made: the same text again takes no memory.
+/// Keeps the client's checkpoint, unless the keeper has that text already. Returns whether it is
+/// kept now.
+///
+/// `text` is the buffer for the checkpoint's text; `kept` is the text that was kept last. The same
+/// text again needs no allocation. Returns false if an allocation or the keeper fails.
 fn keep_up<B: Blocks, K: Keeper>(
     client: &Client<B>,
     text: &mut Vec<u8>,
@@ -76,7 +82,7 @@ fn keep_up<B: Blocks, K: Keeper>(
     true
 }
 
-/// Whether that text was kept last.
+/// Whether this is the text that was kept last.
 fn is_kept(kept: &Option<Vec<u8>>, text: &[u8]) -> bool
     ensures { IsTrue result → plain_kept kept.now ≡ Some text.now }
 {
@@ -86,7 +92,7 @@ fn is_kept(kept: &Option<Vec<u8>>, text: &[u8]) -> bool
     }
 }
 
-/// Prints that the checkpoint could not be kept.
+/// Prints that the checkpoint could not be kept. Returns `Unkept`, whether or not that was printed.
 fn unkept<W: Write>(out: &mut Counted<W>) -> Conclusion
     ensures { IsUnkept W.contents out.old out.new result }
 {

@@ -1,4 +1,4 @@
-//! A reply of a peer, kept.
+//! A copy of a peer's reply.
 ghost use Rattle.std.specs.Prelude.{◌≡◌, IfOk};
 ghost use Rattle.rmt_wire.specs.Lent.{plain_reply};
 ghost use Rattle.rdump_net.specs.KeptReply.{plain_kept};
@@ -7,19 +7,21 @@ ghost use Rattle.rdump_net.specs.Calls.{is_done};
 use rmt_wire::Reply;
 use std::alloc::{AllocError, Global};
 
-/// A reply that is kept: what a request was answered.
+/// A reply to a request, copied out of the reader's buffer.
 #[derive(Drop)]
 pub enum KeptReply {
-    /// It was done, with this number, at most `NUMBER_LIMIT`.
+    /// The request was done. The number is at most `NUMBER_LIMIT`.
     Done { number: u32 },
-    /// The bytes that a read gave, at most as many as it asked for; none at a mark.
+    /// The bytes that a read returned, at most as many as it asked for; none at a mark or at the
+    /// end of the reel.
     Data { bytes: Vec<u8> },
-    /// It was refused, with the number and the text of an error. Of the text at most `LINE_LIMIT` bytes are kept.
+    /// The request was refused, with the number and the text of an error. At most `LINE_LIMIT`
+    /// bytes of the text are kept.
     Error { number: u32, text: Vec<u8> },
 }
 
 impl KeptReply {
-    /// Whether what was asked was done, and answered by a number.
+    /// Whether the request was done and the reply is a number.
     pub fn is_done(&self) -> bool
         ensures { result ≡ is_done (plain_kept self.now) }
     {
@@ -27,7 +29,7 @@ impl KeptReply {
     }
 }
 
-/// Keeps a reply. It fails only where the memory for its data or text is refused.
+/// Copies a reply. Fails only if the allocation for its data or its text fails.
 pub(crate) fn keep(alloc: Global, reply: Reply<'_>) -> Result<KeptReply, AllocError>
     ensures { IfOk result (λ a. plain_kept a ≡ plain_reply reply.entry) }
 {

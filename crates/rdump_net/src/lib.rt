@@ -1,12 +1,14 @@
-//! A dump over a connection: the far end of a connection, and a client's attempts over it, from the first request to
-//! the lines that an operator reads.
+//! A dump over a connection: the client's attempts to write volumes to a server, from the first
+//! request to the lines that the operator reads.
 //!
-//! `Peer` is the far end: `SocketPeer` is one over TCP. `dump` has a client write its volumes over a peer, asks an
-//! operator after a failure, and prints what is counted. `dump_kept` does so too, and keeps the checkpoint with a `Keeper`.
+//! `Peer` is the far end of a connection; `SocketPeer` reaches it over TCP. `dump` has a client
+//! write its volumes over a peer, asks the operator after a failure, and prints each counted
+//! volume. `dump_kept` also keeps the checkpoint with a `Keeper`.
 //!
-//! `copy_volume` reads a volume back, `mt` does one operation, and `look_at_reel` looks at what a reel begins with, each over a
-//! connection of its own. They make their calls with a `PeerCaller`: one request after the other, each answered by a `KeptReply`.
-//! `find_protection` says whether a dump may write on a reel that begins so.
+//! `copy_volume` reads a volume back, `mt` does one operation, and `look_at_reel` finds out what a
+//! reel begins with. Each uses a connection of its own and makes its calls with a `PeerCaller`: one
+//! request at a time, each with a `KeptReply`. `find_protection` decides from that beginning
+//! whether a dump may write on the reel.
 #![tactic(auto)]
 
 mod attempt;

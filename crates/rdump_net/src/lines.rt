@@ -1,4 +1,4 @@
-//! The lines of a dump.
+//! The lines that a dump prints.
 ghost use Rattle.std.specs.Prelude.{◌≡◌, ◌≤◌, ◌+◌, ◌++◌, length, decimal};
 ghost use Rattle.rdump_net.specs.Lines.{count_line, count_lines, complete_text as complete, failure_line as line_of_failure, failure_lines, fault_text};
 ghost use Rattle.rmt_wire.specs.Print.{IsPrinted};
@@ -9,13 +9,13 @@ use itoa::Buffer;
 use rmt_wire::{Counted, print_text};
 use std::io::Write;
 
-/// A line of a dump fits into so many bytes.
+/// The capacity of the buffer for a dump's lines, in bytes.
 pub const LINE_ROOM: usize = 128;
 
-/// The question to the operator.
+/// The question that the operator is asked, with its line feed.
 pub(crate) const QUESTION: &str = "retry?\n";
 
-/// Prints a line for each of these volumes. Answers whether all were printed.
+/// Prints one line for each of these volumes, in order. Returns whether all were printed.
 pub(crate) fn print_counts<W: Write>(counts: &[VolumeCount], out: &mut Counted<W>) -> bool
     ensures { IsPrinted W.contents (count_lines counts.now) out.old out.new result }
 {
@@ -25,14 +25,14 @@ pub(crate) fn print_counts<W: Write>(counts: &[VolumeCount], out: &mut Counted<W
     }
 }
 
-/// Prints the line of a volume that is counted. Answers whether it was printed.
+/// Prints the line of a counted volume. Returns whether it was printed.
 fn print_count<W: Write>(count: VolumeCount, out: &mut Counted<W>) -> bool
     ensures { IsPrinted W.contents (count_line count) out.old out.new result }
 {
     print_text(out, line_of(count).as_bytes())
 }
 
-/// The line of a volume that is counted.
+/// Returns the line of a counted volume, with its line feed: `volume 1: 2 blocks from 0`.
 fn line_of(count: VolumeCount) -> ArrayString<LINE_ROOM>
     ensures { result.bytes ≡ count_line count }
 {
@@ -44,8 +44,10 @@ fn line_of(count: VolumeCount) -> ArrayString<LINE_ROOM>
     line
 }
 
-/// The line of an attempt that failed, with its line feed, of the volume of this number: `volume 1 failed: Refused 16`, with the
-/// fault's name, and the number of a refusal or of a counted volume.
+/// Returns the line of a failed attempt, with its line feed: `volume 1 failed: Refused 16`.
+///
+/// `volume` is the number of the volume. The fault is given by its name, and after it the error
+/// number of a refusal or the number of a counted volume. The line has at most 73 bytes.
 pub fn failure_line(volume: u32, fault: AttemptFault) -> ArrayString<LINE_ROOM>
     ensures text { result.bytes ≡ line_of_failure volume fault }
     ensures short { length result.bytes ≤ 73 }
@@ -58,7 +60,7 @@ pub fn failure_line(volume: u32, fault: AttemptFault) -> ArrayString<LINE_ROOM>
     line
 }
 
-/// What failed, and the question to the operator.
+/// Returns the line of a failed attempt and the question to the operator.
 pub(crate) fn failure_text(volume: u32, fault: AttemptFault) -> ArrayString<LINE_ROOM>
     ensures { result.bytes ≡ failure_lines volume fault }
 {
@@ -67,7 +69,7 @@ pub(crate) fn failure_text(volume: u32, fault: AttemptFault) -> ArrayString<LINE
     lines
 }
 
-/// The line of a dump that is complete.
+/// Returns the line of a complete dump, with its line feed: `dump complete: 2 volumes, 3 blocks`.
 pub(crate) fn complete_text(volumes: usize, blocks: u32) -> ArrayString<LINE_ROOM>
     ensures { result.bytes ≡ complete volumes blocks }
 {
@@ -78,7 +80,8 @@ pub(crate) fn complete_text(volumes: usize, blocks: u32) -> ArrayString<LINE_ROO
     line
 }
 
-/// Appends a text, and a number after it.
+/// Appends a text and then a number in decimal. The line must have room for the text and 20 more
+/// bytes.
 pub(crate) fn push_part(line: &mut ArrayString<LINE_ROOM>, text: &str, number: u64)
     requires { length line.old.bytes + length text.now + 20 ≤ LINE_ROOM }
     ensures appended { line.new.bytes ≡ line.old.bytes ++ text.now ++ decimal number }
@@ -89,7 +92,8 @@ pub(crate) fn push_part(line: &mut ArrayString<LINE_ROOM>, text: &str, number: u
     line.push_str(digits.format(number));
 }
 
-/// Appends a fault by its name, and with it the number of a refusal or of a counted volume.
+/// Appends a fault's name, and after it the error number of a refusal or the number of a counted
+/// volume. The line must have room for 36 bytes.
 fn push_fault(line: &mut ArrayString<LINE_ROOM>, fault: AttemptFault)
     requires { length line.old.bytes + 36 ≤ LINE_ROOM }
     ensures appended { line.new.bytes ≡ line.old.bytes ++ fault_text fault }

@@ -1,4 +1,5 @@
-//! A look at the reel that is first on a drive, over a connection of its own. Nothing is written.
+//! A look at the beginning of a drive's first reel, over a connection of its own. It writes
+//! nothing.
 ghost use Rattle.std.specs.Prelude.{◌≡◌, ℕ, List, Ok, Err, if◌then◌else◌, nat_eq};
 ghost use Rattle.rmt_wire.specs.Lent.{plain_request};
 ghost use Rattle.rmt_wire.specs.Number.{IsLine};
@@ -26,10 +27,10 @@ use rmt_wire::mtio::{MTFSF, MTREW};
 use std::alloc::Global;
 use thiserror::Error;
 
-/// What a reel begins with.
+/// The beginning of a reel.
 #[derive(Drop)]
 pub enum ReelFront {
-    /// A record: its first 1,024 bytes, or all of it where it has fewer. There is at least one.
+    /// A record: its first 1,024 bytes, or the whole of a shorter one. There is at least one byte.
     Record(Vec<u8>),
     /// A mark.
     Mark,
@@ -37,7 +38,7 @@ pub enum ReelFront {
     Empty,
 }
 
-/// A request of a look.
+/// A request that a look makes.
 #[derive(Clone, Copy, Debug, PartialEq, Eq, Error)]
 pub enum LookRequest {
     /// The open of the device.
@@ -49,7 +50,7 @@ pub enum LookRequest {
     /// The read of the first record.
     #[error("read")]
     Read,
-    /// The operation that goes over a mark.
+    /// The operation that spaces over a mark.
     #[error("space")]
     Space,
     /// The close.
@@ -57,26 +58,30 @@ pub enum LookRequest {
     Close,
 }
 
-/// Why a look found nothing out.
+/// Why a look found nothing.
 #[derive(Clone, Copy, Debug, PartialEq, Eq)]
 pub enum LookFault {
-    /// The server answered this request with the error of this number. It was the first that was refused.
+    /// The server replied to this request with the error of this number. It was the first refusal.
     Refused { asked: LookRequest, number: u32 },
-    /// A request has no reply.
+    /// A request got no reply.
     NoReply(CallFault),
 }
 
-/// Looks at what the first reel of a drive begins with, over a connection of its own.
+/// Finds out what the first reel of a drive begins with, over a connection of its own.
 ///
-/// It opens the device for reading, rewinds, and reads 1,024 bytes. If that gives no record, it rewinds and goes over one mark:
-/// if this is refused with `EIO`, there is no mark, and the reel is empty. Then it closes the device and waits for the answer, so
-/// that the drive is free. After a refusal it closes the device too, unless it was the open that was refused: then nothing more is
-/// sent. After a request that has no reply nothing more is sent either.
+/// It opens the device for reading, rewinds, and reads 1,024 bytes. If that returns no bytes, it
+/// rewinds and spaces over one mark. If this is refused with `EIO`, there is no mark, and the reel
+/// is empty.
+///
+/// Then it closes the device and waits for the reply, so that the drive is free. It closes the
+/// device after a refusal too, unless the open was refused: then it sends nothing more. After a
+/// request that gets no reply it sends nothing more either.
 ///
 /// The device is one line of at most `LINE_LIMIT` bytes.
 ///
-/// Answers `LookFault::Refused` with the first request that was refused, the close included, and `LookFault::NoReply` if no
-/// connection could be made, if memory was refused, or if a reply did not come or is none.
+/// Fails with `LookFault::Refused` and the first request that was refused, which may be the close.
+/// Fails with `LookFault::NoReply` if no connection could be made, an allocation failed, no reply
+/// came, or the bytes that came are no reply.
 pub fn look_at_reel<P: Peer>(
     alloc: Global,
     peer: &mut P,
@@ -96,7 +101,7 @@ pub fn look_at_reel<P: Peer>(
     found
 }
 
-/// Looks over the connection that there is.
+/// Makes all requests of a look over the open connection.
 fn look_over<P: Peer>(
     caller: &mut PeerCaller,
     peer: &mut P,
@@ -119,7 +124,7 @@ fn look_over<P: Peer>(
     }
 }
 
-/// Finds what the reel of the drive that is open begins with.
+/// Finds out what the reel in the opened drive begins with.
 fn find_front<P: Peer>(caller: &mut PeerCaller, peer: &mut P) -> Result<ReelFront, LookFault>
     ensures { (device : List ℕ) → IsLookPart P.tells device Rewinding Closing peer.old peer.new result }
 {
@@ -131,7 +136,7 @@ fn find_front<P: Peer>(caller: &mut PeerCaller, peer: &mut P) -> Result<ReelFron
     Ok(ReelFront::Record(first))
 }
 
-/// Finds whether the reel begins with a mark, where a read gave no record.
+/// Finds out whether the reel begins with a mark or is empty, after a read returned no bytes.
 fn find_mark<P: Peer>(caller: &mut PeerCaller, peer: &mut P) -> Result<ReelFront, LookFault>
     ensures { (device : List ℕ) → IsLookPart P.tells device RewindingAgain Closing peer.old peer.new result }
 {
@@ -147,7 +152,8 @@ fn find_mark<P: Peer>(caller: &mut PeerCaller, peer: &mut P) -> Result<ReelFront
     }
 }
 
-/// What it says that going over a mark was refused with this number: there is none, where it is `EIO`.
+/// Returns what it means that spacing over a mark was refused with this number: with `EIO` the reel
+/// is empty; any other is a fault.
 fn no_mark(number: u32) -> Result<ReelFront, LookFault>
     ensures { result ≡ (if nat_eq number EIO then Ok fronts.Empty else Err (faults.Refused asked.Space number)) }
 {
@@ -160,7 +166,8 @@ fn no_mark(number: u32) -> Result<ReelFront, LookFault>
     })
 }
 
-/// Closes the device, of whose reel this was found.
+/// Closes the device, and returns the `front` that was found. Fails if the close is refused or gets
+/// no reply.
 fn close_found<P: Peer>(
     caller: &mut PeerCaller,
     peer: &mut P,
@@ -173,8 +180,8 @@ fn close_found<P: Peer>(
     Ok(front)
 }
 
-/// Closes the device, after this request was refused with this number. Answers why the look failed: what the close is answered
-/// changes nothing, unless it has no reply.
+/// Closes the device after `refused` was refused with this number. Returns why the look failed:
+/// that refusal, whatever the reply to the close, or `NoReply` if the close gets none.
 fn close_refused<P: Peer>(
     caller: &mut PeerCaller,
     peer: &mut P,
@@ -208,7 +215,7 @@ fn rewind<P: Peer>(caller: &mut PeerCaller, peer: &mut P) -> Result<(), LookFaul
     ask(caller, peer, LookRequest::Rewind, &rewind)
 }
 
-/// Has something done that is answered by a number.
+/// Makes a request whose reply is a number. Fails if it is refused or gets no valid reply.
 fn ask<P: Peer>(
     caller: &mut PeerCaller,
     peer: &mut P,
@@ -227,7 +234,8 @@ fn ask<P: Peer>(
     }
 }
 
-/// Reads what the first record begins with. Nothing at a mark, and at the end.
+/// Reads the beginning of the first record, at most 1,024 bytes. Returns nothing at a mark or at
+/// the end of the reel.
 fn read_front<P: Peer>(caller: &mut PeerCaller, peer: &mut P) -> Result<Vec<u8>, LookFault>
     ensures { IsFrontRead P.tells peer.old peer.new result }
 {

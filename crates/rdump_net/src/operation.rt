@@ -1,4 +1,4 @@
-//! One operation of mtio over a peer.
+//! One mtio operation at a peer.
 ghost use Rattle.std.specs.Prelude.{◌≡◌, ◌≤◌, ◌+◌, ◌++◌, codes, length, decimal};
 ghost use Rattle.rmt_wire.specs.Number.{IsLine};
 ghost use Rattle.rmt_wire.specs.declared.limits.TheConstants.{NUMBER_LIMIT};
@@ -19,22 +19,25 @@ use rmt_wire::{Counted, Request, print_text};
 use std::alloc::Global;
 use std::io::Write;
 
-/// The status of an operation that was done.
+/// The exit status if the operation was done.
 const DONE: u8 = 0;
 
-/// The status of an operation that was refused, or could not be told of.
+/// The exit status if the operation was refused, or its reply could not be printed.
 const FAILED: u8 = 3;
 
-/// Does an operation of mtio with this count at a device, over a connection of its own, and prints what the server answers,
-/// on one line: `A1`, or `E5 Input/output error`.
+/// Does one mtio operation `op`, with this count, at a device, over a connection of its own. It
+/// prints the server's reply on one line: `A1`, or `E5 Input/output error`.
 ///
-/// It opens the device, for reading and writing where the operation is `MTWEOF` and else for reading, and closes it
-/// after the operation. Where the open is refused, that is printed in its place. What the close is answered changes nothing.
+/// It opens the device, for reading and writing if the operation is `MTWEOF` and for reading if
+/// not, and closes it after the operation. If the open is refused, that reply is printed instead.
+/// The reply to the close is ignored.
 ///
-/// The device is one line of at most `LINE_LIMIT` bytes, and both numbers are at most `NUMBER_LIMIT`.
+/// The device is one line of at most `LINE_LIMIT` bytes, and both numbers are at most
+/// `NUMBER_LIMIT`.
 ///
-/// Answers the exit status of `rdump mt`: 0 where the operation was done and that was printed, and else 3. Where the
-/// connection ended before, or what came is no reply, nothing is printed.
+/// Returns the exit status of `rdump mt`: 0 if the operation was done and the reply was printed,
+/// else 3. Nothing is printed if memory runs out, if the connection ends before the reply, or if
+/// the bytes that come are no reply.
 pub fn mt<P: Peer, W: Write>(
     alloc: Global,
     peer: &mut P,
@@ -60,7 +63,7 @@ pub fn mt<P: Peer, W: Write>(
     status
 }
 
-/// Does the operation over the connection that there is, and tells of it.
+/// Does the operation over the open connection, and prints its reply. Returns the exit status.
 fn operate<P: Peer, W: Write>(
     caller: &mut PeerCaller,
     peer: &mut P,
@@ -83,7 +86,8 @@ fn operate<P: Peer, W: Write>(
     status
 }
 
-/// What the operation is answered, or an open that is refused.
+/// Opens the device and requests the operation. Returns the reply to the operation, or that to the
+/// open if the open is refused. Fails if a request gets no reply.
 fn ask<P: Peer>(
     caller: &mut PeerCaller,
     peer: &mut P,
@@ -104,14 +108,14 @@ fn ask<P: Peer>(
     caller.call(peer, &Request::Op { op, count })
 }
 
-/// How a device is opened for this operation.
+/// Returns the mode in which the device is opened for this operation.
 fn mode_of(op: u32) -> u32
     ensures { result ≡ mode_for op }
 {
     if op == MTWEOF { O_RDWR } else { O_RDONLY }
 }
 
-/// Prints what was answered. Answers the status.
+/// Prints a reply. Returns the exit status.
 fn print_reply<W: Write>(answer: &KeptReply, out: &mut Counted<W>) -> u8
     ensures { IsReplyTold W.contents (plain_kept answer.now) out.old out.new result }
 {
@@ -123,7 +127,7 @@ fn print_reply<W: Write>(answer: &KeptReply, out: &mut Counted<W>) -> u8
     }
 }
 
-/// Prints the line of an answer. Answers whether it was printed.
+/// Prints the line of a reply. Returns whether it was printed.
 fn print_answer<W: Write>(answer: &KeptReply, out: &mut Counted<W>) -> bool
     ensures { IsPrinted W.contents (reply_line (plain_kept answer.now)) out.old out.new result }
 {
@@ -136,14 +140,15 @@ fn print_answer<W: Write>(answer: &KeptReply, out: &mut Counted<W>) -> bool
     }
 }
 
-/// Prints a text and a line feed. Answers whether that was printed.
+/// Prints a text and a line feed. Returns whether both were printed.
 fn print_line<W: Write>(out: &mut Counted<W>, text: &[u8]) -> bool
     ensures { IsPrinted W.contents (text.now ++ codes "\n") out.old out.new result }
 {
     print_text(out, text) && print_text(out, b"\n")
 }
 
-/// Prints a letter, a number and what ends it. Answers whether that was printed.
+/// Prints a letter, a number and then `end`. Letter and `end` have at most 2 bytes together.
+/// Returns whether all was printed.
 fn print_number<W: Write>(out: &mut Counted<W>, letter: &str, number: u64, end: &str) -> bool
     requires { length letter.now + length end.now ≤ 2 }
     ensures { IsPrinted W.contents (letter.now ++ decimal number ++ end.now) out.old out.new result }

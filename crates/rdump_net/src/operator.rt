@@ -1,11 +1,12 @@
-//! What an operator answers.
+//! The operator's answers.
 use std::io::{ErrorKind, Read};
 
-/// The answer that has a volume tried again.
+/// The answer after which a volume is tried again.
 const YES: &[u8] = b"yes";
 
-/// Takes one line of what the operator says, and answers whether it is `yes`. The end of the input ends its last line,
-/// and so does a failure.
+/// Reads one line of the operator's input. Returns whether it is exactly `yes`.
+///
+/// The end of the input ends its last line, and so does a read that fails.
 pub(crate) fn says_yes<R: Read>(operator: &mut R) -> bool {
     let mut wanted = YES;
     let mut agrees = true;
@@ -21,7 +22,8 @@ pub(crate) fn says_yes<R: Read>(operator: &mut R) -> bool {
     false
 }
 
-/// The next byte, and None at the end and where a read failed.
+/// Reads the next byte, and retries if interrupted. Returns None at the end of the input or if a
+/// read fails.
 fn next_byte<R: Read>(operator: &mut R) -> Option<u8> {
     let mut byte = [0];
     for _ in 0..u64::MAX {

@@ -5,60 +5,66 @@ ghost use Rattle.rdump_net.specs.declared.peer.Passed.{Passed};
 
 use dump_client::AttemptFault;
 
-/// What passes between a caller and a peer.
+/// One event between a caller and a peer.
 #[derive(Clone, Copy, Debug, PartialEq, Eq)]
 pub enum Passed {
     /// A connection was made.
     Connected,
-    /// The peer was sent this byte.
+    /// This byte was sent to the peer.
     Sent(u8),
-    /// The peer gave this byte.
+    /// This byte came from the peer.
     Given(u8),
-    /// The connection was found ended, or could not be made.
+    /// The caller found that the connection ended, or could not make it.
     Ended,
 }
 
-/// The far end of a connection, which can be made again.
+/// The far end of a connection. The connection can be made again.
 ///
-/// A peer tells what passed, in order, or tells nothing: what a clause says of it holds where it tells. False, and 0
-/// where there is room, are the end of the connection, and nothing else is. A call where there is no connection finds it
-/// ended, and so does one after the end, again.
+/// An implementation may log what passed, in order (the ghost `tells`). Clauses about what passed
+/// hold only if it does.
+///
+/// `false`, or 0 for a buffer with room, means that the connection ended; nothing else means that.
+/// A call without a connection, or after its end, reports the end too.
 pub trait Peer {
     ghost use Rattle.std.specs.Prelude.{List};
     ghost use Rattle.rdump_net.specs.declared.peer.Passed.{Passed};
 
-    /// What passed so far, where it tells.
+    /// What passed so far, in order, if this peer logs it.
     ghost tells: { Self → List Passed → Type 0 };
 
-    /// Makes a connection, in place of any that there is. Answers whether it could: if not, that is its end.
+    /// Makes a connection, and drops the earlier one if there is one. Returns whether it could; if
+    /// not, the log has `Ended`.
     fn connect(&mut self) -> bool
         ensures { Logs tells self.old self.new (connected result) };
 
-    /// Sends all of these bytes. Answers whether it could; where not, a beginning of them was sent, and the connection
-    /// ended.
+    /// Sends all of these bytes. Returns whether it could. If not, some first part of them was
+    /// sent, perhaps none, and the connection ended.
     fn send(&mut self, bytes: &[u8]) -> bool
         ensures { (passed : List Passed) × AreBytesSent bytes.now result passed × Logs tells self.old self.new passed };
 
-    /// Waits for bytes, and puts those that came at the front of `into`. Answers how many came: none, where there is
-    /// room for one, at the end of the connection.
+    /// Waits for bytes, and writes those that came to the front of `into`. Returns how many came,
+    /// at most the length of `into`. If `into` has room, 0 means that the connection ended.
     fn receive(&mut self, into: &mut [u8]) -> usize
         ensures within { result ≤ length into.new }
         ensures told { Logs tells self.old self.new (given into.new (take result into.new)) };
 
-    /// Ends the connection, if there is one. That is the caller's end, and is not told.
+    /// Closes the connection, if there is one. The caller does this itself, so nothing is logged.
     fn hang_up(&mut self)
         ensures { Logs tells self.old self.new [] };
 
-    /// Is asked before each attempt whether it may begin. No connection is open then, and nothing passes: who looks at the reel for
-    /// it does so over a connection of its own. If not, the operator is asked in place of the attempt, and a peer may show why.
+    /// Returns whether the next attempt may begin. The caller asks before each attempt, with no
+    /// connection open, and nothing passes.
+    ///
+    /// An implementation that looks at the reel uses a connection of its own. If it returns false,
+    /// the operator is asked in place of the attempt; it may first print why.
     fn may_begin(&mut self) -> bool
         ensures { Logs tells self.old self.new [] }
     {
         true
     }
 
-    /// Is told that an attempt over this peer failed, and why. The connection is ended then, and nothing passes. A peer may
-    /// show it.
+    /// Called after an attempt over this peer failed, with the reason. The connection is closed by
+    /// then, and nothing passes. An implementation may print the reason.
     fn attempt_failed(&mut self, fault: AttemptFault)
         ensures { Logs tells self.old self.new [] }
     {

@@ -6,21 +6,21 @@ ghost use Rattle.rdump_net.specs.Protection.{IsDecided, IsLabelDecided, dump_key
 use crate::ReelFront;
 use dump_run::VolumeLabel;
 
-/// Why a dump is not to write on a reel.
+/// Why a dump must not write on a reel.
 #[derive(Clone, Copy, Debug, PartialEq, Eq)]
 pub enum Protection {
     /// The reel begins with the label of another dump.
     OtherDump,
-    /// It begins with a record that is no label.
+    /// The reel begins with a record that is not a label.
     NoLabel,
-    /// It begins with a mark.
+    /// The reel begins with a mark.
     Mark,
 }
 
-/// Why a dump of this name, level and date is not to write on a reel that begins so. The date is in seconds since 1970 began, UTC.
+/// Returns why a dump must not write on a reel with this beginning, or None if it may.
 ///
-/// None if it may: the reel is empty, or begins with a label of this name, level and date. Which volume the label has decides
-/// nothing.
+/// It may if the reel is empty, or begins with a label of the same name, level and date. The
+/// label's volume number does not matter. `date` is in seconds since 1970 began, UTC.
 pub fn find_protection(front: &ReelFront, name: &str, level: u64, date: u64) -> Option<Protection>
     ensures { IsDecided (dump_key name.now level date) (plain_front front.now) result }
 {
@@ -34,7 +34,7 @@ pub fn find_protection(front: &ReelFront, name: &str, level: u64, date: u64) -> 
     }
 }
 
-/// Whether a label is one of another dump than that of this name, level and date.
+/// Returns `OtherDump` if the label differs from this name, level or date, else None.
 fn other_dump(label: &VolumeLabel, name: &str, level: u64, date: u64) -> Option<Protection>
     ensures { IsLabelDecided (dump_key name.now level date) label.now result }
 {

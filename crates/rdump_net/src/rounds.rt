@@ -1,4 +1,4 @@
-//! A whole dump: attempt after attempt, the lines that tell of them, and what an operator answers.
+//! A whole dump: attempt after attempt, the lines that report them, and the operator's answers.
 ghost use Rattle.std.specs.Prelude.{◌≡◌, ◌≢◌, false, Some, length, drop, if◌then◌else◌};
 ghost use Rattle.dump_client.specs.Standing.{checkpoint_of};
 ghost use Rattle.rdump_net.specs.Lines.{DumpLines, IsDumped, IsFinish, IsRound, complete_line, count_lines, failure_lines};
@@ -17,15 +17,19 @@ use rmt_wire::{Counted, print_text};
 use std::alloc::Global;
 use std::io::{Read, Write};
 
-/// Has a client write its run over a peer, each volume over a connection of its own, and prints what comes of it.
+/// Has a client write its run over a peer, each volume over a connection of its own, and prints the
+/// outcome.
 ///
-/// It prints `volume 1: 2 blocks from 0` for each volume that is counted, and `dump complete: 2 volumes, 3 blocks` at
-/// the end. Where an attempt fails it prints `volume 1 failed: Refused 16`, with the fault's name, and `retry?`, and takes
-/// one line from the operator: after `yes` the volume is tried again, and after all else it prints `dump abandoned`. If the peer
-/// answers that an attempt may not begin, it prints `retry?` alone, and takes a line too: after `yes` the peer is asked again.
+/// For each counted volume it prints `volume 1: 2 blocks from 0`, and at the end
+/// `dump complete: 2 volumes, 3 blocks`.
 ///
-/// Answers the exit status of `rdump dump`: 0 where the run is finished and all was printed, and else 3. After a write that
-/// failed it does nothing more.
+/// If an attempt fails, it prints `volume 1 failed: Refused 16`, with the fault's name, and
+/// `retry?`, and reads one line from the operator. After `yes` it tries the volume again; after
+/// anything else it prints `dump abandoned`. If the peer does not let an attempt begin, it prints
+/// `retry?` alone and reads a line too; after `yes` it asks the peer again.
+///
+/// Returns the exit status of `rdump dump`: 0 if the run is finished and every line was printed,
+/// else 3. After a write that fails it does nothing more.
 pub fn dump<B: Blocks, P: Peer, R: Read, W: Write>(
     alloc: Global,
     client: &mut Client<B>,
@@ -46,7 +50,7 @@ pub fn dump<B: Blocks, P: Peer, R: Read, W: Write>(
     end.status()
 }
 
-/// Does what the client waits for. Answers how the dump ended, at its end.
+/// Does the one thing that the client waits for. Returns how the dump ended, if it did.
 pub(crate) fn round<B: Blocks, P: Peer, R: Read, W: Write>(
     client: &mut Client<B>,
     peer: &mut P,
@@ -72,7 +76,8 @@ pub(crate) fn round<B: Blocks, P: Peer, R: Read, W: Write>(
     }
 }
 
-/// Has the client try its next volume, if an attempt may begin, and else asks the operator. Answers how the dump ended, at its end.
+/// Has the client try its next volume if `may`, and asks the operator if not. Returns how the dump
+/// ended, if it did.
 fn begin_volume<B: Blocks, P: Peer, R: Read, W: Write>(
     client: &mut Client<B>,
     peer: &mut P,
@@ -92,7 +97,8 @@ fn begin_volume<B: Blocks, P: Peer, R: Read, W: Write>(
     ask_here(client, QUESTION.as_bytes(), operator, out)
 }
 
-/// Has the client try its next volume, and prints what came of it. Answers how the dump ended, at its end.
+/// Has the client try its next volume, and prints the outcome. Returns how the dump ended, if it
+/// did.
 fn try_volume<B: Blocks, P: Peer, R: Read, W: Write>(
     client: &mut Client<B>,
     peer: &mut P,
@@ -112,8 +118,10 @@ fn try_volume<B: Blocks, P: Peer, R: Read, W: Write>(
     report(client, attempted, operator, out)
 }
 
-/// Prints that an attempt failed, if it did. Where it could not start, the operator is asked here. Answers how the
-/// dump ended: where printing failed, and where the operator gives up.
+/// Prints that an attempt failed, if it did. If it could not start, it prints `OutOfMemory` and
+/// asks the operator here.
+///
+/// Returns how the dump ended: if printing failed, or if the operator gave up.
 fn report<B: Blocks, R: Read, W: Write>(
     client: &Client<B>,
     attempted: Attempted,
@@ -133,7 +141,7 @@ fn report<B: Blocks, R: Read, W: Write>(
     }
 }
 
-/// Prints that an attempt failed. Answers how the dump ended where printing failed.
+/// Prints that an attempt failed. Returns `PrintFailed` if that could not be printed, else None.
 fn print_end<B: Blocks, W: Write>(
     client: &Client<B>,
     fault: AttemptFault,
@@ -149,8 +157,10 @@ fn print_end<B: Blocks, W: Write>(
     }
 }
 
-/// Prints lines that end with the question, of an attempt that did not start, and takes the operator's answer. Answers how the dump
-/// ended, at its end.
+/// Prints these lines, which end with the question, and reads the operator's answer. It is for an
+/// attempt that did not start.
+///
+/// Returns how the dump ended: if printing failed, or if the answer is not `yes`.
 fn ask_here<B: Blocks, R: Read, W: Write>(
     client: &Client<B>,
     lines: &[u8],
@@ -169,21 +179,21 @@ fn ask_here<B: Blocks, R: Read, W: Write>(
     Some(finish(client, out))
 }
 
-/// How many volumes are counted.
+/// Returns how many volumes are counted.
 fn volumes<B: Blocks>(client: &Client<B>) -> usize
     ensures { result ≡ length client.now.at.counts }
 {
     client.counted().len()
 }
 
-/// Prints the volumes that were counted after the first so many. Answers whether that was printed.
+/// Prints the counted volumes after the first `before`. Returns whether all were printed.
 fn print_since<B: Blocks, W: Write>(client: &Client<B>, before: usize, out: &mut Counted<W>) -> bool
     ensures { IsPrinted W.contents (count_lines (drop before client.now.at.counts)) out.old out.new result }
 {
     print_counts(counts_from(client, before), out)
 }
 
-/// The volumes that were counted after the first so many.
+/// Returns the counted volumes after the first `before`.
 #[tactic(auto, using(std::proofs::lemmas::List::drop_min))]
 fn counts_from<B: Blocks>(client: &Client<B>, before: usize) -> &[VolumeCount]
     ensures { result.now ≡ drop before client.now.at.counts }
@@ -192,7 +202,8 @@ fn counts_from<B: Blocks>(client: &Client<B>, before: usize) -> &[VolumeCount]
     &counts[before.min(counts.len())..]
 }
 
-/// Prints that the next volume failed, and asks the operator. Answers whether that was printed.
+/// Prints that the next volume failed, and the question to the operator. Returns whether both were
+/// printed.
 fn print_failure<B: Blocks, W: Write>(
     client: &Client<B>,
     fault: AttemptFault,
@@ -203,7 +214,7 @@ fn print_failure<B: Blocks, W: Write>(
     print_text(out, failure_of(client, fault).as_bytes())
 }
 
-/// The lines of the next volume that failed, with the question to the operator.
+/// Returns the lines that report a failure of the next volume, with the question to the operator.
 fn failure_of<B: Blocks>(client: &Client<B>, fault: AttemptFault) -> ArrayString<LINE_ROOM>
     ensures { result.bytes ≡ failure_lines (checkpoint_of client.now.at.counts).0 fault }
 {
@@ -211,7 +222,7 @@ fn failure_of<B: Blocks>(client: &Client<B>, fault: AttemptFault) -> ArrayString
     failure_text(volume, fault)
 }
 
-/// Takes the operator's answer, and gives it to the client.
+/// Reads the operator's answer and passes it to the client.
 fn ask<B: Blocks, R: Read>(client: &mut Client<B>, operator: &mut R)
     ensures same { client.new.at.counts ≡ client.old.at.counts }
     ensures alone { TalksAlone B.holds client.old client.new }
@@ -224,7 +235,8 @@ fn ask<B: Blocks, R: Read>(client: &mut Client<B>, operator: &mut R)
     let _ = client.answer(answer);
 }
 
-/// Prints how the dump ended, and answers that.
+/// Prints the dump's last line. Returns how it ended: `Complete` or `Abandoned`, and `PrintFailed`
+/// if the line was not printed.
 pub(crate) fn finish<B: Blocks, W: Write>(client: &Client<B>, out: &mut Counted<W>) -> Conclusion
     ensures { IsFinish W.contents client.now.at out.old out.new result }
 {
@@ -240,7 +252,7 @@ pub(crate) fn finish<B: Blocks, W: Write>(client: &Client<B>, out: &mut Counted<
     }
 }
 
-/// How a dump ended that ended so, where that was printed.
+/// Returns `end` if the last line was printed, else `PrintFailed`.
 fn ended(printed: bool, end: Conclusion) -> Conclusion
     ensures { result ≡ (if printed then end else ends.PrintFailed) }
 {
@@ -251,7 +263,7 @@ fn ended(printed: bool, end: Conclusion) -> Conclusion
     }
 }
 
-/// The last line of a dump that is complete.
+/// Returns the last line of a complete dump.
 fn last_line<B: Blocks>(client: &Client<B>) -> ArrayString<LINE_ROOM>
     ensures { result.bytes ≡ complete_line client.now.at.counts }
 {

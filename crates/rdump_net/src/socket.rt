@@ -9,15 +9,17 @@ use std::rt::Clock;
 use std::thread;
 use std::time::Duration;
 
-/// How long a connection waits after failed ones, in seconds.
+/// How long to wait before a connection that follows failed ones, in seconds.
 const PAUSE_SECONDS: u64 = 1;
 
-/// A peer over TCP, at an address: a host and a port. It tells nothing.
+/// A peer over TCP, at an address `HOST:PORT`. It keeps no log of what passed.
 ///
-/// Each connection sends its bytes at once: a request, or a piece of one, waits for no reply to what went before. The next
-/// one waits for a second after a connection that could not be made, or that ended before a byte came, and after two in a
-/// row over which an attempt failed: so who asks for it again and again leaves the server alone, and who answers a first
-/// failure does not wait.
+/// Each connection sends its bytes without delay (TCP_NODELAY): they do not wait for a reply to
+/// earlier bytes.
+///
+/// A new connection first waits one second in two cases: the latest one could not be made or
+/// received no byte, or attempts failed over the latest two in a row. So a client that retries in a
+/// loop does not burden the server, and one that retries a first failure does not wait.
 #[derive(Drop)]
 pub struct SocketPeer<'a, R: Net + Clock> {
     runtime: &'a R,
@@ -30,7 +32,7 @@ pub struct SocketPeer<'a, R: Net + Clock> {
 }
 
 impl<'a, R: Net + Clock> SocketPeer<'a, R> {
-    /// The peer at this address, with no connection.
+    /// Returns a peer for this address, with no connection yet.
     pub fn new(runtime: &'a R, address: &'a str) -> Self {
         SocketPeer {
             runtime,
@@ -43,26 +45,29 @@ impl<'a, R: Net + Clock> SocketPeer<'a, R> {
         }
     }
 
-    /// Why the latest connection could not be made, or failed, by the system. None where it did not fail, and where the far
-    /// end ended it.
+    /// Returns the system's error if the latest connection could not be made or failed. None if it
+    /// did not fail, or if the far end closed it.
     pub fn failure(&self) -> Option<&io::Error> {
         self.failure.as_ref()
     }
 
+    /// Connects to the address, with TCP_NODELAY set. Fails with the system's error.
     fn open(&self) -> io::Result<R::Stream> {
         let stream = TcpStream::connect(self.runtime, self.address)?;
         stream.set_nodelay(true)?;
         Ok(stream)
     }
 
-    /// Waits, where the latest connection gave nothing, and where attempts failed over it and over the one before.
+    /// Waits a second if the latest connection received nothing, or if attempts failed over it and
+    /// over the one before.
     fn pause(&self) {
         if self.was_silent || (self.has_failed && self.has_failed_before) {
             thread::sleep(self.runtime, Duration::from_secs(PAUSE_SECONDS));
         }
     }
 
-    /// Keeps why a call failed, or forgets it. Answers what it answered.
+    /// Stores the error of a result, or clears the stored error if it is a success. Returns the
+    /// value of a success.
     fn keep<T: Drop>(&mut self, found: io::Result<T>) -> Option<T> {
         match found {
             Ok(value) => {
@@ -77,7 +82,7 @@ impl<'a, R: Net + Clock> SocketPeer<'a, R> {
     }
 }
 
-/// Reads once, again where that was interrupted.
+/// Reads once, and retries if interrupted.
 fn read_once<S: Read>(stream: &mut S, into: &mut [u8]) -> io::Result<usize>
     ensures { IfOk result (λ n. n ≤ length into.new) }
 {

@@ -1,4 +1,4 @@
-//! A volume that is read back over a peer.
+//! Reading a volume back over a peer.
 ghost use Rattle.std.specs.Prelude.{◌≡◌, ◌≤◌, IfSome, IfErr, length, nat_eq, position};
 ghost use Rattle.rmt_wire.specs.Lent.{plain_request};
 ghost use Rattle.rmt_wire.specs.declared.limits.TheConstants.{NUMBER_LIMIT, RECORD_LIMIT};
@@ -25,27 +25,29 @@ use rmt_wire::{Counted, NUMBER_LIMIT, RECORD_LIMIT, Request, print_text};
 use std::alloc::Global;
 use std::io::Write;
 
-/// The status of a volume that was read whole.
+/// The exit status if the volume was read whole.
 const WHOLE: u8 = 0;
 
-/// The status of a volume that was not.
+/// The exit status if it was not.
 const FAILED: u8 = 3;
 
-/// What becomes of a reel, once its volume was read whole.
+/// What to do with a reel once its volume was read whole.
 #[derive(Clone, Copy, Debug, PartialEq, Eq)]
 pub enum AfterVolume {
-    /// The reel stays. Whether a mark ends the volume is not found out.
+    /// Leave the reel in the drive. Do not check whether a mark ends the volume.
     Stay,
-    /// The reel stays. It is found out whether a mark ends the volume, where a label was read.
+    /// Leave the reel in the drive. If a label was read, check whether a mark ends the volume.
     Check,
-    /// The same, and where a mark ends the volume the reel goes to the bin (`MTOFFL`). One without a label stays.
+    /// Check, and if a mark ends the volume, move the reel to the bin (`MTOFFL`). A reel without a
+    /// label stays.
     Offline,
 }
 
-/// Reads the volume that begins a reel, as `copy_volume` does with `AfterVolume::Stay`, and returns the exit status: 0 if it
-/// was read whole, and 3 if not. The reel stays in the drive.
+/// Reads the first volume of a reel, as `copy_volume` does with `AfterVolume::Stay`. The reel stays
+/// in the drive.
 ///
-/// The device is one line of at most `LINE_LIMIT` bytes.
+/// Returns the exit status: 0 if the volume was read whole, else 3. The device is one line of at
+/// most `LINE_LIMIT` bytes.
 pub fn read_volume<P: Peer, F: Write, W: Write>(
     alloc: Global,
     peer: &mut P,
@@ -63,22 +65,32 @@ pub fn read_volume<P: Peer, F: Write, W: Write>(
     }
 }
 
-/// Reads the volume that begins a reel, over a connection of its own: prints the label, up to its first zero byte, and
-/// writes the records after it, up to the first mark, to a file.
+/// Reads the first volume of a reel over a connection of its own. It prints the label to `out`, up
+/// to its first zero byte. It writes the records after the label to `file`, up to the first mark or
+/// the end of the reel.
 ///
-/// It opens the device for reading, rewinds, reads record after record, and closes the device. After a reply that is an
-/// error, after one that is none, and after a write that failed, it does nothing more.
+/// It opens the device for reading, rewinds, reads record after record, and closes the device.
+/// After an error reply to one of these or to MTOFFL it sends nothing more. The same holds after
+/// bytes that are no reply, and after a write that failed.
 ///
-/// A read gives nothing at a mark, and at the end of a reel too. With `AfterVolume::Check` and `Offline` it finds out which it was,
-/// after the last record: it goes back over a record (MTBSR). Where that is done there is no mark, and the result is `NoMark`. Where it
-/// is refused with EIO it rewinds, goes forward over as many records as were read (MTFSR), and over a mark (MTFSF). Any other refusal,
-/// or more than `NUMBER_LIMIT` records, give `Undetermined`. After either fault the device is closed, and the reel stays.
+/// A read returns nothing at a mark, and also at the end of a reel. With `AfterVolume::Check` and
+/// `Offline` the function finds out which it was, after the last record:
 ///
-/// With `Offline` it takes the reel away before the close, once a mark was found and all was written. A reel that begins with a mark, or
-/// has nothing, has no label: it stays, nothing is printed or written, and the close follows. Where the connection ends before the
-/// reply to MTOFFL comes, the reel may be in the bin.
+/// - It spaces back over one record (MTBSR). If that is done, there is no mark, and the result is
+///   `NoMark`.
+/// - If that is refused with EIO, it rewinds, spaces forward over as many records as were read
+///   (MTFSR), and over a mark (MTFSF).
+/// - Any other refusal, or more than `NUMBER_LIMIT` records, gives `Undetermined`.
 ///
-/// The device is one line of at most `LINE_LIMIT` bytes. It takes memory for one record at a time.
+/// After `NoMark` or `Undetermined` it closes the device, and the reel stays.
+///
+/// With `Offline` it takes the reel offline before the close, once it found a mark and wrote
+/// everything. A reel that begins with a mark, or is empty, has no label: it stays, nothing is
+/// printed or written, and the close follows. If the connection ends before the reply to MTOFFL
+/// comes, the reel may be in the bin.
+///
+/// The device is one line of at most `LINE_LIMIT` bytes. The function allocates for one record at a
+/// time. `ReadFault` lists the errors.
 pub fn copy_volume<P: Peer, F: Write, W: Write>(
     alloc: Global,
     peer: &mut P,
@@ -102,7 +114,7 @@ pub fn copy_volume<P: Peer, F: Write, W: Write>(
     result
 }
 
-/// Makes all calls over the connection that there is.
+/// Makes all calls over the open connection.
 fn go_through<P: Peer, F: Write, W: Write>(
     caller: &mut PeerCaller,
     peer: &mut P,
@@ -120,7 +132,7 @@ fn go_through<P: Peer, F: Write, W: Write>(
     conclude(caller, peer, goes_of(after, records), records)
 }
 
-/// Opens the device, and rewinds it.
+/// Opens the device and rewinds it.
 fn begin<P: Peer>(caller: &mut PeerCaller, peer: &mut P, device: &[u8]) -> Result<(), ReadFault>
     requires { IsLine device.now }
     ensures { (after : AfterVolume) → IsBegun P.tells device.now after peer.old peer.new result }
@@ -137,7 +149,8 @@ fn begin<P: Peer>(caller: &mut PeerCaller, peer: &mut P, device: &[u8]) -> Resul
     ask(caller, peer, VolumeRequest::Rewind, &rewind)
 }
 
-/// What becomes of a reel of which so many records were read: one without a label stays, and no mark is looked for.
+/// Returns what to do with a reel of which this many records were read. If there were none, it
+/// stays and no mark is looked for.
 fn goes_of(after: AfterVolume, records: u64) -> AfterVolume
     ensures { result ≡ spec.goes_of after records }
 {
@@ -148,7 +161,8 @@ fn goes_of(after: AfterVolume, records: u64) -> AfterVolume
     }
 }
 
-/// Looks for the mark where the records ended, of which there are so many, takes the reel away where it is to go, and closes the device.
+/// Ends the read after `records` records: looks for the mark, takes the reel offline if it is to
+/// go, and closes the device.
 fn conclude<P: Peer>(
     caller: &mut PeerCaller,
     peer: &mut P,
@@ -164,7 +178,7 @@ fn conclude<P: Peer>(
     }
 }
 
-/// Takes the reel away, where it is to go, and closes the device.
+/// Takes the reel offline, if it is to go, and closes the device.
 fn conclude_at_mark<P: Peer>(
     caller: &mut PeerCaller,
     peer: &mut P,
@@ -176,7 +190,7 @@ fn conclude_at_mark<P: Peer>(
     ask(caller, peer, VolumeRequest::Close, &Request::Close)
 }
 
-/// Closes the device, where no mark is known to have stood. What that is answered changes nothing.
+/// Closes the device after no mark was found. It ignores the reply, and fails with `fault`.
 fn close_unmarked<P: Peer>(
     caller: &mut PeerCaller,
     peer: &mut P,
@@ -188,8 +202,10 @@ fn close_unmarked<P: Peer>(
     Err(fault)
 }
 
-/// Looks for the mark where the records ended, of which there are so many, unless the reel stays in any case. None where it stood, or
-/// was not looked for; else why it is not known to have stood.
+/// Looks for the mark after `records` records, unless the reel stays unchecked.
+///
+/// Returns None if the mark was found or not looked for, else why it was not found: `NoMark` or
+/// `Undetermined`. Fails if a request gets no valid reply.
 fn look<P: Peer>(
     caller: &mut PeerCaller,
     peer: &mut P,
@@ -204,7 +220,8 @@ fn look<P: Peer>(
     }
 }
 
-/// Goes back over a record. Only where the last read met the end of the reel a record stands right before the place.
+/// Spaces back over one record. This succeeds only if the last read met the end of the reel: then a
+/// record is right before this place.
 fn look_back<P: Peer>(
     caller: &mut PeerCaller,
     peer: &mut P,
@@ -225,7 +242,8 @@ fn look_back<P: Peer>(
     }
 }
 
-/// A mark stopped that, or the device failed: goes to the mark from the beginning, where one request can name as many records.
+/// Goes to the mark from the beginning, after spacing back was refused: a mark stopped it, or the
+/// device failed. If there are more records than one request can name, returns `Undetermined`.
 fn look_again<P: Peer>(
     caller: &mut PeerCaller,
     peer: &mut P,
@@ -246,7 +264,7 @@ fn look_again<P: Peer>(
     }
 }
 
-/// Goes over so many records from the beginning, and over the mark behind them.
+/// Spaces over this many records from the beginning, and then over the mark behind them.
 fn look_forward<P: Peer>(
     caller: &mut PeerCaller,
     peer: &mut P,
@@ -262,7 +280,8 @@ fn look_forward<P: Peer>(
     }
 }
 
-/// Goes over a mark, right behind the last record.
+/// Spaces over a mark right behind the last record. Returns None if that is done, and
+/// `Undetermined` if it is refused.
 fn look_over<P: Peer>(caller: &mut PeerCaller, peer: &mut P) -> Result<Option<ReadFault>, ReadFault>
     ensures { IsLookedBy spec.next_over P.tells peer.old peer.new result }
 {
@@ -273,7 +292,8 @@ fn look_over<P: Peer>(caller: &mut PeerCaller, peer: &mut P) -> Result<Option<Re
     }
 }
 
-/// Does an operation of mtio. None where it was done, and else the number of the error that it was refused with.
+/// Does an mtio operation. Returns None if it was done, else the number of the error that it was
+/// refused with.
 fn operate<P: Peer>(
     caller: &mut PeerCaller,
     peer: &mut P,
@@ -292,7 +312,7 @@ fn operate<P: Peer>(
     }
 }
 
-/// Takes the reel away, where it is to go.
+/// Takes the reel offline, if it is to go.
 fn take_away<P: Peer>(
     caller: &mut PeerCaller,
     peer: &mut P,
@@ -312,7 +332,7 @@ fn take_away<P: Peer>(
     }
 }
 
-/// Has something done that is answered by a number.
+/// Makes a request whose reply is a number. Fails if it is refused or gets no valid reply.
 fn ask<P: Peer>(
     caller: &mut PeerCaller,
     peer: &mut P,
@@ -330,7 +350,7 @@ fn ask<P: Peer>(
     }
 }
 
-/// Nothing where this is the answer to what was done, and else why it was not.
+/// Succeeds if this reply says that the request was done; else fails with the reason.
 fn done(answer: &KeptReply, asked: VolumeRequest) -> Result<(), ReadFault>
     ensures { IsDoneBy answer.now asked result }
 {
@@ -344,7 +364,7 @@ fn done(answer: &KeptReply, asked: VolumeRequest) -> Result<(), ReadFault>
     }
 }
 
-/// The next record; nothing at a mark, or at the end of the reel.
+/// Reads the next record. Returns nothing at a mark or at the end of the reel.
 fn next_record<P: Peer>(caller: &mut PeerCaller, peer: &mut P) -> Result<Vec<u8>, ReadFault>
     ensures { IsRecordNext P.tells (requests.PlainRequest.Read RECORD_LIMIT) peer.old peer.new result }
 {
@@ -362,7 +382,7 @@ fn next_record<P: Peer>(caller: &mut PeerCaller, peer: &mut P) -> Result<Vec<u8>
     }
 }
 
-/// A call that has no reply, as a fault of the volume.
+/// Converts the fault of a call to that of a volume.
 fn read_fault(fault: CallFault) -> ReadFault
     ensures { result ≡ spec.read_fault fault }
 {
@@ -373,8 +393,8 @@ fn read_fault(fault: CallFault) -> ReadFault
     }
 }
 
-/// Prints the label, and writes the records after it, up to where a read gives nothing. Answers how many records there are with the
-/// label, 0 where there is none.
+/// Prints the label, and writes the records after it until a read returns nothing. Returns the
+/// number of records, the label included; 0 if there is no label.
 fn copy_records<P: Peer, F: Write, W: Write>(
     caller: &mut PeerCaller,
     peer: &mut P,
@@ -392,7 +412,8 @@ fn copy_records<P: Peer, F: Write, W: Write>(
     write_records(caller, peer, file)
 }
 
-/// Writes record after record, up to where a read gives nothing. Answers how many records were read, the label with them.
+/// Writes record after record until a read returns nothing. Returns the number of records that were
+/// read, the label included.
 fn write_records<P: Peer, F: Write>(
     caller: &mut PeerCaller,
     peer: &mut P,
@@ -411,7 +432,7 @@ fn write_records<P: Peer, F: Write>(
     Err(ReadFault::Botched)
 }
 
-/// Writes some bytes whole.
+/// Writes all of these bytes. Fails with `OutputFailed` if it cannot.
 fn write_whole<W: Write>(out: &mut Counted<W>, bytes: &[u8]) -> Result<(), ReadFault>
     ensures written { IsPrinted W.contents bytes.now out.old out.new (is_whole result) }
     ensures fault { IfErr result (λ e. e ≡ faults.OutputFailed) }
@@ -423,7 +444,7 @@ fn write_whole<W: Write>(out: &mut Counted<W>, bytes: &[u8]) -> Result<(), ReadF
     }
 }
 
-/// The text of a label, up to its first zero byte.
+/// Returns the text of a label: the bytes before its first zero byte.
 fn label_text(label: &[u8]) -> &[u8]
     ensures { result.now ≡ spec.text_of label.now }
 {
@@ -433,7 +454,7 @@ fn label_text(label: &[u8]) -> &[u8]
     }
 }
 
-/// Where the first zero byte is.
+/// Returns the index of the first zero byte.
 fn first_zero(bytes: &[u8]) -> Option<usize>
     ensures within { IfSome result (λ n. n ≤ length bytes.now) }
     ensures found { result ≡ position (λ b. nat_eq b 0) bytes.now }

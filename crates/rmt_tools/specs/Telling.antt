@@ -1,4 +1,4 @@
--- A peer in memory, and the log that it keeps of what passed. Public contracts cite it.
+-- A peer in memory, and its log of what passed. Public contracts cite it.
 use Rattle.std.specs.Prelude.{◌≡◌, ℕ, ◌-◌, ◌^◌, min, Bool, true, false, List, [], ◌++◌, replicate, None}
 use Rattle.tape.specs.Trouble.{TroubledTape}
 use Rattle.drives.specs.declared.table.DriveTable.{DriveTable}
@@ -12,26 +12,29 @@ use Rattle.rmt_server.specs.State.{state}
 use Rattle.rdump_net.specs.declared.peer.Passed.{Passed}
 use Rattle.rdump_net.specs.declared.peer.Passed.TheVariants.{Ended}
 
--- what passed, and how many ends stand after that
+-- what passed, and how many ends follow it
 pub record KeptLog : Type 0 where
   pub passed : List Passed
   pub ends : ℕ
 
+-- makes a `KeptLog`
 abbrev pub kept_log : List Passed → ℕ → KeptLog
 kept_log passed ends = record { passed = passed; ends = ends }
 
--- this passed: the ends are counted up to the greatest u64
+-- the log contains this; the ends after what passed are counted up to the greatest u64
 abbrev pub IsLogOf : KeptLog → List Passed → Type 0
 IsLogOf kept log = (n : ℕ) × (log ≡ kept.passed ++ replicate n Ended) × (kept.ends ≡ min n (2 ^ 64 - 1))
 
--- this passed, or nothing
+-- these events if true, else none
 abbrev pub where_so : Bool → List Passed → List Passed
 where_so true passed = passed
 where_so false passed = []
 
+-- the drives of a peer in memory
 abbrev pub Drives : Type 0
 Drives = DriveTable Holders ListLibrary View TroubledTape
 
+-- the state of a session at these drives
 abbrev pub Seated : Type 0
 Seated = SessionState View TroubledTape
 
@@ -45,18 +48,18 @@ pub record MemoryPeerHeld : Type 0 where
 abbrev pub IsMadeWith : Drives → Drives → Seated → Type 0
 IsMadeWith given drives session = (drives.stacks ≡ given.stacks) × (drives.holds.numbers ≡ given.holds.numbers) × (session.opened ≡ None)
 
--- the same of a peer
+-- the same for a peer
 abbrev pub IsMadeOf : Drives → MemoryPeerHeld → Type 0
 IsMadeOf given p = IsMadeWith given p.drives p.session
 
--- the drives, once what is open was closed
+-- the drives after what was open is closed
 abbrev pub IsAfterEnd : Drives → Seated → Drives → Type 0
 IsAfterEnd drives session left = (after : MemoryState) × IsClosed in_memory (state drives session) after × (left ≡ after.drives)
 
--- what was open is closed: reels and holders are as after that
+-- what was open is closed: the reels and the holders are those after that
 abbrev pub IsCleared : Drives → Seated → Drives → Type 0
 IsCleared old was drives = (left : Drives) × IsAfterEnd old was left × (drives.stacks ≡ left.stacks) × (drives.holds.numbers ≡ left.holds.numbers)
 
--- the same of a peer
+-- the same for a peer
 abbrev pub IsTakenApart : MemoryPeerHeld → Drives → Type 0
 IsTakenApart p left = IsAfterEnd p.drives p.session left

@@ -1,5 +1,5 @@
-//! Most of what the programs of this repository are made of, by one name: what the crates below make for `rmtd`, `rdump` and `rsim`.
-//! Beside it a peer in memory, which tests have in place of a connection.
+//! Most of the public items of the crates below, under one name: the parts of `rmtd`, `rdump` and
+//! `rsim`. It adds a peer in memory, which tests use in place of a connection.
 #![tactic(auto)]
 
 mod memory_peer;

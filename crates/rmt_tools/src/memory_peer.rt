@@ -1,4 +1,4 @@
-//! A peer in memory, which tells what passed.
+//! A peer in memory, which logs what passed.
 ghost use Rattle.std.specs.Prelude.{◌≡◌, ◌≤◌, ◌∷◌, [], None, IfSome, drop, length, min, take};
 ghost use Rattle.rmt_server.specs.Memory.{in_memory};
 ghost use Rattle.rmt_server.specs.Opening.{IsClosed};
@@ -17,14 +17,16 @@ use rdump_net::Peer;
 use std::alloc::Global;
 use std::marker::Model;
 
-/// A peer in memory: drives with their reels, and a session of its own for each connection. It tells what passed.
+/// A peer in memory: drives with their reels, and one session for each connection. It logs what
+/// passed.
 ///
-/// Each request that it is sent whole is carried out at once, and the replies wait until they are received. Where none
-/// waits, a receive finds the connection ended: nothing would come without a further request. Bytes that are no request
-/// end the session; the replies to what came before can still be received.
+/// It carries out each request as soon as it is whole, and keeps the replies until they are
+/// received. If there is no reply to receive, a receive reports the end of the connection: nothing
+/// would come without a further request. Bytes that are no request end the session; the replies to
+/// earlier requests can still be received.
 ///
-/// It keeps a log of what passed, and takes memory for it and for the replies. Where that is refused, the connection is
-/// found ended.
+/// It allocates for the log and for the replies. If an allocation fails, the connection is reported
+/// as ended.
 ///
 /// Contracts see the log, the drives and the session.
 #[derive(Drop)]
@@ -44,9 +46,10 @@ impl Model for MemoryPeer {
 }
 
 impl MemoryPeer {
-    /// A peer of these drives, with no connection. The stacks have no more drives than the holds.
+    /// Makes a peer with these drives, and no connection. `stacks` must have no more drives than
+    /// `holds`.
     ///
-    /// None where memory was refused, or no number is left for a session.
+    /// Returns None if an allocation fails, or if no number is left for a session.
     pub fn new(alloc: Global, drives: DriveTable<LocalHolds, ListStacks>) -> Option<MemoryPeer>
         requires { length drives.stacks.library.drives ≤ length drives.holds.numbers }
         ensures tells { IfSome result (λ p. IsLogOf p.log []) }
@@ -61,14 +64,14 @@ impl MemoryPeer {
         })
     }
 
-    /// The reels. Of one that a session has open the name alone is there.
+    /// Returns the reels. For a reel that a session has open, only its name is there.
     pub fn stacks(&self) -> &ListStacks
         ensures { result.now ≡ self.now.drives.stacks }
     {
         &self.far.drives.stacks
     }
 
-    /// The drives, once the session has ended. Another peer can be made of them.
+    /// Ends the session and returns the drives. Another peer can be made with them.
     pub fn into_drives(self) -> DriveTable<LocalHolds, ListStacks>
         ensures apart { IsTakenApart self result }
         ensures enough { length result.stacks.library.drives ≤ length result.holds.numbers }
@@ -77,7 +80,7 @@ impl MemoryPeer {
         far.into_drives()
     }
 
-    /// The caller finds the connection ended.
+    /// Closes the connection and logs that it ended.
     fn cut(&mut self)
         ensures told { Logs IsLogOf self.old.log self.new.log (Ended ∷ []) }
         ensures closed { IsClosed in_memory (state self.old.drives self.old.session) (state self.new.drives self.new.session) }
@@ -86,7 +89,8 @@ impl MemoryPeer {
         self.log.end();
     }
 
-    /// Makes a connection with a session of its own, in place of any that there is, and logs it.
+    /// Makes a connection with a session of its own, and logs it. An earlier connection is dropped.
+    /// Returns whether it could; if not, nothing is logged.
     fn open(&mut self) -> bool
         ensures told { Logs IsLogOf self.old.log self.new.log (where_so result (Connected ∷ [])) }
         ensures fresh { self.new.session.opened ≡ None }
@@ -102,7 +106,7 @@ impl MemoryPeer {
     }
 }
 
-/// Takes as many bytes from the front as there is room for, and answers how many.
+/// Moves bytes from the front of `bytes` to `into`, as many as fit. Returns how many.
 fn take_front(bytes: &mut Vec<u8>, into: &mut [u8]) -> usize
     ensures count { result ≡ min (length bytes.old.items) (length into.old) }
     ensures within { result ≤ length into.new }
@@ -123,8 +127,8 @@ impl Peer for MemoryPeer {
 
     ghost tells = { λ p. IsLogOf p.log };
 
-    /// It takes memory for a session and for the log, and answers false where that is refused, or no number is left for
-    /// a session. What was open is closed in each case.
+    /// Allocates for a session and for the log. Returns false if that fails, or if no number is
+    /// left for a session. In either case what was open is closed.
     fn connect(&mut self) -> bool
         ensures told { Logs IsLogOf self.old.log self.new.log (connected result) }
         ensures fresh { self.new.session.opened ≡ None }
@@ -137,8 +141,8 @@ impl Peer for MemoryPeer {
         false
     }
 
-    /// Answers false where there is no connection or it was ended by bytes that are no request, and where memory for the
-    /// log or for a reply is refused.
+    /// Returns false if there is no connection, or if earlier bytes that are no request ended it.
+    /// Returns false too if an allocation for the log or for a reply fails.
     fn send(&mut self, bytes: &[u8]) -> bool {
         if !self.is_open {
             self.cut();
@@ -156,7 +160,8 @@ impl Peer for MemoryPeer {
         true
     }
 
-    /// It gives what waits, and the end where nothing does, or where memory for the log is refused.
+    /// Returns the replies that are ready, as far as they fit. Reports the end of the connection if
+    /// there are none, or if an allocation for the log fails.
     fn receive(&mut self, into: &mut [u8]) -> usize {
         if into.is_empty() {
             return 0;
@@ -173,7 +178,8 @@ impl Peer for MemoryPeer {
         count
     }
 
-    /// It ends the session, so that what was open is closed, and drops the replies that wait.
+    /// Ends the session, so that what was open is closed, and drops the replies that were not
+    /// received.
     fn hang_up(&mut self)
         ensures log { self.new.log ≡ self.old.log }
         ensures closed { IsClosed in_memory (state self.old.drives self.old.session) (state self.new.drives self.new.session) }

@@ -1,3 +1,3 @@
--- In reading order: Drive (one word), Rmtd (all words).
+-- In reading order: Drive (one argument), Rmtd (all arguments).
 pub mod Drive
 pub mod Rmtd

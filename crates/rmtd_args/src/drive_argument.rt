@@ -1,4 +1,4 @@
-//! The words `DEVICE=DIR` of `rmtd`.
+//! The arguments `DEVICE=DIR` of `rmtd`.
 
 ghost use Rattle.std.specs.Prelude.{◌≡◌, ◌≢◌, ◌↔◌, map, option_map, IfOk, IsTrue, MatchOption, MatchResult};
 ghost use Rattle.std.specs.List.{list_any, All};
@@ -9,19 +9,19 @@ use crate::wrong::Wrong;
 use rmt_wire::argument::is_device;
 use std::alloc::{AllocError, Global};
 
-/// The most drives that the words may name.
+/// How many drives the arguments may name, at most.
 const DRIVES: usize = 64;
 
-/// A drive whose stack of reels is a folder.
+/// A drive with a stack of reels that is a folder.
 #[derive(Clone, Copy, Debug, PartialEq, Eq)]
 pub struct DriveArgument<'a> {
-    /// What clients name the drive by: 1 to 255 bytes of one line, none of them `=`.
+    /// The name by which clients open the drive: 1 to 255 bytes of one line, none of them `=`.
     pub device: &'a str,
-    /// Where the folder is. It is not empty.
+    /// The path of the folder. It is not empty.
     pub folder: &'a str,
 }
 
-/// The drives that these words say, in order.
+/// Returns the drives that these arguments give, in order. Fails if an allocation fails.
 pub(crate) fn drives_of<'a>(
     alloc: Global,
     arguments: &[&'a str],
@@ -35,7 +35,8 @@ pub(crate) fn drives_of<'a>(
     Ok(drives)
 }
 
-/// What stands before the first `=` of a word, and what stands after it: nothing where there is no `=`.
+/// Splits an argument at its first `=` into a device and a folder. Without a `=` the folder is
+/// empty.
 fn split<'a>(argument: &'a str) -> DriveArgument<'a>
     ensures { plain_drive result ≡ split_of argument.entry.now }
 {
@@ -46,7 +47,8 @@ fn split<'a>(argument: &'a str) -> DriveArgument<'a>
     DriveArgument { device, folder }
 }
 
-/// Whether a word names a drive and a folder.
+/// Whether an argument names a drive and a folder: a device of 1 to 255 bytes of one line, and a
+/// folder that is not empty.
 fn is_drive(argument: &str) -> bool
     ensures { IsTrue result ↔ IsDrive (split_of argument.now) }
 {
@@ -54,8 +56,9 @@ fn is_drive(argument: &str) -> bool
     is_device(drive.device.as_bytes()) && !drive.folder.is_empty()
 }
 
-/// What is wrong with these words, if anything is: that a bin is wanted, then that there are too many, then the first that names no drive,
-/// then the first that names a drive again.
+/// Checks these arguments against the rules for drives. Fails with the first of these that applies:
+/// drives without a bin; more than 64 drives; the first argument that names no drive; the first
+/// whose device an earlier one names.
 pub(crate) fn check_drives<'a>(arguments: &[&'a str], bin: Option<&str>) -> Result<(), Wrong<'a>>
     ensures { MatchResult result
         (λ _. KeepsDriveRules (option_map (λ s. s.now) bin.entry) (drives_said arguments.now))
@@ -78,7 +81,7 @@ pub(crate) fn check_drives<'a>(arguments: &[&'a str], bin: Option<&str>) -> Resu
     }
 }
 
-/// The first of the words that names no drive.
+/// Returns the first of the arguments that names no drive.
 fn not_drive<'a>(arguments: &[&'a str]) -> Option<&'a str>
     ensures { MatchOption result (All IsDrive (drives_said arguments.now)) (λ _. ¬ (All IsDrive (drives_said arguments.now))) }
 {
@@ -90,7 +93,7 @@ fn not_drive<'a>(arguments: &[&'a str]) -> Option<&'a str>
     None
 }
 
-/// The first of the words whose device one before it has.
+/// Returns the first of the arguments whose device an earlier one names.
 fn named_again<'a>(arguments: &[&'a str]) -> Option<&'a str>
     ensures { MatchOption result (HaveOwnDevices (drives_said arguments.now)) (λ _. ¬ (HaveOwnDevices (drives_said arguments.now))) }
 {
@@ -102,7 +105,7 @@ fn named_again<'a>(arguments: &[&'a str]) -> Option<&'a str>
     None
 }
 
-/// Whether one of the words names this device.
+/// Whether one of the arguments names this device.
 fn any_names(arguments: &[&str], device: &str) -> bool
     ensures { result ≡ list_any (λ w. bytes_eq (split_of w.now).device device.now) arguments.now }
 {

@@ -1,5 +1,5 @@
-//! The words of `rmtd`, read by clap: what they ask of it. `server_words` answers that or a fault; the program calls `server_line`,
-//! which answers clap's text for the user in place of the fault.
+//! The arguments of `rmtd`, parsed by clap. `server_words` returns them or a fault. The program
+//! calls `server_line`, which returns clap's text for the user in place of the fault.
 #![tactic(auto)]
 
 mod drive_argument;

@@ -1,4 +1,4 @@
-//! The words of `rmtd`.
+//! The arguments of `rmtd`.
 
 ghost use Rattle.std.specs.Prelude.{◌≡◌, map, codes, false, [], IfOk, IfErr, IsErrOf, MatchOption, MatchResult, option_map};
 ghost use Rattle.clap.specs.Arguments.{App, HasKind, app_of, first_of, found_of, kind_of, new_app, rows_of, rule_of, with_rule};
@@ -12,43 +12,50 @@ use clap::{Arg, ArgAction, ArgMatches, Command, Error};
 use rmt_wire::argument::number_of;
 use std::alloc::{AllocError, Global};
 
-/// How many bytes a reel takes where no word says it.
+/// The capacity of a reel if no argument gives it, in bytes.
 const USUAL_CAPACITY: u64 = 1_048_576;
 
-/// What the words ask of `rmtd`: to serve its standard input, or to listen at an address.
+/// The parsed arguments of `rmtd`: whether to serve its standard input or to listen at an address,
+/// and how.
 #[derive(Debug, Drop)]
 pub struct ServerLine<'a> {
     /// Whether to serve standard input and standard output.
     pub stdio: bool,
-    /// Where to listen: a host and a port.
+    /// The address to listen at: a host and a port. It is not checked here.
     pub listen: Option<&'a str>,
-    /// How many bytes a reel takes, counted as its file has them: the one in memory, and each in a folder.
+    /// The capacity of each reel in bytes, measured as the size of its file. It applies to the reel
+    /// in memory and to each in a folder.
     pub capacity: u64,
-    /// After how many connections to end.
+    /// The number of connections after which the server exits, if there is a limit.
     pub connections: Option<u64>,
-    /// The folder of the bin, which is given where there is a drive.
+    /// The folder of the bin. It is given if there is a drive.
     pub bin: Option<&'a str>,
-    /// The drives whose stacks are folders, in the order of their words: at most 64, with distinct devices. With none
-    /// there is one drive in memory.
+    /// The drives whose stacks are folders, in the order of their arguments: at most 64, each with
+    /// its own device. If there are none, the server has one drive in memory.
     pub drives: Vec<DriveArgument<'a>>,
 }
 
-/// Why there is no line.
+/// Why the arguments could not be parsed.
 #[derive(Clone, Copy, Debug, PartialEq, Eq)]
 pub enum LineFault {
-    /// The words are wrong, or ask for help or the version.
+    /// The arguments are wrong, or ask for help or the version.
     BadWords,
-    /// Memory was refused.
+    /// An allocation failed.
     OutOfMemory,
 }
 
-/// Reads the words of `rmtd`, of which the first is the name of the program itself:
-/// `--stdio` or `--listen ADDRESS`, with `[--capacity BYTES] [--connections N] [--bin DIR] [DEVICE=DIR]...`.
+/// Parses the arguments of `rmtd`; the first is the name of the program itself. They are `--stdio`
+/// or `--listen ADDRESS`, with `[--capacity BYTES] [--connections N] [--bin DIR] [DEVICE=DIR]...`.
 ///
-/// Just one of `--stdio` and `--listen` is given. A number is 0 to 9223372036854775807, in digits. Without
-/// `--capacity` it is 1048576 bytes. A word `DEVICE=DIR` is a drive: the device ends before the first `=` and is 1 to
-/// 255 bytes of one line, and the rest is a folder, not empty. There are at most 64, no two of one device, and
-/// `--bin` is given where there is one.
+/// Exactly one of `--stdio` and `--listen` is given. A number is 0 to 9223372036854775807, in
+/// digits. The default of `--capacity` is 1048576 bytes.
+///
+/// An argument `DEVICE=DIR` is a drive. The device ends before the first `=` and is 1 to 255 bytes
+/// of one line. The rest is a folder, not empty. There are at most 64 drives, each with its own
+/// device, and with a drive `--bin` is given.
+///
+/// Fails with `BadWords` if the arguments are wrong or ask for help or the version, and with
+/// `OutOfMemory` if an allocation fails.
 pub fn server_words<'a>(
     alloc: Global,
     arguments: &'a [&'a str],
@@ -62,9 +69,12 @@ pub fn server_words<'a>(
     }
 }
 
-/// The same, with clap's text for the user in place of the fault: what is wrong with the words, or the help or the
-/// version where they ask for it, and only then. Where memory was refused its kind is `OutOfMemory`. Where clap refuses the
-/// words it is of a kind with which clap does.
+/// Parses the arguments as `server_words` does, but fails with clap's error. The error's text is
+/// for the user: it says what is wrong with the arguments. It is the help or the version only if
+/// the arguments ask for that.
+///
+/// The error's kind is `OutOfMemory` if an allocation failed. If clap refuses the arguments, the
+/// kind is one with which clap refuses them.
 pub fn server_line<'a>(alloc: Global, arguments: &'a [&'a str]) -> Result<ServerLine<'a>, Error>
     ensures line { IfOk result (IsLineOf (map (λ s. s.now) arguments.entry.now)) }
     ensures refused { IfErr result (λ e. ¬ (kind_of e ≡ ErrorKind.OutOfMemory) → AreBadArguments (map (λ s. s.now) arguments.entry.now)) }
@@ -78,7 +88,7 @@ pub fn server_line<'a>(alloc: Global, arguments: &'a [&'a str]) -> Result<Server
     }
 }
 
-/// The line that the words say to the command, or what a user is told of them.
+/// Returns the line that the arguments give to this command. Fails with clap's error for the user.
 fn line_by<'a>(
     alloc: Global,
     rmtd: &mut Command<'a>,
@@ -95,7 +105,7 @@ fn line_by<'a>(
     line_or_refusal(alloc, rmtd, &matches)
 }
 
-/// The line that clap's matches say, or what a user is told of the rule that they break.
+/// Returns the line in clap's matches. If they break a rule, fails with the error for the user.
 fn line_or_refusal<'a>(
     alloc: Global,
     rmtd: &mut Command<'a>,
@@ -111,7 +121,7 @@ fn line_or_refusal<'a>(
     }
 }
 
-/// What clap makes of the words.
+/// Has clap match the arguments. Fails with clap's error.
 fn matched<'a>(rmtd: &mut Command<'a>, arguments: &'a [&'a str]) -> Result<ArgMatches<'a>, Error>
     requires { app_of rmtd.old ≡ app }
     ensures rows { IfOk result (λ m. rows_of (found_of m) ≡ matches_in (map (λ s. s.now) arguments.entry.now)) }
@@ -123,7 +133,8 @@ fn matched<'a>(rmtd: &mut Command<'a>, arguments: &'a [&'a str]) -> Result<ArgMa
     rmtd.try_get_matches_from_mut(arguments)
 }
 
-/// What a user is told of words that clap takes and that break a rule.
+/// Returns the error for the user if clap accepts the arguments but they break a rule. Fails if an
+/// allocation fails.
 fn refusal(alloc: Global, rmtd: &mut Command<'_>, wrong: Wrong<'_>) -> Result<Error, AllocError>
     ensures { IfOk result (λ e. ¬ (IsShown (kind_of e))) }
 {
@@ -131,7 +142,7 @@ fn refusal(alloc: Global, rmtd: &mut Command<'_>, wrong: Wrong<'_>) -> Result<Er
     rmtd.error(wrong.kind(), text.as_str())
 }
 
-/// What an error is to a caller that wants no text.
+/// Converts clap's error for a caller that needs no text.
 fn fault_from(error: &Error) -> LineFault
     ensures { result ≡ LineFault.BadWords → ¬ (kind_of error.now ≡ ErrorKind.OutOfMemory) }
 {
@@ -141,7 +152,7 @@ fn fault_from(error: &Error) -> LineFault
     }
 }
 
-/// The line that clap's matches say, or the rule that they break.
+/// Returns the line in clap's matches, or the rule that they break. Fails if an allocation fails.
 fn line_of<'a>(
     alloc: Global,
     matches: &ArgMatches<'a>,
@@ -154,7 +165,8 @@ fn line_of<'a>(
     Ok(line_in(matches, given.as_slice(), drives))
 }
 
-/// The line that clap's matches say, of which these words are no options and say these drives.
+/// Returns the line in clap's matches, or the rule that they break. `given` are the arguments that
+/// are not options, and `drives` are the drives that these give.
 fn line_in<'a>(
     matches: &ArgMatches<'a>,
     given: &[&'a str],
@@ -199,14 +211,14 @@ fn stdio_of(matches: &ArgMatches<'_>) -> bool
     }
 }
 
-/// The value of an option.
+/// Returns the value of an option, if it is given.
 fn text_of<'a>(matches: &ArgMatches<'a>, id: &str) -> Option<&'a str>
     ensures { option_map (λ s. s.now) result ≡ first_of id.now (rows_of (found_of matches.now)) }
 {
     matches.get_str(id)
 }
 
-/// The words that are no options, in order.
+/// Returns the arguments that are not options, in order.
 fn drive_arguments<'a>(alloc: Global, matches: &ArgMatches<'a>) -> Result<Vec<&'a str>, AllocError>
     ensures { IfOk result (λ v. map (λ s. s.now) v.items ≡ arguments_in (rows_of (found_of matches.now))) }
 {
@@ -216,7 +228,8 @@ fn drive_arguments<'a>(alloc: Global, matches: &ArgMatches<'a>) -> Result<Vec<&'
     }
 }
 
-/// The capacity that a text says, if one is given.
+/// Returns the capacity that this text gives, the default if there is no text, or None if it is not
+/// a number.
 fn capacity_of(text: Option<&str>) -> Option<u64>
     ensures { MatchOption result (¬ (IsNumberIfGiven (option_map (λ s. s.now) text.entry)))
         (ReadsCapacity (option_map (λ s. s.now) text.entry)) }
@@ -227,7 +240,8 @@ fn capacity_of(text: Option<&str>) -> Option<u64>
     }
 }
 
-/// The number of connections that a text says, if one is given.
+/// Returns the number of connections that this text gives, if there is a text. Fails if it is not a
+/// number.
 fn connections_of(text: Option<&str>) -> Result<Option<u64>, Wrong<'static>>
     ensures { MatchResult result (ReadsConnections (option_map (λ s. s.now) text.entry))
         (λ _. ¬ (IsNumberIfGiven (option_map (λ s. s.now) text.entry))) }
@@ -241,7 +255,7 @@ fn connections_of(text: Option<&str>) -> Result<Option<u64>, Wrong<'static>>
     }
 }
 
-/// The command `rmtd` with all of its words.
+/// Builds the command `rmtd` with all of its arguments.
 fn command<'a>(alloc: Global) -> Result<Command<'a>, AllocError>
     ensures { IfOk result (λ c. app_of c ≡ app) }
 {
@@ -252,7 +266,7 @@ fn command<'a>(alloc: Global) -> Result<Command<'a>, AllocError>
     }
 }
 
-/// The command `rmtd` with the words that say where it serves, and how much.
+/// Builds the command `rmtd` with the arguments that say where it serves, and how much.
 fn with_limits<'a>(alloc: Global) -> Result<Command<'a>, AllocError>
     ensures { IfOk result (λ c. app_of c ≡ app_with_limits) }
 {
@@ -262,7 +276,7 @@ fn with_limits<'a>(alloc: Global) -> Result<Command<'a>, AllocError>
     with_option(alloc, command, "connections", "N", connections)
 }
 
-/// The command `rmtd` with the words that say where it serves.
+/// Builds the command `rmtd` with the arguments that say where it serves.
 fn with_ways<'a>(alloc: Global) -> Result<Command<'a>, AllocError>
     ensures { IfOk result (λ c. app_of c ≡ app_with_ways) }
 {
@@ -271,7 +285,8 @@ fn with_ways<'a>(alloc: Global) -> Result<Command<'a>, AllocError>
     with_option(alloc, named(alloc).arg(stdio), "listen", "ADDRESS", help)
 }
 
-/// A command with one more word that has a value.
+/// Adds an option with a value to a command. Fails if the command could not be built, or if an
+/// allocation fails.
 fn with_option<'a>(
     alloc: Global,
     command: Result<Command<'a>, AllocError>,
@@ -288,7 +303,7 @@ fn with_option<'a>(
     }
 }
 
-/// The command `rmtd` without its words.
+/// Builds the command `rmtd` without its arguments.
 fn named<'a>(alloc: Global) -> Command<'a>
     ensures { app_of result ≡ with_version (new_app (codes "rmtd")) }
 {
@@ -297,7 +312,7 @@ fn named<'a>(alloc: Global) -> Command<'a>
         .version("0.1.0")
 }
 
-/// `--NAME`.
+/// Builds the option `--NAME`.
 fn flag<'a>(alloc: Global, name: &'a str, help: &'a str) -> Arg<'a>
     ensures rule { rule_of result ≡ flag_rule name.entry.now }
     ensures local { result.global ≡ false }
@@ -308,7 +323,7 @@ fn flag<'a>(alloc: Global, name: &'a str, help: &'a str) -> Arg<'a>
         .help(help)
 }
 
-/// `--NAME VALUE`.
+/// Builds the option `--NAME VALUE`.
 fn valued<'a>(alloc: Global, name: &'a str, value: &'a str, help: &'a str) -> Arg<'a>
     ensures rule { rule_of result ≡ option_rule name.entry.now }
     ensures local { result.global ≡ false }
@@ -320,7 +335,7 @@ fn valued<'a>(alloc: Global, name: &'a str, value: &'a str, help: &'a str) -> Ar
         .help(help)
 }
 
-/// The words that are no options, as often as one is given.
+/// Builds the arguments that are not options; there may be any number.
 fn drives<'a>(alloc: Global) -> Arg<'a>
     ensures rule { rule_of result ≡ arguments_rule (codes "drive") }
     ensures local { result.global ≡ false }

@@ -1,31 +1,31 @@
-//! What is wrong with words that clap takes.
+//! Faults in arguments that clap accepts.
 
 ghost use Rattle.rmtd_args.specs.Rmtd.{IsShown};
 
 use clap::error::ErrorKind;
 use std::fmt;
 
-/// Which rule the words of `rmtd` break. Its `Display` is the text for the user.
+/// The rule that the arguments of `rmtd` break. Its `Display` is the text for the user.
 #[derive(Clone, Copy)]
 pub(crate) enum Wrong<'a> {
     /// Neither or both of `--stdio` and `--listen` are given.
     Ways,
-    /// The capacity is no number.
+    /// The capacity is not a number.
     Capacity,
-    /// The connections are no number.
+    /// The number of connections is not a number.
     Connections,
-    /// This word names a drive, and no bin is given.
+    /// This argument names a drive, and no bin is given.
     NoBin(&'a str),
-    /// This word names one drive too many.
+    /// This argument names one drive too many.
     TooMany(&'a str),
-    /// This word names no drive.
+    /// This argument names no drive.
     Drive(&'a str),
-    /// This word names a drive again.
+    /// This argument names a drive that an earlier one names.
     Again(&'a str),
 }
 
 impl Wrong<'_> {
-    /// The kind of clap's error.
+    /// Returns the kind of clap's error.
     pub(crate) fn kind(self) -> ErrorKind
         ensures { ¬ (IsShown result) }
     {
@@ -37,7 +37,7 @@ impl Wrong<'_> {
         }
     }
 
-    /// What is said before the word at fault, that word, and what is said after it.
+    /// Returns the text before the argument at fault, that argument, and the text after it.
     fn parts(&self) -> (&str, &str, &str) {
         match self {
             Wrong::Ways => (

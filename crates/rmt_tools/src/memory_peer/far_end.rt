@@ -16,7 +16,7 @@ type Drives = DriveTable<LocalHolds, ListStacks>;
 
 type Server = Session<LocalHolds, ListStacks>;
 
-/// Drives with a session, and the reader of its requests.
+/// The drives with one session, and the reader of its requests.
 #[derive(Drop)]
 pub(super) struct FarEnd {
     alloc: Global,
@@ -27,7 +27,8 @@ pub(super) struct FarEnd {
 }
 
 impl FarEnd {
-    /// A session with nothing open at these drives. None where memory was refused, or no number is left for a session.
+    /// Starts a session with nothing open at these drives. Returns None if an allocation fails, or
+    /// if no number is left for a session.
     pub(super) fn new(alloc: Global, mut drives: Drives) -> Option<FarEnd>
         requires { length drives.stacks.library.drives ≤ length drives.holds.numbers }
         ensures { IfSome result (λ far. IsMadeWith drives far.drives far.session) }
@@ -43,7 +44,7 @@ impl FarEnd {
         })
     }
 
-    /// Ends the session, and makes another, with an empty reader. None as `new` has it.
+    /// Ends the session, and starts another one with an empty reader. Returns None as `new` does.
     pub(super) fn renew(&mut self) -> Option<()>
         ensures fresh { self.new.session.opened ≡ None }
         ensures cleared { IsCleared self.old.drives self.old.session self.new.drives }
@@ -56,10 +57,10 @@ impl FarEnd {
         Some(())
     }
 
-    /// Takes bytes in, has each request that is whole then carried out, and appends the replies to `back`. Bytes that
-    /// are no request end the session. Answers whether it goes on.
+    /// Takes bytes in, carries out each request that is whole, and appends the replies to `back`.
+    /// Bytes that are no request end the session. Returns whether the session is still open.
     ///
-    /// It fails where memory for a reply was refused.
+    /// Fails if an allocation for a reply fails, or if no reply can have the count of an operation.
     pub(super) fn serve(&mut self, bytes: &[u8], back: &mut Vec<u8>) -> Result<bool, AllocError> {
         let goes_on = take_in(
             bytes,
@@ -74,14 +75,14 @@ impl FarEnd {
         Ok(goes_on)
     }
 
-    /// Ends the session: what is open is closed.
+    /// Ends the session; what is open is closed.
     pub(super) fn end(&mut self)
         ensures { IsClosed in_memory (state self.old.drives self.old.session) (state self.new.drives self.new.session) }
     {
         self.session.end(&mut self.drives);
     }
 
-    /// The drives, once the session has ended.
+    /// Ends the session and returns the drives.
     pub(super) fn into_drives(mut self) -> Drives
         ensures apart { IsAfterEnd self.drives self.session result }
         ensures enough { length result.stacks.library.drives ≤ length result.holds.numbers }
@@ -92,8 +93,8 @@ impl FarEnd {
     }
 }
 
-/// Takes bytes in, and has each request that is whole then carried out. Answers whether more can come: none can where the
-/// bytes are no request.
+/// Takes bytes in, and carries out each request that is whole. Returns false if the bytes are no
+/// request, so that no more can follow.
 fn take_in(
     bytes: &[u8],
     wire: &mut RequestReader,
@@ -115,7 +116,8 @@ fn take_in(
     Ok(true)
 }
 
-/// Has each whole request that the reader holds carried out. Answers whether more can come.
+/// Carries out each whole request that the reader holds. Returns false if the bytes are no request,
+/// so that no more can follow.
 fn carry_all(
     wire: &mut RequestReader,
     session: &mut Server,
@@ -134,7 +136,8 @@ fn carry_all(
     }
 }
 
-/// Has a request carried out, and appends the reply.
+/// Carries out a request, and appends the reply. Fails if an allocation fails, or if no reply can
+/// have the request's count.
 fn carry(
     request: Request<'_>,
     session: &mut Server,
@@ -151,7 +154,7 @@ fn carry(
     push_reply(back, &reply)
 }
 
-/// Whether a reply can say the count of the request's operation.
+/// Whether a reply can have the count of the request's operation.
 fn is_sayable(request: &Request<'_>) -> bool
     ensures { IsTrue result → IsSayable (plain_request request.now) }
 {

@@ -1,4 +1,4 @@
-//! What passed between a caller and a peer in memory.
+//! The log of what passed between a caller and a peer in memory.
 ghost use Rattle.std.specs.Prelude.{◌≡◌, ◌∷◌, ◌++◌, [], IsTrue, map, replicate};
 ghost use Rattle.rdump_net.specs.Peer.{Logs};
 ghost use Rattle.rdump_net.specs.declared.peer.Passed.TheVariants.{Connected, Sent, Given, Ended};
@@ -8,10 +8,10 @@ use rdump_net::Passed;
 use std::alloc::Global;
 use std::marker::Model;
 
-/// What passed, in order, and how often the connection was found ended after that, up to the greatest `u64`.
+/// What passed, in order, and how many times `Ended` follows it, up to `u64::MAX`.
 ///
-/// An end takes no memory, so it can always be logged. All else can be while `ends` is below its greatest value, and memory
-/// is had.
+/// Logging an end allocates nothing, so it never fails. Logging anything else fails if an
+/// allocation fails, or once `ends` is `u64::MAX`.
 #[derive(Drop)]
 pub(super) struct Log {
     passed: Vec<Passed>,
@@ -27,7 +27,7 @@ impl Model for Log {
 }
 
 impl Log {
-    /// Nothing passed.
+    /// Makes an empty log.
     pub(super) fn new(alloc: Global) -> Log
         ensures { IsLogOf result [] }
     {
@@ -37,35 +37,36 @@ impl Log {
         }
     }
 
-    /// The connection was found ended.
+    /// Logs that the connection ended.
     pub(super) fn end(&mut self)
         ensures { Logs IsLogOf self.old self.new (Ended ∷ []) }
     {
         self.ends = self.ends.saturating_add(1);
     }
 
-    /// A connection was made. Answers whether that could be logged.
+    /// Logs that a connection was made. Returns whether it could.
     pub(super) fn connect(&mut self) -> bool
         ensures { Logs IsLogOf self.old self.new (where_so result (Connected ∷ [])) }
     {
         self.settle() && push_connected(&mut self.passed)
     }
 
-    /// These bytes were sent. Answers whether that could be logged.
+    /// Logs that these bytes were sent. Returns whether it could.
     pub(super) fn send(&mut self, bytes: &[u8]) -> bool
         ensures { Logs IsLogOf self.old self.new (where_so result (map Sent bytes.now)) }
     {
         self.settle() && push_sent(&mut self.passed, bytes)
     }
 
-    /// These bytes were given. Answers whether that could be logged.
+    /// Logs that these bytes came from the peer. Returns whether it could.
     pub(super) fn give(&mut self, bytes: &[u8]) -> bool
         ensures { Logs IsLogOf self.old self.new (where_so result (map Given bytes.now)) }
     {
         self.settle() && push_given(&mut self.passed, bytes)
     }
 
-    /// Puts the ends after what passed before them. Answers whether more can be logged.
+    /// Moves the counted ends into `passed`, so that more can be appended. Returns whether it
+    /// could.
     fn settle(&mut self) -> bool
         ensures same { Logs IsLogOf self.old self.new [] }
         ensures settled { IsTrue result → self.new.ends ≡ 0 }
@@ -78,7 +79,7 @@ impl Log {
     }
 }
 
-/// Appends so many ends. Answers whether memory was had.
+/// Appends this many ends. Returns false if the allocation fails.
 fn push_ends(passed: &mut Vec<Passed>, ends: u64) -> bool
     ensures { passed.new.items ≡ passed.old.items ++ where_so result (replicate ends Ended) }
 {
@@ -88,14 +89,14 @@ fn push_ends(passed: &mut Vec<Passed>, ends: u64) -> bool
     passed.resize(all, Passed::Ended).is_ok()
 }
 
-/// Appends that a connection was made. Answers whether memory was had.
+/// Appends that a connection was made. Returns false if the allocation fails.
 fn push_connected(passed: &mut Vec<Passed>) -> bool
     ensures { passed.new.items ≡ passed.old.items ++ where_so result (Connected ∷ []) }
 {
     passed.push(Passed::Connected).is_ok()
 }
 
-/// Appends that these bytes were sent. Answers whether memory was had.
+/// Appends that these bytes were sent. Returns false if the allocation fails.
 fn push_sent(passed: &mut Vec<Passed>, bytes: &[u8]) -> bool
     ensures { passed.new.items ≡ passed.old.items ++ where_so result (map Sent bytes.now) }
 {
@@ -108,7 +109,7 @@ fn push_sent(passed: &mut Vec<Passed>, bytes: &[u8]) -> bool
     true
 }
 
-/// Appends that these bytes were given. Answers whether memory was had.
+/// Appends that these bytes came from the peer. Returns false if the allocation fails.
 fn push_given(passed: &mut Vec<Passed>, bytes: &[u8]) -> bool
     ensures { passed.new.items ≡ passed.old.items ++ where_so result (map Given bytes.now) }
 {
