@@ -1,2 +1,2 @@
--- The exit statuses of rdump: Status.
+-- The exit statuses of `rdump`: Status.
 pub mod Status

@@ -1,10 +1,11 @@
-//! What an operator says, at a terminal that tells what may be said.
+//! Reads an operator's answers, and prints the possible ones on a terminal.
 use std::io::{self, Read, Write};
 
-/// What a terminal tells after each question.
+/// The text that the terminal shows after each question.
 const ANSWERS: &[u8] = b"(yes, or anything else to abandon)\n";
 
-/// What an operator says. Before each line is taken, a terminal tells what may be said, if there is one.
+/// The operator's input. Before each line is read, the possible answers are printed on the
+/// terminal, if there is one.
 #[derive(Drop)]
 pub(crate) struct Asking<I, T> {
     input: I,
@@ -13,7 +14,7 @@ pub(crate) struct Asking<I, T> {
 }
 
 impl<I: Read, T: Write> Asking<I, T> {
-    /// What this input says, of which nothing is taken.
+    /// Makes the reader of this input, of which nothing was read yet.
     pub(crate) fn new(input: I, terminal: Option<T>) -> Self {
         Asking {
             input,
@@ -22,7 +23,7 @@ impl<I: Read, T: Write> Asking<I, T> {
         }
     }
 
-    /// Tells what may be said, where a line begins.
+    /// Prints the possible answers if a line begins.
     fn report(&mut self) {
         if !self.is_at_line {
             return;

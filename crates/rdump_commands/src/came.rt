@@ -1,30 +1,31 @@
-//! Which blocks of a dump came.
+//! Keeps which blocks of a dump were read.
 use std::alloc::{AllocError, Global};
 
-/// Blocks that follow one another.
+/// A range of consecutive blocks.
 #[derive(Clone, Copy)]
 pub(crate) struct BlockRange {
-    /// The first of them, counted from 0.
+    /// The first block, counted from 0.
     pub first: u64,
-    /// The one after the last of them.
+    /// The block after the last one.
     pub end: u64,
 }
 
-/// The blocks that came, volume by volume.
+/// The blocks that were read, one range for each volume.
 #[derive(Drop)]
 pub(crate) struct CameBlocks {
     ranges: Vec<BlockRange>,
 }
 
 impl CameBlocks {
-    /// None.
+    /// Makes an empty list.
     pub(crate) fn new(alloc: Global) -> Self {
         CameBlocks {
             ranges: Vec::new(alloc),
         }
     }
 
-    /// Adds so many blocks from the first of a volume on. It takes 16 bytes a volume.
+    /// Adds `count` blocks, from block `first` of a volume on. Uses 16 bytes a volume. Fails if an
+    /// allocation fails.
     pub(crate) fn add(&mut self, first: u32, count: u64) -> Result<(), AllocError> {
         let first = u64::from(first);
         let end = first.saturating_add(count);
@@ -32,7 +33,7 @@ impl CameBlocks {
         Ok(())
     }
 
-    /// The volumes' blocks, in the order of the first ones.
+    /// Returns the ranges of all volumes, ordered by their first blocks.
     pub(crate) fn sorted(&mut self) -> &[BlockRange] {
         self.ranges.sort_unstable_by_key(|it| it.first);
         self.ranges.as_slice()

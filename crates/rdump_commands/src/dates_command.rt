@@ -9,11 +9,12 @@ use rmt_wire::Counted;
 use std::alloc::Global;
 use std::{fs, io};
 
-/// Asks the dumpdates file at this path, as `rdump dates` does: prints its text anew, or the base date of a dump of the name
-/// and level that are asked. Standard error tells where the file is none, and standard output has its first bad line then.
+/// Queries the dumpdates file at the path `file`, as `rdump dates` does. Prints its text again, or
+/// the base date of a dump of the name and level in `asked`. If it is not a dumpdates file,
+/// standard error says so, and its first bad line is printed on standard output.
 ///
-/// Answers the exit status: 0 where the answer was printed, and 1 where the file can't be read or is none, memory was refused,
-/// or a write failed.
+/// Returns the exit status: 0 if the answer was printed. Returns 1 if the file cannot be read or is
+/// not a dumpdates file, an allocation fails, or a write fails.
 pub fn run_dates<R: ClientSystem>(rt: &R, file: &str, asked: Option<(&str, u8)>) -> u8
     ensures { IsDatesStatus result }
 {
@@ -29,7 +30,7 @@ pub fn run_dates<R: ClientSystem>(rt: &R, file: &str, asked: Option<(&str, u8)>)
     ended(rt, out.failures(), status)
 }
 
-/// Whether these bytes have a line that is no entry.
+/// Whether these bytes have a line that is not an entry.
 fn is_bad(alloc: Global, bytes: &[u8]) -> bool {
     match Dates::read(alloc, bytes) {
         Err(DatesFault::BadLine(_) | DatesFault::BadDate(_)) => true,

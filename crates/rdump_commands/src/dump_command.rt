@@ -22,18 +22,21 @@ use std::fs::File;
 use std::io::{self, ErrorKind, Write};
 use tape::{Medium, MediumFailed, MemoryMedium};
 
-/// Dumps a payload, as `rdump dump` does, and enters the dump in the dumpdates file where the words ask for it. `terminal` is
-/// standard error, where that is a terminal: it shows the base date and the progress.
+/// Dumps a payload, as `rdump dump` does, and enters the dump in the dumpdates file if the
+/// arguments ask for that. `terminal` is standard error, if that is a terminal: it shows the base
+/// date and the progress.
 ///
-/// A payload that is a plain file or a block device is read block by block while it is dumped. Any other file, as a pipe, and a
-/// plain one that says that it has no bytes is read whole before that. What is at fault is found in this order: the payload, the dumpdates file, the clock,
-/// the limits of a run, and the checkpoint file.
+/// A payload that is a regular file or a block device is read block by block during the dump. Any
+/// other file, such as a pipe, and a regular file that reports no bytes, is read whole before the
+/// dump. Errors are found in this order: the payload, the dumpdates file, the clock, the limits of
+/// a run, and the checkpoint file.
 ///
-/// With a checkpoint file the dump goes on from it, where it is there, with the date and the base date that stand in it. It is held
-/// for as long as the dump lives, and removed where the dump is complete and entered, if it was to be, or abandoned.
+/// If a checkpoint file exists, the dump is resumed from it, with the date and the base date in it.
+/// The file is held during the whole dump. It is removed once the dump is complete and, if asked
+/// for, entered. It is also removed if the dump is abandoned.
 ///
-/// Answers the exit status: 0 where the dump is complete, all was printed, and the dump is entered if it was to be; 1 where it
-/// could not begin; and else 3.
+/// Returns the exit status: 0 if the dump is complete, everything was printed, and the dump is
+/// entered if asked for. Returns 1 if the dump could not begin, and 3 otherwise.
 pub fn run_dump<R: ClientSystem, T: Write + Copy + Drop>(
     rt: &R,
     line: &DumpLine<'_>,
@@ -47,7 +50,7 @@ pub fn run_dump<R: ClientSystem, T: Write + Copy + Drop>(
     }
 }
 
-/// Dumps a payload that is open, and answers the status.
+/// Dumps a payload that is open, and returns the exit status.
 fn dump_opened<R: ClientSystem, T: Write + Copy + Drop>(
     rt: &R,
     line: &DumpLine<'_>,
@@ -69,7 +72,7 @@ fn dump_opened<R: ClientSystem, T: Write + Copy + Drop>(
     }
 }
 
-/// Reads the dumpdates file, dumps the payload that lies on this medium, and answers the status.
+/// Reads the dumpdates file, dumps the payload on this medium, and returns the exit status.
 fn dump_medium<R: ClientSystem, M: Medium + Drop, T: Write + Copy + Drop>(
     rt: &R,
     line: &DumpLine<'_>,
@@ -90,7 +93,8 @@ fn dump_medium<R: ClientSystem, M: Medium + Drop, T: Write + Copy + Drop>(
     }
 }
 
-/// The date on which the dump builds, by the dumpdates file. Answers the status where that file is at fault, which is told.
+/// Returns the date on which the dump builds, from the dumpdates file. If that file is at fault,
+/// prints why and returns the exit status.
 fn since_of<R: ClientSystem>(rt: &R, line: &DumpLine<'_>, start: &mut DumpStart) -> Result<u64, u8>
     ensures { IfErr result (λ status. status ≡ 1) }
 {
@@ -105,8 +109,8 @@ fn since_of<R: ClientSystem>(rt: &R, line: &DumpLine<'_>, start: &mut DumpStart)
     }
 }
 
-/// The date on which the dump builds, by the dumpdates file, whose bytes are given. Answers the status where that file is at fault, or
-/// could not be replaced, which is told.
+/// Returns the date on which the dump builds, from the bytes `file` of the dumpdates file. If that
+/// file is at fault or could not be replaced, prints why and returns the exit status.
 fn since_in<R: ClientSystem>(
     rt: &R,
     line: &DumpLine<'_>,
@@ -122,14 +126,15 @@ fn since_in<R: ClientSystem>(
             None => Ok(since),
             Some(status) => Err(status),
         },
-        // That memory was refused is printed by then.
+        // The failed allocation is already printed.
         Err(DatesFault::OutOfMemory) => Err(FAILED),
         Err(_) => Err(say(rt, line.dumpdates, NO_DUMPDATES)),
     }
 }
 
-/// Notes what an update of the dumpdates file, whose bytes are given, is to replace, where the words ask for one. Answers the status where
-/// a file lies in its way that is not to be touched, which is told.
+/// If the arguments ask for an update of the dumpdates file, records what it is to replace. `file`
+/// is the bytes of the dumpdates file. If an allocation fails, or a file that must stay has the
+/// name of the new file, prints that and returns the exit status.
 fn look_at_update<R: ClientSystem>(
     rt: &R,
     line: &DumpLine<'_>,
@@ -148,7 +153,7 @@ fn look_at_update<R: ClientSystem>(
     refuse_stranger(rt, line.dumpdates, &dates)
 }
 
-/// Dumps a payload that builds on a dump of the date `since`, and answers the status.
+/// Dumps a payload that builds on a dump of the date `since`, and returns the exit status.
 fn dump_since<R: ClientSystem, M: Medium + Drop, T: Write + Copy + Drop>(
     rt: &R,
     line: &DumpLine<'_>,
@@ -166,7 +171,7 @@ fn dump_since<R: ClientSystem, M: Medium + Drop, T: Write + Copy + Drop>(
     }
 }
 
-/// Dumps a payload at this date, and answers the status.
+/// Dumps a payload with these dates, and returns the exit status.
 fn dump_at<R: ClientSystem, M: Medium + Drop, T: Write + Copy + Drop>(
     rt: &R,
     line: &DumpLine<'_>,
@@ -189,7 +194,7 @@ fn dump_at<R: ClientSystem, M: Medium + Drop, T: Write + Copy + Drop>(
     }
 }
 
-/// A line with this date.
+/// Returns the line with this date.
 pub(crate) fn dated<'a>(line: &DumpLine<'a>, date: u64) -> DumpLine<'a> {
     DumpLine {
         date: Some(date),
@@ -197,7 +202,8 @@ pub(crate) fn dated<'a>(line: &DumpLine<'a>, date: u64) -> DumpLine<'a> {
     }
 }
 
-/// Has a client dump that keeps no checkpoint, after what is told before the first attempt, and answers the status.
+/// Prints what is known before the first attempt, and has a client dump without a checkpoint.
+/// Returns the exit status.
 fn dump_alone<R: ClientSystem, B: Blocks, T: Write + Copy + Drop>(
     rt: &R,
     line: &DumpLine<'_>,
@@ -218,19 +224,23 @@ fn dump_alone<R: ClientSystem, B: Blocks, T: Write + Copy + Drop>(
     dumped.status
 }
 
-/// The dates of a dump, in seconds since 1970 began.
+/// The dates of a dump, in seconds since 1970.
 #[derive(Clone, Copy)]
 pub(crate) struct RunDates {
-    /// Its own.
+    /// The date of the dump.
     pub date: u64,
-    /// The base date, on which it builds.
+    /// The base date: the date of the dump that it builds on.
     pub since: u64,
 }
 
-/// Tells what is known before the first attempt: at a terminal the base date, that it is after the dump's own, that an entry of a later
-/// date is to be replaced, and where the dump could not be entered now, why.
+/// Prints what is known before the first attempt:
 ///
-/// It fails only where memory is refused.
+/// - the base date, if standard error is a terminal
+/// - that the base date is after the date of the dump
+/// - that an entry of a later date is to be replaced
+/// - why the dump could not be entered now
+///
+/// Fails only if an allocation fails.
 pub(crate) fn report_first<R: ClientSystem>(
     rt: &R,
     line: &DumpLine<'_>,
@@ -253,7 +263,8 @@ pub(crate) fn report_first<R: ClientSystem>(
     Ok(())
 }
 
-/// Tells that the dump is to replace an entry of this date, which is after its own. It fails only where memory is refused.
+/// Prints that the dump is to replace an entry of this date, which is later than its own. Fails
+/// only if an allocation fails.
 fn report_replaced<R: ClientSystem>(rt: &R, line: &DumpLine<'_>, replaced: u64) -> io::Result<()> {
     let date = text_of(rt, replaced)?;
     let (path, name, level) = (plain(line.dumpdates), plain(line.fs), line.level);
@@ -263,7 +274,7 @@ fn report_replaced<R: ClientSystem>(rt: &R, line: &DumpLine<'_>, replaced: u64) 
     Ok(())
 }
 
-/// Tells from which date on a block counts as new. It fails only where memory is refused.
+/// Prints the date after which a block counts as new. Fails only if an allocation fails.
 fn report_since<R: ClientSystem>(rt: &R, since: u64) -> io::Result<()> {
     if since == 0 {
         let _ = eprintln!(rt; "since the epoch: every block counts as new");
@@ -274,14 +285,15 @@ fn report_since<R: ClientSystem>(rt: &R, since: u64) -> io::Result<()> {
     Ok(())
 }
 
-/// Tells that the base date is after the date of the dump. It fails only where memory is refused.
+/// Prints that the base date is after the date of the dump. Fails only if an allocation fails.
 fn report_late<R: ClientSystem>(rt: &R, since: u64) -> io::Result<()> {
     let date = text_of(rt, since)?;
     let _ = eprintln!(rt; "rdump: the base date, {date}, is after the date of this dump");
     Ok(())
 }
 
-/// The text of a date. It fails only where memory is refused: each date of an entry has a text.
+/// Returns the text of a date. Fails only if an allocation fails, as each date of an entry has a
+/// text.
 fn text_of<R: ClientSystem>(rt: &R, date: u64) -> io::Result<String> {
     match date_text(rt.alloc(), date) {
         Some(text) => Ok(text),
@@ -289,7 +301,7 @@ fn text_of<R: ClientSystem>(rt: &R, date: u64) -> io::Result<String> {
     }
 }
 
-/// Tells why a dumpdates file can't be written, if it can't. It fails only where memory is refused.
+/// Prints why a dumpdates file cannot be written, if so. Fails only if an allocation fails.
 fn warn<R: ClientSystem>(rt: &R, dumpdates: &str) -> io::Result<()> {
     match ReplacedFile::new(rt, rt.alloc(), dumpdates).find_fault() {
         None => Ok(()),

@@ -1,4 +1,4 @@
-//! What is told of a dump beside its lines: what a restore needs, and what became of the payload.
+//! Prints what a restore needs, and whether the payload changed during the dump.
 
 use crate::ClientSystem;
 use crate::dump_start::DumpStart;
@@ -11,7 +11,7 @@ use rdump_files::{PayloadChange, PayloadLook, date_text};
 use std::io::{self, ErrorKind};
 use std::time::{SystemTime, UNIX_EPOCH};
 
-/// Tells of a dump that is complete what a restore needs, and whether its payload changed.
+/// Prints what a restore of a complete dump needs, and whether its payload changed.
 pub(crate) fn report_end<R: ClientSystem, B: Blocks>(
     rt: &R,
     line: &DumpLine<'_>,
@@ -29,7 +29,7 @@ pub(crate) fn report_end<R: ClientSystem, B: Blocks>(
     }
 }
 
-/// Tells what changed of a payload since its dump began, if anything did.
+/// Prints what changed in a payload since its dump began, if anything.
 fn report_change<R: Eprint>(rt: &R, path: &str, look: &PayloadLook) {
     let path = plain(path);
     let _ = match look.change() {
@@ -50,7 +50,8 @@ fn report_change<R: Eprint>(rt: &R, path: &str, look: &PayloadLook) {
     };
 }
 
-/// Tells that a payload was written to after the checkpoint at this path, if it was. It fails only where memory is refused.
+/// Prints that the payload was written to after the checkpoint at `path`, if so. `kept` is when the
+/// checkpoint was written. Fails only if an allocation fails.
 pub(crate) fn report_younger<R: ClientSystem>(
     rt: &R,
     line: &DumpLine<'_>,
@@ -67,7 +68,8 @@ pub(crate) fn report_younger<R: ClientSystem>(
     }
 }
 
-/// Tells when the payload at this path was written to, and when the checkpoint was. It fails only where memory is refused.
+/// Prints when the payload and the checkpoint at `path` were written to. Fails only if an
+/// allocation fails.
 fn report_times<R: ClientSystem>(
     rt: &R,
     payload: &str,
@@ -83,7 +85,8 @@ fn report_times<R: ClientSystem>(
     Ok(())
 }
 
-/// A time as text, in UTC; of one after the year 9999 the last second of that. It fails only where memory is refused.
+/// Returns a time as text, in UTC. A time before 1970 becomes the first second of 1970, and one
+/// after the year 9999 the last second of 9999. Fails only if an allocation fails.
 fn time_text<R: ClientSystem>(rt: &R, time: SystemTime) -> io::Result<String> {
     let seconds = time.duration_since(UNIX_EPOCH).map_or(0, |it| it.as_secs());
     match date_text(rt.alloc(), seconds.min(LAST_SECOND)) {

@@ -1,4 +1,4 @@
-//! What a dump is started with beside its words.
+//! The data that a dump starts with besides its arguments.
 ghost use Rattle.std.specs.Prelude.{◌≡◌, IfSome};
 
 use crate::ClientSystem;
@@ -12,25 +12,27 @@ use std::fs::{File, Metadata};
 use std::io;
 use std::os::unix::fs::FileTypeExt;
 
-/// What is known of a dump before its first attempt.
+/// The facts about a dump that are known before its first attempt.
 #[derive(Drop)]
 pub(crate) struct DumpStart {
-    /// Whether the payload has a length, and stays there to be read at any place.
+    /// Whether the payload has a length, and can be read at any offset during the dump.
     pub is_lasting: bool,
     /// How many bytes the payload has.
     pub bytes: u64,
-    /// The payload's file as it was when the dump began, where it is a plain one.
+    /// The payload's file when the dump began, if it is a regular file.
     pub look: Option<PayloadLook>,
-    /// The files of the dump that were looked at.
+    /// The files of the dump that were checked.
     pub files: DumpFiles,
-    /// The latest date of the entries that the dump is to replace, in seconds since 1970 began; 0 for none.
+    /// The latest date of the entries that the dump is to replace, in seconds since 1970. It is 0
+    /// without such entries.
     pub replaced: u64,
 }
 
 impl DumpStart {
     /// Opens the payload at this path.
     ///
-    /// It fails with the system's reason, where the payload was exchanged while it was opened, and where memory is refused.
+    /// Fails with the system's error, if the payload was exchanged while it was opened, or if an
+    /// allocation fails.
     pub(crate) fn open<R: ClientSystem>(rt: &R, path: &str) -> io::Result<(File, DumpStart)> {
         let (file, found) = open_payload(rt, path)?;
         let look = PayloadLook::new(&file, &found)?;
@@ -44,8 +46,8 @@ impl DumpStart {
         Ok((file, start))
     }
 
-    /// Notes which entries of the dumpdates file, whose bytes are given, the dump is to replace. Answers the status where memory is
-    /// refused, which is told.
+    /// Records the latest date of the entries that the dump is to replace. `file` is the bytes of
+    /// the dumpdates file. If an allocation fails, prints that and returns the exit status.
     pub(crate) fn note_replaced<R: ClientSystem>(
         &mut self,
         rt: &R,
@@ -64,13 +66,13 @@ impl DumpStart {
     }
 }
 
-/// Whether a file has a length, and stays there to be read at any place.
+/// Whether a file has a length, and can be read at any offset during the dump.
 fn is_lasting(found: &Metadata) -> bool {
     found.file_type().is_block_device() || (found.is_file() && found.len() > 0)
 }
 
-/// The latest date of the entries of this name and level in a dumpdates file, whose bytes are given, in seconds since 1970 began; 0 for
-/// none.
+/// Returns the latest date of the entries of this name and level, in seconds since 1970. Returns 0
+/// without such entries. `file` is the bytes of a dumpdates file.
 fn latest_date(alloc: Global, file: &[u8], name: &str, level: u64) -> Result<u64, DatesFault> {
     let dates = Dates::read(alloc, file)?;
     let mut latest = 0;
@@ -84,8 +86,9 @@ fn latest_date(alloc: Global, file: &[u8], name: &str, level: u64) -> Result<u64
     Ok(latest)
 }
 
-/// Tells why files were not added to those of a dump, and answers the status: one at this path is one of the others too, or the system does
-/// not tell. None where they were added.
+/// If files were not added to those of a dump, prints why and returns the exit status. Either the
+/// file at this path is also another one of the dump, or the system does not identify it. Returns
+/// none if they were added.
 pub(crate) fn refuse_files<R: ClientSystem>(
     rt: &R,
     line: &DumpLine<'_>,
@@ -101,7 +104,7 @@ pub(crate) fn refuse_files<R: ClientSystem>(
     }
 }
 
-/// Tells that the file at this path is another one of the dump too, and answers the status.
+/// Prints that the file at this path is also another one of the dump, and returns the exit status.
 fn refuse_one<R: ClientSystem>(rt: &R, line: &DumpLine<'_>, path: &str, one: OneFile) -> u8
     ensures { result ≡ 1 }
 {
@@ -120,7 +123,8 @@ fn refuse_one<R: ClientSystem>(rt: &R, line: &DumpLine<'_>, path: &str, one: One
     FAILED
 }
 
-/// Tells that a file lies where the new file of this one is to be made that no run left, and answers the status. None where there is none.
+/// If a file that no run left has the name of the new file, prints that and returns the exit
+/// status. Returns none otherwise.
 pub(crate) fn refuse_stranger<R: ClientSystem>(
     rt: &R,
     path: &str,

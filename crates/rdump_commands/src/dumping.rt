@@ -1,4 +1,4 @@
-//! A client that dumps to a server.
+//! Has a client dump to a server.
 ghost use Rattle.std.specs.Prelude.{◌≡◌, ◌⊎◌};
 ghost use Rattle.dump_client.specs.declared.stage.Stage.TheVariants.{Finished};
 ghost use Rattle.rdump_net.specs.declared.conclusion.Conclusion.TheVariants as ends;
@@ -19,15 +19,17 @@ use rdump_net::{Conclusion, Peer, dump, dump_kept};
 use rmt_wire::Counted;
 use std::io::{self, Read, Write};
 
-/// The status of a dump that is complete.
+/// The exit status of a complete dump.
 const COMPLETE: u8 = 0;
 
-/// Has a client dump to the server of the line, as `rdump dump` does, with its lines to standard output. `terminal` is standard
-/// error, where that is a terminal: its line of progress is cleared before each of them, and what may be said is told there
-/// after each question. Standard error tells why attempts failed. If the line asks for `protect`, its date is that of the dump.
+/// Has a client dump to the server of `line`, as `rdump dump` does, and prints its lines on
+/// standard output. `terminal` is standard error, if that is a terminal. The line of progress on it
+/// is cleared before each printed line, and the possible answers are shown there after each
+/// question. Standard error reports why attempts failed. If `line` asks for `protect`, it must have
+/// the date of the dump.
 ///
-/// Answers the exit status: 0 where the run is finished, all was printed, and it is entered in the dumpdates file if the line
-/// asks for that; and else 3.
+/// Returns the exit status: 0 if the run is finished, everything was printed, and the dump is
+/// entered if `line` asks for that. Returns 3 otherwise.
 pub fn run_client<R: ClientSystem, B: Blocks, T: Write + Copy + Drop>(
     rt: &R,
     line: &DumpLine<'_>,
@@ -44,7 +46,7 @@ pub fn run_client<R: ClientSystem, B: Blocks, T: Write + Copy + Drop>(
 pub(crate) struct Dumped {
     /// The exit status.
     pub status: u8,
-    /// Whether all that was to be printed was.
+    /// Whether everything was printed.
     pub is_printed: bool,
 }
 
@@ -71,7 +73,7 @@ pub(crate) fn run_printed<R: ClientSystem, B: Blocks, T: Write + Copy + Drop>(
     }
 }
 
-/// Has a client dump over a peer, with its lines to `out`, and answers the status.
+/// Has a client dump over a peer, with its lines on `out`, and returns the exit status.
 fn dump_over<R: ClientSystem, B: Blocks, P: Peer, I: Read, W: Write>(
     rt: &R,
     line: &DumpLine<'_>,
@@ -89,8 +91,8 @@ fn dump_over<R: ClientSystem, B: Blocks, P: Peer, I: Read, W: Write>(
     }
 }
 
-/// Has a client dump, enters the dump in a dumpdates file where it is complete, and answers the status. Why it was not entered is
-/// told.
+/// Has a client dump, enters a complete dump in a dumpdates file, and returns the exit status.
+/// Prints why the dump was not entered, if so.
 fn dump_entered<R: ClientSystem, B: Blocks, P: Peer, I: Read, W: Write>(
     rt: &R,
     dumpdates: &str,
@@ -109,12 +111,13 @@ fn dump_entered<R: ClientSystem, B: Blocks, P: Peer, I: Read, W: Write>(
     end.status
 }
 
-/// Has a client dump as `run_client` does, and keeps its checkpoint in this file, which is removed where the dump is complete, and
-/// entered if it was to be, and where it is abandoned. Where a checkpoint could not be written standard error tells why, and where
-/// the file can't be removed; and of a dump that is complete what a restore needs.
+/// Has a client dump as `run_client` does, and keeps its checkpoint in `file`. The file is removed
+/// once the dump is complete and, if `line` asks for that, entered. It is also removed if the dump
+/// is abandoned. Standard error reports why a checkpoint could not be written or removed. After a
+/// complete dump, it reports what a restore needs.
 ///
-/// Answers the exit status: 0 where the run is finished, all was printed, it is entered in the dumpdates file if the line asks
-/// for that, and the file is removed; and else 3.
+/// Returns the exit status. It is 0 if the run is finished, everything was printed, the dump is
+/// entered if `line` asks for that, and `file` is removed. It is 3 otherwise.
 pub(crate) fn run_kept<R: ClientSystem, B: Blocks, T: Write + Copy + Drop>(
     rt: &R,
     line: &DumpLine<'_>,
@@ -140,7 +143,8 @@ pub(crate) fn run_kept<R: ClientSystem, B: Blocks, T: Write + Copy + Drop>(
     ended(rt, failures, status)
 }
 
-/// Does what is left once a dump with a checkpoint ended so: enters it, and removes the file. Answers the status.
+/// Does what remains after a dump with a checkpoint. Enters a complete dump if `line` asks for
+/// that, and removes the checkpoint file of a complete or abandoned dump. Returns the exit status.
 fn end_kept<R: ClientSystem, B: Blocks, W: Write>(
     rt: &R,
     line: &DumpLine<'_>,
@@ -164,7 +168,8 @@ fn end_kept<R: ClientSystem, B: Blocks, W: Write>(
     }
 }
 
-/// Removes the checkpoint file of a line, and answers this status. Where it can't be removed, that is told, and the status is another.
+/// Removes the checkpoint file of `line`, and returns `status`. If that fails, prints why, and
+/// returns 3.
 fn remove<R: ClientSystem>(
     rt: &R,
     line: &DumpLine<'_>,
@@ -179,12 +184,13 @@ fn remove<R: ClientSystem>(
     }
 }
 
-/// Where the checkpoint of a line is kept.
+/// Returns the path of the checkpoint in `line`.
 fn checkpoint_of<'a>(line: &DumpLine<'a>) -> &'a str {
     line.checkpoint.unwrap_or("")
 }
 
-/// Tells that a checkpoint file could not be removed, by the system's reason, and answers the status.
+/// Prints that a checkpoint file could not be removed, with the system's error, and returns the
+/// exit status.
 fn report_left<R: Eprint>(rt: &R, path: &str, failure: Option<&io::Error>) -> u8
     ensures { result ≡ 3 }
 {
@@ -200,7 +206,8 @@ fn report_left<R: Eprint>(rt: &R, path: &str, failure: Option<&io::Error>) -> u8
     ABNORMAL
 }
 
-/// Tells why a checkpoint could not be kept, by the system's reason where the file failed, and answers the status.
+/// Prints why a checkpoint could not be kept, with the system's error if the file failed. Returns
+/// the exit status.
 fn report_unkept<R: Eprint>(rt: &R, line: &DumpLine<'_>, failure: Option<&io::Error>) -> u8
     ensures { result ≡ 3 }
 {
@@ -215,7 +222,8 @@ fn report_unkept<R: Eprint>(rt: &R, line: &DumpLine<'_>, failure: Option<&io::Er
     }
 }
 
-/// Enters the dump of a client that is finished in a dumpdates file, and answers the status. Why it was not entered is told.
+/// Enters the dump of a finished client in a dumpdates file, and returns the exit status. Prints
+/// why the dump was not entered, if so.
 fn enter<R: ClientSystem, B: Blocks, W: Write>(
     rt: &R,
     dumpdates: &str,
@@ -235,7 +243,8 @@ fn enter<R: ClientSystem, B: Blocks, W: Write>(
     }
 }
 
-/// Tells why a dump was not entered in a dumpdates file: by the system's reason where the file failed.
+/// Prints why a dump was not entered in a dumpdates file, with the system's error if the file
+/// failed.
 fn report_unentered<R: Eprint>(
     rt: &R,
     dumpdates: &str,

@@ -1,4 +1,4 @@
-//! Telling what is at fault. Where it can't be told, the status is the same.
+//! Prints errors. If an error cannot be printed, the status is the same.
 ghost use Rattle.std.specs.Prelude.{◌≡◌};
 
 use crate::ClientSystem;
@@ -8,16 +8,17 @@ use rdump_args::{DumpLine, dump_error};
 use std::alloc::{AllocError, Global};
 use std::io;
 
-/// The status where words are wrong, a file can't be read, or memory is refused.
+/// The exit status if the arguments are wrong, a file cannot be read, or an allocation fails.
 pub(crate) const FAILED: u8 = 1;
 
-/// The status of a volume that was not read whole, and of an operation that was not told of.
+/// The exit status if a dump, a read or an operation ended before it was done, or its result was
+/// not printed.
 pub(crate) const ABNORMAL: u8 = 3;
 
-/// What is told of a file that should be a dumpdates file.
+/// The message for a file that should be a dumpdates file.
 pub(crate) const NO_DUMPDATES: &str = "it is no dumpdates file";
 
-/// Tells on standard error what is at fault and why, and answers the status.
+/// Prints on standard error what failed and why, and returns the exit status.
 pub(crate) fn say<R: Eprint>(rt: &R, what: &str, why: &str) -> u8
     ensures { result ≡ 1 }
 {
@@ -26,7 +27,8 @@ pub(crate) fn say<R: Eprint>(rt: &R, what: &str, why: &str) -> u8
     FAILED
 }
 
-/// Tells of an error on standard error, or of refused memory on standard output, and answers the status.
+/// Prints an error on standard error, and returns the exit status. If an allocation failed, prints
+/// `out of memory` on standard output instead.
 pub(crate) fn report<R: Eprint + Print>(rt: &R, what: &str, error: io::Error) -> u8
     ensures { result ≡ 1 }
 {
@@ -39,14 +41,14 @@ pub(crate) fn report<R: Eprint + Print>(rt: &R, what: &str, error: io::Error) ->
     FAILED
 }
 
-/// Tells that memory was refused, and answers the status.
+/// Prints that an allocation failed, and returns the exit status.
 pub(crate) fn report_no_memory<R: Eprint + Print>(rt: &R) -> u8
     ensures { result ≡ 1 }
 {
     report(rt, "", io::ErrorKind::OutOfMemory.into())
 }
 
-/// Tells that standard output could not be written, and answers this status.
+/// Prints that standard output could not be written, and returns `status`.
 pub(crate) fn unwritten<R: Eprint>(rt: &R, status: u8) -> u8
     ensures { result ≡ status }
 {
@@ -54,7 +56,7 @@ pub(crate) fn unwritten<R: Eprint>(rt: &R, status: u8) -> u8
     status
 }
 
-/// Tells where standard output could not be written, and answers this status.
+/// Prints that standard output could not be written, if `failures` is not 0, and returns `status`.
 pub(crate) fn ended<R: Eprint>(rt: &R, failures: u64, status: u8) -> u8
     ensures { result ≡ status }
 {
@@ -64,7 +66,7 @@ pub(crate) fn ended<R: Eprint>(rt: &R, failures: u64, status: u8) -> u8
     status
 }
 
-/// Tells why a file or a connection failed, and answers this status.
+/// Prints why a file or a connection failed, and returns `status`.
 pub(crate) fn report_failed<R: Eprint>(rt: &R, what: &str, error: &io::Error, status: u8) -> u8
     ensures { result ≡ status }
 {
@@ -73,7 +75,8 @@ pub(crate) fn report_failed<R: Eprint>(rt: &R, what: &str, error: &io::Error, st
     status
 }
 
-/// Tells which limit of a run the words break, where the dump is of this date, and answers the status.
+/// Prints which limit of a run the arguments violate, for a dump of this date, and returns the exit
+/// status.
 pub(crate) fn refuse_run<R: ClientSystem>(
     rt: &R,
     line: &DumpLine<'_>,
@@ -89,7 +92,7 @@ pub(crate) fn refuse_run<R: ClientSystem>(
     FAILED
 }
 
-/// What is told of a limit that is broken, with the usage of the command.
+/// Returns the message for a limit that is violated, with the usage of the command.
 fn error_of(
     alloc: Global,
     line: &DumpLine<'_>,
@@ -101,7 +104,7 @@ fn error_of(
     dump_error(alloc, text.as_str())
 }
 
-/// The word that breaks a limit, and the limit.
+/// Returns the argument that violates a limit, and the limit.
 fn limit_of(
     alloc: Global,
     line: &DumpLine<'_>,

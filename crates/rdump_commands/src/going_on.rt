@@ -1,4 +1,4 @@
-//! A dump with a checkpoint file, up to its client.
+//! Starts or resumes a dump with a checkpoint file, up to its client.
 ghost use Rattle.std.specs.Prelude.{◌≡◌};
 ghost use Rattle.rdump_commands.specs.Status.{IsStatus};
 ghost use Rattle.rdump_files.specs.Payload.{IsRunsPayload};
@@ -18,7 +18,8 @@ use rdump_files::{
 use std::io::{self, Write};
 use tape::Medium;
 
-/// Dumps a payload at this date, from the checkpoint at this path on if there is one, and answers the status.
+/// Dumps a payload with these dates, and returns the exit status. If there is a checkpoint at
+/// `path`, the dump is resumed from it.
 pub(crate) fn dump_from<R: ClientSystem, M: Medium + Drop, T: Write + Copy + Drop>(
     rt: &R,
     line: &DumpLine<'_>,
@@ -42,7 +43,8 @@ pub(crate) fn dump_from<R: ClientSystem, M: Medium + Drop, T: Write + Copy + Dro
     }
 }
 
-/// Dumps a run, from the checkpoint at this path on if there is one, and answers the status.
+/// Dumps a run, and returns the exit status. If there is a checkpoint at `path`, the dump is
+/// resumed from it.
 fn dump_kept<R: ClientSystem, M: Medium + Drop, T: Write + Copy + Drop>(
     rt: &R,
     line: &DumpLine<'_>,
@@ -63,7 +65,7 @@ fn dump_kept<R: ClientSystem, M: Medium + Drop, T: Write + Copy + Drop>(
     }
 }
 
-/// Dumps a payload from its beginning on, and answers the status.
+/// Dumps a payload from its beginning, and returns the exit status.
 fn dump_anew<R: ClientSystem, M: Medium + Drop, T: Write + Copy + Drop>(
     rt: &R,
     line: &DumpLine<'_>,
@@ -84,7 +86,7 @@ fn dump_anew<R: ClientSystem, M: Medium + Drop, T: Write + Copy + Drop>(
     }
 }
 
-/// Dumps a payload from this checkpoint on, and answers the status.
+/// Resumes a dump from the checkpoint in `bytes`, and returns the exit status.
 fn dump_on<R: ClientSystem, M: Medium + Drop, T: Write + Copy + Drop>(
     rt: &R,
     line: &DumpLine<'_>,
@@ -113,7 +115,7 @@ fn dump_on<R: ClientSystem, M: Medium + Drop, T: Write + Copy + Drop>(
     }
 }
 
-/// The dates of a run.
+/// Returns the dates of a run.
 fn dates_of(run: &Run) -> RunDates {
     RunDates {
         date: run.date(),
@@ -121,8 +123,8 @@ fn dates_of(run: &Run) -> RunDates {
     }
 }
 
-/// Has a client dump that keeps its checkpoint in this file, after what is told before the first attempt, and answers the status. One that
-/// goes on has so many blocks.
+/// Prints what is known before the first attempt, and has a client dump that keeps its checkpoint
+/// in `file`. Returns the exit status. `goes_on` is how many blocks a resumed dump has.
 fn dump_reported<R: ClientSystem, B: Blocks, T: Write + Copy + Drop>(
     rt: &R,
     line: &DumpLine<'_>,
@@ -149,8 +151,8 @@ fn dump_reported<R: ClientSystem, B: Blocks, T: Write + Copy + Drop>(
     }
 }
 
-/// Tells what a dump goes on with, among so many blocks, and that its payload is younger than the checkpoint, if it is. It fails only where
-/// memory is refused.
+/// Prints how much of a resumed dump of `blocks` blocks is counted, and whether its payload is
+/// younger than the checkpoint. Fails only if an allocation fails.
 fn report_going_on<R: ClientSystem, B: Blocks>(
     rt: &R,
     line: &DumpLine<'_>,
@@ -166,7 +168,7 @@ fn report_going_on<R: ClientSystem, B: Blocks>(
     report_younger(rt, line, start, path, file.modified())
 }
 
-/// Tells why no dump goes on from the checkpoint at this path, and answers the status.
+/// Prints why the checkpoint at this path cannot be resumed, and returns the exit status.
 fn refuse_checkpoint<R: ClientSystem>(rt: &R, path: &str, fault: ResumedDumpFault) -> u8
     ensures { result ≡ 1 }
 {
@@ -187,7 +189,7 @@ fn refuse_checkpoint<R: ClientSystem>(rt: &R, path: &str, fault: ResumedDumpFaul
     }
 }
 
-/// Tells why the checkpoint file at this path could not be read, and answers the status.
+/// Prints why the checkpoint file at this path could not be read, and returns the exit status.
 fn report_unread<R: ClientSystem>(rt: &R, path: &str, failure: Option<&io::Error>) -> u8
     ensures { result ≡ 1 }
 {

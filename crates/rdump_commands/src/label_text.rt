@@ -1,19 +1,19 @@
-//! The text of the label of a volume that is read back.
+//! Prints the text of the label of a volume that is read back.
 use dump_run::{LABEL_BYTES, VolumeLabel};
 use printable::PlainBytes;
 use std::cell::Cell;
 use std::io::{self, ErrorKind, Write};
 
-/// What the text of a volume's label is.
+/// The kind of the text at the beginning of a volume.
 #[derive(Drop)]
 pub(crate) enum LabelKind {
-    /// No text came.
+    /// No text was received.
     Nothing,
-    /// It is that of no label of `rdump`.
+    /// It is not a label of `rdump`.
     Foreign,
-    /// It is that of a label of another dump.
+    /// It is a label of another dump.
     OtherDump(VolumeLabel),
-    /// It is that of a label.
+    /// It is a label.
     Label(VolumeLabel),
 }
 
@@ -22,14 +22,16 @@ pub(crate) enum LabelKind {
 pub(crate) enum LabelFilter<'a> {
     /// Any text.
     Any,
-    /// Those of labels.
+    /// Labels.
     Label,
-    /// Those of labels of the dump that this one is of.
+    /// Labels of the same dump as this one.
     DumpOf(&'a VolumeLabel),
 }
 
-/// Where the text of a label goes, by one write, where it is a wanted one. What it is, is kept, and the volume's first block is told,
-/// once a label was printed. The text of no label of `rdump` goes to a terminal as it may be printed.
+/// Receives the text of a label, in one write, and prints it if it is wanted. It keeps the kind of
+/// the text, and sets `first` to the first block of the volume once a label was printed. If
+/// standard output may be a terminal, control characters in a text that is not a label are printed
+/// as `?`.
 #[derive(Drop)]
 pub(crate) struct LabelText<'a, W> {
     out: W,
@@ -40,7 +42,7 @@ pub(crate) struct LabelText<'a, W> {
 }
 
 impl<'a, W: Write + Drop> LabelText<'a, W> {
-    /// Where no text went so far. `is_shown` says whether that may be a terminal.
+    /// Makes a writer that has received no text. `is_shown` is whether `out` may be a terminal.
     pub(crate) fn new(
         out: W,
         is_shown: bool,
@@ -56,14 +58,14 @@ impl<'a, W: Write + Drop> LabelText<'a, W> {
         }
     }
 
-    /// What the text is.
+    /// Returns the kind of the text.
     pub(crate) fn into_found(self) -> LabelKind {
         self.found
     }
 }
 
 impl<'a, W: Write> Write for LabelText<'a, W> {
-    /// It takes all of the text. It fails where that is not wanted.
+    /// Accepts the whole text, or fails if it is not wanted or cannot be printed.
     fn write(&mut self, buf: &[u8]) -> io::Result<usize> {
         self.found = look(buf, self.wanted);
         if !is_wanted(&self.found, self.wanted) {
@@ -85,7 +87,7 @@ impl<'a, W: Write> Write for LabelText<'a, W> {
     }
 }
 
-/// What a text is, where labels of one dump may be wanted.
+/// Returns the kind of a text. A label of another dump than the wanted one is `OtherDump`.
 fn look(text: &[u8], wanted: LabelFilter<'_>) -> LabelKind {
     match (label_of(text), wanted) {
         (None, _) => LabelKind::Foreign,
@@ -96,7 +98,7 @@ fn look(text: &[u8], wanted: LabelFilter<'_>) -> LabelKind {
     }
 }
 
-/// Whether what was found is wanted.
+/// Whether a text of this kind is wanted.
 fn is_wanted(found: &LabelKind, wanted: LabelFilter<'_>) -> bool {
     match (found, wanted) {
         (LabelKind::Label(_), _) | (LabelKind::Foreign, LabelFilter::Any) => true,
@@ -104,14 +106,14 @@ fn is_wanted(found: &LabelKind, wanted: LabelFilter<'_>) -> bool {
     }
 }
 
-/// The label that begins with a text, and has zero bytes after it.
+/// Reads a label from its text. The rest of the record is zero bytes.
 fn label_of(text: &[u8]) -> Option<VolumeLabel> {
     let mut record = [0; LABEL_BYTES];
     record.get_mut(..text.len())?.copy_from_slice(text);
     VolumeLabel::read(&record)
 }
 
-/// Whether two labels are of one dump.
+/// Whether two labels are of the same dump.
 fn are_of_one_dump(one: &VolumeLabel, other: &VolumeLabel) -> bool {
     one.name() == other.name()
         && one.level() == other.level()

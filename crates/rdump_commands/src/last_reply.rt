@@ -1,12 +1,12 @@
-//! The reply to the request that was sent last.
+//! The reply to the last request that was sent.
 
 use dump_run::LABEL_BYTES;
 use rmt_wire::find_byte;
 
-/// What is kept of a reply: a label, and the line `A1024` before it.
+/// How many bytes of a reply are kept: the line `A1024`, and a label.
 const ROOM: usize = LABEL_BYTES + 6;
 
-/// The beginning of the reply to the request that was sent last, as far as it came.
+/// The beginning of the reply to the last request that was sent, as far as it was received.
 #[derive(Drop)]
 pub(crate) struct LastReply {
     bytes: [u8; ROOM],
@@ -14,7 +14,7 @@ pub(crate) struct LastReply {
 }
 
 impl LastReply {
-    /// One of which nothing came.
+    /// Makes an empty reply.
     pub(crate) fn new() -> Self {
         LastReply {
             bytes: [0; ROOM],
@@ -22,12 +22,12 @@ impl LastReply {
         }
     }
 
-    /// Forgets it, since another request is sent.
+    /// Empties it, since another request is sent.
     pub(crate) fn clear(&mut self) {
         self.len = 0;
     }
 
-    /// Keeps a piece that came, as far as there is room.
+    /// Adds a piece that was received, as far as there is room.
     pub(crate) fn push(&mut self, piece: &[u8]) {
         let Some(room) = self.bytes.get_mut(self.len..) else {
             return;
@@ -37,7 +37,8 @@ impl LastReply {
         self.len += count;
     }
 
-    /// The bytes of the record that was read, as far as they are kept. None where it is no reply to a read.
+    /// Returns the bytes of the record in the reply to a read, as far as they are kept. Returns
+    /// none if the reply does not begin with a whole line `A..`.
     pub(crate) fn record(&self) -> Option<&[u8]> {
         let reply = self.bytes.get(..self.len)?;
         let end = find_byte(reply, b'\n')?;

@@ -1,9 +1,10 @@
-//! What `rdump` does: reads its words, and dumps a payload, reads volumes back, lists reels, does one operation at a drive, or asks
-//! a dumpdates file. Each answers the exit status; what is at fault is told on the way.
+//! The commands of `rdump`: they dump a payload, read volumes back, list reels, do one operation on
+//! a drive, or query a dumpdates file. Each returns the exit status, and prints what failed.
 //!
-//! `rdump` is all of it, and `run_arguments` the same for words that are given. Each command is a call of its own: `run_dump`,
-//! `run_read`, `run_mt`, `run_dates`, and `run_ls` of `rdump_list`. `run_client` is a dump from its client on. What they use of the
-//! runtime is `ClientSystem`.
+//! `rdump` is the whole program, and `run_arguments` does the same for given arguments. Each
+//! command is a function of its own: `run_dump`, `run_read`, `run_mt`, `run_dates`, and `run_ls` of
+//! `rdump_list`. `run_client` is a dump from its client on. `ClientSystem` is the part of the
+//! runtime that they use.
 #![tactic(auto)]
 
 mod asking;

@@ -11,10 +11,10 @@ use rdump_net::{SocketPeer, mt};
 use rmt_wire::Counted;
 use std::io::{self, Write};
 
-/// Does one operation at a drive, as `rdump mt` does, and prints what the server answers. At a terminal its text stands as it may be
-/// printed.
+/// Does one operation on a drive, as `rdump mt` does, and prints the reply of the server. On a
+/// terminal, control characters in it are printed as `?`.
 ///
-/// Answers the exit status: 0 where the operation was done and that was printed, and else 3.
+/// Returns the exit status: 0 if the operation was done and its reply was printed, and 3 otherwise.
 pub fn run_mt<R: ClientSystem>(rt: &R, line: MtLine<'_>) -> u8
     requires { IsMtLine line }
     ensures { IsMtStatus result }
@@ -31,7 +31,7 @@ pub fn run_mt<R: ClientSystem>(rt: &R, line: MtLine<'_>) -> u8
     status
 }
 
-/// Prints an answer of one line.
+/// Prints a reply of one line.
 fn print_answer<R: ClientSystem>(rt: &R, answer: &[u8]) -> io::Result<()> {
     match answer.strip_suffix(b"\n") {
         Some(line) if may_be_shown(rt) => rt.println(PlainBytes(line)),
@@ -39,7 +39,7 @@ fn print_answer<R: ClientSystem>(rt: &R, answer: &[u8]) -> io::Result<()> {
     }
 }
 
-/// Does one operation at a drive of this server, appends the answer, and answers the status.
+/// Does one operation on a drive of this server, appends the reply, and returns the exit status.
 fn answer_of<R: ClientSystem>(
     rt: &R,
     line: MtLine<'_>,
@@ -54,7 +54,8 @@ fn answer_of<R: ClientSystem>(
     mt(rt.alloc(), peer, device, line.op, line.count, &mut out)
 }
 
-/// Tells that no answer came from the server at this address, and why by the system, if it says. Answers the status.
+/// Prints that no reply came from the server at this address, with the system's error if there is
+/// one. Returns the exit status.
 fn report_unanswered<R: ClientSystem>(rt: &R, to: &str, failure: Option<&io::Error>) -> u8
     ensures { IsMtStatus result }
 {

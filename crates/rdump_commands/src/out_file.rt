@@ -1,4 +1,4 @@
-//! The file that volumes are read back into.
+//! The file into which volumes are read back.
 use rdump_args::ReadLine;
 use rdump_files::named_file;
 use std::alloc::Global;
@@ -9,38 +9,40 @@ use std::os::unix::fs::{FileExt, FileTypeExt, MetadataExt};
 use std::path::{Path, PathBuf};
 use std::rt::Files;
 
-/// So often the file is opened at most, where others remove it each time before it is locked.
+/// How many times to try to open the file while others keep removing it before it is locked.
 const MOST_TRIES: u32 = 100;
 
-/// Why a block was not written, or is not on the disk.
+/// Why a block was not written, or is not on disk.
 #[derive(Drop)]
 pub(crate) enum BlockFault {
     /// The file could not be emptied, written or synced.
     Failed(io::Error),
-    /// The volume has no label, which would say where its blocks go.
+    /// The volume has no label, which would give the place of its blocks.
     NoPlace,
-    /// It has so many bytes, and the blocks before it have others.
+    /// The block has `bytes` bytes, and the blocks before it have `before`.
     OtherLength { bytes: usize, before: usize },
 }
 
-/// What a file is.
+/// The kinds of files.
 #[derive(Clone, Copy, PartialEq, Eq)]
 enum FileKind {
-    /// A plain file.
+    /// A regular file.
     Plain,
     /// A block device.
     Disk,
-    /// Anything else, as a pipe or a terminal, which has no disk.
+    /// Anything else, such as a pipe or a terminal, which is not on a disk.
     Stream,
 }
 
-/// The file that the blocks of volumes are written to. One that is plain is locked, so that no other run writes it or removes it
-/// meanwhile.
+/// The file to which the blocks of volumes are written. A regular file is locked, so that no other
+/// run writes or removes it meanwhile.
 ///
-/// Either it is for one volume, whose blocks follow one another: then it holds what it held until the volume begins, with the label or
-/// a block. Or each block has its place, and the file is never emptied.
+/// The file of a single volume gets its blocks one after the other. It keeps its old contents until
+/// the volume begins, with the label or a block. A file with places gets each block at its place,
+/// and is never emptied.
 ///
-/// It is shared by who writes its blocks and who has it synced before a reel goes.
+/// It is shared by the writer of the blocks and by the peer that has it synced before a reel is
+/// moved to the bin.
 #[derive(Drop)]
 pub(crate) struct OutFile {
     file: File,
@@ -54,10 +56,11 @@ pub(crate) struct OutFile {
 }
 
 impl OutFile {
-    /// Opens the file of this line, and makes it where it is not there. It holds what it held.
+    /// Opens the file of `line`, and creates it if it does not exist. Its contents are unchanged.
     ///
-    /// Answers the system's error, `OutOfMemory`, `WouldBlock` where another run has it, or `InvalidInput` where it has to have places
-    /// or a length, and is no plain file.
+    /// Fails with the system's error, with `OutOfMemory`, or with `WouldBlock` if another run has
+    /// it. Fails with `InvalidInput` if places or a length require a regular file, and it is not
+    /// one.
     pub(crate) fn open<R: Files<File = File>>(
         rt: &R,
         alloc: Global,
@@ -82,7 +85,7 @@ impl OutFile {
         Err(taken())
     }
 
-    /// The file that was opened, and locked if it is plain.
+    /// Makes the `OutFile` of a file that was opened, and locked if it is a regular one.
     fn of(
         file: File,
         made: Option<PathBuf>,
@@ -102,7 +105,8 @@ impl OutFile {
         })
     }
 
-    /// Whether it is a plain one that had no bytes when it was opened: no run wrote a block to it before.
+    /// Whether it is a regular file that was empty when it was opened, so that no run has written a
+    /// block to it.
     pub(crate) fn was_empty(&self) -> bool {
         self.was_empty
     }
@@ -112,17 +116,18 @@ impl OutFile {
         self.has_places
     }
 
-    /// Takes why the last block that was not written was not, or that the file could not be emptied or synced.
+    /// Takes the fault that was kept last: why a block was not written, or why the file could not
+    /// be emptied or synced.
     pub(crate) fn take_fault(&self) -> Option<BlockFault> {
         self.fault.take()
     }
 
-    /// Keeps why a block was not written, or is not on the disk.
+    /// Keeps why a block was not written, or is not on disk.
     pub(crate) fn fail(&self, fault: BlockFault) {
         self.fault.set(Some(fault));
     }
 
-    /// How many bytes each block has, where one was written at its place.
+    /// Returns how many bytes each block has, if one was written at its place.
     pub(crate) fn block(&self) -> Option<usize> {
         self.block.get()
     }
@@ -132,7 +137,8 @@ impl OutFile {
         self.has_begun.get()
     }
 
-    /// A volume begins: the file is empty then, if it is for one volume. One that is not plain holds nothing.
+    /// Begins a volume. Empties the file if it is a regular one for a single volume and no volume
+    /// has begun. Keeps the error if that fails.
     pub(crate) fn begin(&self) {
         if let Err(error) = self.empty() {
             self.fail(BlockFault::Failed(error));
@@ -146,7 +152,10 @@ impl OutFile {
         file.write_all(block).map_err(BlockFault::Failed)
     }
 
-    /// Writes the block of this number, counted from 0, at its place. All blocks have the length of the first one.
+    /// Writes the block of this number, counted from 0, at its place. All blocks must have the
+    /// length of the first one.
+    ///
+    /// Fails with `OtherLength` if the length differs, and with `Failed` if the write fails.
     pub(crate) fn put(&self, block: &[u8], number: u64) -> Result<(), BlockFault> {
         let bytes = block.len();
         let before = self.block.get().unwrap_or(bytes);
@@ -162,7 +171,7 @@ impl OutFile {
         written.map_err(BlockFault::Failed)
     }
 
-    /// Cuts the file to so many bytes, where it has more.
+    /// Cuts the file to `length` bytes, if it has more.
     pub(crate) fn cut(&self, length: u64) -> io::Result<()> {
         if self.len()? > length {
             self.file.set_len(length)?;
@@ -170,13 +179,14 @@ impl OutFile {
         Ok(())
     }
 
-    /// How many bytes the file has.
+    /// Returns how many bytes the file has.
     pub(crate) fn len(&self) -> io::Result<u64> {
         Ok(self.file.metadata()?.len())
     }
 
-    /// Waits until the disk has what was written and, where this run made the file, its folder the name. A pipe or a terminal has no disk,
-    /// and a file system may have no such sync for folders: then there is nothing to wait for.
+    /// Waits until everything written is on disk and, if this run created the file, also its name
+    /// in the folder. A pipe or a terminal has no disk, so there is nothing to wait for. A file
+    /// system that cannot sync folders is not waited for either.
     pub(crate) fn sync<R: Files<File = File>>(&self, rt: &R) -> io::Result<()> {
         if self.kind == FileKind::Stream {
             return Ok(());
@@ -188,7 +198,7 @@ impl OutFile {
         }
     }
 
-    /// Removes the file, if this run made it, no volume has begun, and it is still where it was made.
+    /// Removes the file if this run created it, no volume has begun, and it is still at its path.
     pub(crate) fn end<R: Files<File = File>>(self, rt: &R) {
         let Some(path) = &self.made else {
             return;
@@ -208,7 +218,7 @@ impl OutFile {
     }
 }
 
-/// What a file is of which this is known.
+/// Returns the kind of the file that has this metadata.
 fn kind_of(found: &Metadata) -> FileKind {
     if found.is_file() {
         FileKind::Plain
@@ -219,7 +229,8 @@ fn kind_of(found: &Metadata) -> FileKind {
     }
 }
 
-/// Waits until the folder of the file at this path has its name on the disk, where its file system syncs folders.
+/// Waits until the folder has the name of the file at this path on disk, if its file system syncs
+/// folders.
 fn sync_folder<R: Files<File = File>>(rt: &R, named: &PathBuf) -> io::Result<()> {
     let folder = match named.as_path().parent() {
         Some(folder) if !folder.as_str().is_empty() => folder,
@@ -233,7 +244,7 @@ fn sync_folder<R: Files<File = File>>(rt: &R, named: &PathBuf) -> io::Result<()>
     }
 }
 
-/// Nothing where this is what is known of a plain file, or none is there.
+/// Fails if this is the metadata of something other than a regular file. Succeeds without metadata.
 fn check_plain(found: io::Result<Metadata>) -> io::Result<()> {
     match found {
         Ok(found) if !found.is_file() => Err(no_plain_file()),
@@ -241,15 +252,16 @@ fn check_plain(found: io::Result<Metadata>) -> io::Result<()> {
     }
 }
 
-/// The error where a file has to be plain.
+/// Returns the error if a file must be a regular one.
 fn no_plain_file() -> io::Error {
     io::Error::new(ErrorKind::InvalidInput, "it is no plain file")
 }
 
-/// A file that was opened, and where this run made it, if it did.
+/// A file that was opened, and its path if this run created it.
 type Opened = (File, Option<PathBuf>);
 
-/// Opens the file at this path to write, and makes it where it is not there. None where another run made it meanwhile.
+/// Opens the file at this path for writing, and creates it if it does not exist. Returns none if
+/// another run created it meanwhile.
 fn open_or_make<R: Files<File = File>>(
     rt: &R,
     alloc: Global,
@@ -262,7 +274,8 @@ fn open_or_make<R: Files<File = File>>(
     }
 }
 
-/// Makes the file at this path: where a link to nothing is there, the file that it leads to. None where it is there by now.
+/// Creates the file at this path or, if that is a link to nothing, the file that the link leads to.
+/// Returns none if the file exists by now.
 fn make<R: Files<File = File>>(rt: &R, alloc: Global, path: &str) -> io::Result<Option<Opened>> {
     let named = named_file(rt, alloc, path)?;
     match File::create_new(rt, &named) {
@@ -272,10 +285,11 @@ fn make<R: Files<File = File>>(rt: &R, alloc: Global, path: &str) -> io::Result<
     }
 }
 
-/// Takes the advisory lock of a file, which goes with the handle, and looks whether the file is still at this path. A file system
-/// without such locks gives none, and is written to all the same.
+/// Takes the advisory lock of a file, which is released when the file is closed. Returns whether
+/// the file is still at this path. If the file system has no such locks, the file is written
+/// without one.
 ///
-/// Answers `WouldBlock` where another run has the lock.
+/// Fails with `WouldBlock` if another run has the lock.
 fn lock<R: Files<File = File>>(rt: &R, path: &str, file: &File) -> io::Result<bool> {
     match file.try_lock() {
         Err(TryLockError::WouldBlock) => Err(taken()),
@@ -283,12 +297,12 @@ fn lock<R: Files<File = File>>(rt: &R, path: &str, file: &File) -> io::Result<bo
     }
 }
 
-/// The error where another run has the file.
+/// Returns the error if another run has the file.
 fn taken() -> io::Error {
     io::Error::new(ErrorKind::WouldBlock, "another run writes it")
 }
 
-/// Whether this path names the file, or leads to it by links.
+/// Whether this path names the file, directly or through links.
 fn is_at<R: Files<File = File>>(rt: &R, path: &str, file: &File) -> io::Result<bool> {
     let opened = file.metadata()?;
     match fs::metadata(rt, path) {

@@ -1,4 +1,4 @@
-//! The program: its words, and the command that they name.
+//! The program: reads its arguments, and runs the command that they name.
 ghost use Rattle.std.specs.Prelude.{◌≡◌};
 ghost use Rattle.rdump_commands.specs.Status.{IsHelpStatus, IsStatus};
 
@@ -13,14 +13,16 @@ use std::convert::AsStr;
 use std::env;
 use std::io::{self, Write};
 
-/// Does what the words of the process ask, and answers the exit status of `rdump`. `terminal` is standard error, where that is
-/// a terminal: it shows the progress of a dump.
+/// Does what the arguments of the process ask for, and returns the exit status of `rdump`.
+/// `terminal` is standard error, if that is a terminal: it shows the progress of a dump.
 ///
-/// The status is 0 where all was done, 1 where it could not begin, as where the words are wrong or a file can't be read, and 3
-/// where it ended before it was done. Help and the version end with 0. What is at fault is told on standard error. Memory that is
-/// refused before anything was sent, and that of `rdump ls`, is told on standard output.
+/// The status is 0 if everything was done. It is 1 if the command could not begin, because the
+/// arguments are wrong or a file cannot be read, for example. It is 3 if the command ended before
+/// it was done. Help and the version return 0. Errors are printed on standard error. A failed
+/// allocation is printed on standard output if nothing was sent yet, and in `rdump ls`.
 ///
-/// No file that it opens gets the place of a standard stream that the process was started without.
+/// If the process was started without a standard stream, no file that it opens gets the descriptor
+/// of that stream.
 pub fn rdump<R: ClientSystem, T: Write + Copy + Drop>(rt: &R, terminal: Option<T>) -> u8
     ensures { IsStatus result }
 {
@@ -31,7 +33,7 @@ pub fn rdump<R: ClientSystem, T: Write + Copy + Drop>(rt: &R, terminal: Option<T
     }
 }
 
-/// The words of the process, its own name first. Each growth that is refused is answered.
+/// Returns the arguments of the process, its own name first. Fails if an allocation fails.
 fn arguments<R: ClientSystem>(rt: &R) -> io::Result<Vec<String>> {
     let mut arguments = Vec::new(rt.alloc());
     for argument in env::args(rt)? {
@@ -40,8 +42,8 @@ fn arguments<R: ClientSystem>(rt: &R) -> io::Result<Vec<String>> {
     Ok(arguments)
 }
 
-/// Does what these words ask, of which the first is the name of the program itself, and answers the status, both as `rdump`
-/// does.
+/// Does what these arguments ask for, and returns the exit status, as `rdump` does. The first
+/// argument is the name of the program.
 pub fn run_arguments<R: ClientSystem, S: AsStr, T: Write + Copy + Drop>(
     rt: &R,
     arguments: &[S],
@@ -59,7 +61,8 @@ pub fn run_arguments<R: ClientSystem, S: AsStr, T: Write + Copy + Drop>(
     }
 }
 
-/// Tells why words gave nothing to do, and answers the status. Help and the version go to standard output.
+/// Prints why the arguments name no command, and returns the exit status. Help and the version are
+/// printed on standard output.
 fn refuse<R: ClientSystem>(rt: &R, error: clap::Error) -> u8
     ensures { IsHelpStatus result }
 {
@@ -75,7 +78,8 @@ fn refuse<R: ClientSystem>(rt: &R, error: clap::Error) -> u8
     0
 }
 
-/// Prints an error of words on standard error, in which words may stand as they were given, and answers the status.
+/// Prints an error of the arguments on standard error, and returns the exit status. The error may
+/// quote the arguments, so control characters in it are printed as `?`.
 pub(crate) fn print_error<R: ClientSystem>(rt: &R, error: &clap::Error) -> u8
     ensures { result ≡ 1 }
 {

@@ -1,4 +1,4 @@
-//! The look at a reel before each attempt of `rdump dump --protect`.
+//! Looks at a reel before each attempt of `rdump dump --protect`.
 
 use crate::ClientSystem;
 use dump_run::VolumeLabel;
@@ -10,17 +10,18 @@ use rdump_net::{
 use rmt_wire::argument::is_device;
 use std::io;
 
-/// Why an attempt is not to begin.
+/// Why an attempt must not begin.
 #[derive(Drop)]
 pub(crate) enum Held {
-    /// The reel begins so, which is not this dump's.
+    /// The reel begins like this, and is not of this dump.
     Protected(ReelFront, Protection),
-    /// The look found nothing out.
+    /// The look failed.
     Failed(LookFault),
 }
 
-/// Looks at the first reel of the drive that a line names, over a connection of its own, and finds why the dump of this line is not to
-/// write on it. None if it may: the reel is empty, or begins with a label of the line's name, level and date.
+/// Looks at the first reel of the drive that `line` names, over a connection of its own. Returns
+/// why the dump of `line` must not write on it. Returns none if it may: the reel is empty, or
+/// begins with a label of the name, level and date in `line`.
 pub(crate) fn find_hold<R: ClientSystem>(
     rt: &R,
     line: &DumpLine<'_>,
@@ -28,7 +29,7 @@ pub(crate) fn find_hold<R: ClientSystem>(
 ) -> Option<Held> {
     let device = line.device.as_bytes();
     if !is_device(device) {
-        // No run has such a device, so this is never the case. No attempt is made where nothing was looked at.
+        // A run has no such device, so this never happens. Without a look, no attempt is made.
         return Some(Held::Failed(LookFault::NoReply(CallFault::Botched)));
     }
     match look_at_reel(rt.alloc(), peer, device) {
@@ -37,15 +38,16 @@ pub(crate) fn find_hold<R: ClientSystem>(
     }
 }
 
-/// Why the dump of a line is not to write on a reel that begins so.
+/// Returns why the dump of `line` must not write on a reel that begins like this.
 fn protection_of(line: &DumpLine<'_>, front: ReelFront) -> Option<Held> {
-    // No label has the date of a line without one.
+    // Without a date, this takes one that no label has.
     let date = line.date.unwrap_or(u64::MAX);
     let protection = find_protection(&front, line.fs, line.level, date)?;
     Some(Held::Protected(front, protection))
 }
 
-/// Prints why an attempt is not to begin. `failure` is the system's reason, if the connection of the look failed by one.
+/// Prints why an attempt must not begin. `failure` is the system's error, if the connection of the
+/// look failed with one.
 pub(crate) fn report_held<R: Eprint>(
     rt: &R,
     line: &DumpLine<'_>,
@@ -58,7 +60,7 @@ pub(crate) fn report_held<R: Eprint>(
     }
 }
 
-/// Prints what a reel begins with that is not to be written on.
+/// Prints what a protected reel begins with.
 fn report_protected<R: Eprint>(
     rt: &R,
     line: &DumpLine<'_>,
@@ -72,7 +74,7 @@ fn report_protected<R: Eprint>(
     }
 }
 
-/// Prints which volume a reel has that begins so.
+/// Prints which volume a reel has that begins like this.
 fn report_other<R: Eprint>(rt: &R, line: &DumpLine<'_>, front: &ReelFront) {
     let (to, device) = (plain(line.to), plain(line.device));
     if let Some(label) = label_of(front) {
@@ -89,7 +91,7 @@ fn report_other<R: Eprint>(rt: &R, line: &DumpLine<'_>, front: &ReelFront) {
     }
 }
 
-/// Prints this of the first reel of a drive.
+/// Prints `what` about the first reel of a drive.
 fn report_front<R: Eprint>(rt: &R, line: &DumpLine<'_>, what: &str) {
     let (to, device) = (plain(line.to), plain(line.device));
     let _ = eprintln!(rt;
@@ -98,7 +100,7 @@ fn report_front<R: Eprint>(rt: &R, line: &DumpLine<'_>, what: &str) {
     );
 }
 
-/// The label that a reel begins with.
+/// Returns the label that a reel begins with, if any.
 fn label_of(front: &ReelFront) -> Option<VolumeLabel> {
     match front {
         ReelFront::Record(bytes) => VolumeLabel::read(bytes),
@@ -106,7 +108,7 @@ fn label_of(front: &ReelFront) -> Option<VolumeLabel> {
     }
 }
 
-/// Prints why a look at the reel of an address found nothing out.
+/// Prints why a look at the reel at this address failed.
 fn report_unfound<R: Eprint>(rt: &R, address: &str, fault: LookFault, failure: Option<&io::Error>) {
     let address = plain(address);
     let _ = match (fault, failure) {
@@ -123,7 +125,7 @@ fn report_unfound<R: Eprint>(rt: &R, address: &str, fault: LookFault, failure: O
     };
 }
 
-/// What the system calls an error of this number.
+/// Returns the system's error of this number.
 pub(crate) fn refusal(number: u32) -> io::Error {
     io::Error::from_raw_os_error(i32::try_from(number).unwrap_or(i32::MAX))
 }

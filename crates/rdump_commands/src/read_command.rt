@@ -10,24 +10,39 @@ use crate::volume::{ReadEnd, read_volume};
 use rdump_args::ReadLine;
 use std::io;
 
-/// The status of what was read whole.
+/// The exit status if everything was read.
 pub(crate) const WHOLE: u8 = 0;
 
 /// Reads a volume back into a file, as `rdump read` does, and prints its label.
 ///
-/// The file is opened first, and emptied once the label has come. One that is made here, and gets no label, is removed. Standard
-/// error tells how many blocks were read, and whether the first record is no label of `rdump`.
+/// The file is opened first, and emptied once the label was read. A file that is created here and
+/// gets no label is removed. Standard error reports how many blocks were read, and whether the
+/// first record is not a label of `rdump`.
 ///
-/// With `place` each block goes to the place in the file that it has in the dump, and the file is not emptied: the first record has
-/// to be a label, and the blocks have to be of one length. With `all` it is so with each volume of the stack. A reel goes to the bin
-/// once its volume was read, a mark was found where its records ended, and what was written is on the disk. The reading ends well where the stack has no reel any more, and
-/// no block is missing between those that came. A volume of another dump than the first one stays, and so does a reel without a record: with a length the reading ends well
-/// there too, where no block below it is missing. With `place` alone the mark is looked for as well. With a length the file is cut to it in the end, where it is longer; with
-/// `all` it is told where it is shorter, and without one that the end of the dump is not known. In the end a plain file or a block device is synced, and the folder of a file
-/// that is made here.
+/// With `place`:
 ///
-/// Answers the exit status: 0 where all was read whole and synced, and nothing is known to be missing, 1 where the file could not be opened, or has to be a plain
-/// one, for places or a length, and is none, and else 3.
+/// - Each block is written at the offset that it has in the dump, and the file is not emptied.
+/// - The first record must be a label, and all blocks must have the same length.
+/// - The volume must end with a mark.
+///
+/// With `all`, each volume of the stack is read in this way:
+///
+/// - A reel moves to the bin once its volume was read, a mark was found after its records, and
+///   everything written is on disk.
+/// - A volume of another dump than the first one stays in the drive, and so does a reel without a
+///   record.
+/// - The read succeeds if the stack has no more reels, and no block is missing between those that
+///   were read. With a length, it also succeeds at a reel that stays, if no block below the length
+///   is missing.
+///
+/// With a length, the file is cut to it at the end, if it is longer. With `all`, a file that is
+/// shorter is reported. With `all` and no length, it is reported that the end of the dump is not
+/// known. At the end, a regular file or a block device is synced, and so is the folder of a file
+/// that is created here.
+///
+/// Returns the exit status: 0 if everything was read and synced, and nothing is known to be
+/// missing. Returns 1 if the file could not be opened, or if `place` or a length requires a regular
+/// file and it is not one. Returns 3 otherwise.
 pub fn run_read<R: ClientSystem>(rt: &R, line: ReadLine<'_>) -> u8
     requires { IsReadLine line }
     ensures { IsStatus result }
@@ -38,7 +53,7 @@ pub fn run_read<R: ClientSystem>(rt: &R, line: ReadLine<'_>) -> u8
     }
 }
 
-/// Reads what the line asks for into this file, and answers the status.
+/// Reads what `line` asks for into this file, and returns the exit status.
 fn read_into<R: ClientSystem>(rt: &R, line: &ReadLine<'_>, file: OutFile) -> u8
     requires { IsReadLine line.now }
     ensures { IsReadStatus result }
@@ -52,7 +67,7 @@ fn read_into<R: ClientSystem>(rt: &R, line: &ReadLine<'_>, file: OutFile) -> u8
     status
 }
 
-/// Reads one volume into a file, and answers the status.
+/// Reads one volume into a file, and returns the exit status.
 fn read_one<R: ClientSystem>(rt: &R, line: &ReadLine<'_>, file: &OutFile) -> u8
     requires { IsReadLine line.now }
     ensures { IsReadStatus result }
@@ -64,7 +79,7 @@ fn read_one<R: ClientSystem>(rt: &R, line: &ReadLine<'_>, file: &OutFile) -> u8
     }
 }
 
-/// Cuts a file to the length that the line asks for, if it does, and syncs it. Answers the status.
+/// Cuts a file to the length in `line`, if there is one, and syncs it. Returns the exit status.
 pub(crate) fn finish_file<R: ClientSystem>(rt: &R, line: &ReadLine<'_>, file: &OutFile) -> u8
     ensures { IsReadStatus result }
 {
@@ -74,7 +89,7 @@ pub(crate) fn finish_file<R: ClientSystem>(rt: &R, line: &ReadLine<'_>, file: &O
     }
 }
 
-/// Cuts a file to the length that the line asks for, if it does, and syncs it.
+/// Cuts a file to the length in `line`, if there is one, and syncs it.
 fn cut_and_sync<R: ClientSystem>(rt: &R, line: &ReadLine<'_>, file: &OutFile) -> io::Result<()> {
     if let Some(length) = line.length {
         file.cut(length)?;

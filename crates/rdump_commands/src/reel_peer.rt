@@ -1,4 +1,4 @@
-//! A server whose reels are read.
+//! The connection to a server whose reels are read.
 use crate::ClientSystem;
 use crate::out_file::{BlockFault, OutFile};
 use dump_client::AttemptFault;
@@ -6,25 +6,26 @@ use rdump_net::{Peer, SocketPeer};
 use std::cell::Cell;
 use std::io;
 
-/// The request that takes a reel away (`MTOFFL`).
+/// The request that moves a reel to the bin (`MTOFFL`).
 const OFFLINE: &[u8] = b"I6\n1\n";
 
-/// What became of the reel.
+/// What happened to the reel.
 #[derive(Clone, Copy, PartialEq, Eq)]
 pub(crate) enum ReelState {
     /// It is where it was.
     Here,
-    /// It was to be taken away, and stays, since no label of a volume was printed, or the file could not be synced.
+    /// It was to be moved to the bin, and stays. No label of a volume was printed, or the file
+    /// could not be synced.
     Kept,
-    /// The server was asked to take it away.
+    /// The server was asked to move it to the bin.
     Asked,
 }
 
-/// A server whose reel stays where it is until the volume's first block is known, and the file with its blocks is on the disk. It tells
-/// nothing to clauses.
+/// A server whose reel stays in place until the first block of the volume is known and the file
+/// with its blocks is on disk. Its contracts state nothing of what is sent and received.
 ///
-/// A request to take the reel away before that is not sent: the connection ends there. Where the file could not be synced, it keeps
-/// why.
+/// A request to move the reel to the bin before that is not sent; the connection is closed instead.
+/// If the file could not be synced, the error is kept in it.
 #[derive(Drop)]
 pub(crate) struct ReelPeer<'a, R: ClientSystem> {
     rt: &'a R,
@@ -35,7 +36,8 @@ pub(crate) struct ReelPeer<'a, R: ClientSystem> {
 }
 
 impl<'a, R: ClientSystem> ReelPeer<'a, R> {
-    /// The server at this address, with no connection.
+    /// Makes the peer for the server at this address, with no connection. `file` receives the
+    /// blocks, and `first` becomes the first block of the volume.
     pub(crate) fn new(
         rt: &'a R,
         address: &'a str,
@@ -51,17 +53,18 @@ impl<'a, R: ClientSystem> ReelPeer<'a, R> {
         }
     }
 
-    /// What became of the reel.
+    /// Returns what happened to the reel.
     pub(crate) fn reel(&self) -> ReelState {
         self.reel
     }
 
-    /// Why the connection could not be made, or failed, by the system.
+    /// Returns the system's error if the connection could not be made or failed.
     pub(crate) fn failure(&self) -> Option<&io::Error> {
         self.socket.failure()
     }
 
-    /// Looks at a request that is about to be sent: where it would take away a reel that has to stay, the connection ends.
+    /// Checks a request that is about to be sent. If it would move a reel to the bin that must
+    /// stay, closes the connection.
     fn look(&mut self, request: &[u8]) {
         if request != OFFLINE {
             return;
@@ -74,7 +77,7 @@ impl<'a, R: ClientSystem> ReelPeer<'a, R> {
         self.socket.hang_up();
     }
 
-    /// Syncs the file. Answers whether it could.
+    /// Syncs the file, and keeps the error if that fails. Returns whether it succeeded.
     fn sync(&self) -> bool {
         match self.file.sync(self.rt) {
             Ok(()) => true,

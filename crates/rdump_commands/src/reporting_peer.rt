@@ -1,4 +1,4 @@
-//! A server that a dump goes to, of which an operator is told why attempts failed.
+//! The connection to the server of a dump, which reports failed attempts.
 ghost use Rattle.std.specs.Prelude.{◌≤◌, length};
 
 use crate::ClientSystem;
@@ -16,10 +16,12 @@ use rdump_net::{Peer, ReadFault, SocketPeer};
 use rmt_wire::errno::EIO;
 use std::io::{self, Write};
 
-/// The server of a dump. It tells nothing to clauses; on standard error it tells why an attempt failed or is not to begin, and which
-/// label is written over. At a terminal the line of progress is cleared before.
+/// The server of a dump. It prints on standard error why an attempt failed or must not begin, and
+/// which label is overwritten. On a terminal it first clears the line of progress. Its contracts
+/// state nothing of what is sent and received.
 ///
-/// If the line asks for it, it looks at the reel before each attempt, over a connection of its own.
+/// If `line` asks for `protect`, it looks at the reel before each attempt, over a connection of its
+/// own.
 #[derive(Drop)]
 pub(crate) struct ReportingPeer<'a, R: ClientSystem, T> {
     rt: &'a R,
@@ -31,7 +33,8 @@ pub(crate) struct ReportingPeer<'a, R: ClientSystem, T> {
 }
 
 impl<'a, R: ClientSystem, T: Write> ReportingPeer<'a, R, T> {
-    /// The server that this line names, with no connection. If reels are to be protected, the line has the date of the dump.
+    /// Makes the peer for the server that `line` names, with no connection. If `line` asks for
+    /// `protect`, it must have the date of the dump.
     pub(crate) fn new(rt: &'a R, line: &DumpLine<'a>, terminal: Option<T>) -> Self {
         ReportingPeer {
             rt,
@@ -50,7 +53,8 @@ impl<'a, R: ClientSystem, T: Write> ReportingPeer<'a, R, T> {
         }
     }
 
-    /// Tells which label is written over, where the last reply has one: the dump goes on after it.
+    /// Prints which label is overwritten, if the last reply contains one. Called before the next
+    /// request, which shows that the dump continues.
     fn report_label(&mut self) {
         if let Some(label) = self.label() {
             self.clear();
@@ -58,19 +62,19 @@ impl<'a, R: ClientSystem, T: Write> ReportingPeer<'a, R, T> {
         }
     }
 
-    /// The label that the last reply has.
+    /// Returns the label in the last reply, if any.
     fn label(&self) -> Option<VolumeLabel> {
         VolumeLabel::read(self.reply.record()?)
     }
 
-    /// Looks at the reel. Answers whether the dump may write on it, and tells why if not.
+    /// Looks at the reel. Returns whether the dump may write on it, and prints why if not.
     fn look(&mut self) -> bool {
         let Some(held) = find_hold(self.rt, &self.line, &mut self.looks) else {
             return true;
         };
         self.clear();
         report_held(self.rt, &self.line, &held, self.looks.failure());
-        // From the second look in a row on that holds an attempt back, the next one waits.
+        // After two looks in a row that prevented an attempt, the next look waits.
         self.looks.attempt_failed(AttemptFault::ConnectionEnded);
         false
     }
@@ -137,7 +141,7 @@ fn clear<T: Write>(terminal: &mut T) {
     let _ = terminal.write_all(CLEAR);
 }
 
-/// Tells why the connection to an address could not be made or failed, or that it ended.
+/// Prints why the connection to an address could not be made or failed, or that it ended.
 fn report_ended<R: Eprint>(rt: &R, address: &str, failure: Option<&io::Error>) {
     let address = plain(address);
     let _ = match failure {
@@ -146,7 +150,8 @@ fn report_ended<R: Eprint>(rt: &R, address: &str, failure: Option<&io::Error>) {
     };
 }
 
-/// Tells what the system calls the error that an address answered, and after `EIO` where more is to be found.
+/// Prints the error with which a server refused a request. After `EIO` also prints how to find out
+/// more.
 fn report_refused<R: Eprint>(rt: &R, address: &str, number: u32) {
     let address = plain(address);
     let error = refusal(number);
@@ -158,7 +163,7 @@ fn report_refused<R: Eprint>(rt: &R, address: &str, number: u32) {
     }
 }
 
-/// Tells what to do with a reel that begins with the label of a counted volume.
+/// Prints what to do with a reel that begins with the label of a counted volume.
 fn report_counted<R: Eprint>(rt: &R, address: &str, device: &str, volume: u32) {
     let address = plain(address);
     let device = plain(device);
@@ -170,14 +175,14 @@ fn report_counted<R: Eprint>(rt: &R, address: &str, device: &str, volume: u32) {
     );
 }
 
-/// Tells that what came from an address is no reply.
+/// Prints that what was received from an address is not a reply.
 fn report_botched<R: Eprint>(rt: &R, address: &str) {
     let address = plain(address);
     let fault = ReadFault::Botched;
     let _ = eprintln!(rt; "rdump: {address}: {fault}");
 }
 
-/// Tells that a block of a payload could not be read.
+/// Prints that a block of a payload could not be read.
 fn report_unread<R: Eprint>(rt: &R, payload: &str) {
     let payload = plain(payload);
     let _ = eprintln!(rt;
@@ -185,7 +190,7 @@ fn report_unread<R: Eprint>(rt: &R, payload: &str) {
     );
 }
 
-/// Tells which volume a reel has.
+/// Prints which volume a reel has.
 fn report_reel<R: Eprint>(rt: &R, label: &VolumeLabel) {
     if let Some(day) = day_of(label.date()) {
         let (name, level, volume) = (label.name(), label.level(), label.volume());
@@ -193,7 +198,7 @@ fn report_reel<R: Eprint>(rt: &R, label: &VolumeLabel) {
     }
 }
 
-/// The day of a date in seconds since 1970, in UTC.
+/// Returns the day of a date in seconds since 1970, in UTC.
 fn day_of(date: u64) -> Option<Date> {
     let moment = Timestamp::from_second(i64::try_from(date).ok()?).ok()?;
     Some(moment.to_zoned(TimeZone::UTC).date())

@@ -1,10 +1,11 @@
-//! A word as a shell takes it.
+//! Formats a text as one word for a shell.
 
 use printable::plain;
 use std::fmt::{self, Display, Formatter, Write as _};
 
-/// A text as one word of a command for sh(1): as it stands where it has no byte that the shell reads in another way, and else in single quotes. A control
-/// character stands as `?`.
+/// A text as one word of a command for sh(1). It is unchanged if it is not empty and contains only
+/// letters, digits and `/._:,+@%=-`. Otherwise it is in single quotes. A control character becomes
+/// `?`.
 #[derive(Clone, Copy)]
 pub(crate) struct ShellWord<'a>(pub &'a str);
 
@@ -24,7 +25,7 @@ impl Display for ShellWord<'_> {
     }
 }
 
-/// Whether a shell takes this text as one word, and as it stands.
+/// Whether a shell takes this text as one word, unchanged.
 fn is_plain(text: &str) -> bool {
     !text.is_empty()
         && text.bytes().all(|b| b.is_ascii_alphanumeric() || b"/._:,+@%=-".contains(&b))

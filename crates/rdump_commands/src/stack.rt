@@ -1,4 +1,4 @@
-//! The volumes of a stack, read back one after the other.
+//! Reads back the volumes of a stack, one after the other.
 ghost use Rattle.rdump_commands.specs.Status.{IsReadStatus};
 ghost use Rattle.rdump_args.specs.Rdump.{IsReadLine};
 
@@ -12,7 +12,8 @@ use dump_run::VolumeLabel;
 use printable::plain;
 use rdump_args::ReadLine;
 
-/// Reads the volumes of a stack into a file, each to its place, as `rdump read --all` does, and answers the status.
+/// Reads the volumes of a stack into a file, each to its place, as `rdump read --all` does. Returns
+/// the exit status.
 pub(crate) fn read_stack<R: ClientSystem>(rt: &R, line: &ReadLine<'_>, file: &OutFile) -> u8
     requires { IsReadLine line.now }
     ensures { IsReadStatus result }
@@ -28,7 +29,8 @@ pub(crate) fn read_stack<R: ClientSystem>(rt: &R, line: &ReadLine<'_>, file: &Ou
     }
 }
 
-/// The stack is empty: cuts and syncs the file, and answers the status.
+/// Ends the read of a stack that has no more reels: cuts and syncs the file, and returns the exit
+/// status.
 fn end_stack<R: ClientSystem>(rt: &R, line: &ReadLine<'_>, file: &OutFile, has_gap: bool) -> u8
     ensures { IsReadStatus result }
 {
@@ -41,8 +43,9 @@ fn end_stack<R: ClientSystem>(rt: &R, line: &ReadLine<'_>, file: &OutFile, has_g
     }
 }
 
-/// The next reel is not one of the dump: where nothing is missing below the length that the line asks for, the file is cut and synced.
-/// Without a length the dump may go on with further reels. Answers the status.
+/// Ends the read of a dump if the next reel is not one of it. Cuts and syncs the file if nothing is
+/// missing below the length in `line`. Without a length, the dump may continue on further reels.
+/// Returns the exit status.
 fn end_dump<R: ClientSystem>(rt: &R, line: &ReadLine<'_>, file: &OutFile, has_gap: bool) -> u8
     ensures { IsReadStatus result }
 {
@@ -54,8 +57,8 @@ fn end_dump<R: ClientSystem>(rt: &R, line: &ReadLine<'_>, file: &OutFile, has_ga
     }
 }
 
-/// The block after the last one that has bytes below a length, where the blocks have so many bytes each. Without a length, or a block,
-/// there is no last one.
+/// Returns the block after the last one that has bytes below `length`, if the blocks have `block`
+/// bytes each. Returns `u64::MAX` if there is no length or no block.
 fn end_of_length(length: Option<u64>, block: Option<usize>) -> u64 {
     match (length, block) {
         (Some(0), _) => 0,
@@ -64,8 +67,8 @@ fn end_of_length(length: Option<u64>, block: Option<usize>) -> u64 {
     }
 }
 
-/// Tells where the file has fewer bytes than the line asks for: the last volumes did not come. Answers whether it has. Without a length
-/// it tells that this cannot be known.
+/// Prints that the file has fewer bytes than the length in `line`, if so: the last volumes are
+/// missing. Returns whether it has fewer. Without a length, prints that this is not known.
 fn report_short<R: ClientSystem>(rt: &R, line: &ReadLine<'_>, file: &OutFile) -> bool {
     let Some(length) = line.length else {
         let _ = eprintln!(rt;
@@ -83,7 +86,8 @@ fn report_short<R: ClientSystem>(rt: &R, line: &ReadLine<'_>, file: &OutFile) ->
     }
 }
 
-/// Reads volume after volume, up to the end of the stack, or to one that is not read whole. Answers which.
+/// Reads volume after volume, until the stack ends or a volume is not read whole. Returns how that
+/// ended.
 fn read_volumes<R: ClientSystem>(
     rt: &R,
     line: &ReadLine<'_>,
@@ -106,7 +110,7 @@ fn read_volumes<R: ClientSystem>(
     ReadEnd::Failed
 }
 
-/// The label of the first volume, where this one is the label of the next.
+/// Returns the label of the first volume, which is `dump` if there is one.
 fn first_of(dump: Option<VolumeLabel>, label: Option<VolumeLabel>) -> Option<VolumeLabel> {
     match dump {
         Some(first) => Some(first),
@@ -114,7 +118,8 @@ fn first_of(dump: Option<VolumeLabel>, label: Option<VolumeLabel>) -> Option<Vol
     }
 }
 
-/// Counts the blocks that came of a volume. It fails only where memory is refused, which is told.
+/// Counts the blocks of a volume that were written. Returns false only if an allocation fails,
+/// which is printed.
 fn count<R: ClientSystem>(rt: &R, read: &VolumeRead, came: &mut CameBlocks) -> bool {
     let Some(label) = &read.label else {
         return true;
@@ -126,8 +131,10 @@ fn count<R: ClientSystem>(rt: &R, read: &VolumeRead, came: &mut CameBlocks) -> b
     true
 }
 
-/// Tells of the blocks that came, which are in order: which are missing between them, and of those before the first one, up to the block
-/// `below`. Where the file was empty these are missing too, and else another run may have read them. Answers whether any are missing.
+/// Prints which blocks are missing between those in `came`, which are in order, below block
+/// `below`. If the file was empty, the blocks before the first one are missing too. Otherwise
+/// another run may have read those, so only the number of the first block is printed. Returns
+/// whether any are missing.
 fn report_came<R: ClientSystem>(rt: &R, came: &[BlockRange], was_empty: bool, below: u64) -> bool {
     match came.first() {
         Some(_) if was_empty => report_gaps(rt, came, 0, below),
@@ -139,15 +146,15 @@ fn report_came<R: ClientSystem>(rt: &R, came: &[BlockRange], was_empty: bool, be
     }
 }
 
-/// Tells which block is the first one that came, where that is not the dump's first one.
+/// Prints which block is the first one that was read, if that is not the first one of the dump.
 fn report_first<R: ClientSystem>(rt: &R, first: u64) {
     if first > 0 {
         let _ = eprintln!(rt; "block {first} is the first one that came");
     }
 }
 
-/// Tells which blocks are missing from this one on, and below another one, between those that came, which are in order. Answers whether
-/// any are.
+/// Prints which blocks are missing between block `from` and the ranges in `came`, which are in
+/// order, below block `below`. Returns whether any are missing.
 fn report_gaps<R: ClientSystem>(rt: &R, came: &[BlockRange], from: u64, below: u64) -> bool {
     let mut end = from;
     let mut has_gap = false;
@@ -162,7 +169,7 @@ fn report_gaps<R: ClientSystem>(rt: &R, came: &[BlockRange], from: u64, below: u
     has_gap
 }
 
-/// Tells that the blocks from one to another are missing.
+/// Prints that the blocks from `first` to `last` are missing.
 fn report_gap<R: ClientSystem>(rt: &R, first: u64, last: u64) {
     let _ = if first == last {
         eprintln!(rt; "block {first} is missing")

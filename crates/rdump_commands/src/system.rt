@@ -1,10 +1,11 @@
-//! What the commands use of the runtime.
+//! The part of the runtime that the commands use.
 use std::fs::File;
 use std::io::Input;
 use std::net::Net;
 use std::rt::{Clock, Env, Files};
 
-/// What the commands use of the runtime: memory, the words of the process, its streams, the clock, files and sockets.
+/// The part of the runtime that the commands use: memory, the arguments of the process, its
+/// streams, the clock, files and sockets.
 pub trait ClientSystem: AllocGlobal
     + Clock
     + Env

@@ -1,4 +1,4 @@
-//! One volume that is read back, over a connection of its own.
+//! Reads one volume back, over a connection of its own.
 ghost use Rattle.std.specs.Prelude.{◌≡◌};
 ghost use Rattle.rdump_args.specs.Rdump.{IsReadLine};
 
@@ -20,14 +20,14 @@ use rmt_wire::errno::ENXIO;
 use std::cell::Cell;
 use std::io;
 
-/// How the reading of a volume ended.
+/// How the read of a volume ended.
 #[derive(Clone, Copy, PartialEq, Eq)]
 pub(crate) enum ReadEnd {
     /// It was read whole.
     Whole,
-    /// The drive has no reel any more, after a volume was read.
+    /// The drive has no more reels, after a volume was read.
     NoReel,
-    /// The next reel has nothing, after a volume was read.
+    /// The next reel is empty, after a volume was read.
     NoRecord,
     /// The next reel has a volume of another dump.
     OtherDump,
@@ -35,18 +35,18 @@ pub(crate) enum ReadEnd {
     Failed,
 }
 
-/// What was read of a volume.
+/// The result of the read of a volume.
 #[derive(Drop)]
 pub(crate) struct VolumeRead {
-    /// Its label, where that came and was wanted.
+    /// Its label, if that was read and was wanted.
     pub label: Option<VolumeLabel>,
-    /// How many blocks of it were written.
+    /// How many of its blocks were written.
     pub count: u64,
-    /// How it ended.
+    /// How the read ended.
     pub end: ReadEnd,
 }
 
-/// What came over a connection.
+/// The result of one connection.
 #[derive(Drop)]
 struct Came {
     read: Result<(), ReadFault>,
@@ -55,8 +55,9 @@ struct Came {
     reel: ReelState,
 }
 
-/// Reads the volume of the first reel of the stack into a file, prints its label, and tells of it. Where `dump` is there, it is the label
-/// of a volume that was read before, and volumes of another dump are refused.
+/// Reads the volume on the first reel of the stack into a file, prints its label, and reports the
+/// result. If `dump` is given, it is the label of a volume that was read before, and volumes of
+/// other dumps are not read.
 pub(crate) fn read_volume<R: ClientSystem>(
     rt: &R,
     line: &ReadLine<'_>,
@@ -90,7 +91,7 @@ pub(crate) fn read_volume<R: ClientSystem>(
     }
 }
 
-/// Which labels are wanted.
+/// Returns which labels are wanted.
 fn wanted_of<'a>(line: &ReadLine<'_>, dump: Option<&'a VolumeLabel>) -> LabelFilter<'a> {
     match dump {
         Some(label) => LabelFilter::DumpOf(label),
@@ -99,7 +100,7 @@ fn wanted_of<'a>(line: &ReadLine<'_>, dump: Option<&'a VolumeLabel>) -> LabelFil
     }
 }
 
-/// What becomes of the reel.
+/// Returns what to do with the reel after the volume.
 fn after_of(line: &ReadLine<'_>) -> AfterVolume {
     if line.all {
         AfterVolume::Offline
@@ -110,8 +111,8 @@ fn after_of(line: &ReadLine<'_>) -> AfterVolume {
     }
 }
 
-/// How the stack ended behind a volume that was read, if it did: the drive has no reel any more, or the next one has nothing, which is
-/// told.
+/// Returns how the stack ended after a volume that was read, if it did. Either the drive has no
+/// more reels, or the next reel is empty, which is printed.
 fn end_behind<R: ClientSystem>(
     rt: &R,
     line: &ReadLine<'_>,
@@ -133,7 +134,8 @@ fn end_behind<R: ClientSystem>(
     None
 }
 
-/// Whether the first read gave nothing. Where a record came whose text is empty, the reel was to be taken away, and was kept.
+/// Whether the read succeeded without a record. After a record with an empty text the read failed,
+/// since the reel was to be moved to the bin and was kept.
 fn has_no_record(came: &Came) -> bool {
     match (&came.found, came.read) {
         (LabelKind::Nothing, Ok(())) => true,
@@ -141,7 +143,7 @@ fn has_no_record(came: &Came) -> bool {
     }
 }
 
-/// Whether the first reel of the stack has nothing. False if the look does not find that out.
+/// Whether the first reel of the stack is empty. False if the look does not find out.
 fn is_blank<R: ClientSystem>(rt: &R, line: &ReadLine<'_>) -> bool
     requires { IsReadLine line.now }
 {
@@ -165,7 +167,7 @@ fn has_no_reel(read: Result<(), ReadFault>) -> bool {
     }
 }
 
-/// The label that was found.
+/// Returns the label that was found, if it is a wanted one.
 fn into_label(found: LabelKind) -> Option<VolumeLabel> {
     match found {
         LabelKind::Label(label) => Some(label),
@@ -173,8 +175,9 @@ fn into_label(found: LabelKind) -> Option<VolumeLabel> {
     }
 }
 
-/// Tells of what came, with the file, in which the volume begins where its label came, and answers how it ended. `failure` is why the
-/// connection failed, by the system.
+/// Reports what was received, and returns how the read ended. If a text was printed, or was to be,
+/// first begins the volume in `file`. `failure` is the system's error, if the connection failed
+/// with one.
 fn report_volume<R: ClientSystem>(
     rt: &R,
     line: &ReadLine<'_>,
@@ -207,7 +210,7 @@ fn report_volume<R: ClientSystem>(
     end
 }
 
-/// Whether a text came that was printed, or was to be.
+/// Whether a text was received that was printed, or was to be.
 fn has_come(line: &ReadLine<'_>, found: &LabelKind) -> bool {
     match found {
         LabelKind::Nothing | LabelKind::OtherDump(_) => false,
@@ -216,7 +219,8 @@ fn has_come(line: &ReadLine<'_>, found: &LabelKind) -> bool {
     }
 }
 
-/// Whether a reel was read as far as its first record, which is no label of `rdump`. A mark is looked for only behind a record.
+/// Whether the reel was read, and does not begin with a label of `rdump`. A missing mark also shows
+/// that there was a record, since a mark is only looked for after one.
 fn is_foreign(came: &Came, has_begun: bool) -> bool {
     match (&came.found, came.read) {
         (LabelKind::Label(_) | LabelKind::OtherDump(_), _) => false,
@@ -226,7 +230,7 @@ fn is_foreign(came: &Came, has_begun: bool) -> bool {
     }
 }
 
-/// Tells how many blocks were read.
+/// Prints how many blocks were read, and of how many bytes.
 fn report_sizes<R: ClientSystem>(rt: &R, sizes: BlockSizes) {
     let BlockSizes {
         count,
@@ -242,7 +246,7 @@ fn report_sizes<R: ClientSystem>(rt: &R, sizes: BlockSizes) {
     };
 }
 
-/// Tells whose volume a reel has, which is of another dump than the ones before.
+/// Prints which volume a reel has, which is of another dump than the ones before.
 fn report_other<R: ClientSystem>(rt: &R, to: &str, label: &VolumeLabel) -> ReadEnd {
     let to = plain(to);
     let (name, level, volume) = (label.name(), label.level(), label.volume());
@@ -252,7 +256,7 @@ fn report_other<R: ClientSystem>(rt: &R, to: &str, label: &VolumeLabel) -> ReadE
     ReadEnd::OtherDump
 }
 
-/// Tells why a volume was not read whole, if it was not, and answers how it ended.
+/// Prints why a volume was not read whole, if so, and returns how the read ended.
 fn end_of<R: ClientSystem>(
     rt: &R,
     line: &ReadLine<'_>,
@@ -268,7 +272,7 @@ fn end_of<R: ClientSystem>(
     ReadEnd::Failed
 }
 
-/// Tells why a block was not written, or is not on the disk.
+/// Prints why a block was not written, or is not on disk.
 fn report_unwritten<R: ClientSystem>(rt: &R, line: &ReadLine<'_>, fault: &BlockFault) {
     match fault {
         BlockFault::Failed(error) => {
@@ -282,7 +286,8 @@ fn report_unwritten<R: ClientSystem>(rt: &R, line: &ReadLine<'_>, fault: &BlockF
     }
 }
 
-/// Tells why a volume of this server was not read whole, by the system's reason where there is one.
+/// Prints why a volume was not read whole from this server, with the system's error if there is
+/// one.
 fn report_read<R: ClientSystem>(rt: &R, to: &str, fault: ReadFault, failure: Option<&io::Error>) {
     match (fault, failure) {
         (ReadFault::OutputFailed, _) => {
@@ -298,7 +303,7 @@ fn report_read<R: ClientSystem>(rt: &R, to: &str, fault: ReadFault, failure: Opt
     }
 }
 
-/// Tells where the reel is, once the server was asked to take it away.
+/// Prints where the reel is, if the server was asked to move it to the bin.
 fn report_reel<R: ClientSystem>(rt: &R, came: &Came) {
     if came.reel != ReelState::Asked {
         return;

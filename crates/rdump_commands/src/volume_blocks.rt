@@ -1,23 +1,23 @@
-//! The blocks of a volume that is read back.
+//! Writes the blocks of a volume that is read back.
 use crate::out_file::{BlockFault, OutFile};
 use std::cell::Cell;
 use std::io::{self, ErrorKind, Write};
 
-/// How many blocks came, and of how many bytes.
+/// How many blocks were written, and of how many bytes.
 #[derive(Clone, Copy)]
 pub(crate) struct BlockSizes {
-    /// How many they are.
+    /// How many blocks there are.
     pub count: u64,
-    /// The bytes of the shortest.
+    /// The bytes of the shortest block.
     pub shortest: usize,
-    /// The bytes of the longest.
+    /// The bytes of the longest block.
     pub longest: usize,
-    /// The bytes of all.
+    /// The bytes of all blocks.
     pub total: u64,
 }
 
 impl BlockSizes {
-    /// Those of no block.
+    /// The sizes of no blocks.
     const NONE: BlockSizes = BlockSizes {
         count: 0,
         shortest: 0,
@@ -25,7 +25,7 @@ impl BlockSizes {
         total: 0,
     };
 
-    /// Counts a block of so many bytes.
+    /// Counts a block of `bytes` bytes.
     fn add(&mut self, bytes: usize) {
         self.shortest = if self.count == 0 {
             bytes
@@ -38,8 +38,8 @@ impl BlockSizes {
     }
 }
 
-/// Where the blocks of a volume go, each by one write: to a file, in which each has a place of its own or comes after the one before.
-/// `first` is the volume's first block, once that is known.
+/// Writes the blocks of a volume to a file, each in one write: to its place, or after the block
+/// before. `first` is the first block of the volume, once that is known.
 #[derive(Drop)]
 pub(crate) struct VolumeBlocks<'a> {
     file: &'a OutFile,
@@ -48,7 +48,7 @@ pub(crate) struct VolumeBlocks<'a> {
 }
 
 impl<'a> VolumeBlocks<'a> {
-    /// Where no block went so far.
+    /// Makes a writer that has received no block.
     pub(crate) fn new(file: &'a OutFile, first: &'a Cell<Option<u32>>) -> Self {
         VolumeBlocks {
             file,
@@ -57,7 +57,7 @@ impl<'a> VolumeBlocks<'a> {
         }
     }
 
-    /// How many blocks were written, and of how many bytes.
+    /// Returns how many blocks were written, and of how many bytes.
     pub(crate) fn sizes(&self) -> BlockSizes {
         self.sizes
     }
@@ -75,7 +75,7 @@ impl<'a> VolumeBlocks<'a> {
 }
 
 impl<'a> Write for VolumeBlocks<'a> {
-    /// It takes all of a block.
+    /// Accepts a whole block. Keeps the fault in the file if it was not written.
     fn write(&mut self, buf: &[u8]) -> io::Result<usize> {
         match self.put(buf) {
             Ok(()) => {

@@ -1,4 +1,4 @@
--- What dumpdates is asked by `rdump dates`, what is printed, and the status that it ends with. Public contracts cite it.
+-- The queries of `rdump dates`, their output, and the exit status. Public contracts cite it.
 use Rattle.std.specs.Prelude.{◌≡◌, ◌⊎◌, ℕ, true, false, List, [], ◌∷◌, ◌++◌, Option, Some, None, Result, Ok, Err, codes, decimal, option_map}
 use Rattle.std.specs.Borrow.{Bor}
 use Rattle.dumpdates.specs.Dates.{base_of}
@@ -10,7 +10,7 @@ use Rattle.dumpdates.specs.declared.fault.DatesFault.TheVariants.{BadLine, BadDa
 use Rattle.rmt_wire.specs.Counted.{Counting}
 use Rattle.rmt_wire.specs.Print.{IsPrinted}
 
--- whose base date is asked for: a dump of this name and level
+-- a query for the base date of a dump of this name and level
 pub record AskedDump : Type 0 where
   pub name : List ℕ
   pub level : ℕ
@@ -18,39 +18,42 @@ pub record AskedDump : Type 0 where
 abbrev pub asked_dump : List ℕ → ℕ → AskedDump
 asked_dump name level = record { name = name; level = level }
 
--- the same as plain values of what words say
+-- the query of the arguments, as plain values
 abbrev pub plain_asked : Option (Bor (List ℕ) × ℕ) → Option AskedDump
 plain_asked asked = option_map (λ a. asked_dump a.0.now a.1) asked
 
--- the text anew, or the base date of a name at a level as a line of digits
+-- the text of all entries, or the base date of a name and level as a line of digits
 abbrev pub answer_text : Option AskedDump → List DatesEntry → List ℕ
 answer_text None entries = written entries
 answer_text (Some asked) entries = decimal (base_of entries asked.name asked.level) ++ line_feed ∷ []
 
--- the line of a fault
+-- the line printed for a fault
 abbrev pub dates_fault_text : DatesFault → List ℕ
 dates_fault_text (BadLine n) = codes "line " ++ decimal n ++ codes ": bad line\n"
 dates_fault_text (BadDate n) = codes "line " ++ decimal n ++ codes ": bad date\n"
 dates_fault_text OutOfMemory = codes "out of memory\n"
 
--- Where the file spells entries, their answer is to be printed, with status 0. Else its fault is, with status 1. So is want
--- of memory, which can come only where an entry is reached.
+-- The text and the exit status that answer a query. Either the file spells entries, the text is
+-- their answer and the status is 0. Or there is a fault, the text is that of the fault and the
+-- status is 1. The fault can be a failed allocation only if an entry was reached.
 abbrev pub IsAnswer : List ℕ → Option AskedDump → List ℕ → ℕ → Type 0
 IsAnswer file asked text status =
     ((entries : List DatesEntry) × SpellsDates file entries × (text ≡ answer_text asked entries) × (status ≡ 0))
     ⊎ ((fault : DatesFault) × HasDatesFault file fault × (text ≡ dates_fault_text fault) × (status ≡ 1))
 
--- The text was printed, and the status is as wanted. Or a write failed, a beginning of it was printed, and the status is 1.
+-- The text was printed, and the status is `wanted`. Or a write failed, a beginning of the text was
+-- printed, and the status is 1.
 abbrev pub IsStatusPrinted : {W : Type 0} → (W → Option (List ℕ)) → List ℕ → ℕ → Counting W → Counting W → ℕ → Type 0
 IsStatusPrinted contents text wanted out out' status =
     (IsPrinted contents text out out' true × (status ≡ wanted)) ⊎ (IsPrinted contents text out out' false × (status ≡ 1))
 
--- the answer of the file to what is asked was printed
+-- the answer to the query was printed
 abbrev pub IsDates : {W : Type 0} → (W → Option (List ℕ)) → List ℕ → Option AskedDump → Counting W → Counting W → ℕ → Type 0
 IsDates contents file asked out out' status =
     (text : List ℕ) × (wanted : ℕ) × IsAnswer file asked text wanted × IsStatusPrinted contents text wanted out out' status
 
--- The base date of a name at a level, with nothing printed; or the file is none, and its fault was printed.
+-- The result is the base date of a name at a level, and nothing was printed. Or the file is not a
+-- dumpdates file, and its fault was printed.
 abbrev pub IsBaseDate : {W : Type 0} → (W → Option (List ℕ)) → List ℕ → AskedDump → Counting W → Counting W → Result ℕ DatesFault → Type 0
 IsBaseDate contents file asked out out' (Ok base) =
     ((entries : List DatesEntry) × SpellsDates file entries × (base ≡ base_of entries asked.name asked.level)) × (out' ≡ out)

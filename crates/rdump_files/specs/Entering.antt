@@ -1,4 +1,4 @@
--- A dump that is entered in a dumpdates file once it is complete. Public contracts cite it.
+-- Entering a complete dump in a dumpdates file. Public contracts cite it.
 use Rattle.std.specs.Prelude.{◌≡◌, ◌≢◌, ℕ, Bool, List, Option, None, Some, Result, Ok, Err, codes}
 use Rattle.rmt_wire.specs.Counted.{Counting}
 use Rattle.rmt_wire.specs.Print.{IsPrinted}
@@ -13,21 +13,22 @@ use Rattle.rdump_files.specs.WholeFile.{WholeFileKind}
 use Rattle.rdump_files.specs.declared.dates_update.UpdateFault.{UpdateFault}
 use Rattle.rdump_files.specs.declared.dump_update.DumpEnd.{DumpEnd}
 
--- the entry of a run
+-- the entry of a run in dumpdates
 abbrev pub dates_entry_of : PlainRun → DatesEntry
 dates_entry_of run = record { name = run.name; level = run.level; date = run.date }
 
--- an end with this status, and no cause
+-- the dump ended with this status, and without a fault
 abbrev pub IsUncaused : DumpEnd → ℕ → Type 0
 IsUncaused end status = (end.status ≡ status) × (end.fault ≡ None)
 
--- the status; and where the dump was not entered the line, and the cause
+-- The end of a dump after its update. If the dump was not entered, the line was printed, the status
+-- is 3 and the fault is given.
 abbrev pub IsUpdateTold : {W : Type 0} → (W → Option (List ℕ)) → Result Unit UpdateFault → Counting W → Counting W → DumpEnd → Type 0
 IsUpdateTold contents (Ok x) out out' end = (out' ≡ out) × IsUncaused end 0
 IsUpdateTold contents (Err fault) out out' end =
     ((whole : Bool) × IsPrinted contents (codes "dumpdates not updated\n") out out' whole) × (end.status ≡ 3) × (end.fault ≡ Some fault)
 
--- where the lines of a dump go, and the dumpdates file that it is entered in
+-- the output of a dump, and the dumpdates file in which it is entered
 pub record DumpSinks (W F : Type 0) : Type 0 where
   pub out : Counting W
   pub file : F
@@ -35,15 +36,17 @@ pub record DumpSinks (W F : Type 0) : Type 0 where
 abbrev pub sinks : {W F : Type 0} → Counting W → F → DumpSinks W F
 sinks out file = record { out = out; file = file }
 
--- The entry of a run that is finished was put into the file, or why not was told. Of another run there is none.
+-- The entry of a finished run was put into the file, or its failure was reported. For an unfinished
+-- run, nothing changed.
 pub record IsEntered {W F : Type 0} (contents : W → Option (List ℕ)) (k : WholeFileKind F) (at : Standing) (old new : DumpSinks W F)
     (end : DumpEnd) : Type 0 where
   pub unfinished : at.stage ≢ Finished → (new ≡ old) × IsUncaused end 3
   pub enters : at.stage ≡ Finished → (result : Result Unit UpdateFault)
       × IsUpdated k (dates_entry_of at.run) old.file new.file result × IsUpdateTold contents result old.out new.out end
 
--- A dump, and then its entry. A dump that ends with another status than 0 leaves the file alone, and has no cause. After 0, which says
--- that the run is finished and all was printed, its entry is put into the file.
+-- A dump, and then its entry. If the dump ends with a status other than 0, the file is unchanged
+-- and no fault is given. A status of 0 means that the run is finished and all was printed. Its
+-- entry is then put into the file.
 pub record IsDumpEntered {W F : Type 0} (contents : W → Option (List ℕ)) (k : WholeFileKind F) (first : List VolumeCount)
     (at : Standing) (old new : DumpSinks W F) (end : DumpEnd) : Type 0 where
   pub told : Counting W

@@ -1,5 +1,6 @@
--- In reading order, each by itself: Payload (what is dumped); Comeback (a dump that goes on); Dates (the dumpdates file); WholeFile, Updating (a dump that is entered in it);
--- Entering (once it is complete); Left (what a run that was stopped leaves).
+-- In reading order, each by itself: Payload (the payload and its run); ResumedDump (a dump that is
+-- resumed); Dates (the dumpdates file); WholeFile, Updating (entering a dump in it). Then Entering
+-- (once the dump is complete); Left (what an interrupted run leaves).
 pub mod ResumedDump
 pub mod Dates
 pub mod Entering

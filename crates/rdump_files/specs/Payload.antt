@@ -12,12 +12,12 @@ use Rattle.rdump_args.specs.declared.run_line.DumpLine.{DumpLine}
 use Rattle.rdump_files.specs.declared.payload.DumperFault.{DumperFault}
 use Rattle.rdump_files.specs.declared.payload.DumperFault.TheVariants.{Run, OutOfMemory}
 
--- how many blocks of this size so many bytes take; none of no size
+-- how many blocks of this size hold this many bytes, or 0 if the size is 0
 abbrev pub blocks_for : ℕ → ℕ → ℕ
 blocks_for zero bytes = 0
 blocks_for (suc n) bytes = div_ceil bytes (suc n)
 
--- the payload with zero bytes up to the end of its last block
+-- the payload, padded with zero bytes to the end of its last block
 abbrev pub padded_payload : ℕ → List ℕ → List ℕ
 padded_payload size payload = payload ++ replicate (div_ceil (length payload) size * size - length payload) 0
 
@@ -25,7 +25,7 @@ padded_payload size payload = payload ++ replicate (div_ceil (length payload) si
 abbrev pub payload_blocks : ℕ → List ℕ → List (List ℕ)
 payload_blocks size payload = cut_blocks (blocks_for size (length payload)) size (padded_payload size payload)
 
--- a payload on a medium: how many bytes it had when it was opened, the size of its blocks, and how many reads have failed
+-- a payload on a medium: its bytes when it was opened, the size of its blocks, and the failed reads
 pub record FiledPayload (M : Type 0) : Type 0 where
   pub medium : M
   pub len : ℕ
@@ -42,25 +42,29 @@ filed_code {M} code =
     (λ t. record { medium = t.0; len = t.1.0; size = t.1.1.0; failures = t.1.1.1 })
     (λ _. refl)
 
--- It tells the blocks of the bytes that the medium tells, where these are as many as when it was opened.
+-- The blocks are those of the bytes that the medium holds, if these are as many as when it was
+-- opened.
 abbrev pub HasPayloadBlocks : {M : Type 0} → (M → List ℕ → Type 0) → FiledPayload M → List (List ℕ) → Type 0
 HasPayloadBlocks holds p blocks = (bytes : List ℕ) × holds p.medium bytes × (length bytes ≡ p.len) × (blocks ≡ payload_blocks p.size bytes)
 
--- A read can fail where the medium can, and where the medium does not tell as many bytes as when it was opened.
+-- A read can fail if the medium can, or if the medium does not hold as many bytes as when it was
+-- opened.
 abbrev pub PayloadCanFail : {M : Type 0} → MediumKind M → FiledPayload M → Type 0
 PayloadCanFail m p = m.can_fail p.medium ⊎ ((bytes : List ℕ) → m.holds p.medium bytes → length bytes ≡ p.len → ⊥)
 
--- A payload that was opened: the medium was asked for its length, once. Where that failed there is none.
+-- A payload was opened: the length of the medium was read, once. If that failed, there is no
+-- payload.
 abbrev pub IsOpened : {M : Type 0} → MediumKind M → M → ℕ → Result (FiledPayload M) MediumFailed → Type 0
 IsOpened m medium size (Ok p) = IsMediumCall m medium (Len (Ok p.len)) p.medium × (p.size ≡ size) × (p.failures ≡ 0)
 IsOpened {M} m medium size (Err failed) = (after : M) × IsMediumCall m medium (Len (Err failed)) after
 
--- where the block of this number begins, or the end of the payload
+-- the offset at which this block begins, or the end of the payload
 abbrev pub begin_of : {M : Type 0} → FiledPayload M → ℕ → ℕ
 begin_of p block = min (block * p.size) p.len
 
--- One read: the medium is read once, from where the block begins, for as many bytes as the payload has from there on and the room takes.
--- The block is these bytes, and zero bytes after them. Where the medium failed, or has fewer, the read failed.
+-- One read of a block. The medium is read once, from the beginning of the block. The read asks for
+-- the bytes that the payload has from there on, as far as the buffer has room. The block is these
+-- bytes, padded with zero bytes. If the medium failed or gave fewer bytes, the read failed.
 pub record IsPayloadRead {M : Type 0} (m : MediumKind M) (old : FiledPayload M) (block : ℕ) (into : List ℕ)
     (result : Result Unit SourceFailed) (new : FiledPayload M) (given : List ℕ) : Type 0 where
   pub part : List ℕ
@@ -71,19 +75,19 @@ pub record IsPayloadRead {M : Type 0} (m : MediumKind M) (old : FiledPayload M) 
       (λ _. found ≢ Ok (length part))
   pub same : (new.len ≡ old.len) × (new.size ≡ old.size)
 
--- the run that the words say, in so many blocks
+-- the run that the arguments describe, with this number of blocks
 abbrev pub run_in_blocks : DumpLine → ℕ → ℕ → ℕ → PlainRun
 run_in_blocks line date since blocks = plain_run line.device.now line.fs.now line.level date since line.block blocks
 
--- and that of a payload of so many bytes
+-- the run that the arguments describe, for a payload of this many bytes
 abbrev pub line_run : DumpLine → ℕ → ℕ → ℕ → PlainRun
 line_run line date since bytes = run_in_blocks line date since (blocks_for line.block bytes)
 
--- a run that can't be, or memory
+-- the fault is the first violated limit of the run, or a failed allocation
 abbrev pub IsRefusedRun : PlainRun → DumperFault → Type 0
 IsRefusedRun run (Run fault) = IsFirstBroken fault run
 IsRefusedRun run OutOfMemory = Unit {0}
 
--- the payload is that of the run: in blocks of its size, and as many
+-- the payload has the block size and the number of blocks of the run
 abbrev pub IsRunsPayload : {M : Type 0} → PlainRun → FiledPayload M → Type 0
 IsRunsPayload run p = (p.size ≡ run.block_bytes) × (run.blocks ≡ blocks_for p.size p.len)

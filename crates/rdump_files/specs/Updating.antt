@@ -1,4 +1,4 @@
--- A dump that is entered in a dumpdates file. Public contracts cite it.
+-- Entering a dump in a dumpdates file. Public contracts cite it.
 use Rattle.std.specs.Prelude.{◌≡◌, ◌⊎◌, ℕ, List, [], Option, unwrap_or, Result, Ok, Err}
 use Rattle.dumpdates.specs.Dates.{entered}
 use Rattle.dumpdates.specs.Entry.{DatesEntry}
@@ -10,13 +10,14 @@ use Rattle.rdump_files.specs.declared.whole_file.FileFailed.{FileFailed}
 use Rattle.rdump_files.specs.declared.dates_update.UpdateFault.{UpdateFault}
 use Rattle.rdump_files.specs.declared.dates_update.UpdateFault.TheVariants.{Unread, Dates, Unwritten}
 
--- the text of these bytes with the entry is put in place of the file, or could not be
+-- the text of these bytes with the entry replaced the file, or could not
 abbrev pub PutsEntry : {F : Type 0} → WholeFileKind F → DatesEntry → List ℕ → F → F → Result Unit FileFailed → Type 0
 PutsEntry k entry bytes old new done =
     (entries : List DatesEntry) × SpellsDates bytes entries × k.takes old (written (entered entries entry)) done new
 
--- What became of an entry for what was read: the text with the entry was put in place of the file, or could not be; a file that is not
--- there is empty. Or the file is no dumpdates file, or memory was refused, or it could not be read, and it is left alone.
+-- The result of an update, given what was read. A file that does not exist is empty. If the bytes
+-- are dumpdates, their text with the entry replaced the file, or could not. Otherwise the file is
+-- unchanged: it is not a dumpdates file, an allocation failed, or it could not be read.
 abbrev pub PutsInto : {F : Type 0} → WholeFileKind F → DatesEntry → Result (Option (List ℕ)) FileFailed → F → F
     → Result Unit UpdateFault → Type 0
 PutsInto k entry (Ok bytes) old new (Ok x) = PutsEntry k entry (unwrap_or bytes []) old new (Ok x)
@@ -25,7 +26,7 @@ PutsInto k entry (Ok bytes) old new (Err (Dates fault)) = (new ≡ old) × (HasD
 PutsInto k entry (Err failed) old new (Err Unread) = new ≡ old
 PutsInto k entry read old new result = ⊥
 
--- the file is read, and then the entry is put into what it held
+-- the file is read, and then the entry is put into its contents
 abbrev pub IsUpdated : {F : Type 0} → WholeFileKind F → DatesEntry → F → F → Result Unit UpdateFault → Type 0
 IsUpdated {F} k entry old new result =
     (read : Result (Option (List ℕ)) FileFailed) × (between : F) × k.gives old read between × PutsInto k entry read between new result

@@ -1,14 +1,14 @@
--- A file that is read whole and replaced whole. Public contracts cite it.
+-- A file that is read as a whole and replaced as a whole. Public contracts cite it.
 use Rattle.std.specs.Prelude.{ℕ, List, Option, option_map, Result, Ok, Err, Vec}
 use Rattle.std.specs.Global.{Global}
 use Rattle.rdump_files.specs.declared.whole_file.FileFailed.{FileFailed}
 
--- what a read gives, as plain values
+-- the result of a read, as plain values
 abbrev pub plain_read : Result (Option (Vec ℕ Global)) FileFailed → Result (Option (List ℕ)) FileFailed
 plain_read (Ok bytes) = Ok (option_map (λ held. held.items) bytes)
 plain_read (Err failed) = Err failed
 
--- what files of a kind tell: what a read gives, and what comes of a text that is put in place of the file
+-- the contracts of a kind of files: the result of a read, and the result of a replacement
 pub record WholeFileKind (F : Type 0) : Type 1 where
   pub gives : F → Result (Option (List ℕ)) FileFailed → F → Type 0
   pub takes : F → List ℕ → Result Unit FileFailed → F → Type 0

@@ -1,4 +1,4 @@
-//! A date as text.
+//! Formats a date as text.
 ghost use Rattle.std.specs.Prelude.{◌≡◌, IfOk, IfSome, codes, string_bytes};
 ghost use Rattle.dumpdates.specs.Entry.{DatesEntry};
 ghost use Rattle.dumpdates.specs.Stored.{plain_entry};
@@ -7,15 +7,17 @@ ghost use Rattle.dumpdates.specs.Text.{ctime_text, line_text};
 use dumpdates::{Dates, DatesFault, Entry};
 use std::alloc::Global;
 
-/// The name of an entry whose date alone is asked for.
+/// The name of the entry that `date_text` makes only for its date.
 const NAME: &str = "-";
 
-/// Where the date begins in its line: after 32 places of the name, a space, the level, and a space.
+/// The offset of the date in its line, after 32 bytes of name, a space, the level, and a space.
 const DATE_AT: usize = 35;
 
-/// A date, in seconds since 1970 began, as ctime(3) prints it, in UTC and without the line feed: `Tue Feb 29 00:00:00 2000`.
+/// Formats a date, in seconds since 1970, as ctime(3) does, in UTC and without the line feed:
+/// `Tue Feb 29 00:00:00 2000`.
 ///
-/// None where it is above `LAST_SECOND` of `dumpdates`, the last second of the year 9999, or memory is refused.
+/// Returns none if the date is above `LAST_SECOND` of `dumpdates`, the last second of the year
+/// 9999, or if an allocation fails.
 pub fn date_text(alloc: Global, date: u64) -> Option<String>
     ensures { IfSome result (λ text. string_bytes text ≡ ctime_text date) }
 {
@@ -25,7 +27,7 @@ pub fn date_text(alloc: Global, date: u64) -> Option<String>
     String::from_str(alloc, text).ok()
 }
 
-/// The line of an entry.
+/// Returns the line of dumpdates for an entry.
 fn line_of(alloc: Global, entry: Entry<'_>) -> Result<Vec<u8>, DatesFault>
     ensures { IfOk result (λ line. line.items ≡ line_text (plain_entry entry.entry)) }
 {
@@ -34,7 +36,7 @@ fn line_of(alloc: Global, entry: Entry<'_>) -> Result<Vec<u8>, DatesFault>
     dates.text()
 }
 
-/// The date in the line of an entry whose name is `NAME`.
+/// Returns the date in the line of an entry whose name is `NAME`.
 fn date_in(line: &[u8]) -> Option<&[u8]>
     ensures { IfSome result (λ text. (entry : DatesEntry) → entry.name ≡ codes "-" → line.now ≡ line_text entry
         → text.now ≡ ctime_text entry.date) }

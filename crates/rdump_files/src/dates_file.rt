@@ -1,4 +1,4 @@
-//! Asking a dumpdates file, as `rdump dates` does.
+//! Queries a dumpdates file, for `rdump dates`.
 
 ghost use Rattle.std.specs.Prelude.{◌≡◌, ◌⊎◌, ◌+◌, ◌++◌, ◌≤◌, [], length, codes, decimal};
 ghost use Rattle.dumpdates.specs.Text.{written};
@@ -12,24 +12,28 @@ use rmt_wire::{Counted, print_text};
 use std::alloc::Global;
 use std::io::Write;
 
-/// The status where the answer was printed.
+/// The exit status if the answer was printed.
 const ANSWERED: u8 = 0;
 
-/// The status where the file is bad, memory was refused, or a write failed.
+/// The exit status if the file is bad, an allocation fails, or a write fails.
 const FAILED: u8 = 1;
 
-/// A text with a number fits into so many bytes.
+/// Room for a line with a number, in bytes.
 const LINE_ROOM: usize = 64;
 
-/// Asks a dumpdates file (dump(8)), whose bytes are given, and prints the answer on `out`: its text anew, each entry
-/// as it is written, or the base date of a dump of the name and level that are asked, in seconds since 1970 began,
-/// UTC, as a decimal number and a line feed. Where no lower level of the name was dumped it is 0.
+/// Prints on `out` the answer of `rdump dates` for the bytes `file` of a dumpdates file (dump(8)).
 ///
-/// A file that is not one prints `line 3: bad line` or `line 3: bad date`, with the number of its first bad line,
-/// counted from 1, and a line feed; refused memory prints `out of memory` and a line feed.
+/// Without `asked`, it prints the text of the file again, each entry as `Dates::text` writes it.
+/// For a name and a level in `asked`, it prints the base date of that dump, as a decimal number and
+/// a line feed. The base date is in seconds since 1970, UTC. It is 0 if no lower level of the name
+/// was dumped.
 ///
-/// Answers the exit status of `rdump dates`: 0 where the answer was printed, and 1 where the file was bad, memory was
-/// refused, or a write failed. It writes no more after a write that failed.
+/// If `file` is not a dumpdates file, it prints `line 3: bad line` or `line 3: bad date`, and a
+/// line feed. The number is that of the first bad line, counted from 1. If an allocation fails, it
+/// prints `out of memory` and a line feed.
+///
+/// Returns the exit status of `rdump dates`: 0 if the answer was printed. Returns 1 if the file is
+/// bad, an allocation fails, or a write fails. After a write that failed, it writes nothing more.
 pub fn dates<W: Write>(
     alloc: Global,
     file: &[u8],
@@ -48,8 +52,11 @@ pub fn dates<W: Write>(
     }
 }
 
-/// The base date of a dump of this name and level in a dumpdates file, whose bytes are given, in seconds since 1970 began,
-/// UTC. Where the file is none, or memory is refused, its fault is printed as `dates` prints it.
+/// Returns the base date of a dump of this name and level, in seconds since 1970, UTC. `file` is
+/// the bytes of a dumpdates file.
+///
+/// If these are not a dumpdates file, or an allocation fails, prints the fault as `dates` does and
+/// returns it.
 pub fn base_date<W: Write>(
     alloc: Global,
     file: &[u8],
@@ -68,7 +75,7 @@ pub fn base_date<W: Write>(
     }
 }
 
-/// Prints the text of the entries.
+/// Prints the text of the entries, and returns the exit status.
 fn print_dates<W: Write>(out: &mut Counted<W>, dates: &Dates) -> u8
     ensures { IsStatusPrinted W.contents (written dates.now) 0 out.old out.new result
         ⊎ (¬ (dates.now ≡ []) × IsStatusPrinted W.contents (dates_fault_text OutOfMemory) 1 out.old out.new result) }
@@ -79,7 +86,7 @@ fn print_dates<W: Write>(out: &mut Counted<W>, dates: &Dates) -> u8
     }
 }
 
-/// Prints a date as a number.
+/// Prints a date as a number and a line feed, and returns the exit status.
 fn print_base<W: Write>(out: &mut Counted<W>, date: u64) -> u8
     ensures { IsStatusPrinted W.contents (decimal date ++ codes "\n") 0 out.old out.new result }
 {
@@ -87,7 +94,7 @@ fn print_base<W: Write>(out: &mut Counted<W>, date: u64) -> u8
     print(out, line.as_bytes(), ANSWERED)
 }
 
-/// Prints the line of a fault.
+/// Prints the line of a fault, and returns the exit status.
 fn print_fault<W: Write>(out: &mut Counted<W>, fault: DatesFault) -> u8
     ensures { IsStatusPrinted W.contents (dates_fault_text fault) 1 out.old out.new result }
 {
@@ -98,7 +105,7 @@ fn print_fault<W: Write>(out: &mut Counted<W>, fault: DatesFault) -> u8
     }
 }
 
-/// Prints what is wrong with the line of that number.
+/// Prints what is wrong with line `number`, and returns the exit status.
 fn print_at_line<W: Write>(out: &mut Counted<W>, number: usize, fault: &str) -> u8
     requires { length fault.now ≤ 16 }
     ensures { IsStatusPrinted W.contents (codes "line " ++ decimal number ++ fault.now) 1 out.old out.new result }
@@ -107,7 +114,7 @@ fn print_at_line<W: Write>(out: &mut Counted<W>, number: usize, fault: &str) -> 
     print(out, line.as_bytes(), FAILED)
 }
 
-/// A number between two short texts.
+/// Returns the number between two texts of at most 24 bytes together.
 fn numbered(before: &str, number: u64, after: &str) -> ArrayString<LINE_ROOM>
     requires { length before.now + length after.now ≤ 24 }
     ensures { result.bytes ≡ before.now ++ decimal number ++ after.now }
@@ -120,7 +127,7 @@ fn numbered(before: &str, number: u64, after: &str) -> ArrayString<LINE_ROOM>
     line
 }
 
-/// Prints a text. Answers the status that is given, or that of a failure where a write failed or took none of some
+/// Prints a text. Returns `status`, or the status of a failure if a write fails or accepts no
 /// bytes.
 fn print<W: Write>(out: &mut Counted<W>, text: &[u8], status: u8) -> u8
     ensures { IsStatusPrinted W.contents text.now status out.old out.new result }

@@ -1,4 +1,4 @@
-//! A dump that is entered in a dumpdates file.
+//! Enters a dump in a dumpdates file.
 ghost use Rattle.std.specs.Prelude.{◌≡◌, ◌⊎◌, List, IfErr, IfOk};
 ghost use Rattle.dumpdates.specs.Dates.{entered};
 ghost use Rattle.dumpdates.specs.Entry.{DatesEntry};
@@ -19,17 +19,18 @@ use std::alloc::Global;
 pub enum UpdateFault {
     /// The file could not be read.
     Unread,
-    /// The file is no dumpdates file, or memory was refused.
+    /// The file is not a dumpdates file, or an allocation failed.
     Dates(DatesFault),
-    /// The text with the dump could not be put in place of the file.
+    /// The file could not be replaced with the new text.
     Unwritten,
 }
 
-/// Enters a dump in a dumpdates file: reads the file anew, and puts its text with the dump in place of it. A file that is
-/// not there is empty.
+/// Enters a dump in a dumpdates file: reads the file, and replaces it with its text and the new
+/// entry. A file that does not exist is treated as empty.
 ///
-/// Answers `Unread` and `Unwritten` where the file failed, and `Dates` where it is no dumpdates file or memory is refused.
-/// It is replaced in no case but the last step's.
+/// Returns `Unread` if the read fails, `Unwritten` if the replacement fails, and `Dates` if the
+/// file is not a dumpdates file or an allocation fails. With `Unread` and `Dates` it does not try
+/// to replace the file.
 pub fn update<F: WholeFile>(
     alloc: Global,
     file: &mut F,
@@ -51,7 +52,7 @@ pub fn update<F: WholeFile>(
     }
 }
 
-/// The text of a dumpdates file with this dump.
+/// Returns the text of a dumpdates file with this dump entered.
 fn text_with(alloc: Global, file: &[u8], entry: Entry<'_>) -> Result<Vec<u8>, DatesFault>
     ensures text { IfOk result (λ text. (entries : List DatesEntry) × SpellsDates file.now entries
         × (text.items ≡ written (entered entries (plain_entry entry.entry)))) }

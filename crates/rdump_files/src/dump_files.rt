@@ -1,4 +1,4 @@
-//! The files of a dump, none of which may be another one of them.
+//! Checks that the files of a dump are all different.
 
 use crate::named::{folder_of, named_file};
 use crate::new_file::{beside, found_at};
@@ -12,28 +12,29 @@ use std::rt::Files;
 /// One of the files of a dump.
 #[derive(Clone, Copy, Debug, PartialEq, Eq)]
 pub enum DumpFile {
-    /// What is dumped.
+    /// The payload, which is dumped.
     Payload,
     /// The dumpdates file.
     Dates,
-    /// The new file that is to replace that.
+    /// The new file that replaces the dumpdates file.
     NewDates,
     /// The checkpoint file.
     Checkpoint,
-    /// The new file that is to replace that.
+    /// The new file that replaces the checkpoint file.
     NewCheckpoint,
 }
 
-/// Two of the files of a dump that are one.
+/// Two of the files of a dump that are the same file.
 #[derive(Clone, Copy, Debug, PartialEq, Eq)]
 pub struct OneFile {
-    /// The one that was looked at.
+    /// The file that was to be added.
     pub file: DumpFile,
-    /// The one that it is too.
+    /// The file, added before, that is the same.
     pub other: DumpFile,
 }
 
-/// A file of the system: by its device and inode, and where it is not there by those of its folder and by its name in that.
+/// Identifies a file by its device and inode. A file that does not exist is identified by those of
+/// its folder and by its name.
 #[derive(Drop)]
 struct FileId {
     device: u64,
@@ -42,7 +43,7 @@ struct FileId {
 }
 
 impl FileId {
-    /// The file that has this metadata.
+    /// Identifies the file that has this metadata.
     fn of(found: &Metadata) -> FileId {
         FileId {
             device: found.dev(),
@@ -51,7 +52,8 @@ impl FileId {
         }
     }
 
-    /// The file of this path, which is not there. None where its folder is not there either.
+    /// Identifies the file at this path, which does not exist. Returns none if its folder does not
+    /// exist either.
     fn of_missing<R: Files<File = File>>(
         rt: &R,
         alloc: Global,
@@ -72,7 +74,8 @@ impl FileId {
         }
     }
 
-    /// The file that this path names, links followed.
+    /// Identifies the file that this path names, following links. Returns none if neither it nor
+    /// its folder exists.
     fn of_path<R: Files<File = File>>(
         rt: &R,
         alloc: Global,
@@ -88,7 +91,9 @@ impl FileId {
         }
     }
 
-    /// The new file of the one that this path names. None where something else than a plain file has that name: it is not replaced.
+    /// Identifies the new file for the file that this path names. Returns none if the path names
+    /// something that is not a regular file, which is never replaced. Also returns none if neither
+    /// the new file nor its folder exists.
     fn of_new<R: Files<File = File>>(
         rt: &R,
         alloc: Global,
@@ -106,31 +111,33 @@ impl FileId {
         }
     }
 
-    /// Whether both are one file.
+    /// Whether both are the same file.
     fn is(&self, other: &FileId) -> bool {
         let same_place = self.device == other.device && self.inode == other.inode;
         same_place && self.missing == other.missing
     }
 }
 
-/// The files of a dump that were looked at: none of them is another one.
+/// The files of a dump that were added, which are all different.
 #[derive(Drop)]
 pub struct DumpFiles {
     known: Vec<(DumpFile, FileId)>,
 }
 
 impl DumpFiles {
-    /// The payload alone, which is open and has this metadata. It fails only where memory is refused.
+    /// Starts with the payload alone, which is open and has this metadata. Fails only if an
+    /// allocation fails.
     pub fn new(alloc: Global, payload: &Metadata) -> io::Result<DumpFiles> {
         let mut known = Vec::new(alloc);
         known.push((DumpFile::Payload, FileId::of(payload)))?;
         Ok(DumpFiles { known })
     }
 
-    /// Adds the dumpdates file at this path, and the new file of that where it is to be updated. None where neither is one of those
-    /// that were added before.
+    /// Adds the dumpdates file at this path and, if it is to be updated, its new file. Returns the
+    /// first of the two that is the same as a file added before, with that file. Returns none if
+    /// all are different.
     ///
-    /// It fails where the system does not tell which file it is, and where memory is refused.
+    /// Fails if the system does not identify a file, or if an allocation fails.
     pub fn add_dates<R: Files<File = File>>(
         &mut self,
         rt: &R,
@@ -147,7 +154,7 @@ impl DumpFiles {
         self.add(DumpFile::NewDates, new)
     }
 
-    /// Adds the checkpoint file at this path, and the new file of that, as `add_dates` does.
+    /// Adds the checkpoint file at this path and its new file, as `add_dates` does.
     pub fn add_checkpoint<R: Files<File = File>>(
         &mut self,
         rt: &R,
@@ -163,7 +170,8 @@ impl DumpFiles {
         self.add(DumpFile::NewCheckpoint, new)
     }
 
-    /// Adds a file, if there is one, where it is none of those that were added before.
+    /// Adds a file, if it has an identity and differs from all that were added before. Otherwise
+    /// returns the two that are the same.
     fn add(&mut self, file: DumpFile, id: Option<FileId>) -> io::Result<Option<OneFile>> {
         let Some(id) = id else {
             return Ok(None);
@@ -175,7 +183,7 @@ impl DumpFiles {
         Ok(None)
     }
 
-    /// Which of the files this one is.
+    /// Returns which of the files this one is, if any.
     fn find(&self, id: &FileId) -> Option<DumpFile> {
         for (file, known) in &self.known {
             if known.is(id) {

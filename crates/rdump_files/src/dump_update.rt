@@ -1,4 +1,4 @@
-//! A dump that is entered in a dumpdates file once it is complete.
+//! Dumps, and enters a complete dump in a dumpdates file.
 ghost use Rattle.std.specs.Prelude.{◌≡◌, None};
 ghost use Rattle.rdump_files.specs.Entering.{IsDumpEntered, IsEntered, IsUpdateTold, sinks};
 ghost use Rattle.rdump_files.specs.WholeFile.{whole_file};
@@ -11,26 +11,28 @@ use rmt_wire::{Counted, print_text};
 use std::alloc::Global;
 use std::io::{Read, Write};
 
-/// How a dump ended that was to be entered.
+/// How a dump ended that was to be entered in a dumpdates file.
 #[derive(Clone, Copy)]
 pub struct DumpEnd {
     /// The exit status.
     pub status: u8,
-    /// Why a dump that is complete was not entered, if it was not.
+    /// Why a complete dump was not entered. None if it was entered, or if the dump is not complete.
     pub fault: Option<UpdateFault>,
 }
 
-/// The status of a dump that is complete.
+/// The exit status of a complete dump.
 const COMPLETE: u8 = 0;
 
-/// The status of a dump that was abandoned, could not be told of, or could not be entered.
+/// The exit status if a dump was abandoned, could not be reported, or could not be entered.
 const ABNORMAL: u8 = 3;
 
-/// Has a client write its run over a peer, as `dump` does, and enters it in a dumpdates file once it is complete and
-/// `dump complete` is printed. Where it can't be entered it prints `dumpdates not updated`.
+/// Has a client write its run over a peer, as `dump` does. If the dump is complete and
+/// `dump complete` is printed, enters it in a dumpdates file. If that fails, it prints
+/// `dumpdates not updated`.
 ///
-/// Answers the exit status: 0 where the run is finished, all was printed and the run is entered, and else 3; and why a run
-/// that is finished and told of was not entered. The file is read and replaced in no other run than such a one.
+/// Returns the exit status, and why a complete dump was not entered. The status is 0 if the run is
+/// finished, everything was printed and the run is entered, and 3 otherwise. The file is read and
+/// replaced only if the run is finished and everything was printed.
 pub fn dump_and_update<B: Blocks, P: Peer, R: Read, W: Write, F: WholeFile>(
     alloc: Global,
     client: &mut Client<B>,
@@ -50,10 +52,11 @@ pub fn dump_and_update<B: Blocks, P: Peer, R: Read, W: Write, F: WholeFile>(
     enter_dump(alloc, client, out, file)
 }
 
-/// Enters the run of a client that is finished in a dumpdates file. Where it can't be entered it prints `dumpdates not updated`.
+/// Enters the run of a finished client in a dumpdates file. If that fails, it prints
+/// `dumpdates not updated`.
 ///
-/// Answers the exit status, 0 where the run is entered and else 3, and why it was not. Of a client that is not finished nothing is
-/// entered.
+/// Returns the exit status, and why the run was not entered. The status is 0 if the run is entered,
+/// and 3 otherwise. If the client is not finished, nothing is entered or printed.
 pub fn enter_dump<B: Blocks, W: Write, F: WholeFile>(
     alloc: Global,
     client: &Client<B>,
@@ -69,7 +72,7 @@ pub fn enter_dump<B: Blocks, W: Write, F: WholeFile>(
     print_update(updated, out)
 }
 
-/// The end of a dump that was not to be entered.
+/// Returns the end of a dump that was not to be entered.
 fn unentered(status: u8) -> DumpEnd
     ensures { (result.status ≡ status) × (result.fault ≡ None) }
 {
@@ -79,7 +82,7 @@ fn unentered(status: u8) -> DumpEnd
     }
 }
 
-/// Tells of a dump that is complete and was not entered, and answers its end.
+/// Prints that a complete dump was not entered, if so, and returns its end.
 fn print_update<W: Write>(updated: Result<(), UpdateFault>, out: &mut Counted<W>) -> DumpEnd
     ensures { IsUpdateTold W.contents updated out.old out.new result }
 {

@@ -1,4 +1,4 @@
-//! The files that a dump reads, and the clock.
+//! Reads the files of a dump, and the clock.
 
 use crate::payload_look::is_one;
 use crate::whole_file::or_empty;
@@ -9,11 +9,11 @@ use std::os::unix::fs::FileTypeExt;
 use std::rt::Files;
 use std::time::{Clock, SystemTime, UNIX_EPOCH};
 
-/// Reads a file whole, from where it stands. None where it is a plain file and is no longer as long as it was when the
-/// reading began.
+/// Reads an open file from its current position to its end. Returns none if it is a regular file,
+/// and the bytes read or its length afterwards differ from its length before.
 ///
-/// Answers the system's error where the file can't be read or its length can't be told, and `OutOfMemory` where memory is
-/// refused.
+/// Fails with the system's error if the file or its length cannot be read, or with `OutOfMemory` if
+/// an allocation fails.
 pub fn read_steady(alloc: Global, mut file: File) -> io::Result<Option<Vec<u8>>> {
     let before = file.metadata()?;
     let bytes = read_rest(alloc, &mut file)?;
@@ -23,14 +23,14 @@ pub fn read_steady(alloc: Global, mut file: File) -> io::Result<Option<Vec<u8>>>
     Ok(steady.then_some(bytes))
 }
 
-/// The bytes of a file from where it stands.
+/// Reads the bytes of a file from its current position.
 pub(crate) fn read_rest(alloc: Global, file: &mut File) -> io::Result<Vec<u8>> {
     let mut bytes = Vec::new(alloc);
     file.read_to_end(&mut bytes)?;
     Ok(bytes)
 }
 
-/// Reads a file whole. None where it is not there.
+/// Reads a whole file. Returns none if it does not exist.
 pub(crate) fn read_if_there<R: Files<File = File>>(
     rt: &R,
     alloc: Global,
@@ -43,9 +43,10 @@ pub(crate) fn read_if_there<R: Files<File = File>>(
     }
 }
 
-/// Opens a file to read it. A pipe is not opened, since that would wait for a writer.
+/// Opens a file to read it. Does not open a pipe, since that would wait for a writer.
 ///
-/// It fails with the system's reason, where the file is a pipe, and where a plain file was exchanged between the look and the open.
+/// Fails with the system's error. Fails with `InvalidInput` if the file is a pipe, or if a regular
+/// file was exchanged before it was opened.
 fn open_lasting<R: Files<File = File>>(rt: &R, path: &str) -> io::Result<File> {
     let looked = fs::metadata(rt, path)?;
     if looked.file_type().is_fifo() {
@@ -58,21 +59,22 @@ fn open_lasting<R: Files<File = File>>(rt: &R, path: &str) -> io::Result<File> {
     Ok(file)
 }
 
-/// The error where something else than a plain file is there.
+/// Returns the error if something other than a regular file is there.
 pub(crate) fn no_plain_file() -> io::Error {
     io::Error::new(ErrorKind::InvalidInput, "it is no plain file")
 }
 
-/// The error where a file was exchanged between the look at it and its open.
+/// Returns the error if a file was exchanged before it was opened.
 pub(crate) fn exchanged() -> io::Error {
     let error = "another file took its place while it was opened";
     io::Error::new(ErrorKind::InvalidInput, error)
 }
 
-/// Reads a file whole. A file that is not there is empty.
+/// Reads a whole file. A file that does not exist is empty.
 ///
-/// Answers the system's error where the file can't be opened or read, `InvalidInput` where it is a pipe, which is not opened, or was exchanged
-/// while it was opened, and `OutOfMemory` where memory is refused.
+/// Fails with the system's error if the file cannot be opened or read. Fails with `InvalidInput` if
+/// it is a pipe, which is not opened, or if a regular file was exchanged before it was opened.
+/// Fails with `OutOfMemory` if an allocation fails.
 pub fn read_or_empty<R: Files<File = File>>(
     rt: &R,
     alloc: Global,
@@ -82,7 +84,8 @@ pub fn read_or_empty<R: Files<File = File>>(
     Ok(or_empty(alloc, bytes))
 }
 
-/// The clock's seconds since 1970 began, UTC. None where it stands before that, or can't be read.
+/// Returns the clock's seconds since 1970, UTC. Returns none if the clock is before 1970 or cannot
+/// be read.
 pub fn seconds_now<R: Clock>(rt: &R) -> Option<u64> {
     let now = SystemTime::now(rt).ok()?;
     Some(now.duration_since(UNIX_EPOCH).ok()?.as_secs())

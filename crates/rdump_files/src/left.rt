@@ -1,4 +1,5 @@
-//! What a run that was stopped leaves of a new file: a beginning of the text that it writes there.
+//! Recognizes what an interrupted run leaves of a new file: a beginning of the text that it writes
+//! there.
 ghost use Rattle.std.specs.Prelude.{◌≡◌, ◌++◌, ◌≤◌, IfOk, IsTrue, List, length, true};
 ghost use Rattle.std.specs.List.{list_all};
 ghost use Rattle.dumpdates.specs.Entry.{DatesEntry};
@@ -14,38 +15,41 @@ use dump_run::Checkpoint;
 use dumpdates::{Dates, DatesFault};
 use std::alloc::{AllocError, Global};
 
-/// The most bytes of a name in dumpdates, and the fewest places that it takes there.
+/// The most bytes of a name in dumpdates, and the width to which a shorter name is padded.
 const NAME_LIMIT: usize = 255;
 
 const NAME_PLACES: usize = 32;
 
-/// What follows the name in a line of dumpdates. A digit stands for any digit, a letter for any letter, and a space for itself.
+/// The text after the name in a line of dumpdates. A digit matches any digit and a letter any
+/// letter. Other bytes match themselves.
 const AFTER_NAME: &[u8] = b" 0 Www Mmm 00 00:00:00 0000";
 
-/// Where the weekday, the month and the day of the month begin there. The first place of the day may be a space.
+/// The offsets of the weekday, the month and the day of the month in it. The first byte of the day
+/// may be a space.
 const WEEKDAY_AT: usize = 3;
 
 const MONTH_AT: usize = 7;
 
 const DAY_AT: usize = 11;
 
-/// How many letters a weekday and a month have, and their names.
+/// How many letters the name of a weekday or a month has, and the names.
 const NAME_LETTERS: usize = 3;
 
 const WEEKDAYS: &[u8] = b"MonTueWedThuFriSatSun";
 
 const MONTHS: &[u8] = b"JanFebMarAprMayJunJulAugSepOctNovDec";
 
-/// The text of a least checkpoint: what ends a line of a run, and all lines after it.
+/// The shortest checkpoint. Each of its endings is tried as the rest of a text that is cut off in
+/// the run.
 const LEAST_RUN: &[u8] = b"rdump 1\ndevice d\nfs f\nlevel 0\ndate 0\nsince 0\nblock 1\nblocks 0\n";
 
-/// The eight lines of a run have fewer bytes.
+/// More bytes than the eight lines of a run can have.
 const RUN_ROOM: usize = 1024;
 
-/// Whether a run that was stopped may have left these bytes of a dumpdates file: none, or whole lines as they are written
-/// (`Dates::text`), and perhaps a beginning of one more.
+/// Whether an interrupted run may have left these bytes of a dumpdates file. The bytes may be
+/// empty, or whole lines as `Dates::text` writes them, and perhaps a beginning of one more.
 ///
-/// It fails only where memory is refused.
+/// Fails only if an allocation fails.
 pub fn is_left_dates(alloc: Global, bytes: &[u8]) -> Result<bool, AllocError>
     ensures { IfOk result (λ is_left. IsTrue is_left → IsLeftDates bytes.now) }
 {
@@ -56,10 +60,10 @@ pub fn is_left_dates(alloc: Global, bytes: &[u8]) -> Result<bool, AllocError>
     are_written(alloc, lines)
 }
 
-/// Whether a run that was stopped may have left these bytes of a checkpoint: none, or a beginning of the text of one
-/// (`push_checkpoint`), cut off anywhere.
+/// Whether an interrupted run may have left these bytes of a checkpoint. The bytes may be empty, or
+/// a beginning of a text of `push_checkpoint`, cut off anywhere.
 ///
-/// It fails only where memory is refused.
+/// Fails only if an allocation fails.
 pub fn is_left_checkpoint(alloc: Global, bytes: &[u8]) -> Result<bool, AllocError>
     ensures { IfOk result (λ is_left. IsTrue is_left → BeginsCheckpoint bytes.now) }
 {
@@ -69,7 +73,7 @@ pub fn is_left_checkpoint(alloc: Global, bytes: &[u8]) -> Result<bool, AllocErro
     begins_counts(alloc, bytes)
 }
 
-/// How many bytes whole lines have.
+/// Returns how many bytes the whole lines have.
 fn lines_len(bytes: &[u8]) -> usize
     ensures { result ≤ length bytes.now }
 {
@@ -86,21 +90,21 @@ fn begins_line(rest: &[u8]) -> bool
     are_line_bytes(rest) && has_shape(rest)
 }
 
-/// Whether these bytes are spaces and printed ASCII.
+/// Whether all of these bytes are spaces or printable ASCII.
 fn are_line_bytes(bytes: &[u8]) -> bool
     ensures { result ≡ list_all spec.is_line_byte bytes.now }
 {
     bytes.iter().all(|b| is_line_byte(*b))
 }
 
-/// Whether a byte is a space or printed ASCII.
+/// Whether a byte is a space or printable ASCII.
 fn is_line_byte(byte: u8) -> bool
     ensures { result ≡ spec.is_line_byte byte }
 {
     byte >= b' ' && byte <= b'~'
 }
 
-/// Whether these bytes are a name, spaces up to its places, and a beginning of what follows it; or a beginning of a name.
+/// Whether these bytes are a beginning of a line: a name, spaces up to its width, and `AFTER_NAME`.
 fn has_shape(rest: &[u8]) -> bool {
     let name = rest.iter().take_while(|b| **b != b' ').count();
     if name > NAME_LIMIT || (name == 0 && !rest.is_empty()) {
@@ -116,7 +120,8 @@ fn has_shape(rest: &[u8]) -> bool {
     begins_one(WEEKDAYS, after, WEEKDAY_AT) && begins_one(MONTHS, after, MONTH_AT)
 }
 
-/// Whether what stands at this place begins one of these names, or nothing stands there.
+/// Whether the letters at offset `at`, at most three, begin one of these names. Also true without
+/// letters.
 fn begins_one(names: &[u8], text: &[u8], at: usize) -> bool {
     let rest = text.get(at..).unwrap_or(b"");
     let word = rest.get(..NAME_LETTERS).unwrap_or(rest);
@@ -125,7 +130,8 @@ fn begins_one(names: &[u8], text: &[u8], at: usize) -> bool {
         .any(|name| name.starts_with(word))
 }
 
-/// Whether a byte may stand at this place of a line, whose name takes so many places and ended before it.
+/// Whether a byte can be at this offset of a line whose name ended before it and takes `places`
+/// bytes.
 fn fits(byte: u8, at: usize, places: usize) -> bool {
     if at < places {
         return byte == b' ';
@@ -138,7 +144,7 @@ fn fits(byte: u8, at: usize, places: usize) -> bool {
     }
 }
 
-/// Whether these lines are just as dumpdates writes their entries.
+/// Whether these lines are exactly as dumpdates writes their entries.
 fn are_written(alloc: Global, lines: &[u8]) -> Result<bool, AllocError>
     ensures { IfOk result (λ are. IsTrue are → (entries : List DatesEntry) × (lines.now ≡ written entries)) }
 {
@@ -168,7 +174,7 @@ fn begins_run(alloc: Global, bytes: &[u8]) -> Result<bool, AllocError>
     Ok(false)
 }
 
-/// Whether these bytes are a checkpoint that is whole, or is cut off in the line of a count.
+/// Whether these bytes are a whole checkpoint, or one that is cut off in the line of a count.
 fn begins_counts(alloc: Global, bytes: &[u8]) -> Result<bool, AllocError>
     ensures { IfOk result (λ begins. IsTrue begins → BeginsCheckpoint bytes.now) }
 {
@@ -182,7 +188,8 @@ fn begins_counts(alloc: Global, bytes: &[u8]) -> Result<bool, AllocError>
     is_completed(alloc, bytes, ending(line.as_bytes(), rest))
 }
 
-/// The least line that goes on with the counts of a checkpoint. None where these lines are none.
+/// Returns the shortest line that can continue the counts of a checkpoint. Returns none if these
+/// lines are not a checkpoint.
 fn next_line(alloc: Global, lines: &[u8]) -> Result<Option<String>, AllocError> {
     let found = match Checkpoint::read(alloc, lines) {
         Ok(found) => found,
@@ -197,13 +204,14 @@ fn next_line(alloc: Global, lines: &[u8]) -> Result<Option<String>, AllocError> 
     Ok(Some(format!(in alloc; "counted {volume} {first} {least}\n")?))
 }
 
-/// The number of the volume after this one, and its first block.
+/// Returns the number of the volume after this one, and its first block.
 fn after(last: VolumeCount) -> (u32, u32) {
     let first = last.first.saturating_add(last.count);
     (last.volume.saturating_add(1), first)
 }
 
-/// What a piece of a line lacks: the rest of this line where it begins so, and else a line feed.
+/// Returns what is missing after a piece of a line: the rest of `line` if it begins with the piece,
+/// and otherwise a line feed.
 fn ending<'a>(line: &'a [u8], piece: &[u8]) -> &'a [u8] {
     if line.starts_with(piece) {
         return &line[piece.len()..];
@@ -211,7 +219,7 @@ fn ending<'a>(line: &'a [u8], piece: &[u8]) -> &'a [u8] {
     b"\n"
 }
 
-/// Whether these bytes with more after them are the text of a checkpoint.
+/// Whether these bytes, with `more` after them, are the text of a checkpoint.
 fn is_completed(alloc: Global, bytes: &[u8], more: &[u8]) -> Result<bool, AllocError>
     ensures { IfOk result (λ is. IsTrue is →
         (run : PlainRun) × (counts : List VolumeCount) × SpellsCheckpoint (bytes.now ++ more.now) run counts) }

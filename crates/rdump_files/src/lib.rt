@@ -1,11 +1,14 @@
-//! What a dump reads and writes beside its connection: the payload, the dumpdates file, and a terminal's line of progress.
+//! The files that a dump reads and writes besides its connection, and the progress line.
 //!
-//! `dumper` makes the client of a dump of its words and a payload, and `resume_dump` one that goes on from its checkpoint. Its blocks are read through `Shown`, which tells a
-//! `Gauge` of each, and `ProgressLine` is the gauge at a terminal. `update` enters a dump in a dumpdates file, which is any
-//! `WholeFile`: `ReplacedFile` is one of the system's. `dump_and_update` dumps over a connection and enters what is complete.
-//! `dates` and `base_date` ask a dumpdates file, and `date_text` is a date as it stands there. `named_file` follows links.
-//! `DumpFiles` are the files of a dump, none of which is another one; `open_payload` opens the payload, and `PayloadLook` tells whether it changed.
-//! `is_left_dates` and `is_left_checkpoint` say of bytes whether a run that was stopped may have left them.
+//! `dumper` makes the client of a dump from its arguments and a payload. `resume_dump` makes one
+//! that continues from a checkpoint. Both read blocks through `Shown`, which reports each block to
+//! a `Gauge`. `ProgressLine` is the gauge for a terminal. `update` enters a dump in a dumpdates
+//! file, which is any `WholeFile`; `ReplacedFile` is one on the file system. `dump_and_update`
+//! dumps over a connection and enters a complete dump. `dates` and `base_date` query a dumpdates
+//! file, and `date_text` formats a date. `named_file` follows links. `DumpFiles` checks that the
+//! files of a dump are all different. `open_payload` opens the payload, and `PayloadLook` checks
+//! whether it changed. `is_left_dates` and `is_left_checkpoint` recognize the unfinished files that
+//! an interrupted run leaves.
 #![tactic(auto)]
 
 mod ctime;

@@ -1,4 +1,4 @@
-//! The file that a path names.
+//! Finds the file that a path names.
 
 use crate::files::no_plain_file;
 use std::alloc::Global;
@@ -7,13 +7,14 @@ use std::io::{self, ErrorKind};
 use std::path::{Path, PathBuf};
 use std::rt::Files;
 
-/// So many links lead on from one another at most, as in the system's own walk.
+/// How many links are followed at most, as in the system's own path lookup.
 const MOST_LINKS: u32 = 40;
 
-/// The path of the plain file that this path names: where it is a link, of what that leads to in the end. Nothing need be there.
+/// Returns the path of the regular file that this path names, after following links. Nothing need
+/// exist there.
 ///
-/// It fails where something else than a plain file is there, where links lead round, where a folder can't be read, and where memory
-/// is refused.
+/// Fails if something other than a regular file is there, or if the links form a loop. Also fails
+/// if a folder cannot be read, or if an allocation fails.
 pub fn named_file<R: Files<File = File>>(rt: &R, alloc: Global, path: &str) -> io::Result<PathBuf> {
     let mut named = PathBuf::from_str(alloc, path)?;
     for _ in 0..MOST_LINKS {
@@ -28,7 +29,7 @@ pub fn named_file<R: Files<File = File>>(rt: &R, alloc: Global, path: &str) -> i
     Err(io::Error::from(ErrorKind::FilesystemLoop))
 }
 
-/// The folder of the file at this path.
+/// Returns the folder of the file at this path.
 pub(crate) fn folder_of(path: Path<'_>) -> Path<'_> {
     match path.parent() {
         Some(folder) if !folder.as_str().is_empty() => folder,
@@ -36,7 +37,7 @@ pub(crate) fn folder_of(path: Path<'_>) -> Path<'_> {
     }
 }
 
-/// Where a link leads, from the folder that has it.
+/// Returns the path that a link leads to, resolved from the folder that contains the link.
 fn led_to<R: Files<File = File>>(rt: &R, alloc: Global, link: Path<'_>) -> io::Result<PathBuf> {
     let target = rt.read_link(alloc, link.as_str())?;
     let folder = link.parent().unwrap_or(Path::new(""));

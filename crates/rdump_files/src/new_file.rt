@@ -1,4 +1,4 @@
-//! A new file beside the one that it is to replace.
+//! A new file beside the file that it replaces.
 
 use crate::files::read_rest;
 use crate::left::{is_left_checkpoint, is_left_dates};
@@ -14,28 +14,28 @@ use std::rt::Files;
 use std::thread;
 use std::time::{Clock, Duration, Instant, SystemTime};
 
-/// How long a run waits for another that has the new file, in seconds.
+/// How long a run waits for another run that has the new file, in seconds.
 const WAIT_SECONDS: u64 = 10;
 
 /// How long it sleeps between two tries, in milliseconds.
 const BETWEEN_MILLIS: u64 = 5;
 
-/// So often a file in its place is opened at most, where others replace it each time before it is locked.
+/// How many times to try to open a file that others keep replacing before it is locked.
 const MOST_TRIES: u32 = 100;
 
-/// What is longer no run has left, in bytes, and is not read.
+/// The most bytes of a file that a run left. A longer file is not read.
 const MOST_LEFT: u64 = 64 << 20;
 
-/// Why a file at the name of the new one stays.
+/// Why a file with the name of the new one is not removed.
 const NOT_LEFT: &str = "its .new is not one that rdump left: it is not touched";
 
-/// The mode of a checkpoint file: its user alone reads it.
+/// The mode of a checkpoint file: only its user may read it.
 const CHECKPOINT_MODE: u32 = 0o600;
 
-/// The mode with which another new file is made, less what the process leaves out.
+/// The mode with which a new dumpdates file is created, less the process's umask.
 const USUAL_MODE: u32 = 0o666;
 
-/// What is written to a file that is replaced.
+/// The text that a replaced file contains.
 #[derive(Clone, Copy, PartialEq, Eq)]
 pub(crate) enum Form {
     /// The text of dumpdates.
@@ -45,7 +45,7 @@ pub(crate) enum Form {
 }
 
 impl Form {
-    /// The mode with which the new file is made.
+    /// Returns the mode with which the new file is created.
     fn mode(self) -> u32 {
         match self {
             Form::Dates => USUAL_MODE,
@@ -53,7 +53,7 @@ impl Form {
         }
     }
 
-    /// Whether a run may have left this file, which is open at its beginning. It has to be locked.
+    /// Whether a run may have left this file, which must be locked and open at its beginning.
     fn is_left(self, alloc: Global, file: &mut File) -> io::Result<bool> {
         if file.metadata()?.len() > MOST_LEFT {
             return Ok(false);
@@ -67,11 +67,13 @@ impl Form {
     }
 }
 
-/// A new file that is to replace another: it has that one's name with `.new` after it, and lies in the same folder.
+/// A new file that replaces another one. It has the name of that file with `.new` after it, in the
+/// same folder.
 ///
-/// This run made it, and has its advisory lock: no other run has one of that name meanwhile. It is gone where this is dropped before
-/// it was put in place; what else has its name by then stays. Once it is in place it has the other's name, and the lock goes with
-/// this. A file that was found in its place is one too.
+/// This run created it and has its advisory lock, so no other run has a new file of that name
+/// meanwhile. If this is dropped before the file is in place, the file is removed, unless another
+/// file has its name by then. Once it is in place it has the name of the other file, and the lock
+/// is released when this is dropped. A file that `find` found in place is also kept as a `NewFile`.
 pub(crate) struct NewFile<'a, R: Files<File = File>> {
     rt: &'a R,
     form: Form,
@@ -98,10 +100,11 @@ impl<R: Files<File = File>> Drop for NewFile<'_, R> {
 }
 
 impl<'a, R: Files<File = File> + Clock> NewFile<'a, R> {
-    /// Makes the new file of the one that this path names. It is tried every few milliseconds, for ten seconds, while another
-    /// run has one. What a run left that was killed is taken away.
+    /// Creates the new file for the file that this path names. While another run has one, it tries
+    /// again every five milliseconds for ten seconds. It removes a new file that a killed run left.
     ///
-    /// It fails where a file has the name that no run left: that one stays.
+    /// Fails if a file that no run left has the name; that file stays. Fails with `TimedOut` if
+    /// another run has the new file for ten seconds.
     pub(crate) fn make(rt: &'a R, alloc: Global, path: &str, form: Form) -> io::Result<Self> {
         let began = Instant::now(rt)?;
         for _ in 0..u64::MAX {
@@ -118,9 +121,11 @@ impl<'a, R: Files<File = File> + Clock> NewFile<'a, R> {
         Err(io::Error::new(ErrorKind::TimedOut, error))
     }
 
-    /// Makes it, where nothing has its name. What has it stays as it is.
+    /// Creates the new file if nothing has its name. Returns none if a file has it, which stays as
+    /// it is, or if another run took the new file before it was locked.
     ///
-    /// It fails where what has the name could not be taken away: it is no plain file, or can't be opened.
+    /// Fails if what has the name could not be removed: it is not a regular file, or cannot be
+    /// opened.
     pub(crate) fn try_make(
         rt: &'a R,
         alloc: Global,
@@ -141,7 +146,8 @@ impl<'a, R: Files<File = File> + Clock> NewFile<'a, R> {
         }
     }
 
-    /// Locks the file that was made. None where another run was between.
+    /// Locks the file that was created. Returns none if another run locked or removed it before.
+    /// Removes the file if the lock fails with an error.
     fn locked(
         rt: &'a R,
         form: Form,
@@ -168,9 +174,9 @@ impl<'a, R: Files<File = File> + Clock> NewFile<'a, R> {
 }
 
 impl<'a, R: Files<File = File>> NewFile<'a, R> {
-    /// The file that this path names, with its lock. None where it is not there.
+    /// Opens and locks the file that this path names. Returns none if it does not exist.
     ///
-    /// It fails with `WouldBlock` where another run has its lock.
+    /// Fails with `WouldBlock` if another run has its lock, or if others keep replacing it.
     pub(crate) fn find(
         rt: &'a R,
         alloc: Global,
@@ -189,7 +195,7 @@ impl<'a, R: Files<File = File>> NewFile<'a, R> {
         Err(taken())
     }
 
-    /// A file that was found in its place, and locked.
+    /// Makes the `NewFile` of a file that was found in place and locked.
     fn found(rt: &'a R, alloc: Global, form: Form, named: PathBuf, file: File) -> io::Result<Self> {
         let path = beside(alloc, &named)?;
         Ok(NewFile {
@@ -202,19 +208,20 @@ impl<'a, R: Files<File = File>> NewFile<'a, R> {
         })
     }
 
-    /// The bytes of the file, from where it stands.
+    /// Reads the bytes of the file from its current position.
     pub(crate) fn read(&mut self, alloc: Global) -> io::Result<Vec<u8>> {
         read_rest(alloc, &mut self.file)
     }
 
-    /// When the file was last written to. None where that was before 1970, or the system does not tell.
+    /// Returns when the file was last written to. Returns none if that was before 1970, or if the
+    /// system does not report it.
     pub(crate) fn modified(&self) -> Option<SystemTime> {
         self.file.metadata().ok()?.modified().ok()
     }
 
-    /// Looks whether the other file is this one, which is in place, or is not there.
+    /// Checks that the file to be replaced is `placed`, or does not exist.
     ///
-    /// It fails with `WouldBlock` where it is another's.
+    /// Fails with `WouldBlock` if it is another file.
     pub(crate) fn check_place(&self, placed: Option<&NewFile<'a, R>>) -> io::Result<()> {
         let path = self.named();
         let is_ours = match placed {
@@ -227,9 +234,9 @@ impl<'a, R: Files<File = File>> NewFile<'a, R> {
         Err(taken())
     }
 
-    /// Removes the file, which is in place, and has its folder remember that. Where it is gone, that is done.
+    /// Removes this file, which is in place, and syncs its folder. Succeeds if it is already gone.
     ///
-    /// It fails with `WouldBlock` where its name is another's by now.
+    /// Fails with `WouldBlock` if another file has its name by now.
     pub(crate) fn remove(&self) -> io::Result<()> {
         let path = self.named();
         if has_name(self.rt, path, &self.file)? {
@@ -243,13 +250,14 @@ impl<'a, R: Files<File = File>> NewFile<'a, R> {
         }
     }
 
-    /// The path of the file that is to be replaced.
+    /// Returns the path of the file that is to be replaced.
     pub(crate) fn named(&self) -> &str {
         self.named.as_path().as_str()
     }
 
-    /// Writes the text, syncs it, and puts the new file in place of the other, with the other's owner where the system lets it; with the
-    /// other's mode too where it is dumpdates. It has the other's name then, and its lock still.
+    /// Writes the text, syncs it, and puts the new file in place of the other. The new file gets
+    /// the owner of the other if the system allows it, and for dumpdates also its mode. It then has
+    /// the name of the other, and still its own lock.
     pub(crate) fn put(&mut self, text: &[u8]) -> io::Result<()> {
         self.take_rights();
         self.file.write_all(text)?;
@@ -259,18 +267,20 @@ impl<'a, R: Files<File = File>> NewFile<'a, R> {
         Ok(())
     }
 
-    /// Gives its lock back.
+    /// Releases the lock.
     pub(crate) fn unlock(&self) {
         let _ = self.file.unlock();
     }
 
-    /// Has the folder remember the new name. Where it can't, the name is the new file's all the same.
+    /// Syncs the folder, so that the new name survives a power loss. A failure is ignored, as the
+    /// file has the name anyway.
     pub(crate) fn settle(&self) {
         let _ = sync_folder(self.rt, &self.named);
     }
 
-    /// Gives the new file the owner of the other, and the mode where it is dumpdates, where that is there and the system lets it. A
-    /// checkpoint has the mode with which it was made.
+    /// Gives the new file the owner and group of the other, or the group alone, if the other exists
+    /// and the system allows it. A new dumpdates file also gets its mode; a checkpoint keeps the
+    /// mode with which it was created.
     fn take_rights(&self) {
         let Ok(found) = fs::metadata(self.rt, &self.named) else {
             return;
@@ -285,26 +295,27 @@ impl<'a, R: Files<File = File>> NewFile<'a, R> {
     }
 }
 
-/// Syncs the folder of the file at this path, so that it remembers its names.
+/// Syncs the folder of the file at this path, so that the names in it survive a power loss.
 pub(crate) fn sync_folder<R: Files<File = File>>(rt: &R, named: &PathBuf) -> io::Result<()> {
     File::open(rt, folder_of(named.as_path()))?.sync_all()
 }
 
-/// Makes a file at this path, where nothing is, with this mode less what the process leaves out.
+/// Creates a file at this path, with this mode less the process's umask. Fails if anything is
+/// there.
 fn create_new<R: Files<File = File>>(rt: &R, path: &str, mode: u32) -> io::Result<File> {
     let mut options = OpenOptions::new();
     options.read(true).write(true).create_new(true).mode(mode);
     options.open(rt, path)
 }
 
-/// The path of the new file of this one.
+/// Returns the path of the new file for the file at `named`.
 pub(crate) fn beside(alloc: Global, named: &PathBuf) -> io::Result<String> {
     let old = named.as_path().as_str();
     Ok(format!(in alloc; "{old}.new")?)
 }
 
-/// An error at the new file. Where the system tells the reason, that one's name stands before it. Memory for that can be refused, which is
-/// the error then.
+/// Returns an error of the new file. If it is the system's, its text gets `its .new: ` in front. If
+/// an allocation for that fails, returns that error.
 fn of_new(alloc: Global, error: io::Error) -> io::Error {
     if error.raw_os_error().is_none() {
         return error;
@@ -315,10 +326,11 @@ fn of_new(alloc: Global, error: io::Error) -> io::Error {
     }
 }
 
-/// Takes away what a run that was killed left of the new file of the one that this path names. Where a run has its lock it stays.
+/// Removes the new file that a killed run left beside the file that `path` names. If a run has its
+/// lock, the file stays.
 ///
-/// It fails where no run can have left it, as it is a link or a folder or holds something else, or where it can't be opened, read or
-/// removed.
+/// Fails if no run can have left it: it is a link or a folder, or contains something else. Fails if
+/// it cannot be opened, read or removed.
 fn take_away<R: Files<File = File>>(
     rt: &R,
     alloc: Global,
@@ -333,7 +345,8 @@ fn take_away<R: Files<File = File>>(
     }
 }
 
-/// Takes away what was left at this path. It is read under its lock, and the name is looked at once more before it goes.
+/// Removes the file that a run left at this path. Reads it under its lock, and checks its name
+/// again before the removal.
 fn take_left<R: Files<File = File>>(
     rt: &R,
     alloc: Global,
@@ -355,8 +368,8 @@ fn take_left<R: Files<File = File>>(
     Ok(())
 }
 
-/// The path of the new file of the one that this path names, where a plain file lies there that no run left. None where nothing does, and
-/// where another run has its lock.
+/// Returns the path of the new file for the file that `path` names, if a regular file that no run
+/// left is there. Returns none if nothing is there, or if another run has its lock.
 pub(crate) fn find_stranger<R: Files<File = File>>(
     rt: &R,
     alloc: Global,
@@ -374,10 +387,10 @@ pub(crate) fn find_stranger<R: Files<File = File>>(
     Ok(None)
 }
 
-/// Opens what a run left at this path, so that it can be locked: to write where it may be, since a lock over a network asks for that.
-/// None where it went away.
+/// Opens a file that a run left at this path, so that it can be locked. Opens it for writing too if
+/// that is permitted, since a lock over a network requires that. Returns none if nothing is there.
 ///
-/// It fails where no run can have left it, as it is a link or a folder.
+/// Fails with `AlreadyExists` if no run can have left it, because it is a link or a folder.
 fn open_left<R: Files<File = File>>(rt: &R, path: &str) -> io::Result<Option<File>> {
     match found_at(rt, path)? {
         None => return Ok(None),
@@ -397,8 +410,9 @@ fn open_left<R: Files<File = File>>(rt: &R, path: &str) -> io::Result<Option<Fil
     }
 }
 
-/// Takes the advisory lock of a file, which goes with the handle, and looks whether the file still has its name. False where
-/// another has the lock, or the name is another file's or nobody's.
+/// Takes the advisory lock of a file, which is released when the file is closed. Returns whether
+/// the file is locked and still has this name. Returns false if another run has the lock, or if the
+/// path names another file or nothing.
 fn lock<R: Files<File = File>>(rt: &R, path: &str, file: &File) -> io::Result<bool> {
     match file.try_lock() {
         Ok(()) => {}
@@ -408,9 +422,10 @@ fn lock<R: Files<File = File>>(rt: &R, path: &str, file: &File) -> io::Result<bo
     has_name(rt, path, file)
 }
 
-/// Takes the advisory lock of a file that was found at this path, and looks whether it still has its name.
+/// Takes the advisory lock of a file that was found at this path. Returns whether it still has its
+/// name.
 ///
-/// It fails with `WouldBlock` where another run has the lock.
+/// Fails with `WouldBlock` if another run has the lock.
 fn is_in_place<R: Files<File = File>>(rt: &R, named: &PathBuf, file: &File) -> io::Result<bool> {
     match file.try_lock() {
         Ok(()) => has_name(rt, named.as_path().as_str(), file),
@@ -419,12 +434,12 @@ fn is_in_place<R: Files<File = File>>(rt: &R, named: &PathBuf, file: &File) -> i
     }
 }
 
-/// The error where another run has the file.
+/// Returns the error if another run has the file.
 fn taken() -> io::Error {
     io::Error::new(ErrorKind::WouldBlock, "another run has it")
 }
 
-/// Whether a file has this name: another may have it by now, or none.
+/// Whether this path still names this file. It may name another file by now, or nothing.
 fn has_name<R: Files<File = File>>(rt: &R, path: &str, file: &File) -> io::Result<bool> {
     let opened = file.metadata()?;
     match found_at(rt, path)? {
@@ -433,14 +448,15 @@ fn has_name<R: Files<File = File>>(rt: &R, path: &str, file: &File) -> io::Resul
     }
 }
 
-/// Takes away a new file that this run made, if it still has its name.
+/// Removes a new file that this run created, if it still has its name.
 fn take_back<R: Files<File = File>>(rt: &R, path: &str, file: &File) {
     if has_name(rt, path, file).unwrap_or(false) {
         let _ = fs::remove_file(rt, path);
     }
 }
 
-/// What has this name, no link followed. None where nothing has it.
+/// Returns the metadata of what is at this path, without following a link. Returns none if nothing
+/// is.
 pub(crate) fn found_at<R: Files<File = File>>(rt: &R, path: &str) -> io::Result<Option<Metadata>> {
     match fs::symlink_metadata(rt, path) {
         Ok(found) => Ok(Some(found)),

@@ -1,4 +1,4 @@
-//! The client that dumps a payload.
+//! Makes the client that dumps a payload.
 ghost use Rattle.std.specs.Prelude.{◌≡◌, [], IfErr, IfOk};
 ghost use Rattle.dump_client.specs.Standing.{standing};
 ghost use Rattle.dump_client.specs.declared.stage.Stage.TheVariants as stages;
@@ -11,12 +11,12 @@ use rdump_args::DumpLine;
 use std::alloc::{AllocError, Global};
 use tape::Medium;
 
-/// Why there is no client.
+/// Why no client was made.
 #[derive(Clone, Copy, Debug, PartialEq, Eq)]
 pub enum DumperFault {
-    /// The words say no run.
+    /// The arguments do not make a valid run.
     Run(RunFault),
-    /// Memory was refused.
+    /// An allocation failed.
     OutOfMemory,
 }
 
@@ -42,11 +42,13 @@ impl From<AllocError> for DumperFault {
     }
 }
 
-/// The client of the run that the words say, of this date and building on a dump of the date `since`, both in seconds since
-/// 1970 began, UTC. It dumps the payload, which was opened in blocks of the size of the words. The gauge is told how many
-/// they are, and shows each that is read.
+/// Makes the client of the run that the arguments describe. `date` is the date of the dump and
+/// `since` the date of the dump that it builds on, both in seconds since 1970, UTC. The payload
+/// must have been opened in blocks of the size that the arguments give. The gauge gets the number
+/// of blocks, and shows each block that is read.
 ///
-/// Answers `Run` with the first limit of a run that is broken, and `OutOfMemory` where memory is refused.
+/// Returns `Run` with the first limit of a run that is violated, or `OutOfMemory` if an allocation
+/// fails.
 pub fn dumper<M: Medium + Drop, G: Gauge + Drop>(
     alloc: Global,
     line: &DumpLine<'_>,
@@ -66,10 +68,10 @@ pub fn dumper<M: Medium + Drop, G: Gauge + Drop>(
     }
 }
 
-/// The run that the words say of a payload, of this date and building on a dump of the date `since`, both in seconds since 1970
-/// began, UTC.
+/// Returns the run that the arguments describe for this payload. `date` is the date of the dump and
+/// `since` the date of the dump that it builds on, both in seconds since 1970, UTC.
 ///
-/// Answers the first limit of a run that is broken.
+/// Fails with the first limit of a run that is violated.
 pub fn run_of<M: Medium + Drop>(
     line: &DumpLine<'_>,
     date: u64,
@@ -83,9 +85,10 @@ pub fn run_of<M: Medium + Drop>(
     Run::new(device, line.fs, line.level, date, since, line.block, blocks)
 }
 
-/// The client of a run, with nothing counted, that dumps its payload, as `dumper` makes it.
+/// Makes the client of a run, with no volume counted, that dumps the payload of the run, as
+/// `dumper` does.
 ///
-/// It fails where memory is refused.
+/// Fails if an allocation fails.
 pub fn dumper_of<M: Medium + Drop, G: Gauge + Drop>(
     alloc: Global,
     run: Run,
@@ -104,7 +107,7 @@ pub fn dumper_of<M: Medium + Drop, G: Gauge + Drop>(
     Client::new(alloc, run, source)
 }
 
-/// How many blocks of this size a payload of so many bytes has; none of no size.
+/// Returns how many blocks of this size a payload of `bytes` bytes has, or 0 if the size is 0.
 fn block_count(bytes: u64, block_bytes: u64) -> u64
     ensures { result ≡ blocks_for block_bytes bytes }
 {

@@ -1,4 +1,4 @@
-//! A payload on a medium, which is read block by block.
+//! A payload on a medium, read block by block.
 ghost use Rattle.std.specs.Prelude.{◌≡◌, ℕ, ◌-◌, ◌≤◌, ◌++◌, List, IfOk, length, take, replicate};
 ghost use Rattle.tape.specs.Medium.{medium_kind};
 ghost use Rattle.rdump_files.specs.Payload.{HasPayloadBlocks, IsOpened, IsPayloadRead, PayloadCanFail, payload_blocks};
@@ -7,11 +7,11 @@ use dump_client::{Blocks, SourceFailed};
 use std::marker::Model;
 use tape::{Medium, MediumFailed};
 
-/// A payload on a medium, in blocks of one size, the last padded with zero bytes. A block is read from the medium when
-/// it is asked for, and none is kept.
+/// A payload on a medium, in blocks of one size, the last padded with zero bytes. Each call reads
+/// its block from the medium, and no block is kept.
 ///
-/// It tells its blocks where the medium tells its bytes. The medium has to stay as it was when it was opened: where it
-/// has fewer bytes then, a read of those that are missing fails.
+/// Its contracts state the blocks if those of the medium state the bytes. The medium must stay as
+/// it was when it was opened. If it has fewer bytes later, a read of the missing bytes fails.
 #[derive(Drop)]
 pub struct PayloadFile<M: Medium> {
     medium: M,
@@ -31,10 +31,11 @@ impl<M: Medium> Model for PayloadFile<M> {
 }
 
 impl<M: Medium + Drop> PayloadFile<M> {
-    /// The payload that is the bytes of this medium, in blocks of so many bytes. It asks the medium for its length, and
-    /// makes no other call of it.
+    /// Opens the payload that consists of the bytes of this medium, in blocks of `block_bytes`
+    /// bytes. It reads the length of the medium, and makes no other call of it. If `block_bytes` is
+    /// 0, the payload has no blocks.
     ///
-    /// A payload in blocks of no bytes has none. Answers `MediumFailed` where the medium failed.
+    /// Returns `MediumFailed` if the medium fails.
     pub fn open(mut medium: M, block_bytes: u64) -> Result<PayloadFile<M>, MediumFailed>
         ensures opened { IsOpened (medium_kind M.holds M.failures M.can_fail M.spare) medium block_bytes result }
         ensures told { (bytes : List ℕ) → M.holds medium bytes →
@@ -51,7 +52,7 @@ impl<M: Medium + Drop> PayloadFile<M> {
 }
 
 impl<M: Medium> PayloadFile<M> {
-    /// How many bytes it had when it was opened.
+    /// Returns how many bytes the payload had when it was opened.
     pub fn len(&self) -> u64
         ensures { result ≡ self.now.len }
     {
@@ -95,7 +96,7 @@ impl<M: Medium> Blocks for PayloadFile<M> {
         told.3 ∙ ap (payload_blocks source.size) (M.single source.medium told.0 other.0 told.1 other.1) ∙ sym other.3 };
 }
 
-/// Makes the bytes of a block zero from this one on.
+/// Sets the bytes of a block to zero from `first` on.
 fn clear_from(block: &mut [u8], first: usize)
     requires { first ≤ length block.old }
     ensures { block.new ≡ take first block.old ++ replicate (length block.old - first) 0 }

@@ -1,4 +1,4 @@
-//! The file of a payload: how it is opened, and whether it changed since.
+//! Opens the file of a payload, and checks whether it changed since.
 
 use crate::files::exchanged;
 use std::fs::{self, File, Metadata};
@@ -7,10 +7,11 @@ use std::os::unix::fs::{FileTypeExt, MetadataExt};
 use std::rt::Files;
 use std::time::SystemTime;
 
-/// Opens the file of a payload, and answers its metadata beside it. A pipe or a terminal is waited for.
+/// Opens the file of a payload, and returns it with its metadata. Opening a pipe or a terminal may
+/// wait for its other end.
 ///
-/// It fails with the system's reason, and where another file than the one that was looked at was opened: a plain file or a block device
-/// was exchanged between.
+/// Fails with the system's error. Fails with `InvalidInput` if a regular file or a block device was
+/// exchanged for another file before it was opened.
 pub fn open_payload<R: Files<File = File>>(rt: &R, path: &str) -> io::Result<(File, Metadata)> {
     let looked = fs::metadata(rt, path)?;
     let file = File::open(rt, path)?;
@@ -22,21 +23,21 @@ pub fn open_payload<R: Files<File = File>>(rt: &R, path: &str) -> io::Result<(Fi
     Ok((file, found))
 }
 
-/// Whether both are of one file.
+/// Whether both metadata are of the same file.
 pub(crate) fn is_one(one: &Metadata, other: &Metadata) -> bool {
     one.dev() == other.dev() && one.ino() == other.ino()
 }
 
-/// What became of a payload while it was dumped.
+/// How a payload changed while it was dumped.
 #[derive(Clone, Copy, Debug, PartialEq, Eq)]
 pub enum PayloadChange {
-    /// It had so many bytes, and has so many now.
+    /// Its length in bytes changed: the length before, and the length now.
     Length(u64, u64),
-    /// Something was written to it, as its modification time says.
+    /// Its modification time changed, so something was written to it.
     Time,
 }
 
-/// A payload that is a plain file, as it was when its dump began.
+/// A payload that is a regular file, and its length and modification time when its dump began.
 #[derive(Drop)]
 pub struct PayloadLook {
     file: File,
@@ -45,9 +46,10 @@ pub struct PayloadLook {
 }
 
 impl PayloadLook {
-    /// The payload that is this open file and has this metadata. None where it is no plain file.
+    /// Records the length and time of this open payload, given its metadata. Returns none if it is
+    /// not a regular file.
     ///
-    /// It fails where the system gives no second handle.
+    /// Fails if the system cannot duplicate the file handle.
     pub fn new(file: &File, found: &Metadata) -> io::Result<Option<PayloadLook>> {
         if !found.is_file() {
             return Ok(None);
@@ -59,14 +61,16 @@ impl PayloadLook {
         }))
     }
 
-    /// When it was last written to, as it was when its dump began. None where that was before 1970.
+    /// Returns when the payload was last written to before its dump began. Returns none if that was
+    /// before 1970.
     pub fn modified(&self) -> Option<SystemTime> {
         self.modified
     }
 
-    /// What changed since its dump began. None where its length and its modification time are the same.
+    /// Returns what changed since the dump began, the length first. Returns none if the length and
+    /// the modification time are the same.
     ///
-    /// It fails where the system tells neither.
+    /// Fails if the system does not report them.
     pub fn change(&self) -> io::Result<Option<PayloadChange>> {
         let found = self.file.metadata()?;
         if found.len() != self.len {

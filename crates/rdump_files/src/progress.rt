@@ -1,4 +1,4 @@
-//! What is shown of a dump while it is made.
+//! Shows the progress of a dump.
 use arrayvec::ArrayString;
 use dump_client::{Blocks, SourceFailed};
 use std::fmt::Write as _;
@@ -6,28 +6,29 @@ use std::io::{self, Write};
 use std::marker::Model;
 use std::time::{Clock, Instant};
 
-/// The least time between two shows, in milliseconds.
+/// The least time between two updates of the line, in milliseconds.
 const BETWEEN_MILLIS: u128 = 100;
 
-/// A line of progress fits into so many bytes.
+/// Room for a line of progress, in bytes.
 const LINE_ROOM: usize = 128;
 
-/// Clears a terminal's line, where what was shown stands (ECMA-48, EL).
+/// Clears a terminal's line, which shows the progress (ECMA-48, EL).
 pub const CLEAR: &[u8] = b"\r\x1b[K";
 
 const KIB: u64 = 1024;
 
 const MIB: u64 = 1024 * KIB;
 
-/// What shows how far a dump is. It promises nothing.
+/// Shows how far a dump is. Its calls have no contract.
 pub trait Gauge {
-    /// The dump has so many blocks.
+    /// The dump has `blocks` blocks.
     fn begin(&mut self, blocks: u32);
 
-    /// An attempt begins the volume of this number, counted from 1, whose first block is this, counted from 0.
+    /// An attempt begins volume `volume`, counted from 1. Its first block is `first`, counted from
+    /// 0.
     fn begin_volume(&mut self, volume: u32, first: u32);
 
-    /// The block of this number, counted from 0 and of so many bytes, is read now.
+    /// Block `block`, counted from 0, of `bytes` bytes is about to be read.
     fn show(&mut self, block: u32, bytes: usize);
 }
 
@@ -52,12 +53,13 @@ impl<G: Gauge> Gauge for Option<G> {
     }
 }
 
-/// A source whose reads are shown. It promises what the source promises, and contracts see the source alone.
+/// A source whose reads are shown by a gauge. It has the contracts of the source, and contracts see
+/// only the source.
 #[derive(Drop)]
 pub struct Shown<B, G> {
-    /// What is read.
+    /// The source that is read.
     pub source: B,
-    /// What shows it.
+    /// The gauge that shows each read.
     pub gauge: G,
 }
 
@@ -95,10 +97,11 @@ impl<B: Blocks, G: Gauge> Blocks for Shown<B, G> {
     }
 }
 
-/// A terminal's line on which a dump's volume, block and bytes a second are shown, at most ten times a second.
+/// A line on a terminal that shows the volume, the block and the bytes a second of a dump. It is
+/// updated at most ten times a second.
 ///
-/// The bytes a second are those since the attempt read its first block. A write that fails is let go, and where the clock
-/// tells no time nothing is shown.
+/// The bytes a second are counted since the attempt read its first block. A write that fails is
+/// ignored. If the clock cannot be read, nothing is shown.
 #[derive(Drop)]
 pub struct ProgressLine<'a, R: Clock, W: Write> {
     clock: &'a R,
@@ -111,7 +114,7 @@ pub struct ProgressLine<'a, R: Clock, W: Write> {
 }
 
 impl<'a, R: Clock, W: Write> ProgressLine<'a, R, W> {
-    /// The line at this terminal, with nothing shown.
+    /// Makes the line at this terminal, with nothing shown.
     pub fn new(clock: &'a R, terminal: W) -> Self {
         ProgressLine {
             clock,
@@ -124,7 +127,7 @@ impl<'a, R: Clock, W: Write> ProgressLine<'a, R, W> {
         }
     }
 
-    // Whether there was time enough since the last show.
+    // Whether enough time has passed since the last update.
     fn is_due(&self, now: Instant) -> bool {
         match self.shown {
             Some(shown) => now.duration_since(shown).as_millis() >= BETWEEN_MILLIS,
@@ -132,14 +135,14 @@ impl<'a, R: Clock, W: Write> ProgressLine<'a, R, W> {
         }
     }
 
-    // The bytes a second since this moment.
+    // Returns the bytes a second since `began`.
     fn rate(&self, began: Instant, now: Instant) -> u64 {
         let millis = now.duration_since(began).as_millis();
         let rate = u128::from(self.bytes) * 1000 / millis.max(1);
         u64::try_from(rate).unwrap_or(u64::MAX)
     }
 
-    // Prints where the dump is.
+    // Prints the line of this block at this rate.
     fn print(&mut self, block: u32, rate: u64) {
         let line = line_of(self.volume, block, self.blocks, rate);
         let _ = self.terminal.write_all(line.as_bytes());
@@ -171,7 +174,8 @@ impl<'a, R: Clock, W: Write> Gauge for ProgressLine<'a, R, W> {
     }
 }
 
-/// What a terminal shows of a block of a volume, counted from 0 among so many, at so many bytes a second.
+/// Returns the line for this block of a volume. `block` is counted from 0, `blocks` is how many the
+/// dump has, and `rate` is in bytes a second.
 fn line_of(volume: u32, block: u32, blocks: u32, rate: u64) -> ArrayString<LINE_ROOM> {
     let mut line = ArrayString::new();
     let number = block.saturating_add(1);
@@ -187,11 +191,11 @@ fn line_of(volume: u32, block: u32, blocks: u32, rate: u64) -> ArrayString<LINE_
     line
 }
 
-/// A writer of lines, each in one write, before which a line of progress at a terminal is cleared. It promises what the
-/// writer promises.
+/// A writer of lines, each in one write. It clears the line of progress at a terminal before each
+/// write. It has the contracts of the writer.
 #[derive(Drop)]
 pub struct Clearing<W, T> {
-    /// Where the lines go.
+    /// The writer that receives the lines.
     pub lines: W,
     /// The terminal that shows progress, if there is one.
     pub terminal: Option<T>,

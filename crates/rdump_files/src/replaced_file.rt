@@ -1,4 +1,4 @@
-//! A file of the system's that is replaced whole.
+//! A file on the file system that is replaced as a whole.
 
 use crate::files::read_if_there;
 use crate::new_file::{Form, NewFile, find_stranger};
@@ -10,20 +10,24 @@ use std::io::{self, ErrorKind};
 use std::rt::Files;
 use std::time::{Clock, SystemTime};
 
-/// A file by its path. It tells nothing: what a file holds, no clause says.
+/// A file, given by its path. Its contracts state nothing about the contents of the file.
 ///
-/// Its text is put in place by writing it to a new file of the same name with `.new` after it, which is synced, and then
-/// renamed. The new file is made first, and its advisory lock is taken: a run waits ten seconds for another's. Where the path is
-/// a link, the file that it leads to is read and replaced.
+/// To replace the file, this writes a new file of the same name with `.new` after it, syncs it, and
+/// renames it. It first creates the new file and takes its advisory lock; it waits ten seconds if
+/// another run has that. If the path is a link, it reads and replaces the file that the link leads
+/// to.
 ///
-/// A new file that another run left is taken away, where it holds a beginning of what is written there: dumpdates or a checkpoint. Any other
-/// file that has the name stays, and nothing is put in place then.
+/// It removes a new file that another run left, if that contains a beginning of what is written
+/// there: dumpdates or a checkpoint. Any other file with that name stays, and the replacement then
+/// fails.
 ///
-/// A file of `new` is dumpdates, and is locked by one step: who reads it makes the new file before, and has that one's lock until the text is in
-/// place or this is dropped. So what is read and what is put in place of it is one step between any number of runs.
+/// A file made by `new` is dumpdates. Reading it first creates the new file and locks it, until the
+/// text is in place or this is dropped. The read and the replacement are thus one step among any
+/// number of runs.
 ///
-/// A file of `held` is a checkpoint, and one run's alone: the file that is in place is locked from the read on, and each new one before it has the
-/// name. Another run's is not read, and nothing is put in place of it.
+/// A file made by `held` is a checkpoint, which belongs to one run. The file in place is locked
+/// from the read on, and each new file is locked before it gets the name. A checkpoint that another
+/// run has is not read and not replaced.
 #[derive(Drop)]
 pub struct ReplacedFile<'a, R: Files<File = File> + Clock> {
     rt: &'a R,
@@ -36,18 +40,19 @@ pub struct ReplacedFile<'a, R: Files<File = File> + Clock> {
 }
 
 impl<'a, R: Files<File = File> + Clock> ReplacedFile<'a, R> {
-    /// The dumpdates file at this path, which need not be there. It is locked from a read to the text that is put in place then.
+    /// Makes the dumpdates file at this path, which need not exist. It is locked from a read until
+    /// it is replaced.
     pub fn new(rt: &'a R, alloc: Global, path: &'a str) -> Self {
         ReplacedFile::with_form(rt, alloc, path, Form::Dates)
     }
 
-    /// The checkpoint file at this path, which need not be there. It is locked from the read on, for as long as this lives. Each that is put
-    /// in place has the mode 0600.
+    /// Makes the checkpoint file at this path, which need not exist. It is locked from the read on,
+    /// for as long as this value lives. Each file put in place has the mode 0600.
     pub fn held(rt: &'a R, alloc: Global, path: &'a str) -> Self {
         ReplacedFile::with_form(rt, alloc, path, Form::Checkpoint)
     }
 
-    /// The file at this path, to which this is written.
+    /// Makes the file at this path, to which `form` is written.
     fn with_form(rt: &'a R, alloc: Global, path: &'a str, form: Form) -> Self {
         ReplacedFile {
             rt,
@@ -60,13 +65,13 @@ impl<'a, R: Files<File = File> + Clock> ReplacedFile<'a, R> {
         }
     }
 
-    /// Why the last call that failed did, if one has.
+    /// Returns the error of the last call that failed, if one has.
     pub fn failure(&self) -> Option<&io::Error> {
         self.failure.as_ref()
     }
 
-    /// Why no text could be put in place now, as far as that shows without one: the new file can't be made. What it makes it takes away,
-    /// and what lies there it leaves.
+    /// Returns why the new file could not be created now, or none if no reason was found. It
+    /// removes the file that it creates, and leaves a file that already has the name.
     pub fn find_fault(&self) -> Option<io::Error> {
         match NewFile::try_make(self.rt, self.alloc, self.path, self.form) {
             Ok(_) => None,
@@ -74,10 +79,12 @@ impl<'a, R: Files<File = File> + Clock> ReplacedFile<'a, R> {
         }
     }
 
-    /// The path of the new file, where a plain file lies there that no run left, so that none can be made. What another run has locked is
-    /// not looked at. None too where the system does not tell: it is found out when the new file is made.
+    /// Returns the path of the new file if a regular file that no run left is there, so that none
+    /// can be created. Returns none if another run has locked that file, which is then not read.
+    /// Also returns none if the system reports an error, which then appears when the new file is
+    /// created.
     ///
-    /// It fails only where memory is refused.
+    /// Fails only if an allocation fails.
     pub fn find_stranger(&self) -> io::Result<Option<String>> {
         match find_stranger(self.rt, self.alloc, self.path, self.form) {
             Err(error) if error.kind() != ErrorKind::OutOfMemory => Ok(None),
@@ -85,14 +92,16 @@ impl<'a, R: Files<File = File> + Clock> ReplacedFile<'a, R> {
         }
     }
 
-    /// When a file that is held was last written to. None where none is held, that was before 1970, or the system does not tell.
+    /// Returns when a file that is held was last written to. Returns none if no file is held, if
+    /// that was before 1970, or if the system does not report it.
     pub fn modified(&self) -> Option<SystemTime> {
         self.placed.as_ref()?.modified()
     }
 
-    /// Removes a file that is held, and gives its lock back. Where none is held, or it is gone, there is nothing to do.
+    /// Removes a file that is held, and releases its lock. Does nothing if no file is held, or if
+    /// it is gone.
     ///
-    /// Answers `FileFailed` where it can't be removed, or where another file has its name by now.
+    /// Returns `FileFailed` if it cannot be removed, or if another file has its name by now.
     pub fn remove(&mut self) -> Result<(), FileFailed> {
         let Some(placed) = self.placed.take() else {
             return Ok(());
@@ -103,13 +112,13 @@ impl<'a, R: Files<File = File> + Clock> ReplacedFile<'a, R> {
         }
     }
 
-    /// Keeps why a call failed.
+    /// Keeps the error of a call that failed.
     fn fail(&mut self, error: io::Error) -> FileFailed {
         self.failure = Some(error);
         FileFailed
     }
 
-    /// The new file, which is made where there is none yet.
+    /// Returns the new file, and creates it if that was not done yet.
     fn take_new(&mut self) -> io::Result<NewFile<'a, R>> {
         match self.new.take() {
             Some(new) => Ok(new),
@@ -117,7 +126,7 @@ impl<'a, R: Files<File = File> + Clock> ReplacedFile<'a, R> {
         }
     }
 
-    /// Reads the file with its lock, and keeps that.
+    /// Reads the file under its lock, and keeps the lock.
     fn read_locked(&mut self, alloc: Global) -> io::Result<Option<Vec<u8>>> {
         match self.form {
             Form::Dates => self.read_beside_new(alloc),
@@ -125,7 +134,7 @@ impl<'a, R: Files<File = File> + Clock> ReplacedFile<'a, R> {
         }
     }
 
-    /// Reads the file with the new file made, and keeps that.
+    /// Creates the new file, reads the file in place, and keeps the new file.
     fn read_beside_new(&mut self, alloc: Global) -> io::Result<Option<Vec<u8>>> {
         let new = self.take_new()?;
         let bytes = read_if_there(self.rt, alloc, new.named())?;
@@ -133,7 +142,7 @@ impl<'a, R: Files<File = File> + Clock> ReplacedFile<'a, R> {
         Ok(bytes)
     }
 
-    /// Reads the file that is in place, and keeps its lock.
+    /// Reads the file in place, and keeps its lock.
     fn read_placed(&mut self, alloc: Global) -> io::Result<Option<Vec<u8>>> {
         let Some(mut placed) = NewFile::find(self.rt, self.alloc, self.path, self.form)? else {
             return Ok(None);
@@ -159,7 +168,8 @@ impl<'a, R: Files<File = File> + Clock> ReplacedFile<'a, R> {
     }
 }
 
-/// Puts a new file in place, with this text, and gives its lock back: others need not wait for the folder.
+/// Puts a new file in place, with this text. Releases its lock before the folder is synced, so that
+/// other runs need not wait for that.
 fn put_unlocked<R: Files<File = File>>(mut new: NewFile<'_, R>, text: &[u8]) -> io::Result<()> {
     new.put(text)?;
     new.unlock();
@@ -179,7 +189,8 @@ impl<'a, R: Files<File = File> + Clock> WholeFile for ReplacedFile<'a, R> {
         }
     }
 
-    /// Once the new file has the name of the old one this is done, whatever comes of the folder's sync.
+    /// Succeeds once the new file has the name of the old one, even if the sync of the folder
+    /// fails.
     fn replace(&mut self, text: &[u8]) -> Result<(), FileFailed> {
         match self.put(text) {
             Ok(()) => Ok(()),

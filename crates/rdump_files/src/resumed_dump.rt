@@ -1,4 +1,4 @@
-//! The client of a dump that comes back from its checkpoint.
+//! Makes the client of a dump that is resumed from its checkpoint.
 ghost use Rattle.std.specs.Prelude.{IfErr, IfOk, ◌≡◌};
 ghost use Rattle.dump_client.specs.Standing.{IsOver};
 ghost use Rattle.dump_run.specs.Checkpoint.{SpellsCheckpoint};
@@ -12,21 +12,22 @@ use dump_run::one_checkpoint;
 use std::alloc::Global;
 use tape::Medium;
 
-/// Why no client comes back from a checkpoint.
+/// Why a dump was not resumed.
 #[derive(Clone, Copy, Debug, PartialEq, Eq)]
 pub enum ResumedDumpFault {
-    /// The bytes are no checkpoint, or memory was refused.
+    /// The bytes are not a checkpoint, or an allocation failed.
     Unread(ResumeFault),
-    /// It is of another dump.
+    /// The checkpoint is of another dump.
     OfAnother,
 }
 
-/// The client that comes back from a checkpoint, whose bytes are given: with the run and the counts that they spell, finished
-/// where these are all blocks. It dumps the payload of this run, with which its run is to be of one dump: all is the same but the
-/// dates. The gauge is told how many blocks there are, and shows each that is read.
+/// Makes the client that resumes a dump from `bytes`, the bytes of a checkpoint. It has the run and
+/// the counts of the checkpoint, and is finished if these count all blocks. `payload` is the
+/// payload of `run`. The checkpoint must be of the same dump as `run`: only the dates may differ.
+/// The gauge gets the number of blocks, and shows each block that is read.
 ///
-/// Answers `Unread` with the first line at fault where the bytes are no checkpoint, or where memory is refused, and `OfAnother`
-/// where it is of another dump.
+/// Returns `Unread` if the bytes are not a checkpoint, with the first bad line, or if an allocation
+/// fails. Returns `OfAnother` if the checkpoint is of another dump.
 pub fn resume_dump<M: Medium + Drop, G: Gauge + Drop>(
     alloc: Global,
     run: &Run,

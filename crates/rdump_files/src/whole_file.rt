@@ -10,32 +10,32 @@ use thiserror::Error;
 #[error("FileFailed")]
 pub struct FileFailed;
 
-/// A file that is read whole and replaced whole. What is read of it and put in place of it is what the clauses of its
-/// calls say.
+/// A file that is read as a whole and replaced as a whole. The clauses of its calls say what is
+/// read and what is put in place.
 pub trait WholeFile {
     ghost use Rattle.std.specs.Prelude.{List, Option, Result, ℕ};
     ghost use Rattle.rdump_files.specs.declared.whole_file.FileFailed.{FileFailed};
 
-    /// What a read gives: the bytes, none where the file is not there, or that it failed.
+    /// The result of a read: the bytes, none if the file does not exist, or a failure.
     ghost gives: { Self → Result (Option (List ℕ)) FileFailed → Self → Type 0 };
 
-    /// A text is put in place of the whole file, or could not be.
+    /// The result of putting a text in place of the whole file.
     ghost takes: { Self → List ℕ → Result Unit FileFailed → Self → Type 0 };
 
-    /// Reads the whole file. None where it is not there.
+    /// Reads the whole file. Returns none if it does not exist.
     ///
-    /// Answers `FileFailed` where it can't be read.
+    /// Returns `FileFailed` if it cannot be read.
     fn read(&mut self, alloc: Global) -> Result<Option<Vec<u8>>, FileFailed>
         ensures { gives self.old (plain_read result) self.new };
 
-    /// Puts this text in place of the whole file, which need not be there.
+    /// Puts this text in place of the whole file, which need not exist.
     ///
-    /// Answers `FileFailed`, and the file is as it was then.
+    /// Returns `FileFailed` if that fails; the file is then unchanged.
     fn replace(&mut self, text: &[u8]) -> Result<(), FileFailed>
         ensures { takes self.old text.now result self.new };
 }
 
-/// The bytes of a file, and none where it is not there.
+/// Returns the bytes of a file, or no bytes if the file does not exist.
 pub(crate) fn or_empty(alloc: Global, bytes: Option<Vec<u8>>) -> Vec<u8>
     ensures { result.items ≡ unwrap_or (option_map (λ held. held.items) bytes) [] }
 {
