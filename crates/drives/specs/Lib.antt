@@ -1,4 +1,5 @@
--- In reading order: Holding, Local (holders); Shop, Calls, Stacking, Opening (reels); ListShop, Arranging (in memory).
+-- In reading order: Holding, Local (holders); TapeLibrary, Calls, Stacking, Opening (reels);
+-- ListLibrary, Arranging (in memory).
 pub mod Holding
 pub mod Local
 pub mod TapeLibrary

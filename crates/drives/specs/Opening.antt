@@ -15,12 +15,13 @@ use Rattle.drives.specs.Calls.{StacksKind, stacks_kind}
 use Rattle.drives.specs.Calls.StacksCall.{Latch}
 use Rattle.drives.specs.Stacking.{LatchStep, IsStacksCall}
 
--- what holds, stacks and reels of these kinds promise
+-- what these kinds of holds, stacks and reels promise
 pub record Kinds (H Seat S R : Type 0) : Type 1 where
   pub holds : HoldsPromise H Seat
   pub stacks : StacksKind S R
   pub reels : ReelPromise R
 
+-- builds Kinds from the three promises
 abbrev pub kinds : {H Seat S R : Type 0} → HoldsPromise H Seat → StacksPromise S R → ReelPromise R → Kinds H Seat S R
 kinds holds stacks reels = record {
   holds = holds;
@@ -28,8 +29,8 @@ kinds holds stacks reels = record {
   reels = reels;
 }
 
--- What the seat did: nothing where there is no such drive, one take of the drive where it is opened or busy, and
--- a take and a give where no reel could be latched.
+-- The steps of the seat. It makes none if there is no such drive, and one take if the drive was
+-- opened or is busy. It makes a take and a give if no reel could be latched.
 abbrev pub SeatStep : {R : Type 0} → Result (ℕ × R) DriveFault → View → View → Type 0
 SeatStep (Ok opened) old new = (0 < old.number) × (has old opened.0 ≡ false) × (has new opened.0 ≡ true) × (new ≡ taken old opened.0 0)
 SeatStep (Err NoSuchDrive) old new = new ≡ old
@@ -37,22 +38,23 @@ SeatStep (Err (Busy n)) old new = (0 < n) × ((d : ℕ) × (new ≡ taken old d 
 SeatStep (Err NameTaken) old new = ⊥
 SeatStep (Err fault) old new = (d : ℕ) × (new ≡ given (taken old d 0) d)
 
--- the drive that was asked for, by the seat's last step
+-- the drive of the open, which is that of the seat's last step; none if there is no such drive
 abbrev pub drive_asked : {R : Type 0} → Result (ℕ × R) DriveFault → View → Option ℕ
 drive_asked (Err NoSuchDrive) new = None
 drive_asked result new = last_drive new
 
--- what the take found
+-- the number that the take found: that of the holder, or 0
 abbrev pub found_in_open : {R : Type 0} → Result (ℕ × R) DriveFault → ℕ
 found_in_open (Err (Busy n)) = n
 found_in_open result = 0
 
--- who holds drive d after the open by the seat `number`, where it was held by n
+-- who holds drive d after the open by the seat `number`, if n held it before
 abbrev pub word_after_open : {R : Type 0} → Result (ℕ × R) DriveFault → ℕ → ℕ → ℕ → ℕ
 word_after_open (Ok opened) number d n = word_after_take number opened.0 d n
 word_after_open (Err fault) number d n = n
 
--- the first line that applies: no drive of that name, busy, and then what the latch answers
+-- The first error that applies: no drive has that name, the drive is busy, and then the errors of
+-- the latch.
 abbrev pub OpenStep : {R : Type 0} → (R → Tape → Type 0) → (R → ℕ) → List ℕ → Option ℕ → Result (ℕ × R) DriveFault → TapeLibrary → TapeLibrary → Type 0
 OpenStep holds capacity name asked (Ok opened) s now =
     (asked ≡ Some opened.0) × IsDriveNamed name s (Some opened.0) × LatchStep holds capacity opened.0 (Ok opened.1) s now
@@ -61,30 +63,30 @@ OpenStep holds capacity name asked (Err (Busy n)) s now = (d : ℕ) × (asked �
 OpenStep holds capacity name asked (Err fault) s now =
     (d : ℕ) × (asked ≡ Some d) × IsDriveNamed name s (Some d) × LatchStep holds capacity d (Err fault) s now
 
--- the call of the stacks: none where there is no such drive or it is busy, else one latch of the drive that was asked for
+-- The call of the stacks: one latch of the drive, but none if there is no such drive or it is busy.
 abbrev pub LatchesFor : {H Seat S R : Type 0} → Kinds H Seat S R → S → Option ℕ → Result (ℕ × R) DriveFault → S → Type 0
 LatchesFor k old asked (Ok opened) new = IsStacksCall k.stacks k.reels old (Latch opened.0 (Ok opened.1)) new
 LatchesFor k old asked (Err NoSuchDrive) new = new ≡ old
 LatchesFor k old asked (Err (Busy n)) new = new ≡ old
 LatchesFor k old asked (Err fault) new = (d : ℕ) × (asked ≡ Some d) × IsStacksCall k.stacks k.reels old (Latch d (Err fault)) new
 
--- What an open of the drive of that name does: `result` is its answer.
+-- What an open of the drive with that name does. `result` is its result.
 pub record IsOpening {H Seat S R : Type 0} (k : Kinds H Seat S R) (old : DriveTable H S Seat R) (seat : Seat) (name : List ℕ)
     (result : Result (ℕ × R) DriveFault) (new : DriveTable H S Seat R) (seat' : Seat) : Type 0 where
   -- the steps of the seat at the drives
   pub view : SeatStep result (k.holds.shows seat) (k.holds.shows seat')
   pub own : k.holds.belongs new.holds seat'
-  -- what the take found is what the holds tell
+  -- the take found the holder of the drive, if the holders are specified
   pub asked : (d : ℕ) → drive_asked result (k.holds.shows seat') ≡ Some d → d < k.holds.drives old.holds
   pub found : (d n : ℕ) → drive_asked result (k.holds.shows seat') ≡ Some d → k.holds.tells old.holds d n → found_in_open result ≡ n
   pub told : (d n : ℕ) → k.holds.tells old.holds d n
       → k.holds.tells new.holds d (word_after_open result (k.holds.shows seat).number d n)
-  -- other seats hold what they held
+  -- other seats hold what they held before
   pub others : (s : Seat) → (k.holds.shows s).number ≢ (k.holds.shows seat).number
       → k.holds.belongs old.holds s → k.holds.belongs new.holds s
   pub same_holds : k.holds.drives new.holds ≡ k.holds.drives old.holds
   pub same_seats : k.holds.seated new.holds ≡ k.holds.seated old.holds
-  -- what is done to the stacks
+  -- the effect on the contents of the stacks, and the call of the stacks
   pub step : Steps k.stacks.holds old.stacks new.stacks
       (OpenStep k.reels.holds k.reels.capacity name (drive_asked result (k.holds.shows seat')) result)
   pub call : LatchesFor k old.stacks (drive_asked result (k.holds.shows seat')) result new.stacks

@@ -1,28 +1,29 @@
-//! Why a drive is not opened or added, or a reel not moved or added.
+//! The errors of opening or adding a drive, and of moving or adding a reel.
 
 use std::alloc::AllocError;
 use thiserror::Error;
 
-/// Why a drive was not opened or added, or a reel not moved or added. After each the seat holds what it held before,
-/// and stacks and bin are as they were.
+/// Why a drive was not opened or added, or why a reel was not moved or added. After each error the
+/// seat holds what it held before, and the stacks and the bin are unchanged.
 #[derive(Clone, Copy, Debug, PartialEq, Eq, Error)]
 pub enum DriveFault {
-    /// There is no drive of that name.
+    /// No drive has that name.
     #[error("NoSuchDrive")]
     NoSuchDrive,
-    /// The seat of this number holds the drive.
+    /// The seat with this number holds the drive.
     #[error("Busy")]
     Busy(u64),
-    /// There is no reel on the drive's stack, or the first one is latched already.
+    /// The drive's stack has no reel, or its first reel is already latched.
     #[error("NoReel")]
     NoReel,
-    /// What keeps the reels failed.
+    /// The device that stores the reels failed.
     #[error("Device")]
     Device,
-    /// A growth was refused.
+    /// An allocation failed.
     #[error("OutOfMemory")]
     OutOfMemory,
-    /// The bin has a reel of the name of one to be moved there, or what is to be added has a name that is taken.
+    /// The bin already has a reel with the name of the reel to move, or the name to add is already
+    /// taken.
     #[error("NameTaken")]
     NameTaken,
 }

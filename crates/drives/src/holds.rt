@@ -1,4 +1,4 @@
-//! Who holds which drive: what every kind of holds does for a seat.
+//! Who holds which drive: the contract that every implementation of `Holds` keeps.
 
 ghost use Rattle.std.specs.Prelude.{◌≡◌, ◌≢◌, ℕ, ◌<◌, ◌≤◌, ◌↔◌, IsTrue};
 ghost use Rattle.drives.specs.declared.view.View.{View};
@@ -9,31 +9,37 @@ use crate::Taken;
 /// The greatest number of drives.
 pub const DRIVE_LIMIT: usize = 64;
 
-/// Drives that seats hold, each drive by one seat at most, where they tell.
+/// Drives that seats hold. At most one seat holds a drive.
 ///
-/// A seat is seen as its `View`. Each call is one step of the seat, and leaves what other seats hold. Holds tell
-/// who holds a drive, or tell nothing, as std's readers do with their bytes.
+/// Contracts see a seat as its `View`. Each call is one step of the seat and does not change what
+/// other seats hold.
+///
+/// An implementation may leave the holders unspecified, as std's readers may with their bytes.
+/// Clauses about holders apply only if they are specified.
 pub trait Holds {
     /// A seat at these drives.
     type Seat: Drop;
 
-    /// The seat was made by these holds, and they agree on the drives that it holds.
+    /// The seat was created by these holds, and both agree on the drives that it holds.
     ghost belongs: { Self → Self.Seat → Type 0 };
 
-    /// How many drives there are. They are numbered from 0.
+    /// The number of drives. They are numbered from 0.
     ghost drives: { Self → ℕ };
 
-    /// The last number that was given to a seat: seats are numbered from 1.
+    /// The last seat number that was assigned. Seats are numbered from 1.
     ghost seated: { Self → ℕ };
 
-    /// What the seat knows.
+    /// The view of the seat.
     ghost shows: { Self.Seat → View };
 
-    /// The drive is held by the seat of this number, or by none at 0. Holds that tell nothing say it of no number.
+    /// The seat with this number holds the drive, or no seat does if the number is 0. If the
+    /// holders are unspecified, this is true of no number.
     ghost tells: { Self → ℕ → ℕ → Type 0 };
 
-    /// Takes the drive, counted from 0, if no seat holds it. It is one of the drives of these holds, and the seat one of their
-    /// seats. Answers `Held`, or `Busy` with the number of the seat that holds it, which was given.
+    /// Takes the drive if no seat holds it. Drives are numbered from 0.
+    ///
+    /// Returns `Held`, or `Busy` with the number of the seat that holds the drive. That number was
+    /// assigned to a seat. The seat must belong to these holds, and the drive must exist.
     fn take(&mut self, seat: &mut Self::Seat, drive: usize) -> Taken
         requires seat { belongs self.old seat.old }
         requires drive { drive < drives self.old }
@@ -47,7 +53,8 @@ pub trait Holds {
         ensures same_drives { drives self.new ≡ drives self.old }
         ensures same_seats { seated self.new ≡ seated self.old };
 
-    /// Gives back a drive, counted from 0, that the seat holds. The seat is one of these holds, and so is the drive.
+    /// Gives back a drive that the seat holds. Drives are numbered from 0. The seat must belong to
+    /// these holds, and the drive must exist.
     fn give(&mut self, seat: &mut Self::Seat, drive: usize)
         requires seat { belongs self.old seat.old }
         requires drive { drive < drives self.old }
@@ -59,8 +66,9 @@ pub trait Holds {
         ensures same_drives { drives self.new ≡ drives self.old }
         ensures same_seats { seated self.new ≡ seated self.old };
 
-    /// The number of the seat that holds the drive, counted from 0; or 0 where none does. The number was given. The drive and the
-    /// seat are of these holds.
+    /// Returns the number of the seat that holds the drive, or 0 if no seat does. Any other number
+    /// returned was assigned to a seat. Drives are numbered from 0. The seat must belong to these
+    /// holds, and the drive must exist.
     fn holder(&self, seat: &mut Self::Seat, drive: usize) -> u64
         requires seat { belongs self.now seat.old }
         requires drive { drive < drives self.now }
@@ -70,9 +78,10 @@ pub trait Holds {
         ensures found { (n : ℕ) → tells self.now drive n → result ≡ n }
         ensures own { belongs self.now seat.new };
 
-    /// A seat's number was given: it is from 1 to the last one.
+    /// The number of a seat was assigned: it is at least 1 and at most the last assigned number.
     ghost numbered: { (h : Self) (s : Self.Seat) → belongs h s → (1 ≤ (shows s).number) × ((shows s).number ≤ seated h) };
 
-    /// Where they tell who holds a drive, it is the seat exactly where the seat holds that drive.
+    /// If the holder of a drive is specified, it is this seat exactly if the seat's view has the
+    /// drive.
     ghost agrees: { (h : Self) (s : Self.Seat) (d n : ℕ) → belongs h s → tells h d n → n ≡ (shows s).number ↔ IsTrue (has (shows s) d) };
 }

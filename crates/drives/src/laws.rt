@@ -1,4 +1,4 @@
-//! Laws of stacks in memory, each the contract of a call that does nothing.
+//! Laws of stacks in memory. Each law is the contract of a function that does nothing.
 
 ghost use Rattle.std.specs.Prelude.{◌≡◌, ℕ, ◌<◌, List, length, Result};
 ghost use Rattle.tape.specs.Trouble.{TroubledTape};
@@ -8,9 +8,10 @@ ghost use Rattle.drives.specs.Arranging.{may_arrange};
 ghost use Rattle.drives.specs.Calls.{StacksCall};
 ghost use Rattle.drives.specs.Calls.StacksCall.{Latch, LayBack, Move};
 
-/// Of stacks in memory, how many of the reels that lie there have a trouble set after a call: a latch takes its reel away
-/// with its trouble, a laying back and a move bring that of the reel, and a call that was refused leaves all. Each call
-/// leaves the number of drives.
+/// The law of how a call of stacks in memory changes the number of reels with a trouble set. It
+/// counts the reels on the stacks and in the bin. A latch removes its reel along with the reel's
+/// trouble. Laying a reel back, or moving it to the bin, adds the trouble of that reel. A call that
+/// fails changes nothing here. No call changes the number of drives.
 ///
 /// It does nothing: its contract is a law of the definitions.
 pub fn lying_troubles()
@@ -24,7 +25,8 @@ pub fn lying_troubles()
         IsListStacksCall old new call → length new.library.drives ≡ length old.library.drives }
 {}
 
-/// What may be asked of stacks in memory as an operator's order is told by the shop that they tell.
+/// The law that `may_arrange` gives the same result for stacks in memory as for their library, in
+/// which the reels are at rest.
 ///
 /// It does nothing: its contract is a law of the definitions.
 pub fn told_orders()

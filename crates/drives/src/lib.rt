@@ -1,7 +1,8 @@
-//! Drives: who holds which, and the reels that lie on their stacks and in the bin.
+//! Drives: which seat holds which drive, and the reels on their stacks and in the bin.
 //!
-//! `DriveTable` joins `Holds` (each drive has one holder at most) with `Stacks` (each reel lies in one place).
-//! `LocalHolds` and `ListStacks` are those of one thread, in memory.
+//! `DriveTable` combines `Holds` (a drive has at most one holder) with `Stacks` (a reel is in
+//! exactly one place). `LocalHolds` and `ListStacks` are their implementations for one thread, in
+//! memory.
 #![tactic(auto)]
 
 mod fault;

@@ -16,9 +16,9 @@ use std::alloc::Global;
 use std::marker::Model;
 use tape::{Reel, TroubledReel};
 
-/// Drives with stacks of named reels, all in memory, and a bin.
+/// Drives with stacks of named reels and a bin, all in memory.
 ///
-/// The bin has room for each reel that was added, so that no move takes memory.
+/// The bin always has room for every reel that was added, so a move allocates nothing.
 #[derive(Drop)]
 pub struct ListStacks {
     alloc: Global,
@@ -42,7 +42,7 @@ impl Model for ListStacks {
 }
 
 impl ListStacks {
-    /// No drive and an empty bin, with no trouble. It takes no memory.
+    /// Returns stacks with no drive, an empty bin and no trouble. It allocates nothing.
     pub fn new(alloc: Global) -> ListStacks
         ensures empty { result ≡ empty_library }
         ensures told { IsLibrary result (library_of result) }
@@ -58,9 +58,11 @@ impl ListStacks {
         }
     }
 
-    /// Adds a drive of this name, with an empty stack. Answers its number: drives are numbered from 0.
+    /// Adds a drive with this name and an empty stack, and returns its number. Drives are numbered
+    /// from 0.
     ///
-    /// Answers `NameTaken` where a drive has that name, and `OutOfMemory`. Nothing has changed then.
+    /// Fails with `NameTaken` if a drive has that name, and with `OutOfMemory`. Nothing is changed
+    /// then.
     pub fn add_drive(&mut self, name: &[u8]) -> Result<usize, DriveFault>
         ensures added { IsDriveAdded self.old name.now result self.new }
         ensures told { IsLibrary self.new (library_of self.new) }
@@ -72,11 +74,11 @@ impl ListStacks {
         self.put_drive(name)
     }
 
-    /// Adds an empty reel of this name and of this capacity, in bytes, at the end of the stack of the drive of that number,
-    /// which `add_drive` gave, and reserves room in the bin for it.
+    /// Adds an empty reel at the end of the stack of a drive, and reserves room for it in the bin.
+    /// `drive` is a number that `add_drive` returned, and `capacity` is in bytes.
     ///
-    /// Answers `NameTaken` where a reel on a stack, latched or in the bin has that name, and `OutOfMemory`. Nothing
-    /// has changed then.
+    /// Fails with `NameTaken` if a reel on a stack, in a drive or in the bin has that name, and
+    /// with `OutOfMemory`. Nothing is changed then.
     pub fn add_reel(&mut self, drive: usize, name: &[u8], capacity: u64) -> Result<(), DriveFault>
         requires { drive < length self.old.library.drives }
         ensures added { IsReelAdded self.old drive name.now capacity result self.new }
@@ -89,8 +91,8 @@ impl ListStacks {
         self.put_reel(drive, name, capacity)
     }
 
-    /// The reels of the drive's stack in order, first the one that is latched or would be latched next. The drive's number is
-    /// one that `add_drive` gave.
+    /// Returns the reels of the drive's stack in order. The first one is latched, or would be
+    /// latched next. `drive` is a number that `add_drive` returned.
     pub fn stack(&self, drive: usize) -> &[ListedReel]
         requires { drive < length self.now.library.drives }
         ensures lying { result.now ≡ (drive_at self.now.library drive).stack }
@@ -100,7 +102,7 @@ impl ListStacks {
         chosen.stack()
     }
 
-    /// The reels of the bin, in the order in which they were moved there.
+    /// Returns the reels in the bin, in the order in which they were moved there.
     pub fn bin(&self) -> &[ListedReel]
         ensures lying { result.now ≡ self.now.library.bin }
         ensures told { map rest_slot result.now ≡ (library_of self.now).bin }
@@ -108,7 +110,8 @@ impl ListStacks {
         &self.bin
     }
 
-    /// The reel of that name, on a stack or in the bin. None while it is latched, and where there is none.
+    /// Returns the reel with that name, on a stack or in the bin. Returns `None` if no reel has the
+    /// name or the reel is latched.
     pub fn reel(&self, name: &[u8]) -> Option<&TroubledReel>
         ensures found { option_copied result ≡ reel_named name.now (slots_in self.now.library) }
         ensures told { option_map at_rest (option_copied result) ≡ reel_named name.now (slots_in (library_of self.now)) }
@@ -119,8 +122,9 @@ impl ListStacks {
         }
     }
 
-    /// Whether `arrange` can be asked for these names: no reel of the drive is latched, no name stands twice, and each
-    /// is the name of a reel of its stack or of the bin. The drive's number is one that `add_drive` gave.
+    /// Whether `arrange` may be called with these names. No reel of the drive may be latched, and
+    /// the names must be distinct. Each must be the name of a reel on the drive's stack or in the
+    /// bin. `drive` is a number that `add_drive` returned.
     pub fn can_arrange(&self, drive: usize, names: &[&[u8]]) -> bool
         requires { drive < length self.now.library.drives }
         ensures may { result ≡ may_arrange self.now.library drive (map (λ n. n.now) names.now) }
@@ -129,11 +133,11 @@ impl ListStacks {
         self.can_put_stack(drive, names)
     }
 
-    /// An operator's act: the drive's stack becomes the reels of these names, in that order. Reels of the bin leave it,
-    /// and the stack's others go to the bin's end, in their order. Each reel stays as it is. It is asked for only where
-    /// `can_arrange` says yes.
+    /// Rearranges the drive's stack, as an operator does: it becomes the reels with these names, in
+    /// that order. Reels named from the bin leave it. The stack's other reels go to the end of the
+    /// bin, in their order. No reel itself changes. Call it only if `can_arrange` returns true.
     ///
-    /// Answers `OutOfMemory`. Nothing has changed then.
+    /// Fails with `OutOfMemory`. Nothing is changed then.
     pub fn arrange(&mut self, drive: usize, names: &[&[u8]]) -> Result<(), DriveFault>
         requires drive { drive < length self.old.library.drives }
         requires may { IsTrue (may_arrange self.old.library drive (map (λ n. n.now) names.now)) }
@@ -153,15 +157,15 @@ impl ListStacks {
         self.put_stack(drive, names)
     }
 
-    /// Sets whether the next latch of a reel, or move of one to the bin, meets a device failure. A latch that finds no
-    /// reel, and an `unlatch`, make no call of the device and leave what was set.
+    /// Sets whether the next latch or move to the bin fails with a device failure. A latch that
+    /// finds no reel, and an `unlatch`, do not call the device and leave the setting.
     pub fn trouble(&mut self, on: bool)
         ensures { self.new ≡ record self.old { trouble = on } }
     {
         self.trouble = on;
     }
 
-    /// The first drive of that name.
+    /// Returns the number of the first drive with that name.
     fn number_of(&self, name: &[u8]) -> Option<usize>
         ensures found { IsDriveNamed name.now self.now.library result }
         ensures once { EachReelOnce self.now.library }
@@ -169,7 +173,7 @@ impl ListStacks {
         self.drives.iter().position(|chosen| chosen.is_named(name))
     }
 
-    /// Whether a reel on a stack, latched or in the bin has that name.
+    /// Whether a reel on a stack, in a drive or in the bin has that name.
     fn has_reel(&self, name: &[u8]) -> bool
         ensures found { MatchBool result (0 < times name.now (names_in self.now.library)) (times name.now (names_in self.now.library) ≡ 0) }
         ensures once { EachReelOnce self.now.library }
@@ -177,7 +181,7 @@ impl ListStacks {
         any_stacked(&self.drives, name) || any_named(&self.bin, name)
     }
 
-    /// Adds a drive of a new name. Answers `OutOfMemory`; nothing has changed then.
+    /// Adds a drive with a new name. Fails with `OutOfMemory`; nothing is changed then.
     fn put_drive(&mut self, name: &[u8]) -> Result<usize, DriveFault>
         requires { IsDriveNamed name.now self.old.library None }
         ensures { IsDriveAdded self.old name.now result self.new }
@@ -190,7 +194,7 @@ impl ListStacks {
         Ok(number)
     }
 
-    /// Adds an empty reel of a new name. Answers `OutOfMemory`; nothing has changed then.
+    /// Adds an empty reel with a new name. Fails with `OutOfMemory`; nothing is changed then.
     fn put_reel(&mut self, drive: usize, name: &[u8], capacity: u64) -> Result<(), DriveFault>
         requires drive { drive < length self.old.library.drives }
         requires free { times name.now (names_in self.old.library) ≡ 0 }
@@ -204,7 +208,8 @@ impl ListStacks {
         Ok(())
     }
 
-    /// The place of the reel of that name, on a stack or in the bin.
+    /// Returns the entry of the reel with that name, on a stack or in the bin. The reel may be
+    /// latched.
     fn listed(&self, name: &[u8]) -> Option<&ListedReel>
         ensures { option_copied result ≡ slot_named name.now (slots_in self.now.library) }
     {
@@ -214,7 +219,7 @@ impl ListStacks {
         find_named(&self.bin, name)
     }
 
-    /// Whether the stack of the drive can be arranged so, as `can_arrange` says.
+    /// Whether the drive's stack may be arranged like this, as for `can_arrange`.
     fn can_put_stack(&self, drive: usize, names: &[&[u8]]) -> bool
         requires { drive < length self.now.library.drives }
         ensures { result ≡ may_arrange self.now.library drive (map (λ n. n.now) names.now) }
@@ -226,7 +231,7 @@ impl ListStacks {
         all_differ(names) && all_there(names, &self.bin, chosen.stack())
     }
 
-    /// Arranges the stack of the drive, as `arrange` does.
+    /// Arranges the drive's stack, as `arrange` does.
     fn put_stack(&mut self, drive: usize, names: &[&[u8]]) -> Result<(), DriveFault>
         requires { drive < length self.old.library.drives }
         ensures arranged { IsArranged self.old drive (map (λ n. n.now) names.now) result self.new }
@@ -260,7 +265,7 @@ impl ListStacks {
         Ok(reel)
     }
 
-    /// Lays the latched reel down, as `Stacks::unlatch` does.
+    /// Lays the latched reel back on its stack, as `Stacks::unlatch` does.
     fn lay_first(&mut self, drive: usize, reel: TroubledReel)
         requires drive { drive < length self.old.library.drives }
         requires latched { HasLatched IsLibrary self.old drive }
@@ -295,7 +300,7 @@ impl ListStacks {
         Ok(())
     }
 
-    /// Counts a failed device call, and ends the trouble that it met.
+    /// Counts a failed device call and clears the trouble that caused it. Returns `Device`.
     fn fail(&mut self) -> DriveFault
         ensures fault { result ≡ Device }
         ensures counted { self.new ≡ after_failure self.old }
@@ -331,21 +336,22 @@ impl Stacks for ListStacks {
         self.number_of(name)
     }
 
-    /// Answers `NoReel`, and `Device` where a reel lies there and the trouble is set. It takes no memory.
+    /// Fails with `NoReel`, or with `Device` if a reel is there and the trouble is set. It
+    /// allocates nothing.
     ///
     /// The reel keeps its own trouble, if one is set, and its count of failures.
     fn latch(&mut self, drive: usize) -> Result<TroubledReel, DriveFault> {
         self.take_first(drive)
     }
 
-    /// Lays the reel on its stack with its trouble, if one is set, and its count of failures.
+    /// Lays the reel on its stack along with its trouble, if one is set, and its count of failures.
     fn unlatch(&mut self, drive: usize, reel: TroubledReel) {
         self.lay_first(drive, reel);
     }
 
-    /// Answers `Device` alone, where the trouble is set. It takes no memory.
+    /// Fails only with `Device`, if the trouble is set. It allocates nothing.
     ///
-    /// The reel lies in the bin with its trouble, if one is set, and its count of failures.
+    /// The reel keeps its trouble in the bin, if one is set, and its count of failures.
     fn offline(
         &mut self,
         drive: usize,

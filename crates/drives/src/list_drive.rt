@@ -1,4 +1,4 @@
-//! One drive in memory, with its stack.
+//! A drive in memory, with its stack.
 
 ghost use Rattle.std.specs.Prelude.{◌≡◌, ◌≢◌, ◌<◌, ◌≤◌, vec_capacity, is_some, [], ◌∷◌, ◌++◌, None, IsSome, IfOk, MatchBool, MatchResult, length, flat_map};
 ghost use Rattle.std.specs.List.{list_any};
@@ -13,7 +13,8 @@ use std::alloc::{AllocError, Global};
 use std::marker::Model;
 use tape::TroubledReel;
 
-/// A drive of a `ListStacks`, with its stack. A latched reel stays first on it, and is away.
+/// A drive of a `ListStacks`, with its stack. A latched reel keeps its entry at the front of the
+/// stack, without the reel itself.
 #[derive(Drop)]
 pub(crate) struct ListDrive {
     name: Vec<u8>,
@@ -30,7 +31,7 @@ impl Model for ListDrive {
 }
 
 impl ListDrive {
-    /// A drive with an empty stack.
+    /// Returns a drive with an empty stack. Fails if an allocation fails.
     pub(crate) fn new(alloc: Global, name: &[u8]) -> Result<ListDrive, AllocError>
         ensures { IfOk result (λ made. made ≡ drive_with name.now []) }
     {
@@ -47,21 +48,21 @@ impl ListDrive {
         self.name.as_slice() == name
     }
 
-    /// The reels of the stack, in order.
+    /// Returns the reels of the stack, in order.
     pub(crate) fn stack(&self) -> &[ListedReel]
         ensures { result.now ≡ self.now.stack }
     {
         &self.stack
     }
 
-    /// Whether a reel of the stack has that name.
+    /// Whether a reel of the stack has that name, latched or not.
     pub(crate) fn has_reel(&self, name: &[u8]) -> bool
         ensures { result ≡ list_any (λ x. bytes_eq name.now x.name) self.now.stack }
     {
         any_named(&self.stack, name)
     }
 
-    /// Whether a reel lies first on the stack.
+    /// Whether the stack has a first reel that is not latched.
     pub(crate) fn is_ready(&self) -> bool
         ensures { MatchBool result (IsSome (first_reel self.now.stack)) (first_reel self.now.stack ≡ None) }
     {
@@ -81,7 +82,7 @@ impl ListDrive {
         }
     }
 
-    /// Takes the first reel away, if one lies there.
+    /// Takes the first reel out of its entry, if it is there.
     pub(crate) fn latch(&mut self) -> Option<TroubledReel>
         ensures taken { result ≡ first_reel self.old.stack }
         ensures away { self.new ≡ drive_with self.old.name (with_first None self.old.stack) }
@@ -92,7 +93,7 @@ impl ListDrive {
         }
     }
 
-    /// Lays the first reel down again.
+    /// Puts the first reel back into its entry.
     pub(crate) fn unlatch(&mut self, reel: TroubledReel)
         requires { 0 < length self.old.stack }
         ensures { self.new ≡ drive_with self.old.name (with_first (Some reel) self.old.stack) }
@@ -101,7 +102,7 @@ impl ListDrive {
         first.put(reel);
     }
 
-    /// Takes the first reel off the stack, with its name.
+    /// Removes the first entry from the stack and returns it.
     pub(crate) fn remove_first(&mut self) -> ListedReel
         requires { 0 < length self.old.stack }
         ensures first { self.old.stack ≡ result ∷ self.new.stack }
@@ -110,7 +111,7 @@ impl ListDrive {
         self.stack.remove(0)
     }
 
-    /// Moves the stack to the end of the bin. Where memory is refused nothing has changed.
+    /// Moves the whole stack to the end of the bin. If an allocation fails, nothing is changed.
     pub(crate) fn lay_off(&mut self, bin: &mut Vec<ListedReel>) -> Result<(), AllocError>
         ensures stack { MatchResult result (λ _. self.new ≡ drive_with self.old.name []) (λ _. self.new ≡ self.old) }
         ensures bin { MatchResult result (λ _. bin.new.items ≡ bin.old.items ++ self.old.stack) (λ _. bin.new.items ≡ bin.old.items) }
@@ -119,14 +120,14 @@ impl ListDrive {
         bin.append(&mut self.stack)
     }
 
-    /// Gives the drive that stack.
+    /// Replaces the stack of the drive.
     pub(crate) fn lay_on(&mut self, stack: Vec<ListedReel>)
         ensures { self.new ≡ drive_with self.old.name stack.items }
     {
         self.stack = stack;
     }
 
-    /// Lays a reel last on the stack. Where memory is refused nothing has changed.
+    /// Adds a reel at the end of the stack. If an allocation fails, nothing is changed.
     pub(crate) fn push(&mut self, reel: ListedReel) -> Result<(), AllocError>
         ensures { MatchResult result (λ _. self.new ≡ drive_with self.old.name (self.old.stack ++ reel ∷ [])) (λ _. self.new ≡ self.old) }
     {
@@ -135,14 +136,14 @@ impl ListDrive {
     }
 }
 
-/// Whether a reel on one of the stacks has that name.
+/// Whether a reel on one of the stacks has that name, latched or not.
 pub(crate) fn any_stacked(drives: &[ListDrive], name: &[u8]) -> bool
     ensures { result ≡ list_any (λ r. list_any (λ x. bytes_eq name.now x.name) r.stack) drives.now }
 {
     drives.iter().any(|drive| drive.has_reel(name))
 }
 
-/// The reel of that name on one of the stacks, if there is one.
+/// Returns the entry of the reel with that name on one of the stacks, if there is one.
 pub(crate) fn find_stacked<'a>(drives: &'a [ListDrive], name: &[u8]) -> Option<&'a ListedReel>
     ensures { option_copied result ≡ slot_named name.now (flat_map (λ r. r.stack) drives.now) }
 {

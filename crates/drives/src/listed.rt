@@ -9,7 +9,8 @@ use std::alloc::{AllocError, Global};
 use std::marker::Model;
 use tape::{ListReel, TroubledReel};
 
-/// A reel of a stack or of the bin of a `ListStacks`. While it is latched its name alone is there.
+/// An entry for one reel on a stack or in the bin of a `ListStacks`. While the reel is latched, the
+/// entry has only the name.
 #[derive(Drop)]
 pub struct ListedReel {
     name: Vec<u8>,
@@ -26,7 +27,7 @@ impl Model for ListedReel {
 }
 
 impl ListedReel {
-    /// An empty reel of this capacity, in bytes.
+    /// Returns an entry with an empty reel. `capacity` is in bytes. Fails if an allocation fails.
     pub(crate) fn new(alloc: Global, name: &[u8], capacity: u64) -> Result<ListedReel, AllocError>
         ensures { IfOk result (λ made. made ≡ slot name.now (Some (blank_reel capacity))) }
     {
@@ -38,14 +39,14 @@ impl ListedReel {
         })
     }
 
-    /// The name of the reel.
+    /// Returns the name of the reel.
     pub fn name(&self) -> &[u8]
         ensures { result.now ≡ self.now.name }
     {
         &self.name
     }
 
-    /// The reel. None while it is latched.
+    /// Returns the reel, or `None` while it is latched.
     pub fn reel(&self) -> Option<&TroubledReel>
         ensures { MatchOption result (self.now.reel ≡ None) (λ reel. self.now.reel ≡ Some reel.now) }
     {
@@ -59,7 +60,7 @@ impl ListedReel {
         name == self.name.as_slice()
     }
 
-    /// Takes the reel away, if it lies there.
+    /// Takes the reel out of the entry, if it is there.
     pub(crate) fn take(&mut self) -> Option<TroubledReel>
         ensures taken { result ≡ self.old.reel }
         ensures away { self.new ≡ slot self.old.name None }
@@ -67,7 +68,7 @@ impl ListedReel {
         self.reel.take()
     }
 
-    /// Lays the reel down under this name.
+    /// Puts a reel into the entry, under its name.
     pub(crate) fn put(&mut self, reel: TroubledReel)
         ensures { self.new ≡ slot self.old.name (Some reel) }
     {

@@ -9,7 +9,8 @@ use crate::{DRIVE_LIMIT, Holds, LastStep, StepKind, Taken, View};
 use std::alloc::{AllocError, Global};
 use std::marker::Model;
 
-/// A seat at the drives of one thread. `LocalHolds::seat` alone makes it. Contracts see what it knows.
+/// A seat at the drives of one thread. Only `LocalHolds::seat` creates one. Contracts see its
+/// `View`.
 #[derive(Drop)]
 pub struct LocalSeat {
     view: View,
@@ -24,7 +25,7 @@ impl Model for LocalSeat {
 }
 
 impl LocalSeat {
-    // Notes one step more.
+    // Counts one step, up to `u64::MAX`, and records it as the last one.
     fn count(&mut self, kind: StepKind, drive: usize, found: u64)
         ensures { self.new ≡ moved self.old self.old.held (last_step kind drive found) }
     {
@@ -33,7 +34,8 @@ impl LocalSeat {
     }
 }
 
-/// The drives of one thread, from 1 to `DRIVE_LIMIT`, each with the number of the seat that holds it, or 0.
+/// The drives of one thread, from 1 to `DRIVE_LIMIT`. Each has the number of the seat that holds
+/// it, or 0.
 #[derive(Drop)]
 pub struct LocalHolds {
     numbers: Vec<u64>,
@@ -51,7 +53,8 @@ impl Model for LocalHolds {
 }
 
 impl LocalHolds {
-    /// That many drives, from 1 to `DRIVE_LIMIT`, which no seat holds. It fails only where memory is refused.
+    /// Returns `drives` drives, from 1 to `DRIVE_LIMIT`, that no seat holds. Fails only if an
+    /// allocation fails.
     pub fn new(alloc: Global, drives: usize) -> Result<LocalHolds, AllocError>
         requires some { 1 ≤ drives }
         requires few { drives ≤ DRIVE_LIMIT }
@@ -61,8 +64,8 @@ impl LocalHolds {
         Ok(LocalHolds { numbers, last: 0 })
     }
 
-    /// A seat that holds no drive. Seats have the numbers 1, 2, 3 and on; there is none once the greatest `u64`
-    /// was given. It takes no memory.
+    /// Returns a new seat that holds no drive. Seats are numbered 1, 2, 3 and so on. Returns `None`
+    /// once `u64::MAX` was assigned. It allocates nothing.
     pub fn seat(&mut self) -> Option<LocalSeat>
         ensures next { IsSeatGiven self.old result self.new }
         ensures own { IfSome result (λ seat. IsSeatOf self.new seat) }
@@ -82,7 +85,8 @@ impl LocalHolds {
         Some(LocalSeat { view })
     }
 
-    /// The number of the seat that holds the drive, or 0. It is no step of a seat.
+    /// Returns the number of the seat that holds the drive, or 0. The drive must exist. It does not
+    /// count as a step of a seat.
     pub fn number_at(&self, drive: usize) -> u64
         requires { drive < length self.now.numbers }
         ensures { IsHeldBy self.now drive result }

@@ -1,4 +1,4 @@
-//! Reels by their names.
+//! Finds and takes reels by their names.
 
 ghost use Rattle.std.specs.Prelude.{◌≡◌, ◌≤◌, ◌+◌, ◌++◌, ◌||◌, length, map, vec_len, vec_capacity};
 ghost use Rattle.std.specs.List.{position_from, list_any, list_all};
@@ -15,7 +15,7 @@ pub(crate) fn any_named(reels: &[ListedReel], name: &[u8]) -> bool
     reels.iter().any(|reel| reel.is_named(name))
 }
 
-/// Whether no name stands twice.
+/// Whether all names are distinct.
 pub(crate) fn all_differ(names: &[&[u8]]) -> bool
     ensures { result ≡ are_distinct (map (λ n. n.now) names.now) }
 {
@@ -27,7 +27,7 @@ pub(crate) fn all_differ(names: &[&[u8]]) -> bool
     true
 }
 
-/// Whether the first of the names stands again.
+/// Whether the first name occurs again among the others.
 fn stands_again(names: &[&[u8]]) -> bool
     ensures { result ≡ is_repeated (map (λ n. n.now) names.now) }
 {
@@ -37,14 +37,14 @@ fn stands_again(names: &[&[u8]]) -> bool
     any_is(others, name)
 }
 
-/// Whether one of the names is that one.
+/// Whether one of the names equals `name`.
 fn any_is(names: &[&[u8]], name: &[u8]) -> bool
     ensures { result ≡ list_any (λ n. bytes_eq name.now n.now) names.now }
 {
     names.iter().any(|other| name == *other)
 }
 
-/// Whether each name is that of a reel of the bin or of the stack.
+/// Whether each name is the name of a reel in the bin or on the stack.
 pub(crate) fn all_there(names: &[&[u8]], bin: &[ListedReel], stack: &[ListedReel]) -> bool
     ensures { result ≡ list_all (λ n. is_among bin.now n.now || is_among stack.now n.now) names.now }
 {
@@ -53,21 +53,21 @@ pub(crate) fn all_there(names: &[&[u8]], bin: &[ListedReel], stack: &[ListedReel
         .all(|name| any_named(bin, name) || any_named(stack, name))
 }
 
-/// The reel of that name, if there is one.
+/// Returns the first reel with that name, if there is one.
 pub(crate) fn find_named<'a>(reels: &'a [ListedReel], name: &[u8]) -> Option<&'a ListedReel>
     ensures { option_copied result ≡ slot_named name.now reels.now }
 {
     reels.iter().find(|reel| reel.is_named(name))
 }
 
-/// The place of the first reel of that name.
+/// Returns the index of the first reel with that name.
 fn place_of(reels: &[ListedReel], name: &[u8]) -> Option<usize>
     ensures { result ≡ position_from (λ x. bytes_eq name.now x.name) 0 reels.now }
 {
     reels.iter().position(|reel| reel.is_named(name))
 }
 
-/// Takes the reel of that name out, if there is one.
+/// Removes and returns the first reel with that name, if there is one.
 fn take_out(reels: &mut Vec<ListedReel>, name: &[u8]) -> Option<ListedReel>
     ensures taken { result ≡ slot_named name.now reels.old.items }
     ensures left { reels.new.items ≡ without name.now reels.old.items }
@@ -79,7 +79,8 @@ fn take_out(reels: &mut Vec<ListedReel>, name: &[u8]) -> Option<ListedReel>
     Some(reels.remove(place))
 }
 
-/// Moves the reels of these names, in the names' order, to the end of `onto`, which has room for them.
+/// Moves the reels with these names to the end of `onto`, in the order of the names. `onto` must
+/// have room for one reel for each name. Names that no reel has are skipped.
 pub(crate) fn pick(reels: &mut Vec<ListedReel>, names: &[&[u8]], onto: &mut Vec<ListedReel>)
     requires { vec_len onto.old + length names.now ≤ vec_capacity onto.old }
     ensures picked { onto.new.items ≡ onto.old.items ++ picked (map (λ n. n.now) names.now) reels.old.items }

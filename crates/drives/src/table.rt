@@ -1,4 +1,4 @@
-//! The table of drives: who holds them, and the reels that lie there.
+//! The table of drives: which seats hold them, and their reels.
 
 ghost use Rattle.std.specs.Prelude.{◌≡◌, ◌<◌, ◌≤◌, IfOk, OnErr};
 ghost use Rattle.drives.specs.Opening.{kinds, IsOpening};
@@ -8,20 +8,25 @@ use crate::{DriveFault, Holds, Stacks, Taken};
 /// Drives with their holders and their reels.
 #[derive(Drop)]
 pub struct DriveTable<H: Holds, S: Stacks> {
-    /// Who holds which drive.
+    /// Which seat holds which drive.
     pub holds: H,
     /// The reels of the drives.
     pub stacks: S,
 }
 
 impl<H: Holds, S: Stacks> DriveTable<H, S> {
-    /// Takes the drive of that name for the seat, and latches its first reel. It gives the drive's number and the
-    /// reel, which stands at its beginning.
+    /// Takes the drive with that name for the seat and latches its first reel. Returns the drive's
+    /// number and the reel, which is at its beginning.
     ///
-    /// The seat is one of these holds, and there are no more stacks than drives that can be held.
+    /// The seat must belong to `holds`, and `stacks` must not have more drives than `holds`.
     ///
-    /// Answers the first that applies of `NoSuchDrive`, `Busy` with the holder's number, `NoReel`, and `Device` or
-    /// `OutOfMemory` where the reel could not be had. The seat holds then what it held before, and no reel moved.
+    /// Fails with the first error that applies:
+    /// - `NoSuchDrive`,
+    /// - `Busy` with the number of the holder,
+    /// - `NoReel`,
+    /// - `Device` or `OutOfMemory` if the reel could not be latched.
+    ///
+    /// After an error the seat holds what it held before, and no reel has moved.
     pub fn open(&mut self, seat: &mut H::Seat, name: &[u8]) -> Result<(usize, S::Reel), DriveFault>
         requires seat { H.belongs self.old.holds seat.old }
         requires drives { S.drives self.old.stacks ≤ H.drives self.old.holds }

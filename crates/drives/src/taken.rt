@@ -1,10 +1,10 @@
-//! The answer to a seat that takes a drive.
+//! The result of taking a drive.
 
-/// What a take answers.
+/// The result of taking a drive.
 #[derive(Clone, Copy, Debug, PartialEq, Eq)]
 pub enum Taken {
-    /// No seat held the drive. Now this one does.
+    /// No seat held the drive, and now this seat does.
     Held,
-    /// The seat of this number holds it.
+    /// The seat with this number holds the drive.
     Busy(u64),
 }

@@ -1,39 +1,39 @@
-//! What a seat knows, and the last step that it made.
+//! The view of a seat, and its last step.
 
 use crate::DRIVE_LIMIT;
 
-/// What a step at a drive was.
+/// The kind of a step at a drive.
 #[derive(Clone, Copy, Debug, Drop)]
 pub enum StepKind {
-    /// Took the drive, if no seat held it.
+    /// Takes the drive if no seat holds it.
     Take,
-    /// Gave the drive back.
+    /// Gives the drive back.
     Give,
-    /// Looked who holds the drive.
+    /// Looks up which seat holds the drive.
     Look,
 }
 
-/// One step at a drive, and the number that it found there: that of the seat that held the drive, or 0.
+/// One step of a seat at a drive, with the number that the step found there.
 #[derive(Clone, Copy, Debug, Drop)]
 pub struct LastStep {
-    /// What the step was.
+    /// The kind of the step.
     pub kind: StepKind,
-    /// The drive that it was made at.
+    /// The number of the drive, from 0.
     pub drive: usize,
-    /// The number that it found: that of the seat that held the drive, or 0. A give finds the seat's own.
+    /// The number of the seat that held the drive before the step, or 0. For a `Give` it is the
+    /// seat's own number.
     pub found: u64,
 }
 
-/// What a seat knows: its number, the drives that it holds, how many steps it made (up to the greatest `u64`),
-/// and the last of them.
+/// What a seat knows: its number, the drives that it holds, its count of steps and its last step.
 #[derive(Drop)]
 pub struct View {
     /// The number of the seat, from 1.
     pub number: u64,
-    /// Of each drive that there can be, whether the seat holds it.
+    /// For each possible drive, whether the seat holds it.
     pub held: [bool; DRIVE_LIMIT],
-    /// How many steps it made, up to the greatest `u64`.
+    /// How many steps the seat has made. The count stops at the greatest `u64`.
     pub steps: u64,
-    /// The last of them.
+    /// The last step, if there was one.
     pub last: Option<LastStep>,
 }

@@ -30,12 +30,12 @@ use std::io::{self, ErrorKind};
 use std::marker::Model;
 use tape::FileReel;
 
-/// The name of a drive, and the folder of its stack.
+/// The name of a drive and the folder of its stack.
 #[derive(Clone, Copy)]
 pub struct FolderDrive<'a> {
     /// The name of the drive.
     pub name: &'a str,
-    /// The path of the folder that has its reels as files.
+    /// The path of the folder that contains its reels as files.
     pub folder: &'a str,
 }
 
@@ -44,16 +44,18 @@ pub struct FolderDrive<'a> {
 pub struct FolderFault<'a> {
     /// The path of the folder, as it was given.
     pub folder: &'a str,
-    /// Why it cannot be used.
+    /// Why the folder cannot be used.
     pub reason: io::Error,
 }
 
-/// Drives whose reels are record files in folders, and a folder as the bin.
+/// Drives whose reels are record files in folders, with a folder as the bin.
 ///
-/// A stack is the plain files of its folder in the order of the bytes of their names; folders and links in it are no reels.
-/// The folder is listed anew at each latch. The file of a latched reel has the system's advisory lock. All folders have to
-/// lie on one file system, since a move copies nothing: it is a hard link and the removal of the old name. They tell nothing of what
-/// lies in the folders.
+/// A stack is the regular files of its folder, ordered by the bytes of their names. Folders and
+/// links in it are not reels. Each latch lists the folder again. The file of a latched reel is
+/// locked with the system's advisory lock.
+///
+/// All folders must be on one file system, since a move copies nothing: it makes a hard link and
+/// removes the old name. The contracts leave the contents of the folders unspecified.
 #[derive(Drop)]
 pub struct FolderStacks<R: FolderSystem, L: Log + Drop> {
     rt: R,
@@ -74,8 +76,11 @@ impl<R: FolderSystem, L: Log + Drop> Model for FolderStacks<R, L> {
 }
 
 impl<R: FolderSystem> FolderStacks<R, NoLog> {
-    /// These drives, from 1 to `DRIVE_LIMIT` of them with a name each, and the folder of the bin. Each reel takes so many
-    /// bytes. It reads no folder. It fails only where memory is refused. Of drives with one name the first is found.
+    /// Returns these drives, from 1 to `DRIVE_LIMIT`, each with a name. `bin` is the folder of the
+    /// bin, and `capacity` is that of each reel in bytes. It reads no folder. If several drives
+    /// have the same name, the first is used.
+    ///
+    /// Fails only if an allocation fails.
     pub fn open(
         rt: R,
         drives: &[FolderDrive<'_>],
@@ -93,7 +98,7 @@ impl<R: FolderSystem> FolderStacks<R, NoLog> {
 }
 
 impl<R: FolderSystem, L: Log + Drop> FolderStacks<R, L> {
-    /// Drives as `open` makes them, that note in this log what they do.
+    /// Returns drives as `open` does, which log to `log` what they do.
     pub fn with_log(
         rt: R,
         drives: &[FolderDrive<'_>],
@@ -119,15 +124,20 @@ impl<R: FolderSystem, L: Log + Drop> FolderStacks<R, L> {
         })
     }
 
-    /// Looks at the folders, and names the first that is missing, is no folder, may not be read, or by its permissions takes no
-    /// files: those of the stacks in the drives' order, and then the bin's. For the folder's owner his own permission to write counts,
-    /// for another user that of the group or of others. For root, and where the user is not known, anybody's does.
+    /// Checks the folders and returns the first that is missing, is not a folder, cannot be read,
+    /// or whose permissions do not allow new files. It checks the folders of the stacks in the
+    /// order of the drives, then the bin's. If the user owns the folder, the owner's permission to
+    /// write counts. For another user, that of the group or of others counts. For root, and for an
+    /// unknown user, anybody's counts.
     ///
-    /// Then it names the first drive's folder that is the bin's too, lies on another file system than the bin's, is the folder of a
-    /// drive before it, whatever the paths are, or lies on another mount than the bin's or with it on one that takes no writes. It
-    /// changes nothing there.
+    /// It then returns the first drive's folder that
+    /// - is also the bin's,
+    /// - is on another file system than the bin's,
+    /// - is the folder of an earlier drive, even if the paths differ, or
+    /// - is on another mount than the bin's, or is on one mount with it that allows no writes.
     ///
-    /// The reason has the kind `OutOfMemory` and no code of the system where memory is refused.
+    /// It changes nothing in the folders. If an allocation fails, the reason has the kind
+    /// `OutOfMemory` and no error code of the system.
     pub fn find_fault(&self) -> Option<FolderFault<'_>>
         ensures { IfSome result (λ fault. IsFolderOf self.now fault.folder.now) }
     {
@@ -145,7 +155,8 @@ impl<R: FolderSystem, L: Log + Drop> FolderStacks<R, L> {
         }
     }
 
-    /// The first drive's folder that does not go with the bin's, or with those of the drives before it.
+    /// Returns the first drive's folder that cannot be used along with the bin's folder or with
+    /// those of earlier drives.
     fn find_clash(&self, seen: &[FileId], bin: FileId) -> Option<FolderFault<'_>>
         ensures { IfSome result (λ fault. IsFolderOf self.now fault.folder.now) }
     {
@@ -164,7 +175,8 @@ impl<R: FolderSystem, L: Log + Drop> FolderStacks<R, L> {
         None
     }
 
-    /// Opens and locks the file of the reel that a latch takes, as `FolderDriveState::find` does, and notes what came of it.
+    /// Opens and locks the file of the reel to latch, as `FolderDriveState::find` does. Logs the
+    /// file that was opened, or the failure; if there is no reel to latch, it logs nothing.
     fn find(&self, drive: usize) -> io::Result<Option<OpenedReel>>
         requires { drive < length self.now.rows }
         ensures free { MatchResult result (λ found. IsSome found → (row_at self.now drive).latched ≡ false) (λ _. (row_at self.now drive).latched ≡ false) }
@@ -183,7 +195,8 @@ impl<R: FolderSystem, L: Log + Drop> FolderStacks<R, L> {
         }
     }
 
-    /// Takes the file of the latched reel offline, which is this medium, as `Stacks::offline` does.
+    /// Takes the file of the latched reel, with this medium, offline, as `Stacks::offline` does,
+    /// and logs the result.
     fn take_off(&mut self, drive: usize, medium: &FileMedium) -> Result<(), DriveFault>
         requires { drive < length self.old.rows }
         ensures { IsFolderMove self.old drive medium.now result self.new }
@@ -201,7 +214,8 @@ impl<R: FolderSystem, L: Log + Drop> FolderStacks<R, L> {
         }
     }
 
-    /// Why a reel could not be latched. A failure is counted, but for a growth that was refused.
+    /// Returns why a reel could not be latched. Each failure except an allocation failure is
+    /// counted.
     fn refuse(&mut self, error: io::Error) -> DriveFault
         ensures refused { IsFolderRefused self.old result self.new }
         ensures memory { result ≡ OutOfMemory ↔ (error_kind error ≡ ErrorKind.OutOfMemory) × (raw_os_error error ≡ None) }
@@ -213,7 +227,7 @@ impl<R: FolderSystem, L: Log + Drop> FolderStacks<R, L> {
         }
     }
 
-    /// Counts a failure of the device.
+    /// Counts a failure of the device and returns `Device`.
     fn fail(&mut self) -> DriveFault
         ensures fault { result ≡ Device }
         ensures counted { self.new ≡ after_fault self.old }
@@ -246,12 +260,18 @@ impl<R: FolderSystem, L: Log + Drop> Stacks for FolderStacks<R, L> {
         self.drives.iter().position(|chosen| chosen.is_named(name))
     }
 
-    /// Lists the folder of the stack, and opens and locks its first plain file, to read and to append; where it may only be read, or the
-    /// bin has another file of its name, to read alone. Names that begin with a dot are no reels. Where the bin has the very file, a stop
-    /// cut its move short: its name in the stack is removed, and the next file is latched.
+    /// Lists the folder of the stack, then opens and locks its first regular file. Names that begin
+    /// with a dot are not reels. The file is opened to read and to append. If the system only
+    /// allows reads, or the bin has another file with its name, it is opened read-only.
     ///
-    /// Answers `Device` also where such a move cannot be finished, where another name in the folder is not UTF-8, where another handle has the file's lock, and where
-    /// at each of 100 listings a name was gone, or the path led to another file than was listed.
+    /// If the bin has this same file, its move was interrupted. Its name in the stack is removed
+    /// then, and the next file is latched.
+    ///
+    /// Fails with `NoReel`, with `OutOfMemory`, and with `Device`. `Device` is also returned if
+    /// - such a move cannot be finished, or 100 of them were finished in this latch,
+    /// - any other name in the folder is not UTF-8,
+    /// - another handle has locked the file, or
+    /// - in each of 100 listings a name was gone, or the path led to another file than was listed.
     fn latch(&mut self, drive: usize) -> Result<FileReel<FileMedium>, DriveFault> {
         match self.find(drive) {
             Ok(Some(found)) => {
@@ -265,8 +285,10 @@ impl<R: FolderSystem, L: Log + Drop> Stacks for FolderStacks<R, L> {
         }
     }
 
-    /// Syncs the file where it was written to since the latch, or was to be, and lets it go, with its lock. A sync that fails, or has failed since
-    /// the file was last cut to nothing, is noted, and counted nowhere. Where none is latched it does nothing else.
+    /// Syncs the file if it was written to or truncated since the latch, even if that failed. Then
+    /// closes the file, which releases its lock. If the sync fails, or one has failed since the
+    /// file was last truncated to zero length, this is logged but not counted. If no reel is
+    /// latched, it only closes the file.
     fn unlatch(&mut self, drive: usize, reel: FileReel<FileMedium>) {
         let chosen = &mut self.drives[drive];
         let report = chosen.close(&self.rt, self.bin.as_str(), reel.medium());
@@ -276,13 +298,19 @@ impl<R: FolderSystem, L: Log + Drop> Stacks for FolderStacks<R, L> {
         }
     }
 
-    /// Syncs the file, and moves it under the lock of the bin's folder: a hard link gives it its name in the bin, and replaces nothing
-    /// there. The bin's folder is synced, the name in the stack removed, and the stack's folder synced: only then is it done. A folder that
-    /// cannot be synced changes nothing of that. A file system without hard links renames it. It takes no memory, and never answers
+    /// Syncs the file and locks the bin's folder. Then a hard link, which never replaces anything,
+    /// gives the file its name in the bin, and the lock is released. After that the bin's folder is
+    /// synced, the name in the stack is removed, and the stack's folder is synced before this
+    /// returns. If a folder cannot be synced, the file is moved all the same. On a file system
+    /// without hard links, the file is renamed. It allocates nothing, and never fails with
     /// `OutOfMemory`.
     ///
-    /// Answers `Device` also where none is latched, where others have the lock of the bin's folder for about a second, where
-    /// another file than was latched has its name, and where a sync of the file has failed since it was last cut to nothing.
+    /// Fails with `NameTaken` if the bin has that name, and with `Device`. `Device` is also
+    /// returned if
+    /// - no reel is latched,
+    /// - others hold the lock of the bin's folder for about a second,
+    /// - the name in the stack now belongs to another file than was latched, or
+    /// - a sync of the file has failed since it was last truncated to zero length.
     fn offline(
         &mut self,
         drive: usize,
@@ -309,7 +337,7 @@ impl<R: FolderSystem, L: Log + Drop> Stacks for FolderStacks<R, L> {
     ghost sized = { λ _ _ told. absurd told };
 }
 
-/// The medium of a file that was opened, and may be written to or only read.
+/// Returns the medium of an opened file, which is read-only or may be written to.
 fn medium_of(file: File, is_read_only: bool) -> FileMedium
     ensures { IsUntouched result }
 {
@@ -320,7 +348,7 @@ fn medium_of(file: File, is_read_only: bool) -> FileMedium
     }
 }
 
-/// The drives with no reel latched.
+/// Returns the states of the drives, with no reel latched.
 fn drive_states_of(
     alloc: Global,
     drives: &[FolderDrive<'_>],

@@ -1,7 +1,8 @@
-//! Reels in files of the system: drives whose stacks are folders of such files, with a file as the medium of a reel
-//! (`FileMedium`).
+//! Reels in files of the system: drives whose stacks are folders of such files. `FileMedium` is a
+//! file as the medium of a reel.
 //!
-//! They tell nothing of what lies in files and folders. How often the system failed is counted.
+//! The contracts leave the contents of files and folders unspecified. Failures of the system are
+//! counted.
 #![tactic(auto)]
 
 mod folder;

@@ -1,11 +1,12 @@
-//! What drives in folders do, in lines.
+//! The log of drives in folders, in lines.
 
-/// Takes the lines that say what is done with reels in folders.
+/// Receives the lines that describe what is done with reels in folders.
 pub trait Log {
-    /// Notes a line, which has no line feed. It promises nothing: a line that cannot be written is dropped.
+    /// Logs a line, which must not contain a line feed. The contract promises nothing: a line that
+    /// cannot be written is dropped.
     fn note(&self, line: &str);
 
-    /// Notes a line that says what went wrong, as `note` does. A log may tell these from the others.
+    /// Logs a line that describes a failure, like `note`. A log may mark these lines.
     fn warn(&self, line: &str) {
         self.note(line);
     }

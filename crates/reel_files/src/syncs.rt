@@ -1,4 +1,4 @@
-//! The syncs of a file that is open, and how it is taken offline.
+//! Syncs of an open file, and its move when a reel is taken offline.
 
 ghost use Rattle.std.specs.Prelude.{◌≡◌, ◌⊎◌, ℕ, Bool, List, [], ◌∷◌, false, true, Some, None, Ok, is_ok, IfOk, IsErr, OnErr, MatchResult};
 ghost use Rattle.tape.specs.Failures.{Steps};
@@ -7,44 +7,47 @@ ghost use Rattle.reel_files.specs.Syncs.FileStep.{Sync, Move};
 
 use std::marker::Model;
 
-/// A file that is open, that can be synced, and moved to another folder.
+/// An open file that can be synced, and moved to another folder.
 ///
-/// It tells its steps, or tells nothing: what a clause says of steps holds where it tells.
+/// An implementation may leave its steps unspecified. Clauses about steps apply only if they are
+/// specified.
 pub trait MovableFile {
-    /// What came of a move that was not refused.
+    /// The outcome of a move that succeeded.
     type Moved: Drop;
 
-    /// Why a step was refused.
+    /// Why a step failed.
     type Refusal: Copy;
 
-    /// The syncs and moves that were asked of it, where it tells.
+    /// The syncs and moves of the file so far, if they are specified.
     ghost told: { Self → List FileStep → Type 0 };
 
-    /// How often it was cut to nothing.
+    /// How many times the file was truncated to zero length.
     ghost truncations: { Self → ℕ };
 
-    /// Whether it was written to or cut since it was opened, or was to be.
+    /// Whether the file was written to or truncated since it was opened, even if that failed.
     ghost written: { Self → Bool };
 
-    /// How often it was cut to nothing.
+    /// Returns how many times the file was truncated to zero length.
     fn truncations(&self) -> u64
         ensures { result ≡ truncations self.now };
 
-    /// Whether it was written to or cut since it was opened, or was to be: a write that failed counts.
+    /// Whether the file was written to or truncated since it was opened. A write that failed counts
+    /// too.
     fn is_written(&self) -> bool
         ensures { result ≡ written self.now };
 
-    /// Writes to the device what the system keeps of it.
+    /// Writes the file's cached data to the device.
     fn sync(&mut self) -> Result<(), Self::Refusal>
         ensures step { Makes told self.old self.new (Sync (is_ok result) ∷ []) }
         ensures same { truncations self.new ≡ truncations self.old };
 
-    /// Moves it to the other folder. What is answered says whether it lies there.
+    /// Moves the file to the other folder. The result describes where the file is then.
     fn rename(&mut self) -> Result<Self::Moved, Self::Refusal>
         ensures { Makes told self.old self.new (Move (is_ok result) ∷ []) };
 }
 
-/// What is known of the syncs of a file since it was opened: whether one failed since it was last cut to nothing, and why.
+/// Whether a sync of an open file has failed since the file was last truncated to zero length, and
+/// why.
 #[derive(Drop)]
 pub struct Syncs<E: Copy> {
     failed: Option<FailedSync<E>>,
@@ -53,9 +56,9 @@ pub struct Syncs<E: Copy> {
 /// A sync that failed.
 #[derive(Clone, Copy)]
 struct FailedSync<E: Copy> {
-    /// How often the file had been cut to nothing.
+    /// How many times the file had been truncated to zero length.
     truncations: u64,
-    /// Why it failed.
+    /// Why the sync failed.
     reason: E,
 }
 
@@ -69,17 +72,17 @@ impl<E: Copy> Model for Syncs<E> {
 }
 
 impl<E: Copy> Syncs<E> {
-    /// None has failed.
+    /// Returns a state in which no sync has failed.
     pub fn new() -> Syncs<E>
         ensures { result ≡ None }
     {
         Syncs { failed: None }
     }
 
-    /// Syncs the file, where no sync of it has failed since it was last cut to nothing.
+    /// Syncs the file, unless a sync of it has failed since it was last truncated to zero length.
     ///
-    /// Answers why that one failed, or this one. The system tells once what it could not write, so a sync after one that
-    /// failed would say nothing of it.
+    /// Fails with the reason of that earlier sync, or of this one. The system reports only once
+    /// what it could not write, so a sync after a failed one would not report it again.
     pub fn sync<F: MovableFile<Refusal = E>>(&mut self, file: &mut F) -> Result<(), E>
         ensures again { self.old ≡ Some (F.truncations file.old) → IsErr result }
         ensures noted { MatchResult result (λ _. self.new ≡ self.old) (λ _. self.new ≡ Some (F.truncations file.old)) }
@@ -106,10 +109,11 @@ impl<E: Copy> Syncs<E> {
     }
 }
 
-/// Takes a file offline: syncs it, and moves it after that, where no sync of it has failed since it was last cut to nothing. So
-/// one that was moved was synced after its last change.
+/// Takes a file offline: syncs it and then moves it. A file that was moved was synced after its
+/// last change.
 ///
-/// Answers why it could not be synced, or why the move was refused.
+/// Fails with the reason if the file cannot be synced, as in `Syncs::sync`, or cannot be moved. A
+/// file that cannot be synced is not moved.
 pub fn take_offline<F: MovableFile>(
     file: &mut F,
     syncs: &mut Syncs<F::Refusal>,
@@ -124,10 +128,10 @@ pub fn take_offline<F: MovableFile>(
     file.rename()
 }
 
-/// Syncs a file that is to be closed, as `Syncs::sync` does, where it was written to since it was opened, or was to be. Answers
-/// whether it was synced.
+/// Syncs a file before it is closed, as `Syncs::sync` does, if it was written to or truncated since
+/// it was opened, even if that failed. Returns whether it was synced.
 ///
-/// Answers why it could not be synced.
+/// Fails with the reason if the file cannot be synced.
 pub fn sync_at_close<F: MovableFile>(
     file: &mut F,
     syncs: &mut Syncs<F::Refusal>,

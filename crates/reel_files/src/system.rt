@@ -1,4 +1,4 @@
-//! What drives in folders use of the system.
+//! The parts of the system that drives in folders use.
 
 use std::fs::File;
 use std::rt::{Clock, Files};

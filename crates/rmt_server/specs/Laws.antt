@@ -1,4 +1,4 @@
--- Laws of sessions, each by a name of its own. Public contracts cite it.
+-- Laws of sessions, each with its own name. Public contracts cite it.
 use Rattle.std.specs.Prelude.{◌≡◌, ◌≢◌, ℕ, ◌≤◌, Bool, true, List, Option, Some}
 use Rattle.tape.specs.Trouble.{TroubledTape}
 use Rattle.tape.specs.declared.trouble.Trouble.{Trouble}
@@ -26,7 +26,7 @@ abbrev pub NoDriveIsOpenTwice : {S R : Type 0} → Kinds Holders View S R → Ty
 NoDriveIsOpenTwice {S} {R} k = (drives : DriveTable Holders S View R) (one other : SessionState View R) (d : ℕ) → IsAt k (state drives one) → IsAt k (state drives other) →
     one.seat.number ≢ other.seat.number → drive_of one.opened ≡ Some d → drive_of other.opened ≡ Some d → ⊥
 
--- what a session does leaves the drives those of each session of another seat
+-- after a session has acted, the drives still match each session of another seat
 abbrev pub OthersStayAt : {S R : Type 0} → Kinds Holders View S R → Type 0
 OthersStayAt {S} {R} k = (old new : DriveTable Holders S View R) (one after other : SessionState View R) → IsAt k (state old one) → IsAt k (state old other) →
     other.seat.number ≢ one.seat.number → IsAt k (state new after) → KeepsDrives k (state old one) (state new after) → IsAt k (state new other)
@@ -41,29 +41,31 @@ abbrev pub FreeIsClosed : {S R : Type 0} → Kinds Holders View S R → Type 0
 FreeIsClosed {S} {R} k = (drives : DriveTable Holders S View R) (session_state : SessionState View R) (d : ℕ) →
     IsAt k (state drives session_state) → IsHeldBy drives.holds d 0 → drive_of session_state.opened ≢ Some d
 
--- the drives are still those of a session where its seat belongs to them, their counts are as before, and its open reel stays latched
+-- The drives still match a session if its seat belongs to them, the numbers of drives are
+-- unchanged, and its open reel stays latched.
 abbrev pub StaysAt : {H S Seat R : Type 0} → Kinds H Seat S R → Type 0
 StaysAt {H} {S} {Seat} {R} k = (old new : DriveTable H S Seat R) (session_state : SessionState Seat R) → IsAt k (state old session_state) →
     k.holds.belongs new.holds session_state.seat → k.holds.drives new.holds ≡ k.holds.drives old.holds → k.stacks.drives new.stacks ≡ k.stacks.drives old.stacks →
     ((d : ℕ) → online_drive session_state.opened ≡ Some d → HasLatched k.stacks.holds old.stacks d → HasLatched k.stacks.holds new.stacks d) → IsAt k (state new session_state)
 
--- the same where reels stay latched at all drives but one that the session does not have open
+-- the same if reels stay latched at all drives but one, which the session does not have open
 abbrev pub StaysAtElsewhere : {H S Seat R : Type 0} → Kinds H Seat S R → Type 0
 StaysAtElsewhere {H} {S} {Seat} {R} k = (old new : DriveTable H S Seat R) (session_state : SessionState Seat R) (d : ℕ) → IsAt k (state old session_state) → drive_of session_state.opened ≢ Some d →
     k.holds.belongs new.holds session_state.seat → k.holds.drives new.holds ≡ k.holds.drives old.holds → k.stacks.drives new.stacks ≡ k.stacks.drives old.stacks →
     ((e : ℕ) → e ≢ d → HasLatched k.stacks.holds old.stacks e → HasLatched k.stacks.holds new.stacks e) → IsAt k (state new session_state)
 
--- the drives of one thread are still those of a session after more seats were given
+-- the drives of one thread still match a session after more seat numbers were assigned
 abbrev pub StaysAtWithMoreSeats : {S R : Type 0} → Kinds Holders View S R → Type 0
 StaysAtWithMoreSeats {S} {R} k = (old : DriveTable Holders S View R) (session_state : SessionState View R) (last : ℕ) →
     IsAt k (state old session_state) → old.holds.last ≤ last → IsAt k (state (record old { holds = holders old.holds.numbers last }) session_state)
 
--- drives in memory are still those of a session after a trouble of the stacks was set or taken back
+-- drives in memory still match a session after the trouble of the stacks was set or cleared
 abbrev pub StaysAtUnderTrouble : {H Seat : Type 0} → Kinds H Seat ListLibrary TroubledTape → Type 0
 StaysAtUnderTrouble {H} {Seat} k = (old : DriveTable H ListLibrary Seat TroubledTape) (session_state : SessionState Seat TroubledTape) (on : Bool) →
     IsAt k (state old session_state) → IsAt k (state (record old { stacks = record old.stacks { trouble = on } }) session_state)
 
--- one request over drives in memory, a trouble of its device call being set: what is seen of it afterwards is what `IsServedUnder` says
+-- `IsServedUnder` holds for one request over drives in memory, if a trouble is set for its device
+-- call
 abbrev pub TroublesAreServed : Type 0
 TroublesAreServed = (trouble : Trouble) (old new : MemoryState) (before : SessionView) (request : PlainRequest) (reply : PlainReply) →
     IsAt in_memory old → Tells in_memory old before → IsSetFor trouble request old → IsCarriedOut in_memory old request reply new →
@@ -75,12 +77,12 @@ TroubledIsServed = (trouble : Trouble) (holders holders' : List ℕ) (k : ℕ) (
     TroubledServe trouble holders k before request reply after holders' →
     (asked : Option ℕ) × (found : ℕ) × ServeStep (is_set trouble) true asked found before request reply after
 
--- what is asked of the stacks in memory, an open and MTOFFL, is never answered that memory is wanting
+-- requests that use the stacks in memory, an open and MTOFFL, are never refused for lack of memory
 abbrev pub NoMemoryIsWanted : Type 0
 NoMemoryIsWanted = (trouble : Trouble) (holders holders' : List ℕ) (k : ℕ) (before after : SessionView) (request : PlainRequest) (reply : PlainReply) →
     TroubledServe trouble holders k before request reply after holders' → is_of_stacks request ≡ true → reply ≢ refused NoMemory
 
--- the end of a session whose open reel has no trouble leaves what `IsEnded` says
+-- `IsEnded` holds after the end of a session whose open reel has no trouble
 abbrev pub EndsUntroubled : Type 0
 EndsUntroubled = (stacks : Bool) (old new : MemoryState) (before : SessionView) →
     IsAt in_memory old → Tells in_memory old before → IsTroubled NoTrouble stacks old → IsClosed in_memory old new → IsEnded old before new

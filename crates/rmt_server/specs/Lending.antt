@@ -14,7 +14,7 @@ use Rattle.rmt_server.specs.State.{state}
 use Rattle.rmt_server.specs.Carrying.{IsCarriedOut}
 use Rattle.rmt_server.specs.contracts.session.Session.{the_row}
 
--- the request was carried out with this reply, once the reply is no longer lent
+-- the request was carried out with this reply, once the borrow of the reply ends
 abbrev pub LendsReply : (H S Seat R : RattleType) → HoldsPromise H.Denot Seat.Denot → StacksPromise S.Denot R.Denot → ReelPromise R.Denot
     → MutBor (SessionState Seat.Denot R.Denot) → DriveTable H.Denot S.Denot Seat.Denot R.Denot → DriveTable H.Denot S.Denot Seat.Denot R.Denot
     → Request → Reply → Fml

@@ -1,5 +1,6 @@
--- In reading order: Access, Refusals, Session (what each request does); State, Replies, Opening, Moving, Serving, Carrying, Lending (a session);
--- Stream; Memory, Troubling, TroubledServe (in memory); Hall (all connections); Laws.
+-- In reading order: Access, Refusals, Session (what each request does); State, Replies, Opening,
+-- Moving, Serving, Carrying, Lending (a session). Then: Stream; Memory, Troubling, TroubledServe
+-- (in memory); ServerState (all connections); Laws.
 pub mod Access
 pub mod Refusals
 pub mod Session

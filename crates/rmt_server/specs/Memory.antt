@@ -1,4 +1,5 @@
--- A session at the drives of one thread, whose reels are in memory, and what it is seen as. Public contracts cite it.
+-- A session at the drives of one thread, with its reels in memory, and its view. Public contracts
+-- cite it.
 use Rattle.std.specs.Prelude.{ℕ, Option, Some, None}
 use Rattle.tape.specs.Trouble.{TroubledTape}
 use Rattle.tape.specs.contracts.troubled.TroubledReelReel.TheImpl.{ghosts as of_reel}
@@ -14,21 +15,24 @@ use Rattle.rmt_server.specs.Session.{plain_reel, PlainSession, SessionView, sess
 use Rattle.rmt_server.specs.Session.PlainSession.{Idle, Offline, Online}
 use Rattle.rmt_server.specs.State.{State}
 
+-- a session with drives and reels in memory
 abbrev pub MemoryState : Type 0
 MemoryState = State Holders ListLibrary View TroubledTape
 
+-- the promises of the holds of one thread, and of stacks and reels in memory
 abbrev pub in_memory : Kinds Holders View ListLibrary TroubledTape
 in_memory = kinds of_holds of_stacks of_reel
 
--- the session where this drive is open, with this reel or with none
+-- the session with this drive open, with this reel or with none
 abbrev pub session_with : ℕ → Access → Option TroubledTape → PlainSession
 session_with drive access None = Offline drive access
 session_with drive access (Some reel) = Online drive access (plain_reel reel.tape reel.capacity)
 
+-- the session in a view, for what is open
 abbrev pub session_seen : Option (Opened TroubledTape) → PlainSession
 session_seen None = Idle
 session_seen (Some device) = session_with device.drive device.access device.reel
 
--- what stacks and open reel tell
+-- the view of the stacks and of the open reel
 abbrev pub session_view_seen : MemoryState → SessionView
 session_view_seen x = session_view (library_of x.drives.stacks) (session_seen x.opened)

@@ -1,4 +1,4 @@
--- What a session does to close what it has open, and to open a drive. Public contracts cite it.
+-- How a session closes what it has open, and opens a drive. Public contracts cite it.
 use Rattle.std.specs.Prelude.{◌≡◌, ℕ, Option, Some, None, MatchOption, Result, Ok, Err, List}
 use Rattle.rmt_wire.specs.Reply.{PlainReply}
 use Rattle.rmt_wire.specs.Reply.PlainReply.{Done}
@@ -20,60 +20,60 @@ use Rattle.rmt_server.specs.Refusals.{refused}
 use Rattle.rmt_server.specs.Session.{SessionView, closed, open_reply}
 use Rattle.rmt_server.specs.State.{State, drive_of, IsAt, Tells, SessionCanFail, IsReelCall, KeepsDrives}
 
--- A reel, if one is online, is rewound and laid back on its stack; with none the stacks are as before.
+-- The reel is rewound and laid back on its stack. If there is none, the stacks are unchanged.
 abbrev pub LaysBack : {S R : Type 0} → StacksKind S R → ReelPromise R → S → ℕ → Option R → S → Type 0
 LaysBack s r old drive None new = new ≡ old
 LaysBack {R = R} s r old drive (Some reel) new =
     (rested : R) × IsReelCall r reel Rewind Did rested × IsStacksCall s r old (LayBack drive rested) new
 
--- the same of what is open
+-- the same for what is open
 abbrev pub LaysBackOpened : {S R : Type 0} → StacksKind S R → ReelPromise R → S → Option (Opened R) → S → Type 0
 LaysBackOpened s r old None new = new ≡ old
 LaysBackOpened s r old (Some device) new = LaysBack s r old device.drive device.reel new
 
--- who holds drive d once the open drive was given back, where it was held by n
+-- who holds drive d after the open drive was given back, if n held it before
 abbrev pub word_after_close : Option ℕ → ℕ → ℕ → ℕ
 word_after_close None d n = n
 word_after_close (Some drive) d n = word_after_give drive d n
 
--- what the seat knows once the open drive was given back
+-- the view of the seat after the open drive was given back
 abbrev pub view_after_close : View → Option ℕ → View
 view_after_close v None = v
 view_after_close v (Some drive) = given v drive
 
--- What was open is closed: its reel lies on the stack again, and the drive is given back. Where nothing was open
--- nothing is done.
+-- The open device was closed: its reel is back on the stack, and the drive is given back. If
+-- nothing was open, nothing is done.
 pub record IsClosed {H S Seat R : Type 0} (k : Kinds H Seat S R) (old new : State H S Seat R) : Type 0 where
   pub nothing : new.opened ≡ None
   pub at : IsAt k new
-  -- nothing else is asked of the reel and of the stacks
+  -- there are no other calls of the reel and of the stacks
   pub laid : LaysBackOpened k.stacks k.reels old.drives.stacks old.opened new.drives.stacks
-  -- where stacks and reel tell, the reel's tape lies on the stack
+  -- the stack has the contents of the reel, if those of stacks and reel are specified
   pub step : (v : SessionView) → Tells k old v → k.stacks.holds new.drives.stacks (closed v).library
-  -- the seat gives the open drive back, and the holds tell so
+  -- the seat gives back the open drive, and its holder is 0 then
   pub view : k.holds.shows new.seat ≡ view_after_close (k.holds.shows old.seat) (drive_of old.opened)
   pub told : (d n : ℕ) → k.holds.tells old.drives.holds d n
       → k.holds.tells new.drives.holds d (word_after_close (drive_of old.opened) d n)
   pub kept : KeepsDrives k old new
-  -- no number of a seat is used up
+  -- no seat number is assigned
   pub same_seats : k.holds.seated new.drives.holds ≡ k.holds.seated old.drives.holds
-  -- a device can fail then only where one can before
+  -- a device can fail afterwards only if one could before
   pub quiet : SessionCanFail k new → SessionCanFail k old
-  -- the stacks' device is not called
+  -- the device of the stacks is not called
   pub unfailed : k.stacks.failures new.drives.stacks ≡ k.stacks.failures old.drives.stacks
   pub idle : old.opened ≡ None → new ≡ old
 
--- A close: with nothing open it is refused, and nothing is done.
+-- A close. If nothing is open, it is refused and nothing is done.
 abbrev pub Closes : {H S Seat R : Type 0} → Kinds H Seat S R → State H S Seat R → PlainReply → State H S Seat R → Type 0
 Closes k old reply new =
     MatchOption old.opened ((reply ≡ refused BadDescriptor) × (new ≡ old)) (λ device. (reply ≡ Done 0) × IsClosed k old new)
 
--- what a drive that was opened is
+-- what is open after an open with this result
 abbrev pub opened_by : {R : Type 0} → Access → Result (ℕ × R) DriveFault → Option (Opened R)
 opened_by access (Ok taken) = Some (record { drive = taken.0; access = access; reel = Some taken.1 })
 opened_by access (Err fault) = None
 
--- What an open of a drive does while nothing is open: `result` is what the drives answered.
+-- What an open of a drive does while nothing is open. `result` is the result of the drives.
 pub record IsOpenedFor {H S Seat R : Type 0} (k : Kinds H Seat S R) (old : State H S Seat R) (device : List ℕ) (access : Access)
     (result : Result (ℕ × R) DriveFault) (new : State H S Seat R) : Type 0 where
   pub opens : new.opened ≡ opened_by access result
@@ -82,14 +82,14 @@ pub record IsOpenedFor {H S Seat R : Type 0} (k : Kinds H Seat S R) (old : State
   pub kept : KeepsDrives k old new
   pub quiet : SessionCanFail k new → SessionCanFail k old
 
--- An open while nothing is open: of a mode that is none nothing is done.
+-- An open while nothing is open. If the mode has no access, nothing is done.
 abbrev pub OpensFor : {H S Seat R : Type 0} → Kinds H Seat S R → State H S Seat R → List ℕ → Option Access → PlainReply
     → State H S Seat R → Type 0
 OpensFor k old device None reply new = (reply ≡ refused Invalid) × (new ≡ old)
 OpensFor {R = R} k old device (Some access) reply new =
     (result : Result (ℕ × R) DriveFault) × (reply ≡ open_reply result) × IsOpenedFor k old device access result new
 
--- An open: what was open is closed first.
+-- An open. The session first closes the device that it has open, if any.
 abbrev pub OpensAnew : {H S Seat R : Type 0} → Kinds H Seat S R → State H S Seat R → List ℕ → ℕ → PlainReply
     → State H S Seat R → Type 0
 OpensAnew {H} {S} {Seat} {R} k old device mode reply new =

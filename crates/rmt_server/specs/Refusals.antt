@@ -1,4 +1,5 @@
--- Errors as they are sent: the numbers and texts are those of errno. Public contracts stand on it (through Session).
+-- Errors as they are sent, with the numbers and texts of errno. Public contracts depend on them
+-- (through Session).
 use Rattle.std.specs.Prelude.{ℕ, List, codes}
 use Rattle.rmt_wire.specs.Reply.{PlainReply}
 use Rattle.rmt_wire.specs.declared.errno.TheConstants.{ENOENT, EIO, ENXIO, EBADF, ENOMEM, EACCES, EBUSY, EINVAL, ENOSPC}
@@ -22,7 +23,7 @@ number_of Busy = EBUSY
 number_of Invalid = EINVAL
 number_of NoSpace = ENOSPC
 
--- the text that is sent beside the number
+-- the text that is sent with the number
 abbrev pub text_of : Refusal → List ℕ
 text_of NoSuchFile = codes "No such file or directory"
 text_of InputOutput = codes "Input/output error"
@@ -34,11 +35,11 @@ text_of Busy = codes "Device busy"
 text_of Invalid = codes "Invalid argument"
 text_of NoSpace = codes "No space left on device"
 
--- the answer that says it
+-- the error reply
 abbrev pub refused : Refusal → PlainReply
 refused r = Error (number_of r) (text_of r)
 
--- what a reel's fault is to a client
+-- the error that a client gets for a fault of a reel
 abbrev pub tape_refusal : TapeFault → Refusal
 tape_refusal tape.Device = InputOutput
 tape_refusal tape.Full = NoSpace
@@ -46,7 +47,7 @@ tape_refusal tape.EndOrMark = InputOutput
 tape_refusal tape.BadOperation = Invalid
 tape_refusal tape.OutOfMemory = NoMemory
 
--- what a drive's fault is to a client
+-- the error that a client gets for a fault of a drive
 abbrev pub drive_refusal : DriveFault → Refusal
 drive_refusal drive.NoSuchDrive = NoSuchFile
 drive_refusal (drive.Busy n) = Busy

@@ -1,4 +1,5 @@
--- What the open reel serves: writes, reads, and the operations of mtio but MTOFFL. Public contracts stand on it (through Carrying).
+-- The requests that the open reel serves: writes, reads, and the operations of mtio except MTOFFL.
+-- Public contracts depend on it (through Carrying).
 use Rattle.std.specs.Prelude.{◌≡◌, Option, Some, None, MatchOption}
 use Rattle.rmt_wire.specs.Request.{PlainRequest}
 use Rattle.rmt_wire.specs.Reply.{PlainReply}
@@ -10,25 +11,26 @@ use Rattle.rmt_server.specs.Refusals.{refused}
 use Rattle.rmt_server.specs.Session.{refusal, reel_reply, tape_request}
 use Rattle.rmt_server.specs.State.{State, status_at, IsReelCall}
 
--- one call of the open reel, which alone changes
+-- one call of the open reel, which is all that changes
 abbrev pub CallsIn : {R : Type 0} → ReelPromise R → Opened R → Option R → Option (Opened R) → PlainRequest → PlainReply → Type 0
 CallsIn r device None new request reply = ⊥
 CallsIn {R} r device (Some reel) new request reply =
     (answer : TapeAnswer) × (moved : R) × (new ≡ Some (record device { reel = Some moved })) × (reply ≡ reel_reply request answer)
     × IsReelCall r reel (tape_request request) answer moved
 
--- the same of what is open
+-- the same for what is open
 abbrev pub CallsReel : {R : Type 0} → ReelPromise R → Option (Opened R) → Option (Opened R) → PlainRequest → PlainReply → Type 0
 CallsReel r None new request reply = ⊥
 CallsReel r (Some device) new request reply = CallsIn r device device.reel new request reply
 
--- a request that the open reel serves: the first check that refuses it decides, else one call of the reel
+-- A request that the open reel serves. If a check refuses it, nothing is done. Otherwise there is
+-- one call of the reel.
 abbrev pub ReelServes : {R : Type 0} → ReelPromise R → Option (Opened R) → Option (Opened R) → PlainRequest → PlainReply → Type 0
 ReelServes r old new request reply =
     MatchOption (refusal (status_at old) request) (CallsReel r old new request reply)
     (λ refusal. (reply ≡ refused refusal) × (new ≡ old))
 
--- the same, where drives and seat are as before
+-- the same, with drives and seat unchanged
 abbrev pub Serves : {H S Seat R : Type 0} → Kinds H Seat S R → State H S Seat R → PlainRequest → PlainReply → State H S Seat R → Type 0
 Serves k old request reply new =
     (new.drives ≡ old.drives) × (new.seat ≡ old.seat) × ReelServes k.reels old.opened new.opened request reply

@@ -24,31 +24,33 @@ use Rattle.rmt_server.specs.State.{State, state, Tells}
 use Rattle.rmt_server.specs.Opening.{IsClosed}
 use Rattle.rmt_server.specs.Carrying.{IsCarriedOut, MayFail, MayShare}
 
--- requests with their replies
+-- a request with its reply
 abbrev pub Exchange : Type 0
 Exchange = PlainRequest × PlainReply
 
--- the requests alone
+-- the requests of these exchanges
 abbrev pub requests_of : List Exchange → List PlainRequest
 requests_of done = map (λ e. e.0) done
 
--- what is written: the spellings of the replies, joined
+-- the bytes that are written: the spellings of the replies, joined
 abbrev pub replies_text : List Exchange → List ℕ
 replies_text done = flat_map (λ e. reply_text e.1) done
 
--- requests carried out one after another, whatever is told, with replies that have a spelling
+-- requests carried out one after another, with replies that have a spelling; contents may be
+-- unspecified
 pub data CarryRun {H S Seat R : Type 0} (k : Kinds H Seat S R) (start : State H S Seat R) : List Exchange → State H S Seat R → Type 0 where
   none : CarryRun k start [] start
   one_more : {done : List Exchange} {between after : State H S Seat R} (request : PlainRequest) (reply : PlainReply)
       → CarryRun k start done between → IsCarriedOut k between request reply after → ReplyHasSpelling reply
       → CarryRun k start (done ++ (request, reply) ∷ []) after
 
--- The bytes are the spellings of these requests and then the rest, and the replies to them, in order, were written.
+-- The bytes are the spellings of these requests, then the rest. The replies to the requests were
+-- written in order.
 pub record IsAnswered (known known' : Option (List ℕ)) (bytes : List ℕ) (done : List Exchange) (rest : List ℕ) : Type 0 where
   pub spelled : Spelled bytes (requests_of done) rest
   pub written : Appends known known' (replies_text done)
 
--- The same, but of the last reply only a beginning was written.
+-- The same, except that only a beginning of the last reply was written.
 pub record IsCutOff (known known' : Option (List ℕ)) (bytes : List ℕ) (done : List Exchange) (rest : List ℕ) : Type 0 where
   pub spelled : Spelled bytes (requests_of done) rest
   pub before : List Exchange
@@ -65,18 +67,19 @@ pub record Advances {H S Seat R : Type 0} (k : Kinds H Seat S R) (old new : Stat
   pub run : CarryRun k old done new
   pub outcome : Outcome done rest
 
--- The reader is left at a beginning of a request, for the rest of which there is room.
+-- The unread bytes of the reader are a beginning of a request, and there is room for the rest of
+-- it.
 pub record IsSettled (wire : RequestHeld) (rest : List ℕ) : Type 0 where
   pub unread : Unread wire rest
   pub begins : IsOpen rest
   pub none : HasNoSpelling rest
   pub room : taken_of rest < READER_LIMIT
 
--- whatever follows, the rest is no request, and this is why
+-- whatever bytes follow, the rest is no request, and `fault` is the reason
 abbrev pub IsFaulty : List ℕ → WireFault → Type 0
 IsFaulty rest fault = (more : List ℕ) → HasFault (rest ++ more) fault × HasNoSpelling (rest ++ more)
 
--- what became of the bytes that a reader held
+-- what happened to the bytes that a reader held
 abbrev pub AnswersAs : {W : Type 0} → (W → Option (List ℕ)) → Result (Option WireFault) OutputFault → Counting W → Counting W → RequestHeld
     → List ℕ → List Exchange → List ℕ → Type 0
 AnswersAs contents (Ok None) output output' wire bytes done rest =
@@ -91,30 +94,31 @@ pub record Streams (In Out : Type 0) : Type 0 where
   pub input : Counting In
   pub output : Counting Out
 
--- streams by their parts
+-- builds Streams from its parts
 abbrev pub streams : {In Out : Type 0} → Counting In → Counting Out → Streams In Out
 streams input output = record { input = input; output = output }
 
--- what streams of these types tell: the bytes that an input has left, and those that an output has, where they are known
+-- The contents of streams of these types, if specified: the bytes that remain in an input, and
+-- those written to an output.
 pub record StreamsKind (In Out : Type 0) : Type 0 where
   pub remaining : In → Option (List ℕ)
   pub contents : Out → Option (List ℕ)
 
--- the same by its parts
+-- builds a StreamsKind from its parts
 abbrev pub streams_kind : {In Out : Type 0} → (In → Option (List ℕ)) → (Out → Option (List ℕ)) → StreamsKind In Out
 streams_kind remaining contents = record { remaining = remaining; contents = contents }
 
--- these bytes were read between two moments
+-- these bytes were read from the input between `old` and `new`
 abbrev pub AreRead : {In Out : Type 0} → StreamsKind In Out → Streams In Out → Streams In Out → List ℕ → Type 0
 AreRead kind old new read = Consumes (kind.remaining old.input.inner) (kind.remaining new.input.inner) read
 
--- the bytes read hold these requests and then the rest, and all replies were written
+-- the bytes that were read are these requests and then the rest, and all replies were written
 abbrev pub AreAnswered : {In Out : Type 0} → StreamsKind In Out → Streams In Out → Streams In Out → List ℕ → List Exchange → List ℕ → Type 0
 AreAnswered kind old new read done rest = IsAnswered (kind.contents old.output.inner) (kind.contents new.output.inner) read done rest
 
--- How serving ends, by what follows the last whole request of the bytes read: nothing, or a beginning of a request,
--- both with no byte of the input left; or bytes that are no request. `Input` and `Output` come only where that
--- stream failed.
+-- How serving ends, by what follows the last whole request. At `End` nothing follows, and at
+-- `Truncated` a beginning of a request does. In both cases the input is at its end. At `Broken` the
+-- bytes are no request. `Input` and `Output` are returned only if that stream failed.
 abbrev pub EndsAs : {In Out : Type 0} → StreamsKind In Out → Result Served ServeFault → Streams In Out → Streams In Out
     → List ℕ → List Exchange → List ℕ → Type 0
 EndsAs kind (Ok End) old new read done rest =
@@ -135,23 +139,24 @@ EndsAs kind (Err Output) old new read done rest =
 abbrev pub NoneFailed : {In Out : Type 0} → Streams In Out → Streams In Out → Type 0
 NoneFailed old new = (new.input.failures ≡ old.input.failures) × (new.output.failures ≡ old.output.failures)
 
--- A session that is serving, at one moment: what its requests come from, what its replies go to, and its state.
+-- A session that is serving, at one moment: the source of its requests, the output for its replies,
+-- and its state.
 pub record Serving (From Out H S Seat R : Type 0) : Type 0 where
   pub requests : From
   pub replies : Counting Out
   pub state : State H S Seat R
 
--- the same by its parts
+-- builds a Serving from its parts
 abbrev pub serving : {From Out H S Seat R : Type 0} → From → Counting Out → DriveTable H S Seat R → SessionState Seat R → Serving From Out H S Seat R
 serving requests replies drives session_state = record { requests = requests; replies = replies; state = state drives session_state }
 
--- requests of these bytes were carried out, with what became of the bytes that the reader holds afterwards
+-- requests in these bytes were carried out, with the outcome for the reader's remaining bytes
 abbrev pub AnswersFrom : {Out H S Seat R : Type 0} → Kinds H Seat S R → WritePromise Out → Result (Option WireFault) OutputFault
     → Serving RequestHeld Out H S Seat R → Serving RequestHeld Out H S Seat R → List ℕ → Type 0
 AnswersFrom k output result old new bytes =
     Advances k old.state new.state (AnswersAs output.contents result old.replies new.replies new.requests bytes)
 
--- the same of whatever bytes the reader held
+-- the same for the bytes that the reader held
 abbrev pub AnswersUnread : {Out H S Seat R : Type 0} → Kinds H Seat S R → WritePromise Out → Result (Option WireFault) OutputFault
     → Serving RequestHeld Out H S Seat R → Serving RequestHeld Out H S Seat R → Type 0
 AnswersUnread k output result old new = (bytes : List ℕ) → Unread old.requests bytes → AnswersFrom k output result old new bytes
@@ -160,7 +165,7 @@ AnswersUnread k output result old new = (bytes : List ℕ) → Unread old.reques
 abbrev pub streams_of : {In Out H S Seat R : Type 0} → Serving (Counting In) Out H S Seat R → Streams In Out
 streams_of x = streams x.requests x.replies
 
--- bytes were read, and requests were carried out, up to this end
+-- bytes were read and requests were carried out, until serving ended with this result
 abbrev pub ConversesAs : {In Out H S Seat R : Type 0} → Kinds H Seat S R → ReadPromise In → WritePromise Out → Result Served ServeFault
     → Serving (Counting In) Out H S Seat R → Serving (Counting In) Out H S Seat R → Type 0
 ConversesAs k input output result old new =
@@ -168,8 +173,9 @@ ConversesAs k input output result old new =
     (read : List ℕ) × AreRead kind (streams_of old) (streams_of new) read
     × Advances k old.state new.state (EndsAs kind result (streams_of old) (streams_of new) read)
 
--- What was served: the bytes read, the requests carried out with their replies, and what follows them of the bytes.
--- Then what was open was closed. Where stacks and reel tell, the requests and replies are a run of serve steps.
+-- The result of serving: the bytes that were read, the requests with their replies, and the bytes
+-- that follow. The open device was closed after that. If the contents of stacks and reel are
+-- specified, the exchanges are a run of serve steps.
 pub record IsServedAs {H S Seat R In Out : Type 0} (k : Kinds H Seat S R) (kind : StreamsKind In Out) (result : Result Served ServeFault)
     (old_streams new_streams : Streams In Out) (old new : State H S Seat R) : Type 0 where
   pub read : List ℕ
@@ -180,13 +186,13 @@ pub record IsServedAs {H S Seat R In Out : Type 0} (k : Kinds H Seat S R) (kind 
   pub last : State H S Seat R
   pub run : CarryRun k old done last
   pub ended : IsClosed k last new
-  -- the seat keeps its number, and no number of a seat is used up
+  -- the seat keeps its number, and no seat number is assigned
   pub number : (k.holds.shows new.seat).number ≡ (k.holds.shows old.seat).number
   pub same_seats : k.holds.seated new.drives.holds ≡ k.holds.seated old.drives.holds
   pub steps : (fails shared : Bool) → MayFail k old fails → MayShare k old shared → (start : SessionView) → Tells k old start
       → (finish : SessionView) × ServeRun fails shared k.reels.GROWS start done finish × k.stacks.holds new.drives.stacks (closed finish).library
 
--- the same of a session that is serving
+-- the same for a session that is serving
 abbrev pub ServesAs : {In Out H S Seat R : Type 0} → Kinds H Seat S R → ReadPromise In → WritePromise Out → Result Served ServeFault
     → Serving (Counting In) Out H S Seat R → Serving (Counting In) Out H S Seat R → Type 0
 ServesAs k input output result old new =

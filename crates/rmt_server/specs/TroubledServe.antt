@@ -1,5 +1,6 @@
--- One request of a session over drives and reels in memory, where it is told how the device call fails that it makes:
--- the serve step with its freedom taken out, and who holds the drives. Public contracts cite it.
+-- One request of a session over drives and reels in memory, if the failure of its device call is
+-- known in advance. It is a serve step with fewer possible results, along with the holders of the
+-- drives. Public contracts cite it.
 use Rattle.std.specs.Prelude.{◌≡◌, ◌≢◌, ◌⊎◌, ℕ, ◌<◌, Bool, true, false, if◌then◌else◌, List, slice_set, slice_index, Option, Some, None, MatchOption, Result, Ok, Err}
 use Rattle.rmt_wire.specs.Request.{PlainRequest}
 use Rattle.rmt_wire.specs.Request.PlainRequest.{Open, Close, Op}
@@ -24,23 +25,23 @@ use Rattle.rmt_server.specs.Memory.{MemoryState, in_memory}
 use Rattle.rmt_server.specs.Troubling.{with_trouble}
 use Rattle.rmt_server.specs.Carrying.{is_of_stacks}
 
--- the drive that is open
+-- the drive that is open, if any
 abbrev pub drive_in : PlainSession → Option ℕ
 drive_in Idle = None
 drive_in (Offline drive access) = Some drive
 drive_in (Online drive access reel) = Some drive
 
--- the holders of the drives, where that drive has this one
+-- the holders of the drives, with n as the holder of that drive, if there is one
 abbrev pub with_holder : Option ℕ → ℕ → List ℕ → List ℕ
 with_holder None n holders = holders
 with_holder (Some d) n holders = slice_set holders d n
 
--- who holds that drive, where there is one
+-- the holder of that drive, or 0 if there is no drive
 abbrev pub holder_of : List ℕ → Option ℕ → ℕ
 holder_of holders None = 0
 holder_of holders (Some d) = slice_index holders d
 
--- the latched reel makes one call, whose device fails so, and all else stays
+-- the latched reel makes one call, whose device fails according to `trouble`; nothing else changes
 abbrev pub TroubledReelStep : Trouble → SessionView → PlainRequest → PlainReply → SessionView → Type 0
 TroubledReelStep trouble before request reply after =
     (drive : ℕ) × (access : Access) × (reel : PlainReel) × (answer : TapeAnswer) × (t : Tape)
@@ -49,8 +50,8 @@ TroubledReelStep trouble before request reply after =
     × (reply ≡ reel_reply request answer)
     × (after ≡ session_view before.library (Online drive access (plain_reel t reel.capacity)))
 
--- Why an open answers so, where the drive of that name is held by n, or by none at 0: a drive that is held is busy, and
--- no reel is latched in spite of a trouble. A latch in memory wants no memory.
+-- Why an open has this result, if the drive with that name has the holder n, or none at 0. A held
+-- drive is busy. With a trouble set, no reel is latched. A latch in memory allocates nothing.
 abbrev pub IsOpenCause : {R : Type 0} → Trouble → ℕ → Result (ℕ × R) DriveFault → Type 0
 IsOpenCause trouble n (Ok opened) = (n ≡ 0) × (trouble ≡ NoTrouble)
 IsOpenCause trouble n (Err drive.NoSuchDrive) = Unit {0}
@@ -59,7 +60,7 @@ IsOpenCause trouble n (Err drive.NoReel) = n ≡ 0
 IsOpenCause trouble n (Err drive.Device) = (n ≡ 0) × (trouble ≢ NoTrouble)
 IsOpenCause trouble n (Err _) = ⊥
 
--- what an open does once nothing is open, where these hold the drives
+-- what an open does after nothing is open any more, with these holders of the drives
 abbrev pub TroubledOpens : Trouble → List ℕ → SessionView → List ℕ → Option Access → PlainReply → SessionView → Type 0
 TroubledOpens trouble holders before device None reply after = (reply ≡ refused Invalid) × (after ≡ before)
 TroubledOpens trouble holders before device (Some access) reply after =
@@ -69,14 +70,14 @@ TroubledOpens trouble holders before device (Some access) reply after =
     × (reply ≡ open_reply result)
     × (after.session ≡ session_after access result)
 
--- A reel is moved where there is no trouble, and not moved in spite of one. A move in memory wants no memory, and finds
--- no reel of that name in the bin.
+-- Why a move has this result. A reel is moved exactly if no trouble is set. A move in memory
+-- allocates nothing, and finds no reel with that name in the bin.
 abbrev pub IsMoveCause : Trouble → Result Unit DriveFault → Type 0
 IsMoveCause trouble (Ok done) = trouble ≡ NoTrouble
 IsMoveCause trouble (Err drive.Device) = trouble ≢ NoTrouble
 IsMoveCause trouble (Err _) = ⊥
 
--- the latched reel is rewound and moved to the bin
+-- the latched reel is rewound, and moved to the bin if no trouble is set
 abbrev pub TroubledMoveStep : Trouble → SessionView → ℕ → PlainReply → SessionView → Type 0
 TroubledMoveStep trouble before count reply after =
     (drive : ℕ) × (access : Access) × (reel : PlainReel) × (result : Result Unit DriveFault)
@@ -85,7 +86,7 @@ TroubledMoveStep trouble before count reply after =
     × (reply ≡ move_reply count result)
     × MovesAs (is_set trouble) drive access reel result before.library after
 
--- an operation, which is MTOFFL or not
+-- an operation, which is MTOFFL (true) or another
 abbrev pub TroubledOpStep : Bool → Trouble → SessionView → ℕ → ℕ → PlainReply → SessionView → Type 0
 TroubledOpStep true trouble before op count reply after = TroubledMoveStep trouble before count reply after
 TroubledOpStep false trouble before op count reply after = TroubledReelStep trouble before (Op op count) reply after
@@ -96,7 +97,7 @@ TroubledDoneStep trouble before Close reply after = (reply ≡ Done 0) × (after
 TroubledDoneStep trouble before (Op op count) reply after = TroubledOpStep (is_offline op) trouble before op count reply after
 TroubledDoneStep trouble before request reply after = TroubledReelStep trouble before request reply after
 
--- One request and its reply, where these held the drives before. What is open is closed before an open.
+-- One request and its reply, with these holders before it. Before an open, what is open is closed.
 abbrev pub TroubledServeStep : Trouble → List ℕ → SessionView → PlainRequest → PlainReply → SessionView → Type 0
 TroubledServeStep trouble holders before (Open device mode) reply after =
     TroubledOpens trouble (with_holder (drive_in before.session) 0 holders) (closed before) device (access_of mode) reply after
@@ -105,44 +106,47 @@ TroubledServeStep trouble holders before request reply after =
     (TroubledDoneStep trouble before request reply after)
     (λ r. (reply ≡ refused r) × (after ≡ before))
 
--- One request of the session of the number k, its reply, and drives, session and holders after it: the drive that was
--- open before has no holder then, and the one that is open after has k.
+-- One request of the session with the number k, its reply, and the view and holders after it. The
+-- drive that was open before has no holder then, and the drive that is open now has the holder k.
 pub record TroubledServe (trouble : Trouble) (holders : List ℕ) (k : ℕ) (before : SessionView) (request : PlainRequest) (reply : PlainReply)
     (after : SessionView) (holders' : List ℕ) : Type 0 where
   pub step : TroubledServeStep trouble holders before request reply after
   pub held : holders' ≡ with_holder (drive_in after.session) k (with_holder (drive_in before.session) 0 holders)
 
--- This trouble is set for the open reel, if there is one, and this for the stacks; for a reel that lies there none is.
+-- The open reel, if there is one, has the trouble `reel`. The stacks have the trouble `stacks`. No
+-- reel on a stack or in the bin has one.
 pub record IsTroubled (reel : Trouble) (stacks : Bool) (x : MemoryState) : Type 0 where
   pub online : MatchOption (reel_of x.opened) (Unit {0}) (λ r. r.trouble ≡ reel)
   pub next : x.drives.stacks.trouble ≡ stacks
   pub lying : troubled_in x.drives.stacks.library ≡ 0
 
+-- the trouble is set for the stacks (true) or for the open reel (false), and nowhere else
 abbrev pub IsSetAt : Bool → Trouble → MemoryState → Type 0
 IsSetAt true trouble x = IsTroubled NoTrouble (is_set trouble) x
 IsSetAt false trouble x = IsTroubled trouble false x
 
--- The trouble is set where the request meets it, and nowhere else: for the stacks before an open and MTOFFL, else for
--- the open reel. A close meets none.
+-- The trouble is set where the request meets it, and nowhere else: for the stacks before an open
+-- and MTOFFL, otherwise for the open reel. A close meets none.
 abbrev pub IsSetFor : Trouble → PlainRequest → MemoryState → Type 0
 IsSetFor trouble Close x = IsTroubled NoTrouble false x
 IsSetFor trouble request x = IsSetAt (is_of_stacks request) trouble x
 
--- the trouble that is set for the open reel then
+-- the trouble that is set for the open reel before that request
 abbrev pub set_online : Trouble → PlainRequest → Trouble
 set_online trouble Close = NoTrouble
 set_online trouble request = if is_of_stacks request then NoTrouble else trouble
 
--- What is left of a trouble that was set: all of it, or nothing where a device call met it, which is answered so.
+-- The trouble that is left of one that was set: all of it, or none if a device call met it. In the
+-- second case the reply is error 5.
 abbrev pub IsSpent : Trouble → PlainReply → Trouble → Type 0
 IsSpent set reply left = (left ≡ set) ⊎ ((set ≢ NoTrouble) × (left ≡ NoTrouble) × (reply ≡ refused InputOutput))
 
--- the same of the stacks' own trouble
+-- the same for the trouble of the stacks
 abbrev pub IsNextSpent : Bool → PlainReply → Bool → Type 0
 IsNextSpent set reply left = (left ≡ set) ⊎ ((set ≡ true) × (left ≡ false) × (reply ≡ refused InputOutput))
 
--- The request is served so. Then no reel that lies on the stacks or in the bin has a trouble, and of the trouble that
--- was set is left what no device call met.
+-- The request is served under this trouble. No reel on the stacks or in the bin has a trouble
+-- afterwards. A trouble that was set is left unless a device call met it.
 pub record IsServedUnder (trouble : Trouble) (old : MemoryState) (before : SessionView) (request : PlainRequest) (reply : PlainReply)
     (new : MemoryState) : Type 0 where
   pub after : SessionView
@@ -152,22 +156,23 @@ pub record IsServedUnder (trouble : Trouble) (old : MemoryState) (before : Sessi
   pub online : MatchOption (reel_of new.opened) (Unit {0}) (λ r. IsSpent (set_online trouble request) reply r.trouble)
   pub next : IsNextSpent old.drives.stacks.trouble reply new.drives.stacks.trouble
 
--- this trouble is set for the open reel, if there is one, and this for the stacks
+-- the state with this trouble set for the open reel, if there is one, and this one for the stacks
 abbrev pub with_troubles : Trouble → Bool → MemoryState → MemoryState
 with_troubles reel stacks x =
     seated_at (record x.drives { stacks = record x.drives.stacks { trouble = stacks } }) x.seat (with_trouble reel x.opened)
 
+-- the state with the trouble set for the stacks (true) or for the open reel (false)
 abbrev pub set_at : Bool → Trouble → MemoryState → MemoryState
 set_at true trouble x = with_troubles NoTrouble (is_set trouble) x
 set_at false trouble x = with_troubles trouble false x
 
--- the trouble is set where the request meets it
+-- the state with the trouble set where the request meets it
 abbrev pub set_for : Trouble → PlainRequest → MemoryState → MemoryState
 set_for trouble Close x = with_troubles NoTrouble false x
 set_for trouble request x = set_at (is_of_stacks request) trouble x
 
--- What was open is closed: its reel lies on its stack again, its drive has no holder, and no reel that lies there has a
--- trouble.
+-- The open device was closed. Its reel is back on its stack and its drive has no holder. No reel on
+-- the stacks or in the bin has a trouble.
 pub record IsEnded (old : MemoryState) (before : SessionView) (new : MemoryState) : Type 0 where
   pub tells : Tells in_memory new (closed before)
   pub held : new.drives.holds.numbers ≡ with_holder (drive_in before.session) 0 old.drives.holds.numbers

@@ -1,11 +1,11 @@
-//! What a device is opened for: to read, to write, or both.
+//! The access of an open device: read, write, or both.
 
 ghost use Rattle.std.specs.Prelude.{◌≡◌};
 ghost use Rattle.rmt_server.specs.Access.{access_of, reads, writes};
 
 use rmt_wire::fcntl::{ACCESS_MODES, O_RDONLY, O_RDWR, O_WRONLY};
 
-/// What a device was opened for.
+/// The access of an open device.
 #[derive(Clone, Copy)]
 pub(crate) enum Access {
     /// Read only.
@@ -17,7 +17,8 @@ pub(crate) enum Access {
 }
 
 impl Access {
-    /// The access that a mode asks for: its number modulo 4, of which 3 is none.
+    /// Returns the access for an open's mode: only the mode modulo 4 counts. Returns `None` if that
+    /// is 3.
     pub(crate) fn of(mode: u32) -> Option<Access>
         ensures { result ≡ access_of mode }
     {

@@ -1,4 +1,4 @@
-//! Laws of sessions, each the contract of a call that does nothing.
+//! Laws of sessions. Each law is the contract of a function that does nothing.
 
 ghost use Rattle.std.specs.Prelude.{◌≡◌, Bool};
 ghost use Rattle.tape.specs.contracts.troubled.TroubledReelReel.TheImpl.{ghosts as of_reel};
@@ -18,8 +18,9 @@ ghost use Rattle.rmt_server.specs.Laws.{StaysAtUnderTrouble, TroublesAreServed, 
 use drives::{Holds, Stacks, lying_troubles};
 use tape::device_steps;
 
-/// No two sessions at the drives of one thread have one drive open, with its reel or without it. And what one of them
-/// does leaves the drives those of each other one, as it was: of its seat, and of what it has open.
+/// The law that two sessions of different seats, at the drives of one thread, never have the same
+/// drive open, with or without its reel. If one session acts, the drives still match each other
+/// session: its seat and its open drive.
 ///
 /// It does nothing: its contract is a law of the definitions.
 pub fn one_holder<S: Stacks>()
@@ -27,8 +28,8 @@ pub fn one_holder<S: Stacks>()
     ensures others { OthersStayAt (kinds of_holds S.Stacks S.Reel.Reel) }
 {}
 
-/// The drive that a session has open, with its reel or without it, is held by its seat. So a drive that no seat holds is
-/// open in no session.
+/// The law that a session's open drive is held by its seat, with or without its reel. A drive that
+/// no seat holds is therefore open in no session.
 ///
 /// It does nothing: its contract is a law of the definitions.
 pub fn open_is_held<S: Stacks>()
@@ -36,9 +37,10 @@ pub fn open_is_held<S: Stacks>()
     ensures free { FreeIsClosed (kinds of_holds S.Stacks S.Reel.Reel) }
 {}
 
-/// The drives are still those of a session after what is not its own: its seat still belongs to the holds, the counts of
-/// drives are as before, and a reel stays latched at the drive that it has open with its reel. So it is where reels stay
-/// latched at all drives but one that it does not have open.
+/// The law that drives still match a session after others have acted on them. Three conditions are
+/// needed. The seat still belongs to the holds, the numbers of drives are unchanged, and the reel
+/// of an online drive stays latched. For the third it is enough that reels stay latched at all
+/// drives but one, which this session does not have open.
 ///
 /// It does nothing: its contract is a law of the definitions.
 pub fn still_at<H: Holds, S: Stacks>()
@@ -46,21 +48,23 @@ pub fn still_at<H: Holds, S: Stacks>()
     ensures elsewhere { StaysAtElsewhere (kinds H.Holds S.Stacks S.Reel.Reel) }
 {}
 
-/// The drives of one thread are still those of a session after more seats were given.
+/// The law that the drives of one thread still match a session after more seat numbers were
+/// assigned.
 ///
 /// It does nothing: its contract is a law of the definitions.
 pub fn more_seats<S: Stacks>()
     ensures { StaysAtWithMoreSeats (kinds of_holds S.Stacks S.Reel.Reel) }
 {}
 
-/// Drives whose reels are in memory are still those of a session after a trouble of the stacks was set or taken back.
+/// The law that drives with reels in memory still match a session after the trouble of the stacks
+/// was set or cleared.
 ///
 /// It does nothing: its contract is a law of the definitions.
 pub fn stacks_trouble<H: Holds>()
     ensures { StaysAtUnderTrouble (kinds H.Holds of_stacks of_reel) }
 {}
 
-/// Stacks and reels in memory tell one scene, where each reel stands once.
+/// The law that stacks and reels in memory have exactly one view, if each reel has its own name.
 ///
 /// It does nothing: its contract is a law of the definitions.
 pub fn one_session_view()
@@ -68,11 +72,14 @@ pub fn one_session_view()
     ensures one { (x : MemoryState) (v : SessionView) → Tells in_memory x v → v ≡ session_view_seen x }
 {}
 
-/// One request of a session over drives and reels in memory, where it is told how the device call fails that it makes: the
-/// trouble is set for the stacks before an open and operation 6 of mtio, else for the open reel, and nowhere else. Then the
-/// reply, drives, session and holders are those of `TroubledServe`. No reel that lies on the stacks or in the bin has a
-/// trouble afterwards. What was set for the open reel and for the stacks is still set, or a device call met it: then that
-/// failed, which is answered 5, and none is set.
+/// The law of one request over drives and reels in memory, if the failure of its device call is
+/// known in advance. The trouble is set on the stacks before an open and before operation 6 of
+/// mtio. Before other requests it is set on the open reel. No other trouble is set.
+///
+/// Then `TroubledServe` gives the reply, drives, session and holders. No reel on the stacks or in
+/// the bin has a trouble afterwards. A trouble of the open reel or of the stacks is still set, or a
+/// device call met it. In the second case that call failed, the reply is error 5, and the trouble
+/// is cleared.
 ///
 /// It does nothing: its contract is a law of the definitions.
 pub fn troubled_serve()
@@ -81,8 +88,8 @@ pub fn troubled_serve()
     lying_troubles();
 }
 
-/// What `troubled_serve` says of one request is a serve step, and what it says of an open and of operation 6 of mtio has no
-/// want of memory: over stacks in memory neither takes any.
+/// The law that a request under `TroubledServe` is a serve step. An open and operation 6 of mtio
+/// never run out of memory then, since stacks in memory allocate nothing for them.
 ///
 /// It does nothing: its contract is a law of the definitions.
 pub fn troubled_is_served()
@@ -92,9 +99,9 @@ pub fn troubled_is_served()
     device_steps();
 }
 
-/// Troubles that are set for the open reel and for the stacks, or taken back, leave the drives those of the session, and
-/// what is told of both. While no reel that lies on the stacks or in the bin has a trouble, they are set then as
-/// `troubled_serve` asks for it.
+/// The law of setting or clearing the troubles of the open reel and of the stacks. The drives still
+/// match the session then, and the view of both is unchanged. If no reel on the stacks or in the
+/// bin has a trouble, they are then set as `troubled_serve` requires.
 ///
 /// It does nothing: its contract is a law of the definitions.
 pub fn troubles_set()
@@ -107,7 +114,8 @@ pub fn troubles_set()
         IsSetFor trouble request (set_for trouble request x) }
 {}
 
-/// What the end of a session leaves, over drives and reels in memory, where its open reel has no trouble.
+/// The law of what the end of a session leaves, over drives and reels in memory, if its open reel
+/// has no trouble.
 ///
 /// It does nothing: its contract is a law of the definitions.
 pub fn untroubled_end()

@@ -1,4 +1,4 @@
-//! The tape server: the session of one client over drives, and serving its stream.
+//! The tape server: the session of one client over the drives, and serving its stream of requests.
 #![tactic(auto)]
 
 mod access;

@@ -1,4 +1,4 @@
-//! Why a request is refused, by errno's numbers and texts.
+//! The errors that the server replies with: numbers and texts of errno.
 
 ghost use Rattle.std.specs.Prelude.{◌≡◌};
 ghost use Rattle.rmt_wire.specs.Lent.{plain_reply};
@@ -9,7 +9,7 @@ use rmt_wire::Reply;
 use rmt_wire::errno::{EACCES, EBADF, EBUSY, EINVAL, EIO, ENOENT, ENOMEM, ENOSPC, ENXIO};
 use tape::TapeFault;
 
-/// Why a request was refused, as errno names it.
+/// Why a request is refused, named as in errno.
 #[derive(Clone, Copy)]
 pub(crate) enum Refusal {
     NoSuchFile,
@@ -24,7 +24,7 @@ pub(crate) enum Refusal {
 }
 
 impl Refusal {
-    /// The number that errno has for it.
+    /// Returns its number in errno.
     fn number(self) -> u32
         ensures { result ≡ number_of self }
     {
@@ -41,7 +41,7 @@ impl Refusal {
         }
     }
 
-    /// What is sent beside the number.
+    /// Returns the text that is sent with the number.
     fn text(self) -> &'static [u8]
         ensures { result.now ≡ text_of self }
     {
@@ -58,7 +58,7 @@ impl Refusal {
         }
     }
 
-    /// The answer that says it.
+    /// Returns the error reply.
     pub(crate) fn reply(self) -> Reply<'static>
         ensures { plain_reply result ≡ refused self }
     {
@@ -68,7 +68,7 @@ impl Refusal {
         }
     }
 
-    /// What a reel's fault is to a client.
+    /// Returns the error that a client gets for a fault of a reel.
     pub(crate) fn of_tape(fault: TapeFault) -> Refusal
         ensures { result ≡ tape_refusal fault }
     {
@@ -80,7 +80,7 @@ impl Refusal {
         }
     }
 
-    /// What a drive's fault is to a client.
+    /// Returns the error that a client gets for a fault of a drive.
     pub(crate) fn of_drive(fault: DriveFault) -> Refusal
         ensures { result ≡ drive_refusal fault }
     {

@@ -1,4 +1,4 @@
-//! The session of one client: what it has open, and what it answers.
+//! The session of one client: what it has open, and its replies.
 ghost use Rattle.std.specs.Prelude.{◌≡◌, ◌≤◌, length, Ok, Err, IfOk};
 ghost use Rattle.rmt_wire.specs.Lent.{plain_request, plain_reply};
 ghost use Rattle.rmt_wire.specs.Reply.{ReplyHasSpelling, reply_text};
@@ -20,8 +20,8 @@ use std::marker::Model;
 
 /// The session of one client.
 ///
-/// It has nothing open, or a drive that its seat holds, with the drive's reel unless that lies in the bin.
-/// Contracts see the seat and what is open.
+/// It has nothing open, or a drive that its seat holds. The drive's reel is open with it, unless
+/// the reel was moved to the bin. Contracts see the seat and what is open.
 #[derive(Drop)]
 pub struct Session<H: Holds, S: Stacks> {
     session_state: SessionState<H::Seat, S::Reel>,
@@ -50,9 +50,10 @@ impl<H: Holds, S: Stacks> Session<H, S> {
     ghost use Rattle.rmt_server.specs.Opening.{IsClosed};
     ghost use Rattle.rmt_server.specs.Lending.{LendsReply};
 
-    /// A session with nothing open. The seat holds no drive.
+    /// Returns a session with nothing open. The seat must hold no drive.
     ///
-    /// It reserves 262,144 bytes, the buffer for reads, and hands the seat back where they are refused.
+    /// It allocates 262,144 bytes, the buffer for reads. If that fails, the error contains the
+    /// seat.
     pub fn new(alloc: Global, seat: H::Seat) -> Result<Session<H, S>, (H::Seat, AllocError)>
         requires { HoldsJust (H.shows seat) None }
         ensures made { MatchResult result (λ s. s ≡ record { seat = seat; opened = None }) (λ refused. refused.0 ≡ seat) }
@@ -67,23 +68,40 @@ impl<H: Holds, S: Stacks> Session<H, S> {
         }
     }
 
-    /// Carries out a request and answers it (rmt(8), with the operations of mtio). What a read gives is lent until the
-    /// next call.
+    /// Carries out a request and returns its reply (rmt(8), with the operations of mtio). The bytes
+    /// of a read are borrowed until the next call.
     ///
-    /// The first line that applies decides. An open closes what is open, then: 22 where the mode modulo 4 is 3, 2 for no
-    /// drive of that name, 16 where another seat holds it, 6 where no reel lies on its stack, 5 where the device
-    /// failed, 12 where memory was refused. All other requests: 9 with nothing open. Of those but a close: 6 where
-    /// the reel lies in the bin; 9 for a write or a read without that access, 22 for an operation
-    /// above 7, 13 for marks without the access to write; 22 for a count of a write or read that is 0 or, for a write,
-    /// above 262,144; a write that has no room is answered with the number 0, and marks with 28; 12 where memory was
-    /// refused; 5 where the device failed, or spacing met a mark, the end or the beginning first, or the bin has a reel
-    /// of the name of the one that operation 6 is to move there.
+    /// An open first closes what is open. It then fails with the first of these errors that
+    /// applies:
+    /// - 22 if the mode modulo 4 is 3,
+    /// - 2 if no drive has that name,
+    /// - 16 if another seat holds the drive,
+    /// - 6 if there is no reel on its stack,
+    /// - 5 if the device failed,
+    /// - 12 if an allocation failed.
     ///
-    /// Operation 6 rewinds the reel and moves it to the bin; the drive stays open and held. After its 5 and 12 the reel
-    /// stays on its stack, open, at its beginning. A read gives 262,144 bytes at most, whatever its count. A reply
-    /// without an error has 0 for an open or a close, the count for a write or an operation, or the bytes of a read.
+    /// Every other request fails with the first of these errors that applies:
+    /// - 9 if nothing is open,
+    /// - 6 if the reel is in the bin, except for a close,
+    /// - 9 for a write or a read without that access,
+    /// - 22 for an operation above 7,
+    /// - 13 for marks without the access to write,
+    /// - 22 for a count of a write or read that is 0 or, for a write, above 262,144,
+    /// - 28 for marks without room (for a write without room, the reply is no error and has the
+    ///   number 0),
+    /// - 12 if an allocation failed,
+    /// - 5 if the device failed,
+    /// - 5 if spacing first met a mark, the end or the beginning,
+    /// - 5 if the bin has a reel with the name of the one that operation 6 is to move.
     ///
-    /// The drives are those of the seat and of what is open, and the stacks have no more of them than the holds.
+    /// Operation 6 rewinds the reel and moves it to the bin. The drive stays open and held. If the
+    /// move fails with 5 or 12, the reel stays on its stack, open and at its beginning.
+    ///
+    /// A read returns at most 262,144 bytes, whatever its count. A reply without an error has 0 for
+    /// an open or a close, and the count for a write or an operation. For a read it has the bytes.
+    ///
+    /// `drives` must match this session, as `IsAt` defines: its seat belongs to them, and what is
+    /// open is theirs. Its stacks must not have more drives than its holds.
     pub fn carry_out(&mut self, drives: &mut DriveTable<H, S>, request: Request<'_>) -> Reply<'_>
         requires { IsAt (kinds H.Holds S.Stacks S.Reel.Reel) (state drives.old self.old) }
         ensures* rests { sem 𝓛 (LendsReply H.row S.row H.Seat.row S.Reel.row H.Holds S.Stacks S.Reel.Reel self.entry
@@ -106,9 +124,9 @@ impl<H: Holds, S: Stacks> Session<H, S> {
         }
     }
 
-    /// Ends the session: what is open is closed, and the seat holds no drive.
+    /// Ends the session: closes what is open, so the seat holds no drive.
     ///
-    /// The drives are those of the seat and of what is open, and the stacks have no more of them than the holds.
+    /// `drives` must match this session, as for `carry_out`.
     pub fn end(&mut self, drives: &mut DriveTable<H, S>)
         requires { IsAt (kinds H.Holds S.Stacks S.Reel.Reel) (state drives.old self.old) }
         ensures { IsClosed (kinds H.Holds S.Stacks S.Reel.Reel) (state drives.old self.old) (state drives.new self.new) }
@@ -116,7 +134,8 @@ impl<H: Holds, S: Stacks> Session<H, S> {
         opening::close(drives, &mut self.session_state);
     }
 
-    /// Gives back the seat of a session that has nothing open, so that another can begin with it.
+    /// Returns the seat of a session that has nothing open, so that another session can start with
+    /// it.
     pub fn into_seat(self) -> H::Seat
         requires { self.opened ≡ None }
         ensures { result ≡ self.seat }
@@ -124,7 +143,8 @@ impl<H: Holds, S: Stacks> Session<H, S> {
         self.session_state.seat
     }
 
-    /// The drive and the reel of the open device, while the reel is online.
+    /// Returns the drive's number and the reel of the open device, or `None` if nothing is open or
+    /// the reel is in the bin.
     pub fn reel(&self) -> Option<(usize, &S::Reel)>
         ensures { MatchOption result (online_drive self.now.opened ≡ None) (λ told. IsOnline self.now.opened told.0 told.1.now) }
     {

@@ -1,4 +1,4 @@
-//! Serving one stream of requests.
+//! Serves one stream of requests.
 ghost use Rattle.std.specs.Prelude.{◌≡◌, ◌<◌, ◌≤◌, ℕ, List, [], Option, None, Ok, Err, OnOk};
 ghost use Rattle.rmt_wire.specs.RequestReader.{Unread};
 ghost use Rattle.drives.specs.Opening.{kinds};
@@ -14,21 +14,21 @@ use thiserror::Error;
 /// How the stream of a session ended.
 #[derive(Clone, Copy, Debug, PartialEq, Eq)]
 pub enum Served {
-    /// Between two requests.
+    /// The stream ended between two requests.
     End,
-    /// Inside a request, which was not carried out.
+    /// The stream ended inside a request, which was not carried out.
     Truncated,
-    /// At bytes that are no request.
+    /// The stream has bytes that are no request.
     Broken(WireFault),
 }
 
-/// Which end of a session failed.
+/// Which stream of a session failed.
 #[derive(Clone, Copy, Debug, PartialEq, Eq, Error)]
 pub enum ServeFault {
     /// A read failed.
     #[error("Input")]
     Input,
-    /// A write failed, or took none of some bytes.
+    /// A write failed, or accepted none of some bytes.
     #[error("Output")]
     Output,
 }
@@ -44,7 +44,9 @@ impl From<OutputFault> for ServeFault {
     }
 }
 
-/// Carries out and answers each whole request that the reader holds, up to bytes that are none.
+/// Carries out each whole request that the reader has and writes its reply, until its bytes are no
+/// request. Returns the fault of those bytes, or `None` if the rest may still become a request.
+/// Fails if a reply could not be written.
 fn answer_all<W: Write, H: Holds, S: Stacks>(
     output: &mut Counted<W>,
     wire: &mut RequestReader,
@@ -71,7 +73,8 @@ fn answer_all<W: Write, H: Holds, S: Stacks>(
     }
 }
 
-/// Answers the requests of a stream up to its end, its first bytes that are no request, or a failure.
+/// Serves the requests of a stream until it ends, its bytes are no request, or a read or write
+/// fails.
 fn converse<R: Read, W: Write, H: Holds, S: Stacks>(
     input: &mut Counted<R>,
     output: &mut Counted<W>,
@@ -100,12 +103,14 @@ fn converse<R: Read, W: Write, H: Holds, S: Stacks>(
     }
 }
 
-/// Serves one stream: carries out its requests in order and writes the answers, then ends the session.
+/// Serves one stream: carries out its requests in order, writes the replies, then ends the session.
 ///
-/// The stream ends between two requests (`End`), inside one (`Truncated`), which is not carried out, or at bytes
-/// that are no request (`Broken`). It answers `Input` where a read failed, and `Output` where a write
-/// failed or took none of some bytes. In every case what was open is closed. It takes no memory of its own, and
-/// reads straight into the reader's room.
+/// The stream ends between two requests (`End`), inside a request (`Truncated`), which is not
+/// carried out, or at bytes that are no request (`Broken`). Fails with `Input` if a read failed,
+/// and with `Output` if a write failed or accepted none of some bytes.
+///
+/// In every case what was open is closed. It allocates nothing itself, and reads directly into the
+/// reader's buffer.
 pub fn serve<R: Read, W: Write, H: Holds, S: Stacks>(
     input: &mut Counted<R>,
     output: &mut Counted<W>,
@@ -113,13 +118,13 @@ pub fn serve<R: Read, W: Write, H: Holds, S: Stacks>(
     session: &mut Session<H, S>,
     drives: &mut DriveTable<H, S>,
 ) -> Result<Served, ServeFault>
-    // the drives are those of the session's seat and of what is open
+    // the drives match the session: its seat belongs to them, and what is open is theirs
     requires at { IsAt (kinds H.Holds S.Stacks S.Reel.Reel) (state drives.old session.old) }
-    // the reader has given all that was pushed
+    // the reader holds no unread bytes
     requires empty { Unread wire.old [] }
     ensures served { ServesAs (kinds H.Holds S.Stacks S.Reel.Reel) R.Read W.Write result
         (serving input.old output.old drives.old session.old) (serving input.new output.new drives.new session.new) }
-    // a stream that failed ends as failed
+    // if it returns `Ok`, no read and no write failed
     ensures steady { OnOk result (NoneFailed (streams input.old output.old) (streams input.new output.new)) }
     ensures nothing { session.new.opened ≡ None }
 {

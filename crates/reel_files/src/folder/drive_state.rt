@@ -15,11 +15,11 @@ use std::fs::File;
 use std::io::{self, ErrorKind};
 use std::marker::Model;
 
-/// So many moves that were cut short are finished at most for one latch.
+/// The greatest number of interrupted moves that one latch finishes.
 const FINISH_TURNS: u32 = 100;
 
-/// A drive of a `FolderStacks`: its name, the folder of its stack, the file of the reel that is latched, and what is known of its
-/// syncs.
+/// A drive of a `FolderStacks`: its name, the folder of its stack, the file of the latched reel,
+/// and the state of that file's syncs.
 #[derive(Drop)]
 pub(super) struct FolderDriveState {
     name: String,
@@ -38,7 +38,7 @@ impl Model for FolderDriveState {
 }
 
 impl FolderDriveState {
-    /// A drive with no reel latched.
+    /// Returns a drive with no reel latched. Fails if an allocation fails.
     pub(super) fn new(
         alloc: Global,
         drive: &FolderDrive<'_>,
@@ -60,14 +60,14 @@ impl FolderDriveState {
         self.name.as_bytes() == name
     }
 
-    /// The folder of the stack.
+    /// Returns the folder of the stack.
     pub(super) fn folder(&self) -> &str
         ensures { result.now ≡ self.now.folder }
     {
         self.folder.as_str()
     }
 
-    /// Notes which reel is latched, or that none is. No sync has failed then.
+    /// Records which reel is latched, or that none is. It also clears the record of failed syncs.
     pub(super) fn note(&mut self, latched: Option<ReelFile>)
         ensures { self.new ≡ folder_row self.old.name self.old.folder (is_some latched) }
     {
@@ -75,8 +75,9 @@ impl FolderDriveState {
         self.syncs = Syncs::new();
     }
 
-    /// Opens and locks the file of the reel that a latch takes. None where one is latched already, and where no plain file
-    /// lies in the folder. The move of a reel that a stop cut short is finished before, which is noted in the log.
+    /// Opens and locks the file of the reel to latch. Returns `None` if one is already latched, or
+    /// if no regular file is in the folder. If the move of a reel was interrupted, it is finished
+    /// before, and this is logged.
     pub(super) fn find<R: FolderSystem, L: Log>(
         &self,
         rt: &R,
@@ -91,7 +92,8 @@ impl FolderDriveState {
         self.find_first(rt, bin, log)
     }
 
-    /// Opens and locks the file of the first reel that the bin does not have, as `find` does. None where there is none.
+    /// Opens and locks the file of the first reel that the bin does not have, as `find` does.
+    /// Returns `None` if there is none.
     fn find_first<R: FolderSystem, L: Log>(
         &self,
         rt: &R,
@@ -114,7 +116,7 @@ impl FolderDriveState {
         Err(Refusal::new(folder, "list", changed))
     }
 
-    /// The report of a move that was finished.
+    /// Returns the report of a move that was finished.
     fn finished(&self, found: &OpenedReel, flaw: Option<MoveFlaw>) -> Report {
         let (drive, reel) = (self.name.as_str(), found.latched.name.as_str());
         let mut report = Report::warning(format_args!(
@@ -124,13 +126,13 @@ impl FolderDriveState {
         report
     }
 
-    /// The report of a latch that was refused.
+    /// Returns the report of a latch that failed.
     pub(super) fn refused(&self, refusal: &Refusal) -> Report {
         let (place, reason) = (refusal.place(), refusal.reason);
         Report::warning(format_args!("{}: open refused: {place}{reason}", self.name))
     }
 
-    /// The report of a latch.
+    /// Returns the report of a latch.
     pub(super) fn opened(&self, found: &OpenedReel) -> Report {
         let (drive, reel) = (self.name.as_str(), found.latched.name.as_str());
         let mut report = Report::new(format_args!("{drive}: {reel} opened"));
@@ -142,8 +144,10 @@ impl FolderDriveState {
         report
     }
 
-    /// Syncs the file of the latched reel, which is this medium, where it was written to since the latch, or was to be, and notes that
-    /// none is latched. Answers the report of the close, none where none was latched. It takes no memory.
+    /// Syncs the file of the latched reel, which has this medium, and records that no reel is
+    /// latched. It syncs only if the file was written to or truncated since the latch, even if that
+    /// failed. Returns the report of the close, or `None` if no reel was latched. It allocates
+    /// nothing.
     pub(super) fn close<R: FolderSystem>(
         &mut self,
         rt: &R,
@@ -157,7 +161,7 @@ impl FolderDriveState {
         report
     }
 
-    /// Syncs the file as `close` does, and answers its report.
+    /// Syncs the file as `close` does, and returns the report.
     fn sync<R: FolderSystem>(&mut self, rt: &R, bin: &str, medium: &FileMedium) -> Option<Report>
         ensures name { self.new.name ≡ self.old.name }
         ensures folder { self.new.folder ≡ self.old.folder }
@@ -184,9 +188,9 @@ impl FolderDriveState {
         Some(report)
     }
 
-    /// Takes the file of the latched reel offline, which is this medium. It takes no memory.
+    /// Takes the file of the latched reel, with this medium, offline. It allocates nothing.
     ///
-    /// It is refused also where none is latched. Nothing changed then.
+    /// Fails also if no reel is latched; nothing is changed then. A sync that failed is recorded.
     pub(super) fn take_off<R: FolderSystem>(
         &mut self,
         rt: &R,
@@ -213,7 +217,7 @@ impl FolderDriveState {
         take_offline(&mut latched, &mut self.syncs)
     }
 
-    /// The report of a move of the file that is this medium. It takes no memory.
+    /// Returns the report of a move of the file with this medium. It allocates nothing.
     pub(super) fn moved(&self, moved: &Result<Moved, Refusal>, medium: &FileMedium) -> Report {
         let (drive, reel) = (self.name.as_str(), self.latched_name());
         match moved {
@@ -233,7 +237,7 @@ impl FolderDriveState {
         }
     }
 
-    /// The name of the latched reel, empty where none is latched.
+    /// Returns the name of the latched reel, or an empty one if none is latched.
     fn latched_name(&self) -> &str {
         match &self.latched {
             Some(file) => file.name.as_str(),
@@ -247,7 +251,7 @@ impl FolderDriveState {
 pub(super) struct OpenedReel {
     /// The handle.
     pub(super) file: File,
-    /// It may only be read.
+    /// Whether it is open only to read.
     pub(super) reads_only: bool,
     /// What the bin has under its name.
     in_bin: InBin,
@@ -255,7 +259,7 @@ pub(super) struct OpenedReel {
     pub(super) latched: ReelFile,
 }
 
-/// What the drive keeps of a reel that was opened, beside its handle.
+/// Returns what the drive keeps of a reel that was opened, along with its handle.
 fn found_of(opened: Opened) -> OpenedReel {
     let Opened {
         file,
@@ -280,7 +284,7 @@ fn found_of(opened: Opened) -> OpenedReel {
     }
 }
 
-/// Adds what a move that was done left as it should not be.
+/// Adds the flaw of a successful move, if it has one.
 fn add_flaw(report: &mut Report, flaw: Option<MoveFlaw>) {
     match flaw {
         None => {}
@@ -295,7 +299,8 @@ fn add_flaw(report: &mut Report, flaw: Option<MoveFlaw>) {
     }
 }
 
-/// Adds why the last read or write of the file that failed did, where one has since the latch.
+/// Adds the reason of the last read or write of the file that failed, if one has failed since the
+/// latch.
 fn add_last_error(report: &mut Report, medium: &FileMedium) {
     if let Some(reason) = medium.last_error() {
         report.add_warning(format_args!(", a read or write failed: {reason}"));

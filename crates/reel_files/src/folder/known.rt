@@ -1,11 +1,11 @@
-//! What the system knows of a file or folder.
+//! The system's metadata of a file or folder.
 
 use crate::FolderSystem;
 use std::fs::{self, Metadata};
 use std::io::{self, ErrorKind};
 use std::os::unix::fs::MetadataExt;
 
-/// Which file or folder of the system one is, whatever its name.
+/// Identifies a file or folder of the system, whatever its name is.
 #[derive(Clone, Copy, PartialEq, Eq)]
 pub(super) struct FileId {
     device: u64,
@@ -13,7 +13,7 @@ pub(super) struct FileId {
 }
 
 impl FileId {
-    /// The one that this is known of.
+    /// Returns the identity of the file with this metadata.
     pub(super) fn of(known: &Metadata) -> FileId {
         FileId {
             device: known.dev(),
@@ -21,18 +21,18 @@ impl FileId {
         }
     }
 
-    /// Whether both lie on one file system.
+    /// Whether both are on the same file system.
     pub(super) fn is_beside(self, other: FileId) -> bool {
         self.device == other.device
     }
 
-    /// Whether this is known of that file, and it is a plain one.
+    /// Whether the metadata is that of this file and the file is a regular one.
     pub(super) fn is_plain(self, known: &Metadata) -> bool {
         known.is_file() && FileId::of(known) == self
     }
 }
 
-/// What the system knows of the path, and none where nothing has it. No link is followed.
+/// Returns the metadata of what has this path, or `None` if nothing has it. It follows no link.
 pub(super) fn known_at<R: FolderSystem>(rt: &R, path: &str) -> io::Result<Option<Metadata>> {
     match fs::symlink_metadata(rt, path) {
         Ok(known) => Ok(Some(known)),
@@ -44,15 +44,15 @@ pub(super) fn known_at<R: FolderSystem>(rt: &R, path: &str) -> io::Result<Option
 /// What the bin has under a reel's name.
 #[derive(Clone, Copy, PartialEq, Eq)]
 pub(super) enum InBin {
-    /// Nothing.
+    /// The bin has nothing with that name.
     Nothing,
-    /// The reel's own file, as a stop between the two steps of a move leaves it.
+    /// The bin has the reel's own file, because a move was interrupted between its two steps.
     SameFile,
-    /// Another file, or a folder or a link.
+    /// The bin has another file, or a folder or a link.
     Another,
 }
 
-/// What the bin has at this path, which is that of the file there.
+/// Returns what the bin has at `path`, the path there of the file `id`.
 pub(super) fn look_in_bin<R: FolderSystem>(rt: &R, path: &str, id: FileId) -> io::Result<InBin> {
     Ok(match known_at(rt, path)? {
         None => InBin::Nothing,

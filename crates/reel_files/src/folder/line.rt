@@ -1,27 +1,30 @@
-//! A line of a log, made without memory.
+//! A line of a log, built without allocation.
 
 use arrayvec::ArrayString;
 use printable::plain_char;
 use std::fmt::{self, Write};
 
-/// A line has so many bytes at most: with the time, the name of the program and a seat before it, it is one write.
+/// The greatest number of bytes of a line. The time, the program's name and a seat are written
+/// before it, all in one write.
 const LINE_ROOM: usize = 980;
 
-/// A text of one line. Control characters stand in it as question marks, and what has no room is left out.
+/// The text of one line. Control characters are replaced by question marks, and text that does not
+/// fit is left out.
 #[derive(Clone, Copy)]
 pub(super) struct Line {
     text: ArrayString<LINE_ROOM>,
 }
 
 impl Line {
-    /// A line without text.
+    /// Returns an empty line.
     pub(super) fn new() -> Line {
         Line {
             text: ArrayString::new(),
         }
     }
 
-    /// Adds a text, until the line has that many bytes, or with its last letter some more. It fails where a part is left out.
+    /// Adds `text` until the line has `room` bytes; the last character may exceed that. Fails if a
+    /// part is left out.
     pub(super) fn add(&mut self, text: &str, room: usize) -> fmt::Result {
         for letter in text.chars() {
             if self.text.len() >= room || self.text.try_push(plain_char(letter)).is_err() {
@@ -31,7 +34,7 @@ impl Line {
         Ok(())
     }
 
-    /// What stands in it.
+    /// Returns the text of the line.
     pub(super) fn as_str(&self) -> &str {
         self.text.as_str()
     }

@@ -1,4 +1,4 @@
-//! The first reel of a folder.
+//! Finds the first reel of a folder.
 
 use super::known::{FileId, InBin, known_at, look_in_bin};
 use super::lock::take_lock;
@@ -8,10 +8,11 @@ use std::alloc::Global;
 use std::fs::{File, OpenOptions};
 use std::io::{self, BufRead, BufReader, ErrorKind, Split};
 
-/// How often a folder is listed for one latch, where a name or the first reel went away each time before it was opened.
+/// How many times a folder is listed for one latch, if each time a name or the first reel was gone
+/// before it was opened.
 const LIST_TURNS: u32 = 100;
 
-/// A plain file as it was listed.
+/// A regular file as it was listed.
 #[derive(Drop)]
 struct Listed {
     name: String,
@@ -19,44 +20,44 @@ struct Listed {
     id: FileId,
 }
 
-/// What a name, or all names of a folder, led to.
+/// The result of looking up one name, or all names of a folder.
 #[derive(Drop)]
 enum Seen {
-    /// A plain file; of a folder, its first.
+    /// A regular file. For a folder, it is the first one.
     File(Listed),
-    /// No plain file.
+    /// There is no regular file.
     NoFile,
-    /// Nothing: a name that was listed is gone, so another may have come before all that were listed.
+    /// A name that was listed is gone, so an earlier name may be new in the folder.
     Gone,
 }
 
 /// A reel whose file is open and locked.
 #[derive(Drop)]
 pub(super) struct Opened {
-    /// The handle, to which the lock belongs.
+    /// The handle, which owns the lock.
     pub(super) file: File,
-    /// It may only be read.
+    /// Whether it is open only to read.
     pub(super) reads_only: bool,
-    /// Its name.
+    /// The name of the reel.
     pub(super) name: String,
     /// Its path in the folder.
     pub(super) path: String,
     /// The path that it would have in the bin.
     pub(super) bin_path: String,
-    /// Which file it is.
+    /// The identity of the file.
     pub(super) id: FileId,
-    /// What the bin has at that path. Where it is another file, the reel is open to read alone.
+    /// What the bin has at that path. If it is another file, the reel is open only to read.
     pub(super) in_bin: InBin,
 }
 
-/// The names in the folder, as bytes.
+/// Returns the names in the folder, as bytes.
 fn names_in<R: FolderSystem>(rt: &R, folder: &str) -> io::Result<Split<BufReader<R::Dir>, Global>> {
     let path = format!(in rt.alloc(); "{folder}/")?;
     let names = BufReader::new(rt.alloc(), rt.open_dir(path.as_str())?)?;
     Ok(names.split(rt.alloc(), 0))
 }
 
-/// The name as text.
+/// Returns the name as text. Fails if it is not UTF-8.
 fn text_of(folder: &str, name: Vec<u8>) -> Result<String, Refusal> {
     match String::from_utf8(name) {
         Ok(text) => Ok(text),
@@ -72,7 +73,7 @@ fn is_before(name: &str, first: &Seen) -> bool {
     }
 }
 
-/// What the name leads to. No link is followed.
+/// Looks up what has the name. It follows no link.
 fn look_up<R: FolderSystem>(rt: &R, folder: &str, name: String) -> Result<Seen, Refusal> {
     let path = format!(in rt.alloc(); "{folder}/{name}")?;
     match at(path.as_str(), "stat", known_at(rt, path.as_str()))? {
@@ -85,10 +86,11 @@ fn look_up<R: FolderSystem>(rt: &R, folder: &str, name: String) -> Result<Seen, 
     }
 }
 
-/// The first plain file of the folder, in the order of the names' bytes. A folder or a link is none. Names that begin with a dot are
-/// passed over. It is gone where a name is gone when it is looked at: its file may have the first name now.
+/// Returns the first regular file of the folder, in the order of the names' bytes. Folders and
+/// links do not count, and names that begin with a dot are skipped. If a name is gone when it is
+/// looked up, it returns `Gone`: its file may have the first name now.
 ///
-/// It is refused also where another name is not UTF-8.
+/// Fails also if any other name is not UTF-8.
 fn first_file<R: FolderSystem>(rt: &R, folder: &str) -> Result<Seen, Refusal> {
     let mut first = Seen::NoFile;
     for name in at(folder, "open", names_in(rt, folder))? {
@@ -109,7 +111,8 @@ fn first_file<R: FolderSystem>(rt: &R, folder: &str) -> Result<Seen, Refusal> {
     Ok(first)
 }
 
-/// Opens a file to read and to append; where it may only be read, to read. Answers also whether it may only be read.
+/// Opens a file to read and to append, or only to read if the system allows no more. Returns
+/// whether it is open only to read, too.
 fn open_file<R: FolderSystem>(rt: &R, path: &str) -> io::Result<(File, bool)> {
     let error = match OpenOptions::new().read(true).append(true).open(rt, path) {
         Ok(file) => return Ok((file, false)),
@@ -123,7 +126,8 @@ fn open_file<R: FolderSystem>(rt: &R, path: &str) -> io::Result<(File, bool)> {
     }
 }
 
-/// The handle as `open_file` answers it, or one to read where the bin has another file of that name. None where nothing has the path now.
+/// Opens the file as `open_file` does, or only to read if the bin has another file with its name.
+/// Returns `None` if nothing has the path.
 fn open_there<R: FolderSystem>(
     rt: &R,
     path: &str,
@@ -140,8 +144,9 @@ fn open_there<R: FolderSystem>(
     }
 }
 
-/// The handle as `open_there` answers it, with the file's advisory lock, which goes with the handle. None where the path does not lead to
-/// that file: when it was opened, or now that it is locked.
+/// Opens the file as `open_there` does and takes its advisory lock, which belongs to the handle.
+/// Returns `None` if the path did not lead to that file when it was opened, or does not now that it
+/// is locked.
 fn open_locked<R: FolderSystem>(
     rt: &R,
     path: &str,
@@ -162,10 +167,10 @@ fn open_locked<R: FolderSystem>(
     }
 }
 
-/// Opens the file that was listed and takes its advisory lock. None where the path does not lead to the file that was listed, or
-/// where the bin's name of it changed meanwhile.
+/// Opens the file that was listed and takes its advisory lock. Returns `None` if the path does not
+/// lead to that file, or if what the bin has under its name has changed meanwhile.
 ///
-/// It is refused also where another handle has the lock.
+/// Fails also if another handle has the lock.
 fn open_listed<R: FolderSystem>(
     rt: &R,
     listed: Listed,
@@ -192,11 +197,12 @@ fn open_listed<R: FolderSystem>(
     }))
 }
 
-/// Opens and locks the first reel of the folder: to read and to append, or to read alone where it may only be read, or where the bin has
-/// another file of its name. None where it has none.
+/// Opens and locks the first reel of the folder to read and to append. It is opened only to read if
+/// the system allows no more, or if the bin has another file with its name. Returns `None` if there
+/// is no reel.
 ///
-/// Where a name that was listed is gone, or the file that was listed first has another name now, or is another, the folder is listed
-/// again: 100 times at most.
+/// If a listed name is gone, or the first file now has another name or is another file, it lists
+/// the folder again. It gives up after 100 listings.
 pub(super) fn open_first<R: FolderSystem>(
     rt: &R,
     folder: &str,

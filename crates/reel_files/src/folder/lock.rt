@@ -1,4 +1,4 @@
-//! Advisory locks, which go with the handle that took them.
+//! Advisory locks, which belong to the handle that took them.
 
 use crate::FolderSystem;
 use std::fs::{File, TryLockError};
@@ -6,16 +6,16 @@ use std::io::{self, ErrorKind};
 use std::thread;
 use std::time::{Duration, Instant};
 
-/// A lock that others have is tried for so many milliseconds, by the clock.
+/// How many milliseconds to retry a lock that others hold, measured by the clock.
 const WAIT_MILLIS: u64 = 1_000;
 
-/// So many milliseconds lie between two tries.
+/// How many milliseconds to wait between two attempts.
 const PAUSE_MILLIS: u64 = 5;
 
-/// So many pauses are as long as the wait.
+/// The number of pauses in the whole wait.
 const PAUSES: u64 = WAIT_MILLIS / PAUSE_MILLIS;
 
-/// Takes the lock of the file, if no other handle has it.
+/// Takes the lock of the file. Fails with `WouldBlock` if another handle has it.
 pub(super) fn take_lock(file: &File) -> io::Result<()> {
     match file.try_lock() {
         Ok(()) => Ok(()),
@@ -26,7 +26,8 @@ pub(super) fn take_lock(file: &File) -> io::Result<()> {
     }
 }
 
-/// Takes the lock of the folder. While another has it, it tries again after a pause, for about a second.
+/// Takes the lock of the folder. While another handle has it, it retries after a pause, for about a
+/// second, and then gives up.
 pub(super) fn wait_for_lock<R: FolderSystem>(rt: &R, folder: &File) -> io::Result<()> {
     let began = Instant::now(rt)?;
     for _ in 0..PAUSES {
@@ -40,7 +41,7 @@ pub(super) fn wait_for_lock<R: FolderSystem>(rt: &R, folder: &File) -> io::Resul
     take_lock(folder)
 }
 
-/// Whether the wait that began then is over.
+/// Whether the wait that began at `began` is over.
 fn is_over<R: FolderSystem>(rt: &R, began: Instant) -> io::Result<bool> {
     Ok(began.elapsed(rt)? >= Duration::from_millis(WAIT_MILLIS))
 }

@@ -1,4 +1,4 @@
-//! A look at folders, before they are used.
+//! Checks folders before they are used.
 
 use super::known::FileId;
 use crate::FolderSystem;
@@ -7,14 +7,15 @@ use std::fs::{self, Metadata};
 use std::io::{self, ErrorKind};
 use std::os::unix::fs::MetadataExt;
 
-/// The user that runs the program: the owner of the program's own entry in `/proc`. None where there is no such entry.
+/// Returns the user that runs the program: the owner of the program's own entry in `/proc`. Returns
+/// `None` if there is no such entry.
 fn user<R: FolderSystem>(rt: &R) -> Option<u32> {
     let own = fs::metadata(rt, "/proc/self").ok()?;
     Some(own.uid())
 }
 
-/// Whether by these permissions that user may write; of the superuser, and of a user who is not told, whether anybody may. A
-/// user who is not the owner may be in the group.
+/// Whether the permissions allow the user to write. A user who is not the owner may be in the
+/// group. For the superuser, and for an unknown user, it is whether anybody may write.
 fn may_write(found: &Metadata, user: Option<u32>) -> bool {
     match user {
         Some(0) | None => !found.permissions().readonly(),
@@ -23,8 +24,9 @@ fn may_write(found: &Metadata, user: Option<u32>) -> bool {
     }
 }
 
-/// Which folder it is, where it can be used, as far as can be seen without a change: it can be read, what lies in it can be
-/// reached, and by its permissions the program's user may write in it, or its group.
+/// Returns the identity of a folder if it can be used, as far as that shows without changing
+/// anything. The folder and what is in it must be readable. Its permissions must allow the
+/// program's user, or its group, to write.
 pub(super) fn look_at<R: FolderSystem>(rt: &R, folder: &str) -> io::Result<FileId> {
     fs::read_dir(rt, folder)?;
     let inside = format!(in rt.alloc(); "{folder}/.")?;
@@ -35,7 +37,8 @@ pub(super) fn look_at<R: FolderSystem>(rt: &R, folder: &str) -> io::Result<FileI
     Ok(FileId::of(&found))
 }
 
-/// The same of the folder of a further drive, which is noted after those of the drives before it.
+/// Checks the folder of a further drive like `look_at`, and adds its identity to those of the
+/// earlier drives.
 pub(super) fn look_at_next<R: FolderSystem>(
     rt: &R,
     folder: &str,
@@ -45,13 +48,15 @@ pub(super) fn look_at_next<R: FolderSystem>(
     Ok(())
 }
 
-/// A name in this folder that no file has, since it is longer than a file system takes.
+/// Returns a path in this folder that no file has, since its name is longer than a file system
+/// allows.
 fn too_long<R: FolderSystem>(rt: &R, folder: &str) -> Result<String, AllocError> {
     format!(in rt.alloc(); "{folder}/.{:0255}", 0)
 }
 
-/// Fails where the system makes no rename from the folder to the bin's: where they are on different mounts, or take no writes. It
-/// tells that before it looks at a name, so a name that is too long is asked for, which changes nothing.
+/// Fails if the system does not rename from the folder to the bin's folder, because they are on
+/// different mounts or allow no writes. The system checks this before it looks at the names. A name
+/// that is too long is therefore used, which changes nothing.
 pub(super) fn look_between<R: FolderSystem>(rt: &R, folder: &str, bin: &str) -> io::Result<()> {
     let from = too_long(rt, folder)?;
     let to = too_long(rt, bin)?;
@@ -65,7 +70,8 @@ pub(super) fn look_between<R: FolderSystem>(rt: &R, folder: &str, bin: &str) -> 
     }
 }
 
-/// Why the folder of the drive of this number does not go with the bin's, or with those of the drives before it.
+/// Returns why this drive's folder cannot be used along with the bin's folder or with those of
+/// earlier drives.
 pub(super) fn clash_of(seen: &[FileId], drive: usize, bin: FileId) -> Option<io::Error> {
     let own = *seen.get(drive)?;
     if own == bin {

@@ -1,4 +1,4 @@
-//! The move of a reel's file from its stack to the bin.
+//! Moves the file of a reel from its stack to the bin.
 
 use super::known::{FileId, InBin, known_at, look_in_bin};
 use super::lock::wait_for_lock;
@@ -7,27 +7,28 @@ use crate::{FileMedium, FolderSystem, MovableFile};
 use std::fs::{self, File};
 use std::io::{self, ErrorKind};
 
-/// The file of a latched reel. Both paths are made at the latch, so that the move takes no memory.
+/// The file of a latched reel. The latch allocates both paths, so that the move allocates nothing.
 #[derive(Drop)]
 pub(super) struct ReelFile {
-    /// The reel's name.
+    /// The name of the reel.
     pub(super) name: String,
-    /// Its path in the stack's folder.
+    /// The file's path in the stack's folder.
     pub(super) from: String,
-    /// Its path in the bin's folder.
+    /// The file's path in the bin's folder.
     pub(super) to: String,
-    /// Which file it is.
+    /// The identity of the file.
     pub(super) id: FileId,
 }
 
-/// The file of a latched reel, its medium, and the folders of the stack and the bin. It tells nothing.
+/// The file of a latched reel, its medium, and the folders of the stack and the bin. Its steps are
+/// unspecified.
 #[derive(Drop)]
 pub(super) struct Latched<'a, R: FolderSystem> {
     /// The system.
     pub(super) rt: &'a R,
     /// The file.
     pub(super) file: &'a ReelFile,
-    /// Its medium.
+    /// The file's medium.
     pub(super) medium: &'a FileMedium,
     /// The folder of the stack.
     pub(super) stack: &'a str,
@@ -63,32 +64,34 @@ impl<R: FolderSystem> MovableFile for Latched<'_, R> {
     }
 }
 
-/// What a move that was done left as it should not be, and why.
+/// A problem that remains after a successful move, with its reason.
 #[derive(Clone, Copy)]
 pub(super) enum MoveFlaw {
     /// One of the folders could not be synced.
     Unsynced(io::Error),
-    /// The file has its name in the stack too, which could not be removed, and the bin's name neither. A latch removes it first.
+    /// The file still has its name in the stack too. That name could not be removed, and neither
+    /// could the name in the bin. The next latch removes it first.
     NameLeft(io::Error),
 }
 
-/// What came of a move.
+/// The outcome of a move that did not fail.
 #[derive(Clone, Copy)]
 pub(super) enum Moved {
-    /// The file lies in the bin, and but for a flaw no longer in the stack.
+    /// The file is in the bin. Unless the flaw is `NameLeft`, it is no longer in the stack.
     Done(Option<MoveFlaw>),
-    /// Something in the bin has its name. Nothing changed.
+    /// Something in the bin has its name. Nothing is changed.
     NameTaken,
 }
 
-/// The folders of a move, open to be locked and synced.
+/// The folders of a move, opened to be locked and synced.
 #[derive(Drop)]
 struct Folders {
     stack: File,
     bin: File,
 }
 
-/// Opens a folder. What is no folder is not opened, since that could wait for others, as a pipe does.
+/// Opens a folder. If the path is not a folder, this fails without opening it, since opening a
+/// pipe, for example, could wait for others.
 fn open_folder<R: FolderSystem>(rt: &R, path: &str) -> io::Result<File> {
     if !fs::metadata(rt, path)?.is_dir() {
         return Err(io::Error::from(ErrorKind::NotADirectory));
@@ -104,7 +107,7 @@ fn open_folders<R: FolderSystem>(rt: &R, stack: &str, bin: &str) -> Result<Folde
     })
 }
 
-/// Fails where the path does not lead to the file that was latched.
+/// Fails if the path does not lead to the file that was latched.
 fn look_again<R: FolderSystem>(rt: &R, file: &ReelFile) -> io::Result<()> {
     let found = fs::symlink_metadata(rt, file.from.as_str())?;
     if file.id.is_plain(&found) {
@@ -114,7 +117,8 @@ fn look_again<R: FolderSystem>(rt: &R, file: &ReelFile) -> io::Result<()> {
     }
 }
 
-/// Whether a link was refused because the file system, or the system for this file, makes none.
+/// Whether a link failed because the file system cannot make links, or the system does not allow
+/// one for this file.
 fn makes_no_links(error: &io::Error) -> bool {
     matches!(
         error.kind(),
@@ -122,11 +126,12 @@ fn makes_no_links(error: &io::Error) -> bool {
     )
 }
 
-/// Moves the file to the bin under the lock of the bin's folder: it gets its name in the bin by a hard link, which replaces nothing,
-/// and loses its name in the stack then. Where no link can be made it is renamed, if nothing in the bin has its name. It makes nothing
-/// else there, and takes no memory.
+/// Moves the file to the bin. It holds the lock of the bin's folder while a hard link, which
+/// replaces nothing, gives the file its name there. It then removes the name in the stack. If no
+/// link can be made, the file is renamed, provided that nothing in the bin has its name. It creates
+/// nothing else there and allocates nothing.
 ///
-/// After a refusal nothing changed.
+/// If it fails, nothing is changed.
 fn move_file<R: FolderSystem>(
     rt: &R,
     file: &ReelFile,
@@ -140,7 +145,7 @@ fn move_file<R: FolderSystem>(
     match fs::hard_link(rt, from, to) {
         Ok(()) => leave_linked(rt, file, &folders),
         Err(error) if error.kind() == ErrorKind::AlreadyExists => {
-            // A network's file system can tell of a link that it has just made itself.
+            // A network file system can report that a link exists which it has just made itself.
             match at(to, "stat", look_in_bin(rt, to, file.id))? {
                 InBin::SameFile => leave_linked(rt, file, &folders),
                 InBin::Another | InBin::Nothing => Ok(Moved::NameTaken),
@@ -151,14 +156,15 @@ fn move_file<R: FolderSystem>(
     }
 }
 
-/// Finishes a move after the link was made. Where the name in the stack cannot be removed the link is taken back, and the move refused.
-/// Where that fails too the file lies in the bin, and the move is done.
+/// Finishes a move after the link was made. If the name in the stack cannot be removed, it removes
+/// the link and fails. If that is not possible either, the file is in the bin and the move succeeds
+/// with a flaw.
 fn leave_linked<R: FolderSystem>(
     rt: &R,
     file: &ReelFile,
     folders: &Folders,
 ) -> Result<Moved, Refusal> {
-    // Others need not wait for the syncs: they cannot replace what the bin has.
+    // Others need not wait for the syncs: they cannot replace what is in the bin.
     let _ = folders.bin.unlock();
     let reason = match leave_stack(rt, file, folders) {
         Ok(unsynced) => return Ok(Moved::Done(unsynced)),
@@ -171,8 +177,10 @@ fn leave_linked<R: FolderSystem>(
     Err(Refusal::new(file.from.as_str(), "remove", reason))
 }
 
-/// Removes the name in the stack of a file that the bin has: once the bin's folder is synced, so that a loss of power leaves one
-/// of the two names. The stack's folder is synced after it. Answers the reason for which one of them could not be synced.
+/// Removes the name in the stack of a file that is in the bin. It syncs the bin's folder before, so
+/// that a power loss leaves one of the two names, and the stack's folder after. Returns the reason
+/// if one of them could not be synced. Fails if the name could not be removed, or if the bin does
+/// not have the file.
 fn leave_stack<R: FolderSystem>(
     rt: &R,
     file: &ReelFile,
@@ -187,7 +195,7 @@ fn leave_stack<R: FolderSystem>(
     Ok(flaw_of(bin_synced.and(stack_synced)))
 }
 
-/// Removes the file's name from the stack, if it still has that name.
+/// Removes the file's name from the stack, if the file still has that name.
 fn remove_name<R: FolderSystem>(rt: &R, file: &ReelFile) -> io::Result<()> {
     let from = file.from.as_str();
     match known_at(rt, from)? {
@@ -196,10 +204,10 @@ fn remove_name<R: FolderSystem>(rt: &R, file: &ReelFile) -> io::Result<()> {
     }
 }
 
-/// Takes the bin's name back from a file that has its name in the stack: the latched one, or another that had the name when the link was
-/// made. What else has one of the two names keeps it.
+/// Removes the name in the bin of a file that still has its name in the stack. This is the latched
+/// file, or another that had the name when the link was made. Other files keep their names.
 ///
-/// Fails where the file lies in the bin then.
+/// Fails if the file is in the bin afterwards.
 fn undo_link<R: FolderSystem>(rt: &R, file: &ReelFile) -> io::Result<()> {
     let to = file.to.as_str();
     let Some(there) = known_at(rt, to)? else {
@@ -212,7 +220,8 @@ fn undo_link<R: FolderSystem>(rt: &R, file: &ReelFile) -> io::Result<()> {
     }
 }
 
-/// Moves the file by one rename, where nothing in the bin has its name. The bin's folder is synced after it, and then the stack's.
+/// Moves the file by one rename, if nothing in the bin has its name. It syncs the bin's folder
+/// after that, then the stack's.
 fn rename_file<R: FolderSystem>(
     rt: &R,
     file: &ReelFile,
@@ -223,14 +232,15 @@ fn rename_file<R: FolderSystem>(
         return Ok(Moved::NameTaken);
     }
     at(from, "rename", fs::rename(rt, from, to))?;
-    // Others need not wait for the syncs. The bin's comes first, so that the name stands in one of them at least.
+    // Others need not wait for the syncs. The bin's sync comes first, so that at least one folder
+    // has the name.
     let _ = folders.bin.unlock();
     let bin_synced = folders.bin.sync_all();
     let stack_synced = folders.stack.sync_all();
     Ok(Moved::Done(flaw_of(bin_synced.and(stack_synced))))
 }
 
-/// What is told of folders that could not be synced.
+/// Returns the flaw of a move whose folders could not be synced.
 fn flaw_of(synced: io::Result<()>) -> Option<MoveFlaw> {
     match synced {
         Ok(()) => None,
@@ -238,8 +248,8 @@ fn flaw_of(synced: io::Result<()>) -> Option<MoveFlaw> {
     }
 }
 
-/// Finishes the move of a file that the bin has too, whose lock is had: it loses its name in the stack. Answers what that left as it
-/// should not be.
+/// Finishes the move of a file that the bin has too, and that is locked: removes its name in the
+/// stack. Returns the flaw that remains, if any.
 pub(super) fn finish_move<R: FolderSystem>(
     rt: &R,
     file: &ReelFile,

@@ -1,4 +1,4 @@
-//! Why the system refused a call.
+//! Failed calls of the system, with their reasons.
 
 use super::line::Line;
 use printable::PlainBytes;
@@ -6,21 +6,21 @@ use std::alloc::AllocError;
 use std::fmt::Write;
 use std::io::{self, ErrorKind};
 
-/// A place has about so many bytes of a path, and two points for the rest. So a line has room for the name of a drive, of up to 255
-/// bytes, and for the reason.
+/// About how many bytes of a path are kept; `..` replaces the rest. A line then has room for the
+/// name of a drive, up to 255 bytes, and for the reason.
 const PATH_ROOM: usize = 600;
 
-/// A call that was refused.
+/// A failed call of the system.
 #[derive(Clone, Copy)]
 pub(super) struct Refusal {
-    /// The path and the call: `st0/r1: open: `. It is empty where memory was refused.
+    /// The path and the call, like `st0/r1: open: `. It is empty if an allocation failed.
     place: Line,
-    /// Why it was refused.
+    /// Why the call failed.
     pub(super) reason: io::Error,
 }
 
 impl Refusal {
-    /// The refusal of this call for this path.
+    /// Returns the failure of this call for this path.
     pub(super) fn new(path: &str, call: &str, reason: io::Error) -> Refusal {
         let mut place = Line::new();
         let rest = match place.add(path, PATH_ROOM) {
@@ -31,7 +31,8 @@ impl Refusal {
         Refusal { place, reason }
     }
 
-    /// The refusal of a name in this folder that is not UTF-8. What is no text in it stands as a question mark.
+    /// Returns the failure for a name in this folder that is not UTF-8. Parts that are not text are
+    /// replaced by question marks.
     pub(super) fn of_name(folder: &str, name: &[u8]) -> Refusal {
         let mut path = Line::new();
         let name = PlainBytes(name);
@@ -40,7 +41,7 @@ impl Refusal {
         Refusal::new(path.as_str(), "list", reason)
     }
 
-    /// The path and the call, to stand before the reason.
+    /// Returns the path and the call, to be printed before the reason.
     pub(super) fn place(&self) -> &str {
         self.place.as_str()
     }
@@ -55,7 +56,7 @@ impl From<AllocError> for Refusal {
     }
 }
 
-/// What a call for this path gave, or that it was refused.
+/// Adds the path and the call to the error of `given`, if it failed.
 pub(super) fn at<T: Drop>(path: &str, call: &str, given: io::Result<T>) -> Result<T, Refusal> {
     match given {
         Ok(value) => Ok(value),

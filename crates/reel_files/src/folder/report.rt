@@ -1,10 +1,10 @@
-//! What a log is told of a step.
+//! The report of a step, for the log.
 
 use super::line::Line;
 use crate::Log;
 use std::fmt::{Display, Write};
 
-/// A line for a log, and whether it says what went wrong. It takes no memory.
+/// A line for a log, and whether it describes a failure. It allocates nothing.
 #[derive(Clone, Copy)]
 pub(super) struct Report {
     line: Line,
@@ -12,7 +12,7 @@ pub(super) struct Report {
 }
 
 impl Report {
-    /// The report of a step that went well.
+    /// Returns the report of a step that succeeded.
     pub(super) fn new<D: Display + Drop>(what: D) -> Report {
         let mut line = Line::new();
         let _ = write!(line, "{what}");
@@ -22,25 +22,25 @@ impl Report {
         }
     }
 
-    /// The report of a step that went wrong.
+    /// Returns the report of a step that failed.
     pub(super) fn warning<D: Display + Drop>(what: D) -> Report {
         let mut report = Report::new(what);
         report.is_warning = true;
         report
     }
 
-    /// Adds what went well too.
+    /// Adds something else that succeeded.
     pub(super) fn add<D: Display + Drop>(&mut self, what: D) {
         let _ = write!(self.line, "{what}");
     }
 
-    /// Adds what went wrong.
+    /// Adds something that failed.
     pub(super) fn add_warning<D: Display + Drop>(&mut self, what: D) {
         self.add(what);
         self.is_warning = true;
     }
 
-    /// Has the log note it.
+    /// Writes the report to the log.
     pub(super) fn write_to<L: Log>(&self, log: &L) {
         if self.is_warning {
             log.warn(self.line.as_str());

@@ -1,4 +1,4 @@
-//! What each request does, over the parts of a session.
+//! Carries out each request, given the parts of a session.
 ghost use Rattle.std.specs.Prelude.{◌≡◌, ◌≤◌, ℕ, List, length, IfOk};
 ghost use Rattle.rmt_wire.specs.declared.limits.TheConstants.{RECORD_LIMIT};
 ghost use Rattle.rmt_wire.specs.Lent.{plain_request};
@@ -14,16 +14,16 @@ use drives::{DriveTable, Holds, Stacks};
 use rmt_wire::Request;
 use rmt_wire::mtio::MTOFFL;
 
-/// What a request gave.
+/// The result of a request that succeeded.
 #[derive(Clone, Copy)]
 pub(crate) enum Given {
-    /// It was done, and this is the number to answer.
+    /// The request is done, and the reply has this number.
     Number(u32),
-    /// So many bytes were read into the buffer.
+    /// This many bytes were read into the buffer.
     Bytes(usize),
 }
 
-/// Does an operation of mtio. It answers the count.
+/// Carries out an operation of mtio and returns its count.
 fn operate<H: Holds, S: Stacks>(
     drives: &mut DriveTable<H, S>,
     session_state: &mut SessionState<H::Seat, S::Reel>,
@@ -42,7 +42,7 @@ fn operate<H: Holds, S: Stacks>(
     }
 }
 
-/// Carries out a request. What a read gives lies in the buffer.
+/// Carries out a request. The bytes of a read are put into the buffer.
 pub(crate) fn dispatch<H: Holds, S: Stacks>(
     drives: &mut DriveTable<H, S>,
     session_state: &mut SessionState<H::Seat, S::Reel>,
@@ -71,7 +71,7 @@ pub(crate) fn dispatch<H: Holds, S: Stacks>(
     }
 }
 
-/// What a request gave that is answered with a number.
+/// The result of a request whose reply has a number.
 fn numbered(given: Result<u32, Refusal>) -> Result<Given, Refusal>
     ensures reply { (buffer : List ℕ) → outcome_reply result buffer ≡ number_reply given }
     ensures small { IfOk given (λ n. n ≤ 2147483647) → IsOutcomeSayable result }
@@ -83,7 +83,7 @@ fn numbered(given: Result<u32, Refusal>) -> Result<Given, Refusal>
     }
 }
 
-/// What a read gave, whose bytes lie in the buffer.
+/// The result of a read whose bytes are in the buffer.
 fn filled(read: Result<usize, Refusal>) -> Result<Given, Refusal>
     ensures reply { (buffer : List ℕ) → outcome_reply result buffer ≡ data_reply read buffer }
     ensures small { IsOutcomeSayable result }

@@ -1,4 +1,4 @@
-//! Moving the open reel to the bin.
+//! Moves the open reel to the bin.
 ghost use Rattle.std.specs.Prelude.{◌≡◌, ℕ, ◌<◌, Some, IfOk};
 ghost use Rattle.drives.specs.Stacking.{HasLatched};
 ghost use Rattle.drives.specs.Opening.{kinds};
@@ -11,9 +11,9 @@ use crate::session::Opened;
 use drives::{DriveTable, Holds, Stacks};
 use tape::Reel;
 
-/// Rewinds the open reel and moves it to the bin; the drive stays held. It answers the count.
+/// Rewinds the open reel, moves it to the bin, and returns `count`. The drive stays held.
 ///
-/// Where the move is refused the reel stays open, at its beginning.
+/// If the move fails, the reel stays open, at its beginning.
 pub(crate) fn take_offline<H: Holds, S: Stacks>(
     drives: &mut DriveTable<H, S>,
     opened: &mut Option<Opened<S::Reel>>,

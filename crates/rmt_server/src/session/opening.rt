@@ -1,4 +1,4 @@
-//! Opening and closing a drive.
+//! Opens and closes a drive.
 ghost use Rattle.std.specs.Prelude.{◌≡◌, ℕ, ◌<◌, Some, None, IfOk};
 ghost use Rattle.drives.specs.Calls.{stacks_kind};
 ghost use Rattle.drives.specs.Stacking.{HasLatched};
@@ -14,7 +14,7 @@ use crate::session::{Opened, SessionState};
 use drives::{DriveTable, Holds, Stacks};
 use tape::Reel;
 
-/// Rewinds a reel, unless it lies in the bin, and lays it on its stack.
+/// Rewinds the reel and lays it on its stack. Does nothing if the reel is in the bin.
 fn put_back<S: Stacks>(stacks: &mut S, drive: usize, reel: Option<S::Reel>)
     requires drive { drive < S.drives stacks.old }
     requires latched { (d : ℕ) → online_in drive reel ≡ Some d → HasLatched S.holds stacks.old d }
@@ -26,7 +26,7 @@ fn put_back<S: Stacks>(stacks: &mut S, drive: usize, reel: Option<S::Reel>)
     }
 }
 
-/// Closes what is open, if anything: its reel lies on the stack again, and the drive is given back.
+/// Closes what is open, if anything: lays its reel back on the stack and gives back the drive.
 pub(crate) fn close<H: Holds, S: Stacks>(
     drives: &mut DriveTable<H, S>,
     session_state: &mut SessionState<H::Seat, S::Reel>,
@@ -42,7 +42,7 @@ pub(crate) fn close<H: Holds, S: Stacks>(
     drives.holds.give(&mut session_state.seat, drive);
 }
 
-/// Closes what is open. It answers 0.
+/// Closes what is open and returns 0. Fails with `BadDescriptor` if nothing is open.
 pub(crate) fn close_opened<H: Holds, S: Stacks>(
     drives: &mut DriveTable<H, S>,
     session_state: &mut SessionState<H::Seat, S::Reel>,
@@ -59,7 +59,8 @@ pub(crate) fn close_opened<H: Holds, S: Stacks>(
     Ok(0)
 }
 
-/// Takes the drive of that name and latches its first reel, while nothing is open. It answers 0.
+/// Takes the drive with that name, latches its first reel, and returns 0. Nothing may be open
+/// before.
 fn open_named<H: Holds, S: Stacks>(
     drives: &mut DriveTable<H, S>,
     session_state: &mut SessionState<H::Seat, S::Reel>,
@@ -88,7 +89,7 @@ fn open_named<H: Holds, S: Stacks>(
     }
 }
 
-/// Closes what is open, then takes the drive of that name and latches its first reel. It answers 0.
+/// Closes what is open, then takes the drive with that name, latches its first reel, and returns 0.
 pub(crate) fn open<H: Holds, S: Stacks>(
     drives: &mut DriveTable<H, S>,
     session_state: &mut SessionState<H::Seat, S::Reel>,

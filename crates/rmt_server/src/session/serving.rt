@@ -14,7 +14,7 @@ use rmt_wire::RECORD_LIMIT;
 use rmt_wire::mtio::{MTNOP, MTWEOF};
 use tape::{Reel, TapeFault, is_record};
 
-/// Writes one record. It answers how many bytes were written: none where there is no room.
+/// Writes one record and returns how many bytes were written: 0 if there is no room.
 pub(crate) fn write<R: Reel>(opened: &mut Option<Opened<R>>, bytes: &[u8]) -> Result<u32, Refusal>
     ensures call { ReelServes R.Reel opened.old opened.new (Write bytes.now) (number_reply result) }
     ensures number { IfOk result (λ n. n ≤ RECORD_LIMIT) }
@@ -33,7 +33,7 @@ pub(crate) fn write<R: Reel>(opened: &mut Option<Opened<R>>, bytes: &[u8]) -> Re
     }
 }
 
-/// Why a write of so many bytes that were dropped is refused.
+/// Returns the error for a write of more than `RECORD_LIMIT` bytes, which were dropped.
 pub(crate) fn refuse_dropped<R>(opened: &Option<Opened<R>>) -> Refusal
     ensures { (count : ℕ) → refusal (status_at opened.now) (WriteDropped count) ≡ Some result }
 {
@@ -45,7 +45,8 @@ pub(crate) fn refuse_dropped<R>(opened: &Option<Opened<R>>) -> Refusal
     }
 }
 
-/// Reads one record, of which it copies at most `count` bytes. It answers how many it copied.
+/// Reads one record, copies at most `count` of its bytes into `into`, and returns how many. It
+/// copies no more than `RECORD_LIMIT` bytes.
 pub(crate) fn read<R: Reel>(
     opened: &mut Option<Opened<R>>,
     into: &mut [u8],
@@ -69,7 +70,7 @@ pub(crate) fn read<R: Reel>(
     }
 }
 
-/// Does an operation of mtio that is the reel's own. It answers the count.
+/// Carries out an operation of mtio on the open reel and returns `count`. Not for operation 6.
 pub(crate) fn operate<R: Reel>(
     opened: &mut Option<Opened<R>>,
     op: u32,
@@ -91,7 +92,7 @@ pub(crate) fn operate<R: Reel>(
     }
 }
 
-/// Whether these bytes may be written as one record.
+/// Fails if the bytes may not be written as one record.
 fn check_write(access: Access, bytes: &[u8]) -> Result<(), Refusal>
     ensures { write_refusal access (length bytes.now) ≡ refusal_in result }
 {
@@ -104,7 +105,7 @@ fn check_write(access: Access, bytes: &[u8]) -> Result<(), Refusal>
     Ok(())
 }
 
-/// Whether so many bytes of a record may be read.
+/// Fails if a read with this count is not allowed.
 fn check_read(access: Access, count: u32) -> Result<(), Refusal>
     ensures { read_refusal access count ≡ refusal_in result }
 {
@@ -117,7 +118,7 @@ fn check_read(access: Access, count: u32) -> Result<(), Refusal>
     Ok(())
 }
 
-/// Whether the operation is known, and may be done.
+/// Fails if the operation is unknown or not allowed.
 fn check_op(access: Access, op: u32) -> Result<(), Refusal>
     ensures { op_refusal access op ≡ refusal_in result }
 {

@@ -1,8 +1,8 @@
-//! A seat, and the device that is open there.
+//! A seat and the device that it has open.
 
 use crate::access::Access;
 
-/// An open device: its drive, what it was opened for, and its reel, unless that lies in the bin.
+/// An open device: its drive, its access, and its reel unless the reel is in the bin.
 #[derive(Drop)]
 pub(crate) struct Opened<R> {
     pub(crate) drive: usize,

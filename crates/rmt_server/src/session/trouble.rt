@@ -1,4 +1,4 @@
-//! Trouble for the reel that is online, while drives and reels are in memory.
+//! Trouble for the open reel, if drives and reels are in memory.
 ghost use Rattle.std.specs.Prelude.{◌≡◌};
 ghost use Rattle.tape.specs.contracts.troubled.TroubledReelReel.TheImpl.{ghosts as of_reel};
 ghost use Rattle.drives.specs.contracts.list.ListStacksStacks.TheImpl.{ghosts as of_stacks};
@@ -13,7 +13,7 @@ use crate::session::Session;
 use drives::{Holds, ListStacks};
 use tape::{Trouble, TroubledReel};
 
-/// Sets how the next device call of the reel fails, if there is one.
+/// Sets how the reel's next device call fails, if there is a reel.
 fn set_in(reel: &mut Option<TroubledReel>, trouble: Trouble)
     ensures { reel.new ≡ troubled trouble reel.old }
 {
@@ -23,9 +23,9 @@ fn set_in(reel: &mut Option<TroubledReel>, trouble: Trouble)
 }
 
 impl<H: Holds> Session<H, ListStacks> {
-    /// Sets how the next device call of the reel that is online fails, in place of what was set before. While no reel
-    /// is online it does nothing. The trouble stays with the reel until a device call meets it: at a close these stacks
-    /// lay the reel down with it.
+    /// Sets how the next device call of the open reel fails, and replaces any earlier setting. It
+    /// does nothing if no reel is open. The trouble stays with the reel until a device call meets
+    /// it. A close lays the reel on these stacks along with its trouble.
     pub fn trouble(&mut self, trouble: Trouble)
         ensures seat { self.new.seat ≡ self.old.seat }
         ensures at { (drives : Drives H ListLibrary H.Seat TroubledTape) →
