@@ -1,4 +1,4 @@
--- How a client goes on in its run. Public contracts cite it.
+-- How a client continues in its run. Public contracts cite it.
 use Rattle.std.specs.Prelude.{◌≡◌, ◌≢◌, ◌⊎◌, List, [], ◌++◌}
 use Rattle.dump_client.specs.Standing.{Standing}
 use Rattle.dump_run.specs.declared.count.VolumeCount.{VolumeCount}
@@ -7,14 +7,15 @@ use Rattle.dump_client.specs.declared.stage.Progress.TheVariants.{Idle, Waiting,
 use Rattle.dump_client.specs.declared.stage.Stage.TheVariants.{Ready, ToSend, Waiting as Awaits, Asking, Finished}
 use Rattle.dump_client.specs.declared.step.Step.{Step}
 
--- The run is the same, and these counts follow those that there were; one that is finished stays so, and counts no more.
+-- The run is the same, and `more` follows the counts that there were. A finished client stays
+-- finished, and counts no more.
 pub record GoesOnWith (old new : Standing) (more : List VolumeCount) : Type 0 where
   pub run : new.run ≡ old.run
   pub counts : new.counts ≡ old.counts ++ more
   pub finished : old.stage ≡ Finished → (new.stage ≡ Finished) × (more ≡ [])
 
--- What a call tells is where the client stands then: in an attempt, whose next request is to be sent or whose reply is waited
--- for; or in none. Where it tells that it is idle, it was in no attempt, and nothing changed.
+-- The returned progress agrees with the stage: a request is to be sent, a reply is awaited, or
+-- there is no attempt. If it is `Idle`, there was no attempt before, and nothing changed.
 abbrev pub StandsAfter : Standing → Progress → Standing → Type 0
 StandsAfter old Send new = (step : Step) × (new.stage ≡ ToSend step)
 StandsAfter old Waiting new = (step : Step) × (new.stage ≡ Awaits step)

@@ -1,4 +1,4 @@
--- What holds of each client, and the position that it stands at. Public contracts cite it.
+-- The properties of every client, and its position in an attempt. Public contracts cite it.
 use Rattle.std.specs.Prelude.{◌≡◌, ◌⊎◌, ℕ, zero, suc, ◌-◌, ◌<◌, ◌≤◌, if◌then◌else◌, nat_lt, List, [], ◌∷◌, ◌++◌, length, map, take, Contains}
 use Rattle.rmt_wire.specs.Request.{PlainRequest}
 use Rattle.rmt_wire.specs.Request.PlainRequest.{Op}
@@ -23,11 +23,11 @@ use Rattle.dump_run.specs.declared.count.VolumeCount.{VolumeCount}
 abbrev pub IsRunLeft : PlainRun → List VolumeCount → Type 0
 IsRunLeft run counts = (counts ≡ []) ⊎ ((checkpoint_of counts).1 < run.blocks)
 
--- the volume at the checkpoint can end before this block
+-- the volume at the checkpoint can end before block `next`
 abbrev pub IsEnd : PlainRun → List VolumeCount → ℕ → Type 0
 IsEnd run counts next = ((checkpoint_of counts).1 ≤ next) × IsCount run (checkpoint_of counts).1 (next - (checkpoint_of counts).1)
 
--- the mark and MTOFFL say where the volume ends
+-- the mark and MTOFFL carry a block before which the volume can end
 abbrev pub OpFits : PlainRun → List VolumeCount → TapeOp → Type 0
 OpFits run counts (Mark next) = IsEnd run counts next
 OpFits run counts (Unload next) = IsEnd run counts next
@@ -40,18 +40,22 @@ StepFits run counts (Block number) = IsRunLeft run counts × ((checkpoint_of cou
 StepFits run counts Close = 0 < length counts
 StepFits run counts step = IsRunLeft run counts
 
+-- the stage fits the counts: in an attempt its step does; a finished run is covered, and any other
+-- is not
 abbrev pub StageFits : PlainRun → List VolumeCount → Stage → Type 0
 StageFits run counts (ToSend step) = StepFits run counts step
 StageFits run counts (Waiting step) = StepFits run counts step
 StageFits run counts Finished = Covers run counts
 StageFits run counts stage = IsRunLeft run counts
 
+-- a lawful client: its run is within its limits, its counts are volumes of the run in order, and
+-- its stage fits them
 pub record IsLawful (s : Standing) : Type 0 where
   pub run : IsRun s.run
   pub counts : AreVolumes s.run 1 0 s.counts
   pub stage : StageFits s.run s.counts s.stage
 
--- in an attempt there is room for its count, until it is counted
+-- in an attempt there is room for its count, until the volume is counted
 abbrev pub RoomFits : Stage → ℕ → Type 0
 RoomFits (ToSend Close) room = Unit {0}
 RoomFits (ToSend step) room = 0 < room
@@ -59,28 +63,31 @@ RoomFits (Waiting Close) room = Unit {0}
 RoomFits (Waiting step) room = 0 < room
 RoomFits stage room = Unit {0}
 
--- an outcome can be followed
+-- the client can do what the outcome says
 abbrev pub OutcomeFits : PlainRun → List VolumeCount → ℕ → Outcome → Type 0
 OutcomeFits run counts room (GoesOn step) = IsRunLeft run counts × StepFits run counts step × (0 < room)
 OutcomeFits run counts room (Fails fault) = IsRunLeft run counts
 OutcomeFits run counts room (Counted next) = StepFits run counts (Operation (Unload next)) × (0 < room)
 OutcomeFits run counts room Ended = 0 < length counts
 
--- the blocks from this one on
+-- `count` blocks, beginning with this one
 abbrev pub blocks_from : ℕ → ℕ → List Step
 blocks_from first zero = []
 blocks_from first (suc count) = Block first ∷ blocks_from (suc first) count
 
--- what is sent before a block: the open, the look at the first record between two rewinds, the label, and the blocks up to it
+-- the steps before a block: the open, the look at the first record between two rewinds, the label,
+-- and the blocks before it
 abbrev pub steps_to_block : ℕ → ℕ → List Step
 steps_to_block first number =
     Open ∷ Operation Rewind ∷ Look ∷ Operation RewindAgain ∷ Label ∷ blocks_from first (number - first)
 
--- what is sent before a mark: the blocks up to `next`, and the one that was refused, if any is left
+-- the steps before a mark: those before block `next`, and the refused write of that block, if it
+-- exists
 abbrev pub steps_to : PlainRun → ℕ → ℕ → List Step
 steps_to run first next = steps_to_block first next ++ (if nat_lt next run.blocks then Block next ∷ [] else [])
 
--- what is sent before a step of the volume that begins at `first`; a close follows the mark of a volume that ends before `next`
+-- the steps before a step of the volume that begins at `first`; before a close, the volume ended
+-- before block `next`
 abbrev pub steps_before : PlainRun → ℕ → ℕ → Step → List Step
 steps_before run first next Open = []
 steps_before run first next (Operation Rewind) = Open ∷ []
@@ -92,49 +99,49 @@ steps_before run first next (Operation (Mark end)) = steps_to run first end
 steps_before run first next (Operation (Unload end)) = steps_to run first end ++ Operation (Mark end) ∷ []
 steps_before run first next Close = steps_to run first next ++ Operation (Mark next) ∷ Operation (Unload next) ∷ []
 
--- the counts as they were when the attempt began: at the close its own is the last
+-- the counts when the attempt began: at the close the last count is the attempt's own
 abbrev pub counts_before : Step → List VolumeCount → List VolumeCount
 counts_before Close counts = take (length counts - 1) counts
 counts_before step counts = counts
 
--- the checkpoint of the attempt
+-- the volume and the first block of the attempt
 abbrev pub attempt_at : Step → List VolumeCount → ℕ × ℕ
 attempt_at step counts = checkpoint_of (counts_before step counts)
 
--- the requests that were sent before a step, by what the client holds now
+-- the requests that were sent before a step, computed from the client's present counts
 abbrev pub sent_before : PlainRun → List (List ℕ) → List VolumeCount → Step → List PlainRequest
 sent_before run payload counts step =
     map (request_of run payload (attempt_at step counts).0 (attempt_at step counts).1)
     (steps_before run (attempt_at step counts).1 (checkpoint_of counts).1 step)
 
--- the request of a step
+-- the request of a step of the attempt
 abbrev pub attempt_request : PlainRun → List (List ℕ) → List VolumeCount → Step → PlainRequest
 attempt_request run payload counts step = request_of run payload (attempt_at step counts).0 (attempt_at step counts).1 step
 
--- the same, and then the request of the step
+-- the requests that were sent before a step, then the request of the step
 abbrev pub sent_with : PlainRun → List (List ℕ) → List VolumeCount → Step → List PlainRequest
 sent_with run payload counts step = sent_before run payload counts step ++ attempt_request run payload counts step ∷ []
 
--- At the checkpoint the request of a step is that of the attempt.
+-- The request of a step is the same at the present checkpoint as at the attempt's.
 abbrev pub AsksAtCheckpoint : PlainRun → List (List ℕ) → List VolumeCount → Type 0
 AsksAtCheckpoint run payload counts =
     (step : Step) → request_of run payload (checkpoint_of counts).0 (checkpoint_of counts).1 step ≡ attempt_request run payload counts step
 
--- At each step that a reply leads to one request more was sent, that of the step before.
+-- If a reply to a step leads to a next step, one more request was sent: that of the step.
 abbrev pub SendsNext : PlainRun → List (List ℕ) → List VolumeCount → Type 0
 SendsNext run payload counts =
     (step next : Step) (reply : PlainReply) → StepFits run counts step
     → after_reply run counts (checkpoint_of counts).1 step reply ≡ GoesOn next
     → sent_before run payload counts next ≡ sent_with run payload counts step
 
--- so also at the close, where the reply counts the volume
+-- the same for the close, if the reply counts the volume
 abbrev pub SendsLast : PlainRun → List (List ℕ) → List VolumeCount → Type 0
 SendsLast run payload counts =
     (step : Step) (end : ℕ) (reply : PlainReply) → StepFits run counts step
     → after_reply run counts (checkpoint_of counts).1 step reply ≡ Counted end
     → sent_before run payload (counted_to counts end) Close ≡ sent_with run payload counts step
 
--- the volume is counted at the close, as the last of the counts, and nowhere before
+-- at the close the volume is counted, as the last of the counts; before, MTOFFL is not answered
 abbrev pub CountsAt : PlainRun → List (List ℕ) → List VolumeCount → Step → ℕ → List PlainRequest → ℕ → Type 0
 CountsAt run payload counts Close count sent got =
     CountsVolume run payload (attempt_at Close counts).0 (attempt_at Close counts).1 count sent got
@@ -142,14 +149,15 @@ CountsAt run payload counts Close count sent got =
     ++ record { volume = (attempt_at Close counts).0; first = (attempt_at Close counts).1; count = count } ∷ [])
 CountsAt run payload counts step count sent got = Contains (take got sent) (Op MTOFFL 1) → ⊥
 
--- it stands at a position of the attempt's volume
+-- the client is at a position of the attempt's volume
 abbrev pub StandsAtStep : PlainRun → List (List ℕ) → List VolumeCount → Step → List PlainRequest → ℕ → Type 0
 StandsAtStep run payload counts step sent got =
     (count : ℕ) × Position run payload (attempt_at step counts).0 (attempt_at step counts).1 count sent got
     × CountsAt run payload counts step count sent got
 
--- What was sent, and how many wanted replies came, is a function of what the client holds: all before its step was sent and
--- answered, and the step's own request too where its reply is waited for.
+-- The client's state determines which requests were sent and how many wanted replies came. All
+-- before its step were sent and answered. If a reply is awaited, the step's own request was sent
+-- too.
 abbrev pub StandsAt : PlainRun → List (List ℕ) → List VolumeCount → Stage → Type 0
 StandsAt run payload counts (ToSend step) =
     StandsAtStep run payload counts step (sent_before run payload counts step) (length (sent_before run payload counts step))

@@ -1,4 +1,5 @@
--- In reading order: Script, Position (an attempt); Listening, Standing, Client (a client); Lawful, Replies, Going (what stays so).
+-- In reading order: Script, Position (an attempt); Listening, Standing, Client (a client); Lawful,
+-- Replies, Going (what is kept at each step).
 pub mod Script
 pub mod Position
 pub mod Listening

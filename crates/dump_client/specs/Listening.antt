@@ -1,4 +1,5 @@
--- What came to a client that waits for a reply of some kind. Public contracts stand on it (through Standing).
+-- The bytes that come to a client that waits for a reply. Public contracts use it (through
+-- Standing).
 use Rattle.std.specs.Prelude.{◌≡◌, ℕ, ◌<◌, Bool, true, false, List, [], ◌∷◌, ◌++◌, length, Option, Some, None, Result, Ok, Err}
 use Rattle.rmt_wire.specs.Reply.{PlainReply, Wanted}
 use Rattle.rmt_wire.specs.Reply.PlainReply.{Done, Data, Error}
@@ -14,24 +15,27 @@ use Rattle.dump_client.specs.declared.listen.ReplySummary.TheVariants as summary
 use Rattle.dump_client.specs.declared.listen.FeedResult.{FeedResult}
 use Rattle.dump_client.specs.declared.listen.FeedResult.TheVariants.{Waits, Reply, Noise}
 
--- these bytes came since a reply of this kind was waited for, and are a beginning of one, for the rest of which there is room
+-- `bytes` came since a reply of this kind was awaited; they begin one, and the reader has room for
+-- the rest
 pub record IsReaderWaiting (wanted : Wanted) (h : ReplyHeld) (bytes : List ℕ) : Type 0 where
   pub unread : ReplyUnread h (Some wanted) bytes
   pub begun : ReplyGives (Some wanted) bytes (Ok None) bytes
   pub room : length h.kept < READER_LIMIT
 
--- the reply without its text, and its bytes as the counted volume whose label they are
+-- the summary of a reply: without its text, and with the counted volume whose label its bytes are
 abbrev pub IsSummary : PlainRun → List VolumeCount → PlainReply → ReplySummary → Type 0
 IsSummary run counts (Done n) (summary.Number number) = number ≡ n
 IsSummary run counts (Data bytes) (summary.Looked volume) = volume ≡ counted_label run counts bytes
 IsSummary run counts (Error n text) (summary.Error number) = number ≡ n
 IsSummary run counts reply s = ⊥
 
+-- whether there are further bytes
 abbrev pub is_more : List ℕ → Bool
 is_more [] = false
 is_more (b ∷ bytes) = true
 
--- what a reader answers of the bytes that it holds, and where it stands then; a fault stays, whatever follows
+-- the result of a reader for the bytes that it holds, and its state afterwards; a fault remains,
+-- whatever follows
 abbrev pub IsReplyHeard : PlainRun → List VolumeCount → Wanted → List ℕ → Result (Option ReplySummary) WireFault → ReplyHeld → Type 0
 IsReplyHeard run counts wanted bytes (Ok None) new = IsReaderWaiting wanted new bytes
 IsReplyHeard run counts wanted bytes (Ok (Some s)) new =
@@ -39,8 +43,9 @@ IsReplyHeard run counts wanted bytes (Ok (Some s)) new =
     × IsSummary run counts reply s × ReplyUnread new None rest
 IsReplyHeard run counts wanted bytes (Err fault) new = (more : List ℕ) → ReplyGives (Some wanted) (bytes ++ more) (Err fault) (bytes ++ more)
 
--- What all the bytes are that came since a reply was waited for, and where the reader stands then: a beginning of a reply; a
--- reply first, after which none is unread where no more bytes follow; or bytes of which no beginning is a reply.
+-- The result for all bytes since a reply was awaited, and the reader's state afterwards. The bytes
+-- begin a reply; or a reply comes first, and if no more bytes follow none is unread; or they begin
+-- no reply.
 abbrev pub IsFeedResult : PlainRun → List VolumeCount → Wanted → List ℕ → FeedResult → ReplyHeld → Type 0
 IsFeedResult run counts wanted bytes Waits new = IsReaderWaiting wanted new bytes
 IsFeedResult run counts wanted bytes (Reply s more) new =

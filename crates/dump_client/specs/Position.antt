@@ -1,4 +1,5 @@
--- Where an attempt stands: what was sent, the replies that came, and what comes next. Public contracts cite it.
+-- The position of an attempt: what was sent, the replies that came, and what comes next. Public
+-- contracts cite it.
 use Rattle.std.specs.Prelude.{◌≡◌, ◌⊎◌, ℕ, ◌+◌, ◌<◌, ◌≤◌, ◌==◌, if◌then◌else◌, nat_lt, List, [], ◌∷◌, ◌++◌, length, map, take, Contains, Option, Some, None}
 use Rattle.rmt_wire.specs.Request.{PlainRequest}
 use Rattle.rmt_wire.specs.Request.PlainRequest.{Op}
@@ -20,8 +21,8 @@ use Rattle.dump_client.specs.declared.outcome.Outcome.{Outcome}
 use Rattle.dump_client.specs.declared.outcome.Outcome.TheVariants.{GoesOn, Fails, Counted, Ended}
 use Rattle.dump_client.specs.declared.fault.AttemptFault.TheVariants.{Refused, Botched, ConnectionEnded, ShortWrite, ReelTooSmall, CountedReel}
 
--- What was sent begins the script of a volume of so many blocks, and so many wanted replies to it came. At most one request has no
--- reply yet.
+-- The requests that were sent begin the script of a volume of `count` blocks, and `got` wanted
+-- replies came. At most one request has no reply yet.
 pub record Position (run : PlainRun) (payload : List (List ℕ)) (volume first count : ℕ) (sent : List PlainRequest) (got : ℕ) : Type 0 where
   pub counts : IsCount run first count
   pub unsent : List PlainRequest
@@ -29,34 +30,36 @@ pub record Position (run : PlainRun) (payload : List (List ℕ)) (volume first c
   pub answered : got ≤ length sent
   pub awaited : length sent ≤ got + 1
 
--- the volume is counted once the reply to MTOFFL is among those that came
+-- the volume is counted: the reply to MTOFFL is among those that came
 pub record CountsVolume (run : PlainRun) (payload : List (List ℕ)) (volume first count : ℕ) (sent : List PlainRequest) (got : ℕ) : Type 0 where
   pub position : Position run payload volume first count sent got
   pub unloaded : Contains (take got sent) (Op MTOFFL 1)
 
--- what a client hears: a reply; bytes that are none, or that nobody waits for; the end of the connection
+-- what a client receives: a reply; bytes that are no reply or come while none is awaited; the end
+-- of the connection
 pub data Received : Type 0 where
   Reply : (reply : PlainReply) → Received
   Noise : Received
   End : Received
 
--- a block is one of the run
+-- if the step is a block, it is one of the run
 abbrev pub IsBelow : PlainRun → Step → Type 0
 IsBelow run (Block number) = number < run.blocks
 IsBelow run step = Unit {0}
 
--- the next block, or the mark where none is left
+-- the write of block `number`, or the mark if no block is left
 abbrev pub block_or_mark : PlainRun → ℕ → Step
 block_or_mark run number = if nat_lt number run.blocks then Block number else Operation (Mark number)
 
--- what follows an operation; with the reply to MTOFFL the volume is counted, up to the first block that is not written
+-- the outcome of an operation that was done; the reply to MTOFFL counts the volume, up to the first
+-- block that is not written
 abbrev pub after_done : TapeOp → Outcome
 after_done Rewind = GoesOn Look
 after_done RewindAgain = GoesOn Label
 after_done (Mark next) = GoesOn (Operation (Unload next))
 after_done (Unload next) = Counted next
 
--- the order of the requests
+-- the outcome of a step that was done; this is the order of the requests
 abbrev pub after_step : PlainRun → ℕ → Step → Outcome
 after_step run first Open = GoesOn (Operation Rewind)
 after_step run first (Operation op) = after_done op
@@ -65,23 +68,24 @@ after_step run first Label = GoesOn (block_or_mark run first)
 after_step run first (Block number) = GoesOn (block_or_mark run (number + 1))
 after_step run first Close = Ended
 
--- no room for the label, or for a block: the reel's end, once a block was written
+-- the outcome if there is no room for the label or a block: the end of the reel if a block was
+-- written, else `ReelTooSmall`
 abbrev pub at_end_of_reel : ℕ → Step → Outcome
 at_end_of_reel first (Block number) = if nat_lt first number then GoesOn (Operation (Mark number)) else Fails ReelTooSmall
 at_end_of_reel first step = Fails ReelTooSmall
 
--- a number in reply to a write of so many bytes
+-- the outcome of a number in reply to a write of `size` bytes
 abbrev pub after_write : PlainRun → ℕ → Step → ℕ → ℕ → Outcome
 after_write run first step size n =
     if n == size then after_step run first step
     else if n == 0 then at_end_of_reel first step
     else Fails ShortWrite
 
--- a number in reply to an operation of count 1
+-- the outcome of a number in reply to an operation of count 1
 abbrev pub after_op : PlainRun → ℕ → Step → ℕ → Outcome
 after_op run first step n = if n == 1 then after_step run first step else Fails Botched
 
--- what a number in reply to a step leads to
+-- the outcome of a number in reply to a step
 abbrev pub after_number : PlainRun → ℕ → Step → ℕ → Outcome
 after_number run first Open n = after_step run first Open
 after_number run first (Operation op) n = after_op run first (Operation op) n
@@ -90,55 +94,59 @@ after_number run first Label n = after_write run first Label label_bytes n
 after_number run first (Block number) n = after_write run first (Block number) run.block_bytes n
 after_number run first Close n = Ended
 
--- an error in reply to a write
+-- the outcome of an error in reply to a write
 abbrev pub after_refusal : ℕ → Step → ℕ → Outcome
 after_refusal first step n = if n == ENOSPC then at_end_of_reel first step else Fails (Refused n)
 
--- what an error in reply to a step leads to
+-- the outcome of an error in reply to a step
 abbrev pub after_error : ℕ → Step → ℕ → Outcome
 after_error first Label n = after_refusal first Label n
 after_error first (Block number) n = after_refusal first (Block number) n
 after_error first Close n = Ended
 after_error first step n = Fails (Refused n)
 
--- bytes that are no reply, or that nobody waits for: from the close on nothing fails
+-- the outcome of bytes that are no reply, or that come while none is awaited; from the close on
+-- nothing fails
 abbrev pub after_noise : Step → Outcome
 after_noise Close = Ended
 after_noise step = Fails Botched
 
--- the end of the connection
+-- the outcome of the end of the connection
 abbrev pub after_end : Step → Outcome
 after_end Close = Ended
 after_end step = Fails ConnectionEnded
 
--- what the look shows: the label of this volume, which is counted, or of no counted one
+-- the outcome of the look: the label of a counted volume fails the attempt
 abbrev pub after_label : PlainRun → ℕ → Option ℕ → Outcome
 after_label run first None = after_step run first Look
 after_label run first (Some volume) = Fails (CountedReel volume)
 
--- the bytes of a record in reply to a step: the look alone waits for them
+-- the outcome of the bytes of a record in reply to a step: only the look waits for them
 abbrev pub after_data : PlainRun → List VolumeCount → ℕ → Step → List ℕ → Outcome
 after_data run counts first Look bytes = after_label run first (counted_label run counts bytes)
 after_data run counts first step bytes = after_noise step
 
--- what a reply to a step leads to, where these volumes of the run are counted
+-- the outcome of a reply to a step, if these volumes of the run are counted
 abbrev pub after_reply : PlainRun → List VolumeCount → ℕ → Step → PlainReply → Outcome
 after_reply run counts first step (Done n) = after_number run first step n
 after_reply run counts first step (Data bytes) = after_data run counts first step bytes
 after_reply run counts first step (Error n text) = after_error first step n
 
--- what a client hears at a step, which it waits for the reply to or has still to send
+-- the outcome of what a client receives at a step, whose request is to be sent or whose reply is
+-- awaited
 abbrev pub outcome : PlainRun → List VolumeCount → ℕ → Step → Received → Outcome
 outcome run counts first step (Reply reply) = after_reply run counts first step reply
 outcome run counts first step Noise = after_noise step
 outcome run counts first step End = after_end step
 
--- what the wanted reply to a step leads to, where the first of these follows it: to the close, that the volume is counted
+-- the outcome of the wanted reply to `step`, if `following` is the next step; before the close the
+-- volume is counted
 abbrev pub leads_to : Step → Step → Outcome
 leads_to Close (Operation (Unload next)) = Counted next
 leads_to following step = GoesOn following
 
--- each reply that is wanted leads to the next step, that to MTOFFL to the count, and the last one to the end
+-- each wanted reply leads to the next step, that to MTOFFL to the count, and the last one to the
+-- end
 abbrev pub RepliesFollow : PlainRun → List VolumeCount → ℕ → List (Step × Wish) → Type 0
 RepliesFollow run counts first [] = Unit {0}
 RepliesFollow run counts first (s ∷ []) =
@@ -147,7 +155,8 @@ RepliesFollow run counts first (s ∷ t ∷ steps) =
     ((reply : PlainReply) → Grants run counts s.1 reply → after_reply run counts first s.0 reply ≡ leads_to t.0 s.0)
     × RepliesFollow run counts first (t ∷ steps)
 
--- the replies that are wanted at a step; at a block also that there is no room, once one was written
+-- the replies that are wanted at a step; at a block also that there is no room, if one was written
+-- before
 abbrev pub IsWantedAt : PlainRun → List VolumeCount → ℕ → Step → PlainReply → Type 0
 IsWantedAt run counts first Open reply = Grants run counts AnyNumber reply
 IsWantedAt run counts first (Operation op) reply = Grants run counts (Number 1) reply
@@ -157,21 +166,23 @@ IsWantedAt run counts first (Block number) reply =
     Grants run counts (Number run.block_bytes) reply ⊎ ((first < number) × Grants run counts NoRoom reply)
 IsWantedAt run counts first Close reply = Grants run counts Anything reply
 
--- A reply that is wanted at a step, of no more bytes than a label has, is of the kind that is waited for there. The close wants any.
+-- A reply that is wanted at a step, with no more bytes than a label, is of the kind that is awaited
+-- there. The close accepts any reply.
 abbrev pub CanBeHeard : PlainRun → List VolumeCount → ℕ → Step → PlainReply → Type 0
 CanBeHeard run counts first Close reply = Unit {0}
 CanBeHeard run counts first step reply =
     IsWantedAt run counts first step reply → data_length reply ≤ label_bytes → AnswersTo reply (wanted_of step)
 
+-- the outcome is a failure
 abbrev pub IsFailure : Outcome → Type 0
 IsFailure (Fails fault) = Unit {0}
 IsFailure outcome = ⊥
 
--- the look at this reply fails by the label of that volume
+-- the look at this reply fails with `CountedReel` of that volume
 abbrev pub FailsAsCounted : PlainRun → List VolumeCount → ℕ → ℕ → PlainReply → Type 0
 FailsAsCounted run counts first volume reply = after_reply run counts first Look reply ≡ Fails (CountedReel volume)
 
--- the reply is the label of a volume that is counted
+-- the reply is the label of a counted volume
 abbrev pub ShowsCounted : PlainRun → List VolumeCount → ℕ → PlainReply → Type 0
 ShowsCounted run counts volume reply =
     (c : VolumeCount) × Contains counts c × (c.volume ≡ volume) × (reply ≡ Data (label run c.volume c.first))

@@ -1,4 +1,5 @@
--- Where a client stands, as values, and how bytes and the end of a connection move it. Public contracts cite it.
+-- The state of a client as values, and how bytes and the end of a connection change it. Public
+-- contracts cite it.
 use Rattle.std.specs.Prelude.{◌≡◌, ◌≢◌, ◌⊎◌, ℕ, ◌-◌, Bool, true, false, List, [], ◌∷◌, ◌++◌, Option, Some, None, Result, Ok, Err}
 use Rattle.rmt_wire.specs.Reply.{PlainReply}
 use Rattle.rmt_wire.specs.ReplyParts.{ReplyGives}
@@ -26,12 +27,13 @@ use Rattle.dump_client.specs.declared.fault.StartFault.TheVariants.{WrongState, 
 use Rattle.dump_client.specs.declared.stage.Answer.{Answer}
 use Rattle.dump_client.specs.declared.stage.Answer.TheVariants.{Retry, Abandon}
 
--- the run, the volumes that are counted, and the stage
+-- the run, the counted volumes, and the stage
 pub record Standing : Type 0 where
   pub run : PlainRun
   pub counts : List VolumeCount
   pub stage : Stage
 
+-- such a state, made of its parts
 abbrev pub standing : PlainRun → List VolumeCount → Stage → Standing
 standing run counts stage = record { run = run; counts = counts; stage = stage }
 
@@ -40,13 +42,13 @@ pub record RunKept : Type 0 where
   pub at : Standing
   pub room : ℕ
 
--- it is in an attempt, at this step
+-- the stage is in an attempt, at this step
 abbrev pub IsAtStep : Stage → Step → Type 0
 IsAtStep (ToSend other) step = step ≡ other
 IsAtStep (Waiting other) step = step ≡ other
 IsAtStep stage step = ⊥
 
--- the stage as it is told
+-- the stage as a caller sees it
 abbrev pub state_of : Stage → State
 state_of Ready = told.Ready
 state_of (ToSend step) = told.ToSend
@@ -55,22 +57,23 @@ state_of Asking = told.Asking
 state_of Finished = told.Finished
 state_of Abandoned = told.Abandoned
 
--- the count of the volume that is written at this checkpoint, up to block `next`
+-- the count of the volume at this checkpoint, which ends before block `next`
 abbrev pub count_to : ℕ × ℕ → ℕ → VolumeCount
 count_to at next = record { volume = at.0; first = at.1; count = next - at.1 }
 
--- the counts with that volume's
+-- the counts with that volume's added
 abbrev pub counted_to : List VolumeCount → ℕ → List VolumeCount
 counted_to counts next = counts ++ count_to (checkpoint_of counts) next ∷ []
 
--- the attempt is over: the run is finished where its counts cover it, and else another attempt can start
+-- the attempt is over: the run is finished if its counts cover it, and otherwise another attempt
+-- can start
 abbrev pub IsOver : PlainRun → List VolumeCount → Standing → Type 0
 IsOver run counts new =
     (Covers run counts × (new ≡ standing run counts Finished))
     ⊎ ((Covers run counts → ⊥) × (new ≡ standing run counts Ready))
 
--- What an outcome makes of a client in an attempt, and what it tells. `more` says that bytes follow the reply: nobody waits for
--- them, so that the attempt fails before the count, and ends after it.
+-- The new state and the returned progress after an outcome. `more`: bytes follow the reply, and
+-- nobody waits for them. Before the count the attempt fails then; after it the attempt is over.
 abbrev pub Becomes : Standing → Outcome → Bool → Progress → Standing → Type 0
 Becomes old (GoesOn step) false progress new = (progress ≡ moved.Send) × (new ≡ standing old.run old.counts (ToSend step))
 Becomes old (GoesOn step) true progress new = (progress ≡ moved.Failed Botched) × (new ≡ standing old.run old.counts Asking)
@@ -80,19 +83,20 @@ Becomes old (Counted next) false progress new =
 Becomes old (Counted next) true progress new = (progress ≡ moved.Ended) × IsOver old.run (counted_to old.counts next) new
 Becomes old Ended more progress new = (progress ≡ moved.Ended) × IsOver old.run old.counts new
 
--- it is at this step, and hears this
+-- at this step the client receives this
 abbrev pub HearsAt : Standing → Step → Received → Bool → Progress → Standing → Type 0
 HearsAt old step heard more progress new =
     Becomes old (outcome old.run old.counts (checkpoint_of old.counts).1 step heard) more progress new
 
--- it waits for the reply to this step, and the bytes since are these: less than a reply, a reply and what follows, or none
+-- the client waits for the reply to this step, and these bytes came since: part of a reply, a reply
+-- and more, or no reply
 abbrev pub Makes : Standing → Step → List ℕ → Result (Option PlainReply) WireFault → List ℕ → Progress → Standing → Type 0
 Makes old step bytes (Ok None) rest progress new = (progress ≡ moved.Waiting) × (new ≡ old)
 Makes old step bytes (Ok (Some reply)) rest progress new = HearsAt old step (Reply reply) (is_more rest) progress new
 Makes old step bytes (Err fault) rest progress new = HearsAt old step Noise false progress new
 
--- A piece is fed, after these bytes since the request was sent: whatever the pieces, what comes of them is that of all the bytes.
--- Between attempts nothing comes of it.
+-- A piece is fed, after `bytes` since the request was sent. The result depends on all bytes
+-- together, and not on how they are cut into pieces. Between attempts nothing happens.
 abbrev pub FedAt : Stage → Standing → List ℕ → List ℕ → Progress → Standing → Type 0
 FedAt (ToSend step) old bytes piece progress new =
     ((piece ≡ []) × (progress ≡ moved.Send) × (new ≡ old))
@@ -102,7 +106,7 @@ FedAt (Waiting step) old bytes piece progress new =
     × Makes old step (bytes ++ piece) seen rest progress new
 FedAt stage old bytes piece progress new = (progress ≡ moved.Idle) × (new ≡ old)
 
--- a client that stands there is fed a piece
+-- a client in this state is fed a piece
 abbrev pub Feeds : Standing → List ℕ → List ℕ → Progress → Standing → Type 0
 Feeds old bytes piece progress new = FedAt old.stage old bytes piece progress new
 
@@ -112,18 +116,20 @@ CutAt (ToSend step) old progress new = HearsAt old step End false progress new
 CutAt (Waiting step) old progress new = HearsAt old step End false progress new
 CutAt stage old progress new = (progress ≡ moved.Idle) × (new ≡ old)
 
--- an attempt starts, from the checkpoint on; this is refused elsewhere, and where the room for its count is
+-- an attempt starts at the checkpoint; it is refused in other stages, and if there is no room for
+-- its count
 abbrev pub StartedAt : Stage → Standing → ℕ → Result Unit StartFault → Standing → Type 0
 StartedAt Ready old room (Ok x) new = new ≡ standing old.run old.counts (ToSend Open)
 StartedAt Ready old room (Err OutOfMemory) new = (room ≡ 0) × (new ≡ old)
 StartedAt Ready old room (Err WrongState) new = ⊥
 StartedAt stage old room result new = (result ≡ Err WrongState) × (new ≡ old)
 
--- the operator answers
+-- the stage after the operator's answer
 abbrev pub stage_after : Answer → Stage
 stage_after Retry = Ready
 stage_after Abandon = Abandoned
 
+-- the operator's answer is taken, or refused in other stages
 abbrev pub AnsweredAt : Stage → Standing → Answer → Result Unit StartFault → Standing → Type 0
 AnsweredAt Asking old answer result new = (result ≡ Ok tt) × (new ≡ standing old.run old.counts (stage_after answer))
 AnsweredAt stage old answer result new = (result ≡ Err WrongState) × (new ≡ old)

@@ -1,4 +1,4 @@
-//! The client: one attempt after the other, and what they count.
+//! The client, which makes one attempt after the other and counts volumes.
 ghost use Rattle.std.specs.Prelude.{◌≡◌, ◌↔◌, ℕ, ◌++◌, ◌+◌, ◌<◌, true, List, [], length, IfOk, IfErr, OnErr, OnOk};
 ghost use Rattle.std.specs.Vec.{vec_capacity};
 ghost use Rattle.dump_run.specs.Blocks.{listed};
@@ -25,12 +25,16 @@ use rmt_wire::ReplyReader;
 use std::alloc::{AllocError, Global};
 use std::marker::Model;
 
-/// Dumps a run to a remote tape: it makes the requests of one attempt after the other, each of which writes one volume
-/// on a connection of its own, hears the replies, and counts the volumes that are written whole (rmt(8), dump(8)).
+/// Dumps a run to a remote tape (rmt(8), dump(8)).
 ///
-/// A volume is counted when MTOFFL was answered as done, and by nothing else. An attempt that fails leaves the counts
-/// and the checkpoint as they were. Contracts see where the client stands, its source, what it keeps of the replies, and
-/// for how many more counts it has room.
+/// The client makes the requests of one attempt after the other. Each attempt writes one volume on
+/// a connection of its own. The client takes the replies, and counts the volumes that are written
+/// whole.
+///
+/// A volume is counted when the server replies that MTOFFL was done, and in no other case. An
+/// attempt that fails leaves the counts and the checkpoint as they were. Contracts describe a
+/// client by four parts. They are its run, counts and stage; its source; its reader of replies; and
+/// the room for further counts.
 #[derive(Drop)]
 pub struct Client<B: Blocks> {
     ledger: Ledger,
@@ -51,10 +55,11 @@ impl<B: Blocks> Model for Client<B> {
 }
 
 impl<B: Blocks + Drop> Client<B> {
-    /// A client of this run, with nothing counted, that can start. A source that tells its blocks has the run's number
-    /// of them, each of its size.
+    /// Makes a client of this run, with nothing counted, in state `Ready`.
     ///
-    /// It reserves `rmt_wire::READER_LIMIT` bytes for replies, and fails only where these are refused.
+    /// If the source's blocks are known, they must be as many as the run has, each of its size. It
+    /// reserves `rmt_wire::READER_LIMIT` bytes for replies, and fails only if that allocation
+    /// fails.
     pub fn new(alloc: Global, run: Run, source: B) -> Result<Client<B>, AllocError>
         requires { (payload : List (List ℕ)) → B.holds source payload → IsPayload run payload }
         ensures made { IfOk result (λ c. c.at ≡ standing run [] stages.Ready) }
@@ -63,7 +68,8 @@ impl<B: Blocks + Drop> Client<B> {
         Client::of_ledger(alloc, Ledger::new(alloc, run), source)
     }
 
-    /// A client that stands there, in no attempt.
+    /// Makes a client with this ledger, which must be in no attempt. Fails only if the allocation
+    /// for replies fails.
     fn of_ledger(alloc: Global, ledger: Ledger, source: B) -> Result<Client<B>, AllocError>
         requires blocks { (payload : List (List ℕ)) → B.holds source payload → IsPayload ledger.at.run payload }
         requires idle { IsIdle ledger.at.stage }
@@ -80,11 +86,14 @@ impl<B: Blocks + Drop> Client<B> {
 }
 
 impl<B: Blocks + Drop> Client<B> {
-    /// A client of the run of a checkpoint's text, with the counts that it says: it has finished where these are the whole
-    /// run, and can start elsewhere. A source that tells its blocks has the run's number of them, each of its size.
+    /// Makes a client from the text of a checkpoint, with its run and its counts.
     ///
-    /// It refuses bytes that are no such text by the fault of `dump_run::Checkpoint::read`. A text that a client appended is
-    /// refused by `OutOfMemory` at most: beside the counts it reserves `rmt_wire::READER_LIMIT` bytes for replies.
+    /// The client is `Finished` if the counts are the whole run, and `Ready` otherwise. If the
+    /// source's blocks are known, they must be as many as the run has, each of its size.
+    ///
+    /// If the bytes are not such a text, it returns the error of `dump_run::Checkpoint::read`. A
+    /// text that a client appended fails only with `OutOfMemory`. Besides the counts it reserves
+    /// `rmt_wire::READER_LIMIT` bytes for replies.
     pub fn resume(alloc: Global, bytes: &[u8], source: B) -> Result<Client<B>, ResumeFault>
         requires { (run : PlainRun) (counts : List VolumeCount) (payload : List (List ℕ)) → SpellsCheckpoint bytes.now run counts →
             B.holds source payload → IsPayload run payload }
@@ -106,7 +115,7 @@ impl<B: Blocks + Drop> Client<B> {
 }
 
 impl<B: Blocks> Client<B> {
-    /// What the client waits for.
+    /// Returns the state: what the client waits for.
     pub fn state(&self) -> State
         ensures state { result ≡ state_of self.now.at.stage }
         ensures lawful { IsLawful self.now.at }
@@ -116,22 +125,24 @@ impl<B: Blocks> Client<B> {
         stage.state()
     }
 
-    /// The volumes that are counted, in order.
+    /// Returns the counted volumes, in order.
     pub fn counted(&self) -> &[VolumeCount]
         ensures { result.now ≡ self.now.at.counts }
     {
         self.ledger.counted()
     }
 
-    /// The volume that an attempt writes next, and its first block.
+    /// Returns the number of the volume that an attempt writes next, and its first block.
     pub fn checkpoint(&self) -> (u32, u32)
         ensures { result ≡ checkpoint_of self.now.at.counts }
     {
         self.ledger.checkpoint()
     }
 
-    /// Appends the text of the client's checkpoint, from which `resume` makes a client with the same run and counts. Where
-    /// memory is refused for it nothing is appended.
+    /// Appends the text of the client's checkpoint. `resume` makes a client with the same run and
+    /// counts from it.
+    ///
+    /// Fails if an allocation fails. Nothing is appended then.
     pub fn checkpoint_text(&self, out: &mut Vec<u8>) -> Result<(), AllocError>
         ensures appended { OnOk result (out.new.items ≡ out.old.items ++ texts.checkpoint_text self.now.at.run self.now.at.counts) }
         ensures unchanged { OnErr result (out.new.items ≡ out.old.items) }
@@ -139,7 +150,7 @@ impl<B: Blocks> Client<B> {
         push_checkpoint(self.ledger.run(), self.ledger.counted(), out)
     }
 
-    /// Once the run is finished, its entry in dumpdates.
+    /// Returns the run's entry for dumpdates if the run is finished, else None.
     pub fn finished(&self) -> Option<Entry<'_>>
         ensures { TellsEntry self.now.at.stage self.now.at.run result }
     {
@@ -152,10 +163,10 @@ impl<B: Blocks> Client<B> {
         }
     }
 
-    /// Starts an attempt, on a connection that is new, and reserves the room for the count of its volume.
+    /// Starts an attempt, on a new connection, and reserves the room for the count of its volume.
     ///
-    /// Answers `WrongState` unless the client is `Ready`, and `OutOfMemory` where that room is refused. Nothing has changed
-    /// then.
+    /// Returns `WrongState` unless the client is `Ready`, and `OutOfMemory` if the allocation
+    /// fails. Nothing has changed then.
     pub fn start(&mut self) -> Result<(), StartFault>
         ensures started { StartedAt self.old.at.stage self.old.at self.old.room result self.new.at }
         ensures fed { (bytes : List ℕ) → HasFed self.old bytes → HasFed self.new bytes }
@@ -169,12 +180,18 @@ impl<B: Blocks> Client<B> {
         Ok(())
     }
 
-    /// Appends the next request, and waits for its reply. True where one was appended; false, with nothing done, in
-    /// another state than `ToSend`. A block is read into its place in `out`, once there is room for its write.
+    /// Appends the next request to `out`, and then waits for its reply.
     ///
-    /// A fault fails the attempt, with nothing appended: `SourceFault` where the block could not be read, and
-    /// `OutOfMemory` where `out` has less spare room than this request's text has bytes and the memory for more is
-    /// refused. At the close, which comes after the count, that is no fault: it answers false, and the attempt is over.
+    /// Returns true if a request was appended. In any state but `ToSend` it returns false and does
+    /// nothing. A block is read into its place in `out`, after the room for its write is reserved.
+    ///
+    /// If it fails, nothing is appended and the attempt has failed:
+    /// - `SourceFault`: the block could not be read.
+    /// - `OutOfMemory`: `out` has less spare room than the text of the request needs, and the
+    ///   allocation for more fails.
+    ///
+    /// The close comes after the count, so there a failed allocation is no error. It returns false
+    /// then, and the attempt is over.
     pub fn next_request(&mut self, out: &mut Vec<u8>) -> Result<bool, AttemptFault>
         ensures asked { AskedAt self.old.at.stage (B.holds self.old.source) self.old.at (vec_capacity out.old) out.old.items
             result out.new.items self.new.at }
@@ -207,10 +224,11 @@ impl<B: Blocks> Client<B> {
         }
     }
 
-    /// Takes a piece of what the server answers.
+    /// Takes a piece of the bytes that the server sends.
     ///
-    /// Before the count, bytes that are no reply, or that come while none is waited for, fail the attempt; after it they
-    /// end it, as each reply does. An empty piece changes nothing, and so does each piece where no attempt is under way.
+    /// Before the count, bytes that are no reply fail the attempt, and so do bytes that come while
+    /// no reply is awaited. After the count such bytes end the attempt, as any reply does. An empty
+    /// piece changes nothing. If no attempt is under way, no piece changes anything.
     pub fn feed(&mut self, piece: &[u8]) -> Progress
         ensures moved { (bytes : List ℕ) → HasFed self.old bytes → FedAt self.old.at.stage self.old.at bytes piece.now result self.new.at }
         ensures fed { (bytes : List ℕ) → HasFed self.old bytes → HasFed self.new (unanswered self.new.at.stage (bytes ++ piece.now)) }
@@ -232,7 +250,8 @@ impl<B: Blocks> Client<B> {
         }
     }
 
-    /// Learns that the connection has ended. Before the count this fails the attempt; after it the attempt is over.
+    /// Takes the end of the connection. Before the count it fails the attempt. After the count the
+    /// attempt is over.
     pub fn ended(&mut self) -> Progress
         ensures moved { CutAt self.old.at.stage self.old.at result self.new.at }
         ensures fed { HasFed self.new [] }
@@ -245,8 +264,9 @@ impl<B: Blocks> Client<B> {
         }
     }
 
-    /// Takes the operator's answer after an attempt failed. Answers `WrongState` unless the client is `Asking`; nothing
-    /// has changed then.
+    /// Takes the operator's answer after an attempt failed.
+    ///
+    /// Returns `WrongState` unless the client is `Asking`. Nothing has changed then.
     pub fn answer(&mut self, answer: Answer) -> Result<(), StartFault>
         ensures answered { AnsweredAt self.old.at.stage self.old.at answer result self.new.at }
         ensures fed { (bytes : List ℕ) → HasFed self.old bytes → HasFed self.new bytes }
@@ -258,7 +278,7 @@ impl<B: Blocks> Client<B> {
 }
 
 impl Client<ListBlocks> {
-    /// Sets whether reads of the payload fail from now on, until it is set again.
+    /// Sets whether reads of the payload fail, from now until the next call.
     pub fn source_trouble(&mut self, fails: bool)
         ensures source { self.new.source ≡ listed self.old.source.blocks fails self.old.source.failures }
         ensures same { self.new.at ≡ self.old.at }

@@ -1,4 +1,4 @@
-//! Volumes that are counted, and where the next one begins.
+//! Computes from the counted volumes the beginning of the next one, and whether the run is covered.
 ghost use Rattle.std.specs.Prelude.{◌≡◌, MatchBool};
 ghost use Rattle.dump_client.specs.Position.{Covers};
 ghost use Rattle.dump_client.specs.Standing.{checkpoint_of};
@@ -7,7 +7,7 @@ ghost use Rattle.dump_run.specs.Run.{IsRun};
 
 use crate::{Run, VolumeCount};
 
-/// The volume that is next after these, and its first block.
+/// Returns the volume that follows these, and its first block.
 #[tactic(auto, using(crate::proofs::Checkpoint::behind_last, crate::proofs::Checkpoint::last_within))]
 pub(crate) fn checkpoint(run: &Run, counts: &[VolumeCount]) -> (u32, u32)
     requires run { IsRun run.now }
@@ -20,7 +20,7 @@ pub(crate) fn checkpoint(run: &Run, counts: &[VolumeCount]) -> (u32, u32)
     }
 }
 
-/// Whether these are the whole run.
+/// Whether these volumes are the whole run.
 #[tactic(auto, using(crate::proofs::Checkpoint::covers_at, crate::proofs::Checkpoint::covers_up_to))]
 pub(crate) fn covers(run: &Run, counts: &[VolumeCount]) -> bool
     requires run { IsRun run.now }

@@ -1,22 +1,24 @@
-//! Why an attempt fails, and why a client does not do what it is asked.
+//! Why an attempt fails, and why a client refuses a call.
 
 use thiserror::Error;
 
 /// Why an attempt to write a volume failed.
 ///
-/// The volume was not counted then, and nothing more is sent on the connection.
+/// The volume is not counted then, and nothing more is sent on the connection.
 #[derive(Clone, Copy, Debug, PartialEq, Eq, Error)]
 pub enum AttemptFault {
-    /// The server answered with the error of this number. A write for which there was no room is not told so.
+    /// The server replied with this error number. ENOSPC in reply to a write is the end of the reel
+    /// or `ReelTooSmall` instead.
     #[error("Refused {0}")]
     Refused(u32),
-    /// What came was no reply, or not the number that an operation answers, or nobody waited for it.
+    /// The bytes that came are no reply or a reply of the wrong kind, are not the 1 that an
+    /// operation returns, or came while no reply was awaited.
     #[error("Botched")]
     Botched,
     /// The connection ended before the reply to MTOFFL.
     #[error("ConnectionEnded")]
     ConnectionEnded,
-    /// The server wrote another number of bytes than were sent, and not none.
+    /// The server wrote another number of bytes than were sent, but not 0.
     #[error("ShortWrite")]
     ShortWrite,
     /// There was no room for the label, or for the first block of the volume.
@@ -25,22 +27,22 @@ pub enum AttemptFault {
     /// A block could not be read.
     #[error("SourceFault")]
     SourceFault,
-    /// A growth in memory was refused.
+    /// An allocation failed.
     #[error("OutOfMemory")]
     OutOfMemory,
-    /// The reel begins with the label of this volume, which is counted in this run. Nothing was written on it in this
-    /// attempt.
+    /// The reel begins with the label of this volume, which this run has counted. The attempt wrote
+    /// nothing on the reel.
     #[error("CountedReel {0}")]
     CountedReel(u32),
 }
 
-/// Why a client did not do what it was asked. Nothing has changed.
+/// Why a client refused a call. Nothing has changed.
 #[derive(Clone, Copy, Debug, PartialEq, Eq, Error)]
 pub enum StartFault {
-    /// This is not asked of a client in its state.
+    /// The call is not allowed in the client's state.
     #[error("WrongState")]
     WrongState,
-    /// A growth in memory was refused.
+    /// An allocation failed.
     #[error("OutOfMemory")]
     OutOfMemory,
 }

@@ -1,4 +1,4 @@
-//! Laws of an attempt and its counts, each the contract of a call that does nothing.
+//! Laws of an attempt and its counts. Each is the contract of a function that does nothing.
 
 ghost use Rattle.std.specs.Prelude.{◌≡◌, ◌≢◌, ◌⊎◌, ◌↔◌, ℕ, ◌+◌, ◌≤◌, List, [], ◌++◌, length};
 ghost use Rattle.rmt_wire.specs.Reply.{PlainReply, AnswersTo, data_length};
@@ -30,11 +30,14 @@ ghost use Rattle.dump_client.specs.declared.fault.AttemptFault.TheVariants.{Refu
 
 use dump_run::one_checkpoint;
 
-/// What comes next follows the script: each reply that a script wants leads to its next request, the reply to MTOFFL to
-/// the count, and the reply to the close to the attempt's end. Any other reply fails the attempt. A wanted reply with no more
-/// bytes than a label has is of the kind that is waited for, and no reply of that kind has more.
+/// An attempt follows its script. Each reply that the script wants leads to the next request. The
+/// reply to MTOFFL leads to the count, and the reply to the close to the attempt's end. Any other
+/// reply fails the attempt.
 ///
-/// It does nothing: its contract is a law of the definitions.
+/// A wanted reply with no more bytes than a label is of the kind that is awaited. No reply of that
+/// kind has more bytes.
+///
+/// The function does nothing: its contract is a law of the definitions.
 pub fn wanted_replies()
     ensures next { (run : PlainRun) (counts : List VolumeCount) (first count : ℕ) → IsRun run → IsCount run first count →
         RepliesFollow run counts first (steps_of run first count) }
@@ -45,10 +48,12 @@ pub fn wanted_replies()
     ensures brief { (step : Step) (reply : PlainReply) → AnswersTo reply (wanted_of step) → data_length reply ≤ label_bytes }
 {}
 
-/// An attempt fails by `CountedReel` of a volume exactly where the look shows the label of that volume, which is counted in this
-/// run. With the label of a counted volume it never goes on, whatever else is counted, and an error at the look refuses it.
+/// An attempt fails with `CountedReel` of a volume exactly if the look reads the label of that
+/// volume and this run has counted it. After the label of a counted volume an attempt never
+/// continues, whatever else is counted. An error in reply to the look fails the attempt with
+/// `Refused`. No other step fails with `CountedReel`.
 ///
-/// It does nothing: its contract is a law of the definitions.
+/// The function does nothing: its contract is a law of the definitions.
 pub fn counted_reels()
     ensures exactly { (run : PlainRun) (counts : List VolumeCount) (first volume : ℕ) (reply : PlainReply) → IsRun run →
         AreVolumes run 1 0 counts → FailsAsCounted run counts first volume reply ↔ ShowsCounted run counts volume reply }
@@ -60,11 +65,12 @@ pub fn counted_reels()
         outcome run counts first step heard ≢ Fails (CountedReel volume) }
 {}
 
-/// The replies that led from the open to a step are those that the script of a volume of so many blocks wants before it, one
-/// to each of its steps, and the step is the script's next. From the mark on so many blocks are those from the first up to the
-/// one that the volume ends before, and it is these that are counted at the reply to MTOFFL.
+/// If replies led from the open to a step, they are those that a script wants: one to each step
+/// before this one. The script is that of a volume with some number of blocks, and the step is its
+/// next. From the mark on the volume has the blocks from `first` up to, but not including, the
+/// block that the mark carries. These are counted at the reply to MTOFFL.
 ///
-/// It does nothing: its contract is a law of the definitions.
+/// The function does nothing: its contract is a law of the definitions.
 pub fn granted_replies()
     ensures on_the_way { (run : PlainRun) (had : List VolumeCount) (first : ℕ) (step : Step) (replies : List PlainReply) →
         GrantedOnTheWay run had first step replies }
@@ -72,40 +78,42 @@ pub fn granted_replies()
         GrantedAtTheCount run had first next replies }
 {}
 
-/// A client in an attempt stands at a position of its volume. What it holds says what was sent, which begins the script of a
-/// volume of so many blocks, and how many replies came, one to each request before its step. MTOFFL is among the answered
-/// requests at the close alone, where the last of the counts is that volume's. The request of a step at the checkpoint is
-/// that of the position.
+/// A client in an attempt is at a position of its volume. Its state determines which requests were
+/// sent, and they begin the script of a volume with some number of blocks. It also determines how
+/// many replies came: one to each request before its step. MTOFFL has its reply only at the close,
+/// when the last count is that volume's. The request of a step is the same whether it is taken from
+/// the checkpoint now or from that at the attempt's start.
 ///
-/// It does nothing: its contract is a law of the definitions.
+/// The function does nothing: its contract is a law of the definitions.
 pub fn lawful_positions()
     ensures stands { (s : Standing) (payload : List (List ℕ)) → IsLawful s → StandsAt s.run payload s.counts s.stage }
     ensures asked { (run : PlainRun) (payload : List (List ℕ)) (counts : List VolumeCount) → AsksAtCheckpoint run payload counts }
 {}
 
-/// The text of a request has at most `READER_LIMIT` bytes, so that with spare room for so many none is refused for want of
-/// memory.
+/// The text of a request has at most `READER_LIMIT` bytes. With that much spare room no request
+/// fails for lack of memory.
 ///
-/// It does nothing: its contract is a law of the definitions.
+/// The function does nothing: its contract is a law of the definitions.
 pub fn short_requests()
     ensures { (run : PlainRun) (at : ℕ × ℕ) (step : Step) (request : PlainRequest) → IsShapedAs run at step request →
         IsTextOf (request_text request) request → length (request_text request) ≤ READER_LIMIT }
 {}
 
-/// What was sent is what was appended: nothing at the start of an attempt, and at each step that a reply leads to one request
-/// more, that of the step before; also where the reply counts the volume.
+/// The requests that were sent are those that were appended, in order. At the start of an attempt
+/// there are none. When a reply continues the attempt, one more was sent: the request that the
+/// reply answers. The same holds if the reply counts the volume.
 ///
-/// It does nothing: its contract is a law of the definitions.
+/// The function does nothing: its contract is a law of the definitions.
 pub fn sent_in_order()
     ensures none { (run : PlainRun) (payload : List (List ℕ)) (counts : List VolumeCount) → sent_before run payload counts Open ≡ [] }
     ensures next { (run : PlainRun) (payload : List (List ℕ)) (counts : List VolumeCount) → SendsNext run payload counts }
     ensures counted { (run : PlainRun) (payload : List (List ℕ)) (counts : List VolumeCount) → SendsLast run payload counts }
 {}
 
-/// From the close on nothing fails: whatever is heard there ends the attempt. Before it bytes that are no reply fail it,
-/// and so does the end of the connection.
+/// From the close on nothing fails: anything that the client receives then ends the attempt. Before
+/// the close, bytes that are no reply fail the attempt, and so does the end of the connection.
 ///
-/// It does nothing: its contract is a law of the definitions.
+/// The function does nothing: its contract is a law of the definitions.
 pub fn after_the_count()
     ensures close { (run : PlainRun) (counts : List VolumeCount) (first : ℕ) (heard : Received) →
         outcome run counts first Close heard ≡ Ended }
@@ -115,10 +123,11 @@ pub fn after_the_count()
         outcome run counts first step End ≡ Fails ConnectionEnded }
 {}
 
-/// Bytes may come in any pieces: one piece and then another leave a client where the two as one would. An attempt that
-/// fails, by bytes or by the end of the connection, leaves the counts as they were.
+/// Bytes may come in any pieces: feeding one piece and then another has the same effect as feeding
+/// both as one. An attempt that fails, by bytes or by the end of the connection, leaves the counts
+/// as they were.
 ///
-/// It does nothing: its contract is a law of the definitions.
+/// The function does nothing: its contract is a law of the definitions.
 pub fn fed_in_pieces()
     ensures pieces { (old middle new : Standing) (bytes p q : List ℕ) (a b : Progress) → Feeds old bytes p a middle →
         FeedsNext middle bytes p q b new → (c : Progress) × Feeds old bytes (p ++ q) c new }
@@ -127,11 +136,12 @@ pub fn fed_in_pieces()
     ensures cut { (old new : Standing) (fault : AttemptFault) → CutAt old.stage old (Failed fault) new → new.counts ≡ old.counts }
 {}
 
-/// Bytes that are fed and the end of a connection leave a client in its run, with what it had counted, and bytes with one
-/// volume more at most; the end counts nothing. A client that is finished stays so, and one that is lawful stays lawful.
-/// What is told is where it stands then. Between attempts one of a lawful run whose counts are in order is lawful.
+/// Feeding bytes, or the end of a connection, keeps the client's run and its counts. Bytes add at
+/// most one count, and the end adds none. A finished client stays finished, and a lawful one stays
+/// lawful. The progress that is returned agrees with the stage that the client is then in. Between
+/// attempts a client is lawful if its run is within its limits and its counts are in order.
 ///
-/// It does nothing: its contract is a law of the definitions.
+/// The function does nothing: its contract is a law of the definitions.
 pub fn same_run()
     ensures fed { (old new : Standing) (bytes piece : List ℕ) (progress : Progress) → Feeds old bytes piece progress new →
         (more : List VolumeCount) × GoesOnWith old new more }
@@ -148,10 +158,11 @@ pub fn same_run()
         IsOver run counts at → IsLawful at }
 {}
 
-/// The text of a checkpoint of a lawful client spells its run and its counts, and no others, and no line of it is at fault: what
-/// is resumed from it has that run and those counts, and is refused for want of memory alone.
+/// The checkpoint text of a lawful client is the text of its run and its counts, and of no others.
+/// No line of it is bad. A client that is resumed from it has that run and those counts, and
+/// resuming fails only if out of memory.
 ///
-/// It does nothing: its contract is a law of the definitions.
+/// The function does nothing: its contract is a law of the definitions.
 pub fn resumes()
     ensures spelled { (at : Standing) → IsLawful at → SpellsCheckpoint (checkpoint_text at.run at.counts) at.run at.counts }
     ensures alone { (at : Standing) (run : PlainRun) (counts : List VolumeCount) → IsLawful at →

@@ -1,4 +1,4 @@
-//! The run, what is counted of it, and the stage: what a client's requests and counts depend on.
+//! The run, its counts and the stage, on which a client's requests and counts depend.
 ghost use Rattle.std.specs.Prelude.{◌≡◌, ℕ, ◌+◌, ◌<◌, false, List, [], length, OnErr, OnOk, None};
 ghost use Rattle.rmt_wire.specs.Reply.{PlainReply};
 ghost use Rattle.rmt_wire.specs.ReplyReader as readers;
@@ -22,7 +22,7 @@ use crate::{Answer, AttemptFault, Progress, Run, StartFault, VolumeCount};
 use std::alloc::Global;
 use std::marker::Model;
 
-/// The run, the volumes that are counted, and the stage.
+/// The run, the counted volumes, and the stage.
 #[derive(Drop)]
 pub(crate) struct Ledger {
     run: Run,
@@ -45,7 +45,7 @@ impl Model for Ledger {
 }
 
 impl Ledger {
-    /// Nothing is counted.
+    /// Makes a ledger with nothing counted, in stage `Ready`.
     pub(crate) fn new(alloc: Global, run: Run) -> Ledger
         ensures { result.at ≡ standing run [] stages.Ready }
     {
@@ -56,7 +56,7 @@ impl Ledger {
         }
     }
 
-    /// These volumes are counted, and no attempt is under way.
+    /// Makes a ledger with these counted volumes, in no attempt.
     pub(crate) fn resumed(run: Run, counted: Vec<VolumeCount>) -> Ledger
         requires run { IsRun run }
         requires volumes { AreVolumes run 1 0 counted.items }
@@ -70,18 +70,21 @@ impl Ledger {
         }
     }
 
+    /// Returns the run.
     pub(crate) fn run(&self) -> &Run
         ensures { result.now ≡ self.now.at.run }
     {
         &self.run
     }
 
+    /// Returns the counted volumes, in order.
     pub(crate) fn counted(&self) -> &[VolumeCount]
         ensures { result.now ≡ self.now.at.counts }
     {
         &self.counted
     }
 
+    /// Returns the stage.
     pub(crate) fn stage(&self) -> Stage
         ensures value { result ≡ self.now.at.stage }
         ensures lawful { IsLawful self.now.at }
@@ -90,14 +93,17 @@ impl Ledger {
         self.stage
     }
 
-    /// The next volume and its first block.
+    /// Returns the next volume and its first block.
     pub(crate) fn checkpoint(&self) -> (u32, u32)
         ensures { result ≡ checkpoint_of self.now.at.counts }
     {
         checkpoint(&self.run, &self.counted)
     }
 
-    /// Starts an attempt, with room for its count.
+    /// Starts an attempt, and reserves the room for its count.
+    ///
+    /// Returns `WrongState` unless the stage is `Ready`, and `OutOfMemory` if the allocation fails.
+    /// Nothing has changed then.
     pub(crate) fn start(&mut self) -> Result<(), StartFault>
         ensures started { StartedAt self.old.at.stage self.old.at self.old.room result self.new.at }
         ensures room { OnOk result (0 < self.new.room) }
@@ -113,7 +119,7 @@ impl Ledger {
         Ok(())
     }
 
-    /// Takes the operator's answer.
+    /// Takes the operator's answer. Returns `WrongState` unless the stage is `Asking`.
     pub(crate) fn answer(&mut self, answer: Answer) -> Result<(), StartFault>
         ensures answered { AnsweredAt self.old.at.stage self.old.at answer result self.new.at }
         ensures slots { self.new.room + length self.new.at.counts ≡ self.old.room + length self.old.at.counts }
@@ -155,7 +161,7 @@ impl Ledger {
         self.come_to(outcome, more)
     }
 
-    /// Hears bytes at a step that are no reply, or that nobody waits for.
+    /// Takes bytes, at a step, that are no reply or that come while no reply is awaited.
     #[tactic(auto, using(crate::proofs::Fits::noise_at, crate::proofs::Fed::noise_fed))]
     pub(crate) fn noise(&mut self, step: Step) -> Progress
         requires at { IsAtStep self.old.at.stage step }
@@ -170,7 +176,7 @@ impl Ledger {
         self.come_to(after_noise(step), false)
     }
 
-    /// Learns at a step that the connection has ended.
+    /// Takes the end of the connection at a step.
     #[tactic(auto, using(crate::proofs::Fits::end_at, crate::proofs::Fed::end_fed))]
     pub(crate) fn end(&mut self, step: Step) -> Progress
         requires at { IsAtStep self.old.at.stage step }
@@ -185,7 +191,8 @@ impl Ledger {
         self.come_to(after_end(step), false)
     }
 
-    /// Stands where an outcome leads. `more` says that bytes follow the reply that it came of.
+    /// Changes the stage and the counts as an outcome says. `more`: bytes follow the reply that led
+    /// to it.
     #[tactic(auto, using(crate::proofs::Fed::becomes_fed, crate::proofs::Fed::becomes_run))]
     fn come_to(&mut self, outcome: Outcome, more: bool) -> Progress
         requires { OutcomeFits self.old.at.run self.old.at.counts self.old.room outcome }
@@ -204,7 +211,7 @@ impl Ledger {
         }
     }
 
-    /// Is to send the request of this step.
+    /// Changes the stage: the request of this step is to be sent.
     fn send(&mut self, step: Step) -> Progress
         requires { OutcomeFits self.old.at.run self.old.at.counts self.old.room (outcomes.GoesOn step) }
         ensures becomes { Becomes self.old.at (outcomes.GoesOn step) false result self.new.at }
@@ -214,7 +221,7 @@ impl Ledger {
         Progress::Send
     }
 
-    /// The attempt fails.
+    /// Fails the attempt. The stage is `Asking` then.
     pub(crate) fn fail(&mut self, fault: AttemptFault) -> Progress
         requires { IsRunLeft self.old.at.run self.old.at.counts }
         ensures failed { (result ≡ moved.Failed fault) × (self.new.at ≡ standing self.old.at.run self.old.at.counts stages.Asking) }
@@ -224,7 +231,8 @@ impl Ledger {
         Progress::Failed(fault)
     }
 
-    /// Counts the volume, which ends before this block. Where bytes follow, the attempt is over.
+    /// Counts the volume, which ends before block `next`. If more bytes follow the reply, the
+    /// attempt is over.
     #[tactic(auto, using(crate::proofs::Checkpoint::volumes_to, crate::proofs::Checkpoint::counted_some))]
     fn count(&mut self, next: u32, more: bool) -> Progress
         requires { OutcomeFits self.old.at.run self.old.at.counts self.old.room (outcomes.Counted next) }
@@ -246,7 +254,7 @@ impl Ledger {
         Progress::Send
     }
 
-    /// The attempt is over.
+    /// Ends the attempt. The stage is `Finished` or `Ready` then.
     pub(crate) fn finish(&mut self) -> Progress
         ensures over { (result ≡ moved.Ended) × IsOver self.old.at.run self.old.at.counts self.new.at }
         ensures slots { self.new.room + length self.new.at.counts ≡ self.old.room + length self.old.at.counts }
@@ -256,7 +264,7 @@ impl Ledger {
     }
 }
 
-/// Where an attempt that is over leads.
+/// Returns the stage after an attempt that is over: `Finished` if the run is covered, else `Ready`.
 #[tactic(auto, using(crate::proofs::Checkpoint::left_of))]
 fn over(run: &Run, counts: &[VolumeCount]) -> Stage
     requires run { IsRun run.now }

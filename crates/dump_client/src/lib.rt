@@ -1,10 +1,11 @@
-//! The client's side of a dump to a remote tape (dump(8), rmt(8)): the requests that write a run's volumes, what the
-//! replies lead to, and when a volume is counted.
+//! The client's side of a dump to a remote tape (dump(8), rmt(8)). It makes the requests that write
+//! a run's volumes, reads the replies, and counts the volumes that are written.
 //!
-//! `Run` says what is dumped, to which drive, and in how many blocks. `Blocks` is where these are read from, and
-//! `ListBlocks` has them in memory. `Client` makes the requests of one attempt after the other and hears the replies: it
-//! counts a volume when MTOFFL was answered as done, and by nothing else. It carries no bytes itself.
-//! `Client::checkpoint_text` appends its run and its counts as a text, of which `Client::resume` makes a client.
+//! `Run` holds the parameters of a dump. `Blocks` is the source of its blocks, and `ListBlocks` is
+//! a source in memory. `Client` makes the requests of one attempt after the other and takes the
+//! replies. It counts a volume when the server replies that MTOFFL was done, and in no other case.
+//! It opens no connection: the caller carries the bytes. `Client::checkpoint_text` appends its run
+//! and its counts as a text, and `Client::resume` makes a client from one.
 #![tactic(auto)]
 
 mod client;

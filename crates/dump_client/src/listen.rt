@@ -1,4 +1,4 @@
-//! What comes to a client that waits for a reply.
+//! Reads the replies that a client waits for.
 ghost use Rattle.std.specs.Prelude.{◌≡◌, ℕ, List, ◌++◌, Some};
 ghost use Rattle.rmt_wire.specs.Lent.{plain_reply};
 ghost use Rattle.rmt_wire.specs.Reply.{Wanted};
@@ -10,29 +10,30 @@ use crate::{Run, VolumeCount};
 use dump_run::label;
 use rmt_wire::{Reply, ReplyReader, WireFault};
 
-/// A reply without its text and its bytes: what a client looks at.
+/// A reply without its text and its bytes: the part of it on which a client depends.
 #[derive(Clone, Copy)]
 pub(crate) enum ReplySummary {
-    /// The number that an operation answers.
+    /// The number that an operation returned.
     Number(u32),
-    /// Bytes of a record came: the counted volume whose label they are, if they are one.
+    /// The bytes of a record: the counted volume whose label they are, if there is one.
     Looked(Option<u32>),
     /// The number of an error.
     Error(u32),
 }
 
-/// What bytes came to where a reply is waited for.
+/// The result of the bytes that came while a reply is awaited.
 #[derive(Clone, Copy)]
 pub(crate) enum FeedResult {
-    /// They are a beginning of a reply.
+    /// They are the beginning of a reply.
     Waits,
-    /// A reply, and whether more bytes follow it.
+    /// They begin with a reply. `more`: further bytes follow it.
     Reply { summary: ReplySummary, more: bool },
-    /// They begin no reply.
+    /// They do not begin a reply.
     Noise,
 }
 
-/// The volume of the first of these counts of the run whose label the bytes are. It takes no memory.
+/// Returns the number of the first of these counted volumes whose label the bytes are, or None. It
+/// allocates nothing.
 fn counted_label(run: &Run, counts: &[VolumeCount], bytes: &[u8]) -> Option<u32>
     ensures { result ≡ script.counted_label run.now counts.now bytes.now }
 {
@@ -44,7 +45,7 @@ fn counted_label(run: &Run, counts: &[VolumeCount], bytes: &[u8]) -> Option<u32>
     None
 }
 
-/// A reply without its text and its bytes, to a client of this run with these counts.
+/// Summarizes a reply for a client of this run with these counts.
 fn without_text(reply: Reply<'_>, run: &Run, counts: &[VolumeCount]) -> ReplySummary
     ensures { IsSummary run.now counts.now (plain_reply reply.entry) result }
 {
@@ -55,7 +56,8 @@ fn without_text(reply: Reply<'_>, run: &Run, counts: &[VolumeCount]) -> ReplySum
     }
 }
 
-/// What the reader answers of the bytes that it holds while a reply is waited for.
+/// Reads the reply that is awaited from the bytes that the reader holds. Returns None if it is not
+/// complete, and the reader's fault if the bytes are no reply.
 fn hear(
     reader: &mut ReplyReader,
     run: &Run,
@@ -70,12 +72,13 @@ fn hear(
     }
 }
 
-/// Pushes a piece of the stream to a reader that waits for a reply, up to the first one. Bytes of a record are compared
-/// with the labels of the volumes that are counted.
+/// Pushes a piece of the stream to a reader that waits for a reply, up to the end of the first
+/// reply. Bytes of a record are compared with the labels of the counted volumes.
 ///
-/// What was pushed before is a beginning of a reply, and the reader has room. After `Waits` the same is so with the whole
-/// piece. After a reply that no byte follows, the reader waits for nothing and holds nothing. After any other answer it may
-/// have taken a part of the piece only. It takes no memory.
+/// The bytes pushed before must be a beginning of a reply, and the reader must have room. After
+/// `Waits` this is so again, with the whole piece. After a reply that no byte follows, the reader
+/// waits for nothing and holds nothing. After any other result it may have taken only part of the
+/// piece. It allocates nothing.
 pub(crate) fn listen(
     reader: &mut ReplyReader,
     run: &Run,

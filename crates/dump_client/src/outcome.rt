@@ -1,4 +1,4 @@
-//! What comes next in an attempt.
+//! Decides what comes next in an attempt.
 ghost use Rattle.std.specs.Prelude.{◌≡◌, ◌<◌, ℕ, List};
 ghost use Rattle.rmt_wire.specs.Reply.{PlainReply};
 ghost use Rattle.dump_client.specs.Listening.{IsSummary};
@@ -13,8 +13,8 @@ use crate::{AttemptFault, Run};
 use dump_run::LABEL_BYTES;
 use rmt_wire::errno::ENOSPC;
 
-/// What comes next in an attempt: a request, its failure, the count of its volume, which ends before this block, or its
-/// end.
+/// The next event of an attempt: another step, a failure, the count of its volume, or its end.
+/// `Counted` has the first block that is not in the volume.
 #[derive(Clone, Copy)]
 pub(crate) enum Outcome {
     GoesOn(Step),
@@ -23,7 +23,7 @@ pub(crate) enum Outcome {
     Ended,
 }
 
-/// The block of this number, or the mark where none is left.
+/// Returns the write of block `number`, or the mark if no block is left.
 fn block_or_mark(run: &Run, number: u32) -> Step
     ensures { result ≡ spec.block_or_mark run.now number }
 {
@@ -34,7 +34,7 @@ fn block_or_mark(run: &Run, number: u32) -> Step
     }
 }
 
-/// What follows an operation of the tape that was done.
+/// Returns what follows a tape operation that was done.
 fn after_done(op: TapeOp) -> Outcome
     ensures { result ≡ spec.after_done op }
 {
@@ -46,7 +46,8 @@ fn after_done(op: TapeOp) -> Outcome
     }
 }
 
-/// What follows a step that was done: this and `after_done` alone know the order of the requests.
+/// Returns what follows a step that was done. Only this function and `after_done` know the order of
+/// the requests.
 fn after_step(run: &Run, first: u32, step: Step) -> Outcome
     requires run { IsRun run.now }
     requires block { spec.IsBelow run.now step }
@@ -62,7 +63,8 @@ fn after_step(run: &Run, first: u32, step: Step) -> Outcome
     }
 }
 
-/// What follows where the reel has no room for a record: its end, once a block was written.
+/// Returns what follows if the reel has no room for a record. If a block of the volume was written,
+/// that is the end of the reel.
 fn at_end_of_reel(first: u32, step: Step) -> Outcome
     ensures { result ≡ spec.at_end_of_reel first step }
 {
@@ -74,7 +76,7 @@ fn at_end_of_reel(first: u32, step: Step) -> Outcome
     }
 }
 
-/// What follows the number `n`, in reply to a write of `size` bytes.
+/// Returns what follows if the server replies with number `n` to a write of `size` bytes.
 fn after_write(run: &Run, first: u32, step: Step, size: usize, n: u32) -> Outcome
     requires run { IsRun run.now }
     requires block { spec.IsBelow run.now step }
@@ -89,7 +91,7 @@ fn after_write(run: &Run, first: u32, step: Step, size: usize, n: u32) -> Outcom
     }
 }
 
-/// What follows a number.
+/// Returns what follows if the server replies with a number.
 fn after_number(run: &Run, first: u32, step: Step, n: u32) -> Outcome
     requires run { IsRun run.now }
     requires block { spec.IsBelow run.now step }
@@ -104,7 +106,7 @@ fn after_number(run: &Run, first: u32, step: Step, n: u32) -> Outcome
     }
 }
 
-/// What follows an error.
+/// Returns what follows if the server replies with error `n`.
 fn after_error(first: u32, step: Step, n: u32) -> Outcome
     ensures { result ≡ spec.after_error first step n }
 {
@@ -115,7 +117,8 @@ fn after_error(first: u32, step: Step, n: u32) -> Outcome
     }
 }
 
-/// What follows the bytes of a record: at the look, where they are the label of no counted volume, the attempt goes on.
+/// Returns what follows the bytes of a record. At the look the attempt continues if they are not
+/// the label of a counted volume.
 fn after_data(run: &Run, first: u32, step: Step, counted: Option<u32>) -> Outcome
     requires run { IsRun run.now }
     ensures { (counts : List VolumeCount) (bytes : List ℕ) → counted ≡ counted_label run.now counts bytes →
@@ -128,7 +131,7 @@ fn after_data(run: &Run, first: u32, step: Step, counted: Option<u32>) -> Outcom
     }
 }
 
-/// What follows a reply.
+/// Returns what follows a reply.
 pub(crate) fn after_reply(run: &Run, first: u32, step: Step, summary: ReplySummary) -> Outcome
     requires run { IsRun run.now }
     requires block { spec.IsBelow run.now step }
@@ -142,7 +145,7 @@ pub(crate) fn after_reply(run: &Run, first: u32, step: Step, summary: ReplySumma
     }
 }
 
-/// What follows bytes that are no reply, or that nobody waits for.
+/// Returns what follows bytes that are no reply, or that come while no reply is awaited.
 pub(crate) fn after_noise(step: Step) -> Outcome
     ensures { result ≡ spec.after_noise step }
 {
@@ -152,7 +155,7 @@ pub(crate) fn after_noise(step: Step) -> Outcome
     }
 }
 
-/// What follows the end of the connection.
+/// Returns what follows the end of the connection.
 pub(crate) fn after_end(step: Step) -> Outcome
     ensures { result ≡ spec.after_end step }
 {

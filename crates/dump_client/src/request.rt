@@ -1,4 +1,4 @@
-//! The requests of an attempt.
+//! Appends the requests of an attempt.
 ghost use Rattle.std.specs.Prelude.{◌≡◌, ◌↔◌, ℕ, ◌+◌, ◌<◌, ◌≤◌, true, List, ◌++◌, length, take, IfOk, OnErr};
 ghost use Rattle.std.specs.Vec.{vec_capacity};
 ghost use Rattle.rmt_wire.specs.Lent.{plain_request};
@@ -18,8 +18,8 @@ use rmt_wire::fcntl::O_RDWR;
 use rmt_wire::{RECORD_LIMIT, Request, push_request, push_write_line};
 use std::alloc::AllocError;
 
-/// Appends the request of a step, or nothing: a block is read from the source, which is told of a volume where its label
-/// is written.
+/// Appends the request of a step, or nothing if it fails. A block is read from the source. If the
+/// step is the label, the source's `begin_volume` is called.
 pub(crate) fn push_step<B: Blocks>(
     ledger: &Ledger,
     step: Step,
@@ -46,7 +46,7 @@ pub(crate) fn push_step<B: Blocks>(
     }
 }
 
-/// Appends the open of the run's device, for reading and writing.
+/// Appends an open of the run's device, for reading and writing.
 fn push_open(run: &Run, out: &mut Vec<u8>) -> Result<(), AttemptFault>
     ensures { IsRequestPushed (Open run.now.device O_RDWR) (vec_capacity out.old) out.old.items result out.new.items }
 {
@@ -57,7 +57,7 @@ fn push_open(run: &Run, out: &mut Vec<u8>) -> Result<(), AttemptFault>
     push(&request, out)
 }
 
-/// Appends the read of the first record, of as many bytes as a label has.
+/// Appends a read of the first record, of as many bytes as a label has.
 fn push_look(out: &mut Vec<u8>) -> Result<(), AttemptFault>
     ensures { IsRequestPushed (Read label_bytes) (vec_capacity out.old) out.old.items result out.new.items }
 {
@@ -65,7 +65,7 @@ fn push_look(out: &mut Vec<u8>) -> Result<(), AttemptFault>
     push(&Request::Read { count }, out)
 }
 
-/// Appends the write of the next volume's label, and tells the source of the volume.
+/// Appends a write of the next volume's label, and calls the source's `begin_volume`.
 fn push_label<B: Blocks>(
     ledger: &Ledger,
     source: &mut B,
@@ -80,10 +80,10 @@ fn push_label<B: Blocks>(
     push(&Request::Write { bytes: &label }, out)
 }
 
-/// Appends the write of a block, which is read from the source into its place there.
+/// Appends a write of a block. The source reads the block into its place in `out`.
 ///
-/// Nothing is appended where the read fails, nor where the room for the write is refused. In that case the source is not
-/// read.
+/// If the read fails, or if an allocation for the write fails, nothing is appended. In the second
+/// case the source is not read.
 fn push_block<B: Blocks>(
     ledger: &Ledger,
     number: u32,
@@ -114,7 +114,7 @@ fn push_block<B: Blocks>(
     }
 }
 
-/// Appends the write of so many bytes with zeros in their place, or nothing. Answers where the zeros begin.
+/// Appends a write of `size` zero bytes, or nothing. Returns the index of the first zero byte.
 fn push_blank(size: usize, out: &mut Vec<u8>) -> Result<usize, AllocError>
     requires { size ≤ RECORD_LIMIT }
     ensures place { IfOk result (λ start. start + size ≡ length out.new.items) }
@@ -139,7 +139,7 @@ fn push_op(op: u32, out: &mut Vec<u8>) -> Result<(), AttemptFault>
     push(&Request::Op { op, count: 1 }, out)
 }
 
-/// Appends a request, or nothing.
+/// Appends a request, or nothing if an allocation fails.
 fn push(request: &Request<'_>, out: &mut Vec<u8>) -> Result<(), AttemptFault>
     requires { requests.HasSpelling (plain_request request.now) }
     ensures { IsRequestPushed (plain_request request.now) (vec_capacity out.old) out.old.items result out.new.items }

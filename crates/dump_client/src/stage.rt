@@ -1,11 +1,12 @@
-//! Where a client stands.
+//! The stages and states of a client.
 ghost use Rattle.std.specs.Prelude.{◌≡◌};
 ghost use Rattle.dump_client.specs.Standing.{state_of};
 
 use crate::AttemptFault;
 use crate::step::Step;
 
-/// Where a client stands: between attempts, or in one, with a request that is to be sent or was sent.
+/// The stage of a client: between attempts, or in an attempt with a request that is to be sent or
+/// was sent.
 #[derive(Clone, Copy)]
 pub(crate) enum Stage {
     Ready,
@@ -16,24 +17,24 @@ pub(crate) enum Stage {
     Abandoned,
 }
 
-/// What a client waits for.
+/// The state of a client: what it waits for.
 #[derive(Clone, Copy, Debug, PartialEq, Eq)]
 pub enum State {
     /// An attempt can start.
     Ready,
     /// The next request can be sent.
     ToSend,
-    /// A reply is to come.
+    /// The client waits for a reply.
     Waiting,
-    /// An attempt failed: the operator is to answer whether it is tried again.
+    /// An attempt failed. The operator decides whether it is tried again.
     Asking,
     /// All blocks are counted.
     Finished,
-    /// The operator gave the run up.
+    /// The operator gave up the run.
     Abandoned,
 }
 
-/// What the operator answers after an attempt failed.
+/// The operator's answer after an attempt failed.
 #[derive(Clone, Copy, Debug, PartialEq, Eq)]
 pub enum Answer {
     /// The volume is tried again.
@@ -42,10 +43,10 @@ pub enum Answer {
     Abandon,
 }
 
-/// What came of bytes, or of the end of a connection.
+/// The result of bytes, or of the end of a connection.
 #[derive(Clone, Copy, Debug, PartialEq, Eq)]
 pub enum Progress {
-    /// The reply has not come whole.
+    /// The reply is not complete.
     Waiting,
     /// The next request can be sent.
     Send,
@@ -58,7 +59,7 @@ pub enum Progress {
 }
 
 impl Stage {
-    /// The same, as it is told.
+    /// Returns the state that a caller sees.
     pub(crate) fn state(self) -> State
         ensures { result ≡ state_of self }
     {

@@ -1,4 +1,4 @@
-//! The steps of an attempt, a request each.
+//! The steps of an attempt. Each is one request.
 ghost use Rattle.std.specs.Prelude.{◌≡◌};
 ghost use Rattle.rmt_wire.specs.Lent.{plain_wanted};
 ghost use Rattle.dump_client.specs.Script.{number_of, wanted_of};
@@ -7,8 +7,9 @@ use dump_run::LABEL_BYTES;
 use rmt_wire::Wanted;
 use rmt_wire::mtio::{MTOFFL, MTREW, MTWEOF};
 
-/// An operation of the tape (mtio), of count 1. The tape is rewound before the first record is looked at, and again after
-/// it. `Mark` and `Unload` carry the first block that is not written, with which the volume ends.
+/// A tape operation (mtio) of count 1. The tape is rewound before the look at the first record, and
+/// again after it. `Mark` and `Unload` carry the first block that is not written: the volume ends
+/// before it.
 #[derive(Clone, Copy, PartialEq, Eq)]
 pub(crate) enum TapeOp {
     Rewind,
@@ -18,7 +19,7 @@ pub(crate) enum TapeOp {
 }
 
 impl TapeOp {
-    /// The number of the operation.
+    /// Returns the number of the operation.
     pub(crate) fn number(self) -> u32
         ensures { result ≡ number_of self }
     {
@@ -42,7 +43,7 @@ pub(crate) enum Step {
 }
 
 impl Step {
-    /// The kind of reply that is waited for.
+    /// Returns the kind of reply that the step waits for.
     pub(crate) fn wanted(self) -> Wanted
         ensures { plain_wanted result ≡ wanted_of self }
     {

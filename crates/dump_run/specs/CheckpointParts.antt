@@ -1,4 +1,4 @@
--- What functions that read a checkpoint find. No public contract needs it.
+-- The results of the functions that read a checkpoint. No public contract needs it.
 use Rattle.std.specs.Prelude.{◌≡◌, ◌≢◌, ◌⊎◌, ℕ, ◌<◌, ◌≤◌, ◌+◌, take, List, ◌∷◌, ◌++◌, map, All, codes, length, get_or, decimal, Option, Some, None, Result, Ok, Err, Vec}
 use Rattle.std.specs.Global.{Global}
 use Rattle.std.specs.Int.{IsInRange}
@@ -12,56 +12,58 @@ use Rattle.dump_run.specs.declared.fault.ResumeFault.{ResumeFault}
 use Rattle.dump_run.specs.declared.fault.ResumeFault.TheVariants.{BadLine, NotInOrder, OutOfMemory}
 use Rattle.dump_run.specs.declared.count.VolumeCount.{VolumeCount}
 
--- the byte is none of these
+-- the text does not contain the byte
 abbrev pub Lacks : ℕ → List ℕ → Type 0
 Lacks byte text = (i : ℕ) → i < length text → get_or text i 0 ≢ byte
 
--- no line feed is in it
+-- the text contains no line feed
 abbrev pub NoFeed : List ℕ → Type 0
 NoFeed text = Lacks line_feed text
 
--- what stands before the first such byte, and after it
+-- the text before the first such byte and after it, or none if there is no such byte
 abbrev pub IsCut : ℕ → List ℕ → Option (Bor (List ℕ) × Bor (List ℕ)) → Type 0
 IsCut byte text None = Lacks byte text
 IsCut byte text (Some p) = Lacks byte p.0.now × (text ≡ p.0.now ++ byte ∷ p.1.now)
 
--- a number in this range, without leading zeros
+-- the text is a number in this range, without leading zeros; or none
 abbrev pub IsNumber : ℕ → ℕ → List ℕ → Option ℕ → Type 0
 IsNumber least most text None = (n : ℕ) → IsInRange least most n → text ≢ decimal n
 IsNumber least most text (Some n) = IsInRange least most n × (text ≡ decimal n)
 
--- the bytes begin with a line of this word and a text of this kind; or with none
+-- the bytes begin with a line of this keyword and a text of this kind, or with no such line
 abbrev pub FindsText : List ℕ → (List ℕ → Type 0) → List ℕ → Option (Bor (List ℕ) × Bor (List ℕ)) → Type 0
 FindsText word kind bytes None = (text more : List ℕ) → kind text → bytes ≢ (word ++ text) ++ line_feed ∷ more
 FindsText word kind bytes (Some p) = kind p.0.now × (bytes ≡ (word ++ p.0.now) ++ line_feed ∷ p.1.now)
 
+-- the bytes begin with a line of this keyword and a number in this range, or with no such line
 abbrev pub FindsNumber : List ℕ → ℕ → ℕ → List ℕ → Option (ℕ × Bor (List ℕ)) → Type 0
 FindsNumber word least most bytes None =
     (n : ℕ) (more : List ℕ) → IsInRange least most n → bytes ≢ (word ++ decimal n) ++ line_feed ∷ more
 FindsNumber word least most bytes (Some p) = IsInRange least most p.0 × (bytes ≡ (word ++ decimal p.0) ++ line_feed ∷ p.1.now)
 
--- the numbers of a count
+-- the text is the numbers of a count, or of none
 abbrev pub IsCountText : List ℕ → Option VolumeCount → Type 0
 IsCountText text None = (c : VolumeCount) → AreNumbers c → text ≢ count_text c
 IsCountText text (Some c) = AreNumbers c × (text ≡ count_text c)
 
+-- the bytes begin with the line of a count, or with no such line
 abbrev pub FindsCount : List ℕ → Option (VolumeCount × Bor (List ℕ)) → Type 0
 FindsCount bytes None = (c : VolumeCount) (more : List ℕ) → AreNumbers c → bytes ≢ count_line c ++ line_feed ∷ more
 FindsCount bytes (Some p) = AreNumbers p.0 × (bytes ≡ count_line p.0 ++ line_feed ∷ p.1.now)
 
--- the first line is the title
+-- the first line is the title, or it is not
 abbrev pub FindsTitle : List ℕ → Option (Bor (List ℕ)) → Type 0
 FindsTitle bytes None = (line more : List ℕ) → IsLineOf Title line → bytes ≢ line ++ line_feed ∷ more
 FindsTitle bytes (Some rest) = bytes ≡ (codes "rdump 1") ++ line_feed ∷ rest.now
 
--- the lines of a run, or the first that is bad
+-- the bytes begin with the lines of a run, or this line is the first that is bad
 abbrev pub IsHead : List ℕ → Result (PlainRun × Bor (List ℕ)) ResumeFault → Type 0
 IsHead bytes (Ok p) = IsRun p.0 × (bytes ≡ joined (run_lines p.0) ++ p.1.now)
 IsHead bytes (Err (BadLine n)) = HasBadLine bytes n
 IsHead bytes (Err (NotInOrder n)) = ⊥
 IsHead bytes (Err OutOfMemory) = ⊥
 
--- lines of counts up to the end, or the first that is bad
+-- line `n` of the checkpoint is the first count that is bad; the lines before it are counts
 pub record HasBadCount (bytes : List ℕ) (n : ℕ) : Type 0 where
   pub counts : List VolumeCount
   pub rest : List ℕ
@@ -70,19 +72,22 @@ pub record HasBadCount (bytes : List ℕ) (n : ℕ) : Type 0 where
   pub bad : LacksLine Counted rest
   pub number : n ≡ length counts + 9
 
+-- the bytes are the lines of these counts, or this line is the first that is bad, or memory was
+-- exhausted
 abbrev pub AreCounts : List ℕ → Result (Vec VolumeCount Global) ResumeFault → Type 0
 AreCounts bytes (Ok v) = All AreNumbers v.items × (bytes ≡ joined (map count_line v.items))
 AreCounts bytes (Err (BadLine n)) = HasBadCount bytes n
 AreCounts bytes (Err (NotInOrder n)) = ⊥
 AreCounts bytes (Err OutOfMemory) = Unit {0}
 
--- the count is that of the volume of this number, from this block on; it is the first one, or blocks are left for it
+-- the count is volume `volume` from block `first` on; it is the first volume, or blocks are left
+-- for it
 abbrev pub IsNext : ℕ → ℕ → ℕ → VolumeCount → Type 0
 IsNext blocks volume first c =
     (c.volume ≡ volume) × (c.first ≡ first) × (first + c.count ≤ blocks) × ((0 < c.count) ⊎ (blocks ≡ 0))
     × ((volume ≡ 1) ⊎ (first < blocks))
 
--- so many counts are volumes of the run in order, and no more
+-- the first `n` counts are volumes of the run in order, and not one more
 abbrev pub AreOrdered : PlainRun → List VolumeCount → ℕ → Type 0
 AreOrdered run counts n =
     (n ≤ length counts) × AreVolumes run 1 0 (take n counts) × (n < length counts → AreVolumes run 1 0 (take (n + 1) counts) → ⊥)

@@ -1,4 +1,5 @@
--- In reading order: Run; Counts (what is counted of it); Checkpoint (both as a text), CheckpointParts; Label, LabelParts, Blocks (what its volumes hold).
+-- In reading order: Run; Counts (its counted volumes); Checkpoint (the text of both),
+-- CheckpointParts; Label, LabelParts; Blocks (the contents of a volume).
 pub mod Run
 pub mod Counts
 pub mod Checkpoint

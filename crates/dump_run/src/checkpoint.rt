@@ -1,4 +1,4 @@
-//! A checkpoint: a run, and what is counted of it, as a text that outlives the process that dumps.
+//! A checkpoint: a run and the volumes counted so far, as a text that outlives the dumping process.
 ghost use Rattle.std.specs.Prelude.{◌≡◌, List, IfOk, IfErr};
 ghost use Rattle.dump_run.specs.Checkpoint.{SpellsCheckpoint, HasResumeFault};
 ghost use Rattle.dump_run.specs.declared.count.VolumeCount.{VolumeCount};
@@ -18,21 +18,25 @@ use order::ordered;
 use std::alloc::Global;
 pub use text::push_checkpoint;
 
-/// A run, and the volumes that are counted of it, in order.
+/// A run, and the volumes of it that are counted, in order.
 #[derive(Drop)]
 pub struct Checkpoint {
-    /// What is dumped, and when.
+    /// The parameters of the dump.
     pub run: Run,
-    /// The volumes that are counted, from the first on.
+    /// The counted volumes, beginning with volume 1.
     pub counts: Vec<VolumeCount>,
 }
 
 impl Checkpoint {
-    /// Reads the text of a checkpoint, as `push_checkpoint` writes it.
+    /// Reads the text of a checkpoint, as `push_checkpoint` writes it. Lines are counted from 1.
     ///
-    /// Answers `BadLine` with the number of the first line that has not its shape, is outside the limits of `Run::new`, or
-    /// is missing; where all lines have their shape, `NotInOrder` with that of the first count that does not follow those
-    /// before it; and `OutOfMemory` where the memory for the counts is refused. Lines are counted from 1.
+    /// Errors:
+    /// - `BadLine(n)`: line `n` is the first that does not have its form, breaks a limit, or is
+    ///   missing. The limits are those of `Run::new`. The numbers of a count are 0 to
+    ///   `BLOCKS_LIMIT`.
+    /// - `NotInOrder(n)`: all lines have their form, and the count on line `n` is the first that
+    ///   does not follow those before it.
+    /// - `OutOfMemory`: an allocation for the counts fails.
     pub fn read(alloc: Global, bytes: &[u8]) -> Result<Checkpoint, ResumeFault>
         ensures spelled { IfOk result (λ c. SpellsCheckpoint bytes.now c.run c.counts.items) }
         ensures refused { IfErr result (HasResumeFault bytes.now) }
@@ -48,8 +52,10 @@ impl Checkpoint {
 }
 
 impl Run {
-    /// The run of the text of a checkpoint. It reads the counts too and gives their memory back, so that it answers the
-    /// faults of `Checkpoint::read`, each where that does.
+    /// Reads the text of a checkpoint, and returns its run alone.
+    ///
+    /// It reads the counts too and frees them. Its errors are those of `Checkpoint::read`, under
+    /// the same conditions.
     pub fn spelled(alloc: Global, bytes: &[u8]) -> Result<Run, ResumeFault>
         ensures spelled { IfOk result (λ run. (counts : List VolumeCount) × SpellsCheckpoint bytes.now run counts) }
         ensures refused { IfErr result (HasResumeFault bytes.now) }

@@ -1,4 +1,4 @@
-//! The label that begins a volume, line by line.
+//! Writes the label that begins a volume.
 
 ghost use Rattle.std.specs.Prelude.{◌≡◌};
 ghost use Rattle.dump_run.specs.Label as labels;
@@ -7,10 +7,10 @@ ghost use Rattle.dump_run.specs.Label.{label_lines};
 use crate::Run;
 use crate::lines::TextLines;
 
-/// The bytes of a label.
+/// The size of a label in bytes.
 pub const LABEL_BYTES: usize = 1024;
 
-/// The lines of the label of a volume of the run, from this block on.
+/// Returns the lines of the label of volume `volume`, which begins at block `first`.
 fn lines_of(run: &Run, volume: u32, first: u32) -> TextLines
     ensures { result ≡ label_lines run.now volume first }
 {
@@ -24,7 +24,10 @@ fn lines_of(run: &Run, volume: u32, first: u32) -> TextLines
     lines
 }
 
-/// The label of a volume of the run, from this block on: its lines, then zero bytes. It takes no memory.
+/// Returns the label of volume `volume` of the run, which begins at block `first`: its lines, then
+/// zero bytes.
+///
+/// `volume` is counted from 1 and `first` from 0. It allocates nothing.
 pub fn label(run: &Run, volume: u32, first: u32) -> [u8; LABEL_BYTES]
     ensures { result ≡ labels.label run.now volume first }
 {

@@ -1,4 +1,4 @@
-//! Laws of the text of a checkpoint and of labels, each the contract of a call that does nothing.
+//! Laws of checkpoint texts and of labels. Each is the contract of a function that does nothing.
 
 ghost use Rattle.std.specs.Prelude.{◌≡◌, ℕ, ◌≤◌, List};
 ghost use Rattle.std.specs.Int.{IsInRange};
@@ -9,10 +9,10 @@ ghost use Rattle.dump_run.specs.declared.count.VolumeCount.{VolumeCount};
 ghost use Rattle.dump_run.specs.declared.fault.ResumeFault.{ResumeFault};
 ghost use Rattle.dump_run.specs.declared.fault.ResumeFault.TheVariants.{OutOfMemory};
 
-/// A text spells one run and one list of counts at most. Of one that spells them no line is at fault, so that it is refused
-/// for want of memory alone.
+/// A text is the checkpoint of at most one run and one list of counts. No line of such a text is
+/// bad, so reading it fails only if out of memory.
 ///
-/// It does nothing: its contract is a law of the definitions.
+/// The function does nothing: its contract is a law of the definitions.
 pub fn one_checkpoint()
     ensures run { (bytes : List ℕ) (r s : PlainRun) (counts others : List VolumeCount) → SpellsCheckpoint bytes r counts →
         SpellsCheckpoint bytes s others → r ≡ s }
@@ -22,9 +22,10 @@ pub fn one_checkpoint()
         SpellsCheckpoint bytes r counts → HasResumeFault bytes fault → fault ≡ OutOfMemory }
 {}
 
-/// A record is the label of one volume at most. The label of a volume of a run is one, and says what the run and the volume are.
+/// A record is the label of at most one volume. The label of each volume of a run is valid, and
+/// contains the run's and the volume's values.
 ///
-/// It does nothing: its contract is a law of the definitions.
+/// The function does nothing: its contract is a law of the definitions.
 pub fn one_label()
     ensures one { (l m : PlainLabel) → IsLabel l → IsLabel m → label_record l ≡ label_record m → l ≡ m }
     ensures lawful { (run : PlainRun) (volume first : ℕ) → IsRun run → IsInRange 1 blocks_limit volume → first ≤ blocks_limit →

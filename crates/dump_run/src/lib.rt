@@ -1,9 +1,10 @@
-//! What a dump to a remote tape is of (dump(8)): a run, the label that begins each of its volumes, and its blocks.
+//! The contents of a dump to a remote tape (dump(8)): a run, the label that begins each of its
+//! volumes, and its blocks.
 //!
-//! `Run` says what is dumped, to which drive, and in how many blocks. `label` is the first record of a volume, and
-//! `VolumeLabel::read` reads one. `Blocks` is
-//! where the blocks are read from, and `ListBlocks` has them in memory. `Checkpoint` is a run and what is counted of it, which
-//! `push_checkpoint` writes as a text and `Checkpoint::read` reads.
+//! `Run` holds the parameters of a dump: the file system, the drive and the number of blocks.
+//! `label` returns the first record of a volume, and `VolumeLabel::read` reads one. `Blocks` is the
+//! source of the blocks, and `ListBlocks` is a source in memory. `Checkpoint` is a run and its
+//! counted volumes. `push_checkpoint` writes it as a text, and `Checkpoint::read` reads it.
 #![tactic(auto)]
 
 mod blocks;

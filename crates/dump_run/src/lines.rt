@@ -1,4 +1,4 @@
-//! Lines of a short text.
+//! Builds the lines of a short text, without allocating.
 
 ghost use Rattle.std.specs.Prelude.{◌≡◌, ◌+◌, ◌-◌, ◌≤◌, ◌++◌, [], length, replicate, decimal};
 ghost use Rattle.dump_run.specs.Label.{line_of, label_bytes};
@@ -7,10 +7,10 @@ use crate::labels::LABEL_BYTES;
 use itoa::Buffer;
 use std::marker::Model;
 
-/// The greatest number of a line, of twelve digits.
+/// The greatest number in a line: twelve digits.
 const LINE_NUMBER_LIMIT: u64 = 999_999_999_999;
 
-// Lines of a text so far, with zero bytes after them. They take no memory.
+// The lines of a text so far, with zero bytes up to `LABEL_BYTES` after them. It allocates nothing.
 #[derive(Drop)]
 pub(crate) struct TextLines {
     bytes: [u8; LABEL_BYTES],
@@ -38,7 +38,7 @@ impl TextLines {
         }
     }
 
-    // Adds these bytes.
+    // Appends `text`.
     pub(crate) fn push(&mut self, text: &[u8])
         requires { length self.old + length text.now ≤ label_bytes }
         ensures text { self.new ≡ self.old ++ text.now }
@@ -49,7 +49,7 @@ impl TextLines {
         self.end = end;
     }
 
-    // Adds the digits of a number.
+    // Appends the decimal digits of a number.
     #[tactic(auto, using(crate::proofs::LabelText::line_number_is_short))]
     pub(crate) fn push_digits(&mut self, number: u64)
         requires limit { number ≤ LINE_NUMBER_LIMIT }
@@ -61,7 +61,7 @@ impl TextLines {
         self.push(digits.format(number).as_bytes());
     }
 
-    // Adds the line of a word and a text.
+    // Appends a line of a keyword, a space and a text.
     pub(crate) fn push_line(&mut self, word: &str, text: &[u8])
         requires { length self.old + length word.now + length text.now + 2 ≤ label_bytes }
         ensures line { self.new ≡ self.old ++ line_of word.now text.now }
@@ -73,7 +73,7 @@ impl TextLines {
         self.push(b"\n");
     }
 
-    // Adds the line of a word and a number.
+    // Appends a line of a keyword, a space and a number.
     #[tactic(auto, using(crate::proofs::LabelText::line_number_is_short))]
     pub(crate) fn push_number(&mut self, word: &str, number: u64)
         requires limit { number ≤ LINE_NUMBER_LIMIT }
@@ -91,7 +91,7 @@ impl TextLines {
         &self.bytes[..self.end]
     }
 
-    // The lines, and zero bytes after them.
+    // Returns the lines, with zero bytes after them.
     pub(crate) fn into_bytes(self) -> [u8; LABEL_BYTES]
         ensures { result ≡ self ++ replicate (label_bytes - length self) 0 }
     {

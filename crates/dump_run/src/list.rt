@@ -1,4 +1,4 @@
-//! Blocks of a payload in memory.
+//! A source of blocks in memory.
 
 ghost use Rattle.std.specs.Prelude.{◌≡◌, ℕ, ◌*◌, ◌<◌, IsTrue, IfOk, [], length, get_or, false};
 ghost use Rattle.std.proofs.Common.{sym, ◌∙◌};
@@ -8,9 +8,9 @@ use crate::{Blocks, SourceFailed};
 use std::alloc::AllocError;
 use std::marker::Model;
 
-/// A whole payload in memory, as blocks of one size, whose reads can be told to fail.
+/// A payload in memory, as blocks of one size. Its reads can be made to fail.
 ///
-/// It always tells its blocks.
+/// Its list of blocks is always known.
 #[derive(Drop)]
 pub struct ListBlocks {
     payload: Vec<u8>,
@@ -32,8 +32,8 @@ impl Model for ListBlocks {
 }
 
 impl ListBlocks {
-    /// This payload as so many blocks of `block_bytes` bytes, as many as it has bytes for and no more. No read fails
-    /// until `trouble` says so.
+    /// Takes `payload` as `blocks` blocks of `block_bytes` bytes. The payload must have exactly
+    /// `blocks * block_bytes` bytes. No read fails until `trouble` is called.
     #[tactic(auto, using(crate::proofs::Cut::length_cut, crate::proofs::Cut::size_cut))]
     pub fn new(payload: Vec<u8>, block_bytes: usize, blocks: u32) -> ListBlocks
         requires { length payload.items ≡ blocks * block_bytes }
@@ -50,14 +50,14 @@ impl ListBlocks {
         }
     }
 
-    /// Sets whether reads fail from now on, until it is set again.
+    /// Sets whether reads fail, from now until the next call.
     pub fn trouble(&mut self, fails: bool)
         ensures { self.new ≡ listed self.old.blocks fails self.old.failures }
     {
         self.troubled = fails;
     }
 
-    // The bytes of the block of this number.
+    // Returns the bytes of block `block`.
     #[tactic(auto, using(crate::proofs::Cut::length_cut, crate::proofs::Cut::block_at, crate::proofs::Cut::block_within))]
     fn part(&self, block: u32) -> &[u8]
         requires { block < length self.now.blocks }
@@ -69,9 +69,10 @@ impl ListBlocks {
 }
 
 impl Clone for ListBlocks {
-    /// The same payload, whose reads fail where those of this one do, with as many failures.
+    /// Returns a copy with the same payload, the same injected fault and the same number of
+    /// failures.
     ///
-    /// Fails only where memory is refused.
+    /// Fails only if an allocation fails.
     fn clone(&self) -> Result<ListBlocks, AllocError>
         ensures { IfOk result (λ b. b ≡ self.now) }
     {

@@ -1,11 +1,11 @@
-//! A short text in a fixed row.
+//! A short text in an array of fixed size.
 
 ghost use Rattle.std.specs.Prelude.{◌≡◌, ◌≤◌, length};
 
 use rmt_wire::LINE_LIMIT;
 use std::marker::Model;
 
-// A text of at most so many bytes as a line has, which takes no memory.
+// A text of at most `LINE_LIMIT` bytes, which are 255. It allocates nothing.
 #[derive(Drop)]
 pub(crate) struct Row {
     bytes: [u8; LINE_LIMIT],

@@ -11,14 +11,15 @@ use rmt_wire::{LINE_LIMIT, NUMBER_LIMIT, RECORD_LIMIT};
 use std::alloc::AllocError;
 use std::marker::Model;
 
-/// The most blocks of a run.
+/// The greatest number of blocks in a run.
 pub const BLOCKS_LIMIT: u32 = NUMBER_LIMIT;
 
 /// The greatest level of a dump.
 pub(crate) const LAST_LEVEL: u64 = 9;
 
-/// What a dump is (dump(8)): of a file system, at a level, at a date, building on that of a lower level, to a drive,
-/// in blocks of one size. Its texts stand in fixed rows, so that it takes no memory.
+/// The parameters of a dump (dump(8)): the drive, the file system, the level, two dates, and the
+/// size and number of the blocks. The dates are those of this dump and of the lower-level dump that
+/// it builds on. The texts are in arrays of fixed size, so that a run allocates nothing.
 #[derive(Drop)]
 pub struct Run {
     device: Row,
@@ -43,7 +44,7 @@ impl Model for Run {
 }
 
 impl Clone for Run {
-    /// The same run. It takes no memory, and never fails.
+    /// Returns a copy of the run. It allocates nothing, and never fails.
     fn clone(&self) -> Result<Run, AllocError>
         ensures { result ≡ Ok self.now }
     {
@@ -59,14 +60,15 @@ impl Clone for Run {
     }
 }
 
-/// Whether the bytes are a device: 1 to 255 of them, and none a line feed.
+/// Whether the bytes are a device: 1 to 255 bytes without a line feed.
 pub(crate) fn is_device(device: &[u8]) -> bool
     ensures { IsTrue result ↔ IsDevice device.now }
 {
     !device.is_empty() && device.len() <= LINE_LIMIT && device.iter().all(|b| *b != b'\n')
 }
 
-/// The fault of the first limit of a run's numbers that is broken.
+/// Checks the numbers of a run. Returns the fault of the first limit that is broken, in the order
+/// of `RunFault`.
 fn check_numbers(
     level: u64,
     date: u64,
@@ -93,14 +95,17 @@ fn check_numbers(
 }
 
 impl Run {
-    /// The run of this file system to this device.
+    /// Makes a run that dumps file system `fs` to `device`. It allocates nothing.
     ///
-    /// The device is 1 to 255 bytes of one line, the name `fs` 1 to 255 bytes of printed ASCII without a space, and the
-    /// level 0 to 9. Dates are in seconds since 1970 began, UTC, up to `dumpdates::LAST_SECOND`; `since` is that of the
-    /// dump that this one builds on, 0 where there is none. A block has 1 to `rmt_wire::RECORD_LIMIT` bytes, and there are
-    /// up to `BLOCKS_LIMIT` of them.
+    /// - `device`: 1 to 255 bytes without a line feed.
+    /// - `fs`: 1 to 255 bytes of printable ASCII without a space.
+    /// - `level`: 0 to 9.
+    /// - `date`, `since`: in seconds since 1970 began, UTC, up to `dumpdates::LAST_SECOND`. `since`
+    ///   is the date of the dump that this one builds on, or 0 if there is none.
+    /// - `block_bytes`: the size of a block, 1 to `rmt_wire::RECORD_LIMIT` bytes.
+    /// - `blocks`: the number of blocks, up to `BLOCKS_LIMIT`.
     ///
-    /// Answers the fault of the first of these limits that is broken, in the order of `RunFault`. It takes no memory.
+    /// Returns the fault of the first of these limits that is broken, in the order of `RunFault`.
     pub fn new(
         device: &[u8],
         fs: &str,
@@ -132,7 +137,8 @@ impl Run {
         Ok(run)
     }
 
-    /// The run of these parts, which are within its limits; `base` is the date of the dump that it builds on.
+    /// Makes a run of parts that are within the limits. `base` is the date of the dump that it
+    /// builds on.
     #[tactic(auto, using(crate::proofs::Limits::number_of_run))]
     pub(crate) fn from_parts(
         device: &[u8],
@@ -158,8 +164,8 @@ impl Run {
         }
     }
 
-    /// Whether both are of one dump: to the same device, of the same name, level, block size and number of blocks. Their
-    /// dates may differ.
+    /// Whether both runs are of one dump: same device, name, level, block size and number of
+    /// blocks. The dates may differ.
     pub fn is_same_dump(&self, other: &Run) -> bool
         ensures { IsTrue result ↔ AreOfOneDump self.now other.now }
     {
@@ -170,7 +176,7 @@ impl Run {
             && self.blocks == other.blocks
     }
 
-    /// The device: 1 to 255 bytes of one line.
+    /// Returns the device: 1 to 255 bytes without a line feed.
     pub fn device(&self) -> &[u8]
         ensures told { result.now ≡ self.now.device }
         ensures limits { IsDevice self.now.device }
@@ -178,7 +184,7 @@ impl Run {
         self.device.as_slice()
     }
 
-    /// The name of the file system: 1 to 255 bytes of printed ASCII without a space.
+    /// Returns the name of the file system: 1 to 255 bytes of printable ASCII without a space.
     pub fn name(&self) -> &str
         ensures told { result.now ≡ self.now.name }
         ensures limits { IsName self.now.name }
@@ -186,7 +192,7 @@ impl Run {
         std::str::from_utf8(self.name.as_slice()).unwrap()
     }
 
-    /// The level, 0 to 9.
+    /// Returns the level, 0 to 9.
     pub fn level(&self) -> u8
         ensures told { result ≡ self.now.level }
         ensures limit { self.now.level ≤ 9 }
@@ -194,7 +200,7 @@ impl Run {
         self.level
     }
 
-    /// The date of this dump, in seconds since 1970 began, UTC.
+    /// Returns the date of this dump, in seconds since 1970 began, UTC.
     pub fn date(&self) -> u64
         ensures told { result ≡ self.now.date }
         ensures limit { self.now.date ≤ last_second }
@@ -202,7 +208,8 @@ impl Run {
         self.date
     }
 
-    /// The date of the dump that this one builds on, or 0.
+    /// Returns the date of the dump that this one builds on, in seconds since 1970 began, UTC, or 0
+    /// if there is none.
     pub fn since(&self) -> u64
         ensures told { result ≡ self.now.since }
         ensures limit { self.now.since ≤ last_second }
@@ -210,7 +217,7 @@ impl Run {
         self.since
     }
 
-    /// The bytes of a block.
+    /// Returns the size of a block in bytes, 1 to `RECORD_LIMIT`.
     pub fn block_bytes(&self) -> usize
         ensures told { result ≡ self.now.block_bytes }
         ensures limits { IsBlockSize self.now.block_bytes }
@@ -218,7 +225,7 @@ impl Run {
         self.block_bytes
     }
 
-    /// The number of blocks.
+    /// Returns the number of blocks, up to `BLOCKS_LIMIT`.
     pub fn blocks(&self) -> u32
         ensures told { result ≡ self.now.blocks }
         ensures limit { self.now.blocks ≤ BLOCKS_LIMIT }

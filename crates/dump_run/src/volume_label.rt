@@ -1,4 +1,4 @@
-//! The label of a volume, as it is read from a reel.
+//! The label of a volume, as read from a reel.
 
 ghost use Rattle.std.specs.Prelude.{◌≡◌, ◌≤◌, ◌↔◌, IsTrue, IsUtf8, length, replicate};
 ghost use Rattle.std.specs.Int.{IsInRange};
@@ -17,7 +17,8 @@ use std::marker::Model;
 /// The greatest number of a volume, and of a block.
 const LAST_NUMBER: u64 = BLOCKS_LIMIT as u64;
 
-/// What the label of a volume says: of which dump the volume is, its number, and its first block. It takes no memory.
+/// The contents of a label: the name, level and dates of the dump, the volume's number, and its
+/// first block. It allocates nothing.
 #[derive(Drop)]
 pub struct VolumeLabel {
     name: Row,
@@ -40,10 +41,11 @@ impl Model for VolumeLabel {
 }
 
 impl VolumeLabel {
-    /// The label that a record with these bytes is, or None where it is no label.
+    /// Reads a record as a label. Returns None if it is no label.
     ///
-    /// A label has 1024 bytes: six lines within the limits of a run, as `label` writes them, and zero bytes after them. The volume is 1 to
-    /// `BLOCKS_LIMIT`, and its first block 0 to `BLOCKS_LIMIT`.
+    /// A label has 1024 bytes: six lines as `label` writes them, then zero bytes. The name, level
+    /// and dates are within the limits of a run. The volume is 1 to `BLOCKS_LIMIT`, and its first
+    /// block 0 to `BLOCKS_LIMIT`.
     pub fn read(bytes: &[u8]) -> Option<VolumeLabel>
         ensures { ReadsLabel bytes.now result }
     {
@@ -57,7 +59,7 @@ impl VolumeLabel {
         Some(label)
     }
 
-    /// The label of these parts, which are within their limits.
+    /// Makes a label of parts that are within the limits.
     fn from_parts(
         name: &[u8],
         level: u64,
@@ -80,7 +82,7 @@ impl VolumeLabel {
         }
     }
 
-    /// The name of the file system: 1 to 255 bytes of printed ASCII without a space.
+    /// Returns the name of the file system: 1 to 255 bytes of printable ASCII without a space.
     pub fn name(&self) -> &str
         ensures told { result.now ≡ self.now.name }
         ensures limits { IsName self.now.name }
@@ -88,7 +90,7 @@ impl VolumeLabel {
         std::str::from_utf8(self.name.as_slice()).unwrap()
     }
 
-    /// The level, 0 to 9.
+    /// Returns the level, 0 to 9.
     pub fn level(&self) -> u8
         ensures told { result ≡ self.now.level }
         ensures limit { self.now.level ≤ 9 }
@@ -96,7 +98,7 @@ impl VolumeLabel {
         self.level
     }
 
-    /// The date of the dump, in seconds since 1970 began, UTC.
+    /// Returns the date of the dump, in seconds since 1970 began, UTC.
     pub fn date(&self) -> u64
         ensures told { result ≡ self.now.date }
         ensures limit { self.now.date ≤ last_second }
@@ -104,7 +106,8 @@ impl VolumeLabel {
         self.date
     }
 
-    /// The date of the dump that this one builds on, or 0.
+    /// Returns the date of the dump that this one builds on, in seconds since 1970 began, UTC, or 0
+    /// if there is none.
     pub fn since(&self) -> u64
         ensures told { result ≡ self.now.since }
         ensures limit { self.now.since ≤ last_second }
@@ -112,7 +115,7 @@ impl VolumeLabel {
         self.since
     }
 
-    /// The number of the volume, counted from 1.
+    /// Returns the number of the volume, counted from 1, at most `BLOCKS_LIMIT`.
     pub fn volume(&self) -> u32
         ensures told { result ≡ self.now.volume }
         ensures limits { IsInRange 1 blocks_limit self.now.volume }
@@ -120,7 +123,7 @@ impl VolumeLabel {
         self.volume
     }
 
-    /// The first block of the volume, counted from 0.
+    /// Returns the first block of the volume, counted from 0, at most `BLOCKS_LIMIT`.
     pub fn first(&self) -> u32
         ensures told { result ≡ self.now.first }
         ensures limit { self.now.first ≤ blocks_limit }
@@ -129,7 +132,8 @@ impl VolumeLabel {
     }
 }
 
-/// The label whose lines bytes begin with, and what stands after them.
+/// Reads the lines of a label at the beginning of `bytes`, and returns it with the bytes after
+/// them. Returns None if they are not the lines of a label.
 fn first_lines(bytes: &[u8]) -> Option<(VolumeLabel, &[u8])>
     ensures { FindsLabel bytes.now result }
 {

@@ -1,4 +1,4 @@
--- One stream served at drives of any kind. Public contracts cite it.
+-- One stream served with drives of any kind. Public contracts cite it.
 use Rattle.std.specs.Prelude.{◌≡◌, Option, None, OnOk, Result}
 use Rattle.std.specs.Result.{result_ok}
 use Rattle.drives.specs.Opening.{Kinds}
@@ -8,9 +8,10 @@ use Rattle.rmt_server.specs.State.{State}
 use Rattle.rmt_server.specs.Carrying.{IsAlone}
 use Rattle.rmt_server.specs.Stream.{Streams, StreamsKind, IsServedAs, NoneFailed}
 
--- One stream served at these stacks by a session of its own, which has nothing open before and after. Each drive is free when it
--- begins. A stream that failed ends as failed. Where memory was refused before the first request was read, or no number is left for a
--- session, nothing is touched.
+-- One stream is served with these stacks in a session of its own, which has nothing open before and
+-- after. Each drive is free at the beginning. There is no ending if a stream failed. If an
+-- allocation failed before the first request was read, or if no session number is left, nothing is
+-- touched.
 pub data IsServedAt {H S Seat R In Out : Type 0} (k : Kinds H Seat S R) (kind : StreamsKind In Out) (before after : S)
     (old new : Streams In Out) : Option Served → Type 0 where
   none_served : after ≡ before → new.input ≡ old.input → new.output ≡ old.output → IsServedAt k kind before after old new None

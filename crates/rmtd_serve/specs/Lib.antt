@@ -1,4 +1,5 @@
--- In reading order: Stdio (one stream); Serving (a drive in memory); Generic (drives of any kind); Folders (drives in folders); Seating (the seats of threads); Accepting (the connections of a listener); Startup (the start of `rmtd`).
+-- In reading order: Stdio, Serving (a drive in memory), Generic (any drives), Folders (drives in
+-- folders), Seating (seats of threads), Accepting (a listener), Startup.
 pub mod Stdio
 pub mod Serving
 pub mod Generic

@@ -1,4 +1,4 @@
--- What becomes of a pair of streams that is served at a seat, and of the seat.
+-- The effect of serving a pair of streams at a seat, on the streams and on the seat.
 use Rattle.std.specs.Prelude.{◌≡◌, ◌≢◌, Option, None, OnOk, Result}
 use Rattle.std.specs.Result.{result_ok}
 use Rattle.std.specs.declared.io.traits.Read.{Ghosts as ReadPromise}
@@ -11,8 +11,9 @@ use Rattle.rmt_server.specs.declared.stream.ServeFault.{ServeFault}
 use Rattle.rmt_server.specs.State.{State, seated_at, IsAt}
 use Rattle.rmt_server.specs.Stream.{Streams, streams_kind, StreamsKind, Serving, streams_of, IsServedAs, NoneFailed}
 
--- The streams are served by a session, and this is how they ended: there is no ending where one failed, and one that failed ends as
--- failed. Where memory was refused before the first request was read, neither is touched, and nothing is done.
+-- A session serves the streams, with this ending. There is no ending if a stream failed. If an
+-- allocation failed before the first request was read, neither stream is touched and nothing is
+-- done.
 pub data ServesStreams {H S Seat R In Out : Type 0} (k : Kinds H Seat S R) (kind : StreamsKind In Out) (start : State H S Seat R)
     (old new : Streams In Out) : Option Served → State H S Seat R → Type 0 where
   untouched : new.input ≡ old.input → new.output ≡ old.output → ServesStreams k kind start old new None start
@@ -20,7 +21,8 @@ pub data ServesStreams {H S Seat R In Out : Type 0} (k : Kinds H Seat S R) (kind
       → IsServedAs k kind result old new start finish → OnOk result (NoneFailed old new)
       → ServesStreams k kind start old new (result_ok result) finish
 
--- The seat keeps its number, other seats hold what they held, and no drive comes or goes.
+-- The seat keeps its number, other seats keep what they hold, and the numbers of drives stay the
+-- same.
 pub record KeepsSeats {H S Seat R : Type 0} (k : Kinds H Seat S R) (old new : State H S Seat R) : Type 0 where
   pub number : (k.holds.shows new.seat).number ≡ (k.holds.shows old.seat).number
   pub others : (other : Seat) → (k.holds.shows other).number ≢ (k.holds.shows old.seat).number
@@ -28,7 +30,7 @@ pub record KeepsSeats {H S Seat R : Type 0} (k : Kinds H Seat S R) (old new : St
   pub same_holds : k.holds.drives new.drives.holds ≡ k.holds.drives old.drives.holds
   pub same_stacks : k.stacks.drives new.drives.stacks ≡ k.stacks.drives old.drives.stacks
 
--- The drives and the seat come back from a session that has nothing open, so the seat holds no drive.
+-- The session returns the drives and the seat, and has nothing open, so the seat holds no drive.
 pub record IsServedAfresh {H S Seat R In Out : Type 0} (k : Kinds H Seat S R) (kind : StreamsKind In Out) (start : State H S Seat R)
     (old new : Streams In Out) (drives : DriveTable H S Seat R) (seat : Seat) (ending : Option Served) : Type 0 where
   pub finish : State H S Seat R
@@ -39,7 +41,7 @@ pub record IsServedAfresh {H S Seat R In Out : Type 0} (k : Kinds H Seat S R) (k
   pub at : IsAt k finish
   pub kept : KeepsSeats k start finish
 
--- the same with the stacks alone, however the streams ended
+-- the same for the seat and the stacks alone, however the streams ended
 abbrev pub IsSeatReturned : {H S Seat R In Out : Type 0} → Kinds H Seat S R → StreamsKind In Out → State H S Seat R
     → Streams In Out → Streams In Out → Seat → S → Type 0
 IsSeatReturned {H} {S} {Seat} {R} k kind start old new seat stacks =
@@ -50,13 +52,13 @@ IsSeatReturned {H} {S} {Seat} {R} k kind start old new seat stacks =
 abbrev pub idle : {In Out H S Seat R : Type 0} → Counting In → Counting Out → DriveTable H S Seat R → Seat → Serving (Counting In) Out H S Seat R
 idle input output drives seat = record { requests = input; replies = output; state = seated_at drives seat None }
 
--- the streams are served by a session of its own, which ended so and gives back the seat
+-- a session of its own serves the streams, with this ending, and returns the seat
 abbrev pub ServesAfresh : {In Out H S Seat R : Type 0} → Kinds H Seat S R → ReadPromise In → WritePromise Out
     → Serving (Counting In) Out H S Seat R → Serving (Counting In) Out H S Seat R → Option Served → Type 0
 ServesAfresh k input output old new ending =
     IsServedAfresh k (streams_kind input.remaining output.contents) old.state (streams_of old) (streams_of new) new.state.drives new.state.seat ending
 
--- the same with the seat and the stacks alone, however the streams ended
+-- the same for the seat and the stacks alone, however the streams ended
 abbrev pub GivesBack : {In Out H S Seat R : Type 0} → Kinds H Seat S R → ReadPromise In → WritePromise Out
     → Serving (Counting In) Out H S Seat R → Streams In Out → Seat × S → Type 0
 GivesBack k input output old new back =

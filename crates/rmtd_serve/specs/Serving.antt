@@ -1,4 +1,4 @@
--- What a drive in memory serves, one stream after the other. Public contracts cite it.
+-- Streams served one after the other with a drive in memory. Public contracts cite it.
 use Rattle.std.specs.Prelude.{◌≡◌, ℕ, ◌<◌, ◌≤◌, false, true, List, length, slice_index, Option}
 use Rattle.tape.specs.Trouble.{TroubledTape}
 use Rattle.drives.specs.declared.table.DriveTable.{DriveTable}
@@ -16,15 +16,16 @@ use Rattle.rmtd_serve.specs.Stdio.{EndsWith}
 abbrev pub AllFree : Holders → Type 0
 AllFree holds = (d : ℕ) → d < length holds.numbers → slice_index holds.numbers d ≡ 0
 
--- No session holds a drive, each reel stands once, and no device can fail.
+-- No session holds a drive, each reel is in one place, and no device can fail.
 pub record IsAtRest (drives : DriveTable Holders ListLibrary View TroubledTape) : Type 0 where
   pub free : AllFree drives.holds
   pub enough : length drives.stacks.library.drives ≤ length drives.holds.numbers
   pub told : IsLibrary drives.stacks (library_of drives.stacks)
   pub quiet : StacksCanFail drives.stacks → ⊥
 
--- One stream served: from the reels as they lay, the requests read with the replies are a run of serve steps in which no device
--- fails and no drive is busy, and what is open at its end is closed. Where memory was refused nothing is read.
+-- One stream is served. The requests read, with their replies, are a run of serve steps from the
+-- reels as they were. In that run no device fails and no drive is busy, and what is open at its end
+-- is closed. If an allocation failed nothing is read.
 pub record IsServedNext {In Out : Type 0} (kind : StreamsKind In Out) (before after : TapeLibrary) (old new : Streams In Out)
     (ending : Option Served) : Type 0 where
   pub read : List ℕ
@@ -36,7 +37,7 @@ pub record IsServedNext {In Out : Type 0} (kind : StreamsKind In Out) (before af
   pub run : ServeRun false false true (session_view before Idle) done finish
   pub left : after ≡ (closed finish).library
 
--- streams served one after the other: the reels go from each to the next
+-- streams served one after the other: each finds the reels as the one before left them
 pub data ServedInTurn (first : TapeLibrary) : TapeLibrary → Type 0 where
   none : ServedInTurn first first
   one_more : {before : TapeLibrary} (done : List Exchange) (finish : SessionView)

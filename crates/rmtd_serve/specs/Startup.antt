@@ -1,4 +1,4 @@
--- What `rmtd` has done once it has begun, and what is left to do. Public contracts cite it.
+-- The effect of the start of `rmtd`, and what remains to be done. Public contracts cite it.
 use Rattle.std.specs.Prelude.{◌≡◌, ℕ, ◌<◌, List, [], length, Option, Some, None, IsSome, All, option_map, unwrap_or}
 use Rattle.std.specs.declared.clone.Clone.{Ghosts as ClonePromise}
 use Rattle.std.specs.declared.io.traits.Read.{Ghosts as ReadPromise}
@@ -17,10 +17,10 @@ use Rattle.rmtd_serve.specs.Folders.{stacks_of}
 abbrev pub AreUntouched : {In Out : Type 0} → Streams In Out → Streams In Out → Type 0
 AreUntouched old new = (new.input ≡ old.input) × (new.output ≡ old.output)
 
--- What a line asked was done, with this status: the streams were served, with a drive in memory or with drives in folders, and
--- the requests of the bytes read were answered up to that end; as many connections as were to come were served one after the
--- other; or it could not start, or the listener is broken for good. Folders tell nothing of their reels, so which replies the requests
--- have there is not said.
+-- The arguments were followed, and the status is this one. The streams were served with a drive in
+-- memory or with drives in folders, and the requests read were answered up to that end. Or all
+-- connections were served one after the other. Or the server could not start, or the listener can
+-- never accept again. Reels in folders have no known contents, so their replies are not specified.
 pub data EndsLine {In Out : Type 0} (kind : StreamsKind In Out) (line : ServerLine) (old new : Streams In Out) (status : ℕ) : Type 0 where
   in_memory : line.listen ≡ None → line.drives.items ≡ []
       → IsStdio kind line.capacity old new status
@@ -33,7 +33,8 @@ pub data EndsLine {In Out : Type 0} (kind : StreamsKind In Out) (line : ServerLi
       → EndsLine kind line old new status
   failed : AreUntouched old new → status ≡ 1 → EndsLine kind line old new status
 
--- At once so many connections are served with these drives, of which each seat of the table has stacks: those of the line.
+-- The setup of a listener that these arguments ask for: the number of connections, the drives, and
+-- stacks of them for each seat.
 pub record IsListenerSetupOf (line : ServerLine) (left drives : ℕ) (stacks : List FolderLibrary) : Type 0 where
   pub some : 0 < length line.drives.items
   pub bin : List ℕ
@@ -42,21 +43,23 @@ pub record IsListenerSetupOf (line : ServerLine) (left drives : ℕ) (stacks : L
   pub same_drives : drives ≡ length line.drives.items
   pub same_stacks : All (λ s. s ≡ stacks_of line.drives.items bin line.capacity) stacks
 
--- of a line that asks to listen, at drives in folders: it could not, or what is left is to serve as it says
+-- for a line that asks to listen with drives in folders: that failed, or what remains is to serve
+-- as it says
 abbrev pub ListensOrEnds : {R Dir : Type 0} {reads : ReadPromise Dir} {clones : ClonePromise R} → ServerLine → Begun R Dir reads clones
     → Type 0
 ListensOrEnds line (End status) = status ≡ 1
 ListensOrEnds line (Serve listener listener_setup) = IsListenerSetupOf line listener_setup.left listener_setup.table.arguments listener_setup.stacks.items
 
--- what was done of a line, and what is left
+-- the effect of a line, and what remains to be done
 abbrev pub IsDone : {In Out R Dir : Type 0} {reads : ReadPromise Dir} {clones : ClonePromise R} → StreamsKind In Out
     → ServerLine → Streams In Out → Streams In Out → Begun R Dir reads clones → Type 0
 IsDone kind line old new (End status) = EndsLine kind line old new status
 IsDone kind line old new (Serve listener listener_setup) =
     AreUntouched old new × IsSome line.listen × IsListenerSetupOf line listener_setup.left listener_setup.table.arguments listener_setup.stacks.items
 
--- What was done of words, and what is left: what their line asks; or clap's help or version was told, and the status is 0; or
--- the words are wrong, or memory was refused, and it is 1.
+-- The effect of the arguments, and what remains to be done. Their line was followed. Or clap
+-- printed help or the version, with status 0. Or nothing was done, because the arguments are wrong
+-- or something failed, with status 1.
 pub data IsBegun {In Out R Dir : Type 0} {reads : ReadPromise Dir} {clones : ClonePromise R} (kind : StreamsKind In Out)
     (arguments : List Text) (old new : Streams In Out) (begun : Begun R Dir reads clones) : Type 0 where
   followed : (line : ServerLine) → IsLineOf arguments line → IsDone kind line old new begun
@@ -66,7 +69,7 @@ pub data IsBegun {In Out R Dir : Type 0} {reads : ReadPromise Dir} {clones : Clo
   refused : AreUntouched old new → begun ≡ End 1
       → IsBegun kind arguments old new begun
 
--- the same of some words: no clause says which those of the program are
+-- the same for some arguments: no clause says which ones the program has
 abbrev pub IsStarted : {In Out R Dir : Type 0} {reads : ReadPromise Dir} {clones : ClonePromise R} → StreamsKind In Out
     → Streams In Out → Streams In Out → Begun R Dir reads clones → Type 0
 IsStarted kind old new begun = (arguments : List Text) × IsBegun kind arguments old new begun

@@ -1,4 +1,4 @@
-//! Serving one pair of streams at a seat, by a session of its own.
+//! Serves one pair of streams at a seat, in a session of its own.
 ghost use Rattle.std.specs.Prelude.{◌≤◌, None};
 ghost use Rattle.drives.specs.Holding.{HoldsJust};
 ghost use Rattle.drives.specs.Opening.{kinds};
@@ -13,13 +13,14 @@ use rmt_wire::{Counted, RequestReader};
 use std::alloc::Global;
 use std::io::{Read, Write};
 
-/// Serves one pair of streams by a session at this seat, and gives back the seat with the stacks. The seat holds no drive,
-/// before and after, however the streams end.
+/// Serves one pair of streams in a session at this seat, and returns the seat with the stacks.
 ///
-/// The session has nothing open at first, and what it opens is closed at its end. Where memory is refused before the first
-/// request was read, nothing is read or written.
+/// The seat must hold no drive, and holds none afterwards, however the streams end. The session has
+/// nothing open at first, and what it opens is closed at its end. If an allocation fails before the
+/// first request is read, nothing is read or written.
 ///
-/// The stacks note where it begins and how it ended, by the pair's number.
+/// The log of the stacks has a line when the pair begins to be served, and one that says how it
+/// ended. Both have `number`.
 pub fn serve_at<H: Holds + Drop, S: Stacks + Drop, I: Read, O: Write>(
     alloc: Global,
     drives: DriveTable<H, S>,
@@ -43,11 +44,13 @@ pub fn serve_at<H: Holds + Drop, S: Stacks + Drop, I: Read, O: Write>(
     (seat, drives.stacks)
 }
 
-/// Serves one pair of streams by a session at this seat, and gives back the seat with how the stream ended. The seat holds no
-/// drive, before and after, however the streams end.
+/// Serves one pair of streams in a session at this seat. Returns the seat, and how the stream
+/// ended.
 ///
-/// The session has nothing open at first, and what it opens is closed at its end. There is no ending where a stream failed, and
-/// where memory was refused before the first request was read: then nothing is read or written.
+/// The seat must hold no drive, and holds none afterwards, however the streams end. The session has
+/// nothing open at first, and what it opens is closed at its end. Returns None as the ending if a
+/// stream failed, or if an allocation failed before the first request was read. In the second case
+/// nothing is read or written.
 pub(crate) fn serve_afresh<H: Holds, S: Stacks, I: Read, O: Write>(
     alloc: Global,
     drives: &mut DriveTable<H, S>,

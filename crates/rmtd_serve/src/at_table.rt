@@ -1,8 +1,9 @@
-//! Which table the seats of a server are of, as a type that its threads share.
+//! A type that names the table of a server's seats, for the threads that share them.
 
 use std::marker::Brand;
 
-/// The table that seats under one lock are of. A proof knows of a locked value what its type says, so the table is part of the type.
+/// Names the table to which the seats under one lock belong. A proof knows only the type of a
+/// locked value, so the type contains the table.
 pub(crate) trait AtTable {
     ghost use Rattle.atomic_table.specs.Seated.{TableId};
 

@@ -1,4 +1,4 @@
-//! The end of a server whose connections were served at once.
+//! Closes the table of a server that served connections in parallel.
 ghost use Rattle.std.specs.Prelude.{◌≡◌, ◌≢◌, ℕ, None, All, length, slice_index};
 ghost use Rattle.drives.specs.Holding.{HoldsJust};
 ghost use Rattle.hold_table.specs.Seats.{IsSeatAt};
@@ -6,9 +6,11 @@ ghost use Rattle.hold_table.specs.Seats.{IsSeatAt};
 use drives::DRIVE_LIMIT;
 use hold_table::{HoldSeat, HoldTable, SEAT_LIMIT};
 
-/// Closes the table once the last connection has ended, with the seats that `serve_many` returned. It returns the number of the seat
-/// that holds each drive, or 0. If all seats of the table are back, no drive is held. If some are not, no drive is held by one that
-/// is.
+/// Closes the table after the last connection has ended, with the seats that `serve_many` returned.
+///
+/// Returns for each drive the number of the seat that holds it, or 0. If all seats of the table are
+/// given back, no drive is held. If some are missing, no drive is held by a seat that was given
+/// back.
 pub fn close_table(table: HoldTable, seats: Vec<HoldSeat>) -> [u64; DRIVE_LIMIT]
     requires seats { All (λ s. IsSeatAt table s × HoldsJust s.view None) seats.items }
     ensures free { length seats.items ≡ SEAT_LIMIT → (drive : ℕ) → slice_index result drive ≡ 0 }

@@ -1,4 +1,4 @@
-//! The connections of a listener, as pairs of streams.
+//! Accepts the connections of a listener, as pairs of streams.
 ghost use Rattle.std.specs.Prelude.{◌≡◌, ◌+◌, ◌<◌, false, true, IfSome, None, if◌then◌else◌, ◌==◌};
 ghost use Rattle.std.specs.IoError.{raw_os_error};
 ghost use Rattle.std.proofs.Props.{props};
@@ -14,39 +14,44 @@ use std::rt::Clock;
 use std::time::Duration;
 use std::{io, thread};
 
-/// The address has no place in memory, by accept(2).
+/// accept(2): the address is not in memory that can be written.
 pub const EFAULT: u32 = 14;
 
-/// The listener is no socket, by accept(2).
+/// accept(2): the listener is not a socket.
 pub const ENOTSOCK: u32 = 88;
 
-/// The listener is a socket that has no connections, by accept(2).
+/// accept(2): the listener is a socket of a kind that has no connections.
 pub const EOPNOTSUPP: u32 = 95;
 
-/// How many milliseconds it waits after an accept that failed, so that a table of files that is full keeps no processor busy.
+/// The pause after a failed accept, in milliseconds. It prevents a busy loop if the table of open
+/// files is full.
 const PAUSE: u64 = 100;
 
-/// The connections of a listener, up to so many. Where an accept fails it waits for a moment and accepts again, and where the listener
-/// is broken for good no more come. A log has a line for each that came, and for each that is not served; of accepts that
-/// fail one after the other it has one for the first, and one for that by which the listener is broken.
+/// The connections of a listener, up to a limit.
+///
+/// If an accept fails, it pauses and accepts again. If the error says that the listener can never
+/// accept again, no more connections come. The log has a line for each connection that came, and
+/// for each that is not served. Only the first of several consecutive accept failures is logged,
+/// and one after which no more connections come.
 #[derive(Drop)]
 pub struct Connections<'a, C: Clock, L: Log + Drop> {
     clock: &'a C,
     listener: &'a TcpListener,
-    /// How many come still, at most.
+    /// How many more connections come, at most.
     pub left: u64,
-    /// How many accepts may fail still. At one each 100 milliseconds it does not come to 0 in the life of a machine.
+    /// How many more accepts may fail. At one each 100 milliseconds it does not reach 0 in the life
+    /// of a machine.
     pub tries: u64,
-    /// The error of the system by which the listener is broken for good.
+    /// The error number after which the listener can never accept again, if there was one.
     pub broken: Option<u32>,
-    /// How many were accepted, which is the number of the last one.
+    /// The number of accepted connections, which is the number of the last one.
     pub(crate) number: u64,
     has_failed: bool,
     pub(crate) log: L,
     ghost lasting: { IfSome broken IsLasting } by { Prim.hlevel props },
 }
 
-/// The error of the system, where it is one by which a listener is broken for good.
+/// Returns the error number, if it is one after which a listener can never accept again.
 fn lasting(why: &io::Error) -> Option<u32>
     ensures { result ≡ lasting_of (raw_os_error why.now) }
 {
@@ -59,8 +64,10 @@ fn lasting(why: &io::Error) -> Option<u32>
 }
 
 impl<'a, C: Clock, L: Log + Drop> Connections<'a, C, L> {
-    /// The connections that come to this listener, up to so many, what it waits by where an accept fails, and the log that has
-    /// their lines.
+    /// Makes the connections of this listener.
+    ///
+    /// `clock` measures the pause after a failed accept. At most `left` connections come. `log`
+    /// gets the log lines.
     pub fn new(clock: &'a C, listener: &'a TcpListener, left: u64, log: L) -> Self
         ensures left { result.left ≡ left }
         ensures tries { result.tries ≡ 18446744073709551615 }
@@ -78,14 +85,15 @@ impl<'a, C: Clock, L: Log + Drop> Connections<'a, C, L> {
         }
     }
 
-    /// The exit status of a server that served them: 0 where as many came as were to come, and else 1.
+    /// Returns the exit status of a server that served them: 0 if as many came as `new` was given,
+    /// else 1.
     pub fn status(&self) -> u8
         ensures { result ≡ if self.now.left == 0 then 0 else 1 }
     {
         u8::from(self.left > 0)
     }
 
-    /// Whether another one may come.
+    /// Whether another connection may come.
     pub(crate) fn is_open(&self) -> bool
         ensures closed { result ≡ false → AreOver self.now.left self.now.tries self.now.broken }
         ensures left { result ≡ true → 0 < self.now.left }
@@ -94,8 +102,8 @@ impl<'a, C: Clock, L: Log + Drop> Connections<'a, C, L> {
         self.left > 0 && self.tries > 0 && self.broken.is_none()
     }
 
-    /// The next connection, which sends its bytes at once. None where none was accepted, and where the system refuses to
-    /// make it ready.
+    /// Accepts the next connection, with TCP_NODELAY set. Returns None if none was accepted, or if
+    /// the option could not be set.
     pub(crate) fn accept(&mut self) -> Option<TcpStream>
         requires left { 0 < self.old.left }
         requires tries { 0 < self.old.tries }
@@ -110,7 +118,8 @@ impl<'a, C: Clock, L: Log + Drop> Connections<'a, C, L> {
         }
     }
 
-    /// Notes that an accept failed. Where the listener is broken for good that is kept, and else it waits for a moment.
+    /// Counts a failed accept. If the listener can never accept again it keeps the error, and
+    /// otherwise pauses. It logs the first of consecutive failures, and an error that it keeps.
     fn miss(&mut self, why: io::Error)
         requires { 0 < self.old.tries }
         ensures left { self.new.left ≡ self.old.left }
@@ -129,7 +138,7 @@ impl<'a, C: Clock, L: Log + Drop> Connections<'a, C, L> {
         }
     }
 
-    /// Counts a connection, and has it send its bytes at once. None where the system refuses that.
+    /// Counts and logs a connection, and sets TCP_NODELAY on it. Returns None if that fails.
     fn take(&mut self, stream: TcpStream, address: SocketAddr) -> Option<TcpStream>
         requires { 0 < self.old.left }
         ensures left { self.new.left + 1 ≡ self.old.left }
@@ -148,8 +157,8 @@ impl<'a, C: Clock, L: Log + Drop> Connections<'a, C, L> {
         }
     }
 
-    /// The next connection, once to read from and once to write to. None where none was accepted, and where the system
-    /// refuses to make it ready.
+    /// Accepts the next connection, and returns one stream to read from and one to write to.
+    /// Returns None if none was accepted, or if the system call that prepares it fails.
     fn accept_both(&mut self) -> Option<(TcpStream, TcpStream)>
         requires left { 0 < self.old.left }
         requires tries { 0 < self.old.tries }
@@ -165,12 +174,12 @@ impl<'a, C: Clock, L: Log + Drop> Connections<'a, C, L> {
         }
     }
 
-    /// Notes that the last connection is closed, and why.
+    /// Logs that the last connection was closed, and why.
     fn note_closed<D: Display + Drop>(&self, why: D) {
         self.note_last(format_args!("closed: {why}"));
     }
 
-    /// Notes a line of the last connection.
+    /// Logs a line about the last connection.
     fn note_last<D: Display + Drop>(&self, what: D) {
         let number = self.number;
         self.log.note(text_of(format_args!("connection {number}: {what}")).as_str());

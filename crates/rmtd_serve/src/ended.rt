@@ -1,4 +1,4 @@
-//! How a connection ended, as the log says it.
+//! The log line for the end of a connection.
 
 use rmt_server::Served;
 use rmt_wire::Counted;
@@ -9,14 +9,14 @@ use std::fmt::{self, Display, Formatter, Write};
 pub(crate) struct Ended {
     /// The number of the connection.
     pub(crate) number: u64,
-    /// How its stream ended, where it was served and did not fail.
+    /// How its stream ended, or None if it was not served or a stream failed.
     pub(crate) ending: Option<Served>,
     /// Whether a read or a write failed.
     pub(crate) failed: bool,
 }
 
 impl Ended {
-    /// The end of the connection of that number, which was served from these streams and ended so.
+    /// Makes the end of connection `number`, which was served with these streams.
     pub(crate) fn of<I, O>(
         number: u64,
         ending: Option<Served>,

@@ -1,4 +1,4 @@
-//! Lines on standard error that say what the server does.
+//! The log of the server on standard error.
 
 use crate::line_start::{LineHead, LineStart};
 use arrayvec::ArrayString;
@@ -6,18 +6,19 @@ use reel_files::Log;
 use std::fmt::{Display, Write};
 use std::rt::Clock;
 
-/// How many bytes a text has at most that is made here for a log.
+/// The greatest length in bytes of a text that is formatted here for a log.
 const TEXT_ROOM: usize = 255;
 
-/// A log on standard error, of a seat, or of what belongs to none.
+/// A log on standard error, of one seat or of the server.
 ///
-/// A line has the time before it, if it begins with it, and `rmtd: `, or of a seat `rmtd: seat 3: `. With up to 980 bytes of its own it
-/// is one write. A line that cannot be written is dropped.
+/// A line begins with the time, unless `start` says otherwise, and then `rmtd: `, or for a seat
+/// `rmtd: seat 3: `. A line with up to 980 bytes of its own is one write. A line that cannot be
+/// written is dropped.
 #[derive(Drop)]
 pub struct ErrorLog<R> {
-    /// What prints, and what tells the time.
+    /// The runtime, which prints and has the clock.
     pub rt: R,
-    /// The number of the seat.
+    /// The number of the seat, or None for the server's own log.
     pub seat: Option<usize>,
     /// Whether a line begins with the time.
     pub start: LineStart,
@@ -34,7 +35,7 @@ impl<R: Eprint + Clock> Log for ErrorLog<R> {
     }
 }
 
-/// What this prints, made without memory. What has no room is left out.
+/// Formats a text without allocating. If it needs more than `TEXT_ROOM` bytes its end is left out.
 pub(crate) fn text_of<D: Display + Drop>(what: D) -> ArrayString<TEXT_ROOM> {
     let mut text = ArrayString::new();
     let _ = write!(text, "{what}");

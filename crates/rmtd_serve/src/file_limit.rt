@@ -1,4 +1,5 @@
-//! The system's limit on the size of a file, at which it ends a server that does not ignore its signal.
+//! The system's limit on the size of a file. A write past it ends a server that does not ignore
+//! SIGXFSZ.
 ghost use Rattle.std.specs.Prelude.{◌≤◌, IfOk, length};
 
 use crate::error_log::text_of;
@@ -7,21 +8,22 @@ use std::fmt::{self, Display, Formatter, Write};
 use std::io::{self, ErrorKind, Read};
 use std::{fs, str};
 
-/// Where the system tells the limits of this process.
+/// The file with the limits of this process.
 const LIMITS: &str = "/proc/self/limits";
 
-/// Where it tells which signals this process ignores.
+/// The file with the signals that this process ignores.
 const STATUS: &str = "/proc/self/status";
 
-/// The bit of SIGXFSZ among the signals: by it the system ends a process that writes past the limit.
+/// The bit of SIGXFSZ in a mask of signals. The system sends this signal to a process that writes
+/// past the limit.
 const XFSZ: u64 = 1 << 24;
 
-/// How many bytes of these files are read at most.
+/// How many bytes of these files are read, at most.
 const ROOM: usize = 4096;
 
-/// Says in the log where a reel of this capacity can come to the limit and the signal is not ignored.
+/// Logs a line if a reel of this capacity can reach the limit and the signal is not ignored.
 ///
-/// It fails only where memory is refused. Where the system tells no limits it says nothing.
+/// If the system reports no limit, it logs nothing. It fails only if an allocation fails.
 pub(crate) fn log_limit<R: FolderSystem, L: Log>(rt: &R, log: &L, capacity: u64) -> io::Result<()> {
     let Some(limit) = limit_of(rt)? else {
         return Ok(());
@@ -32,12 +34,12 @@ pub(crate) fn log_limit<R: FolderSystem, L: Log>(rt: &R, log: &L, capacity: u64)
     Ok(())
 }
 
-/// That a reel can come to the limit.
+/// The log line that says that a reel can reach the limit.
 #[derive(Clone, Copy)]
 struct LimitLog {
-    /// How many bytes a file may have.
+    /// The greatest size of a file in bytes.
     limit: u64,
-    /// How many bytes a reel takes.
+    /// The capacity of a reel in bytes.
     capacity: u64,
 }
 
@@ -53,7 +55,8 @@ impl Display for LimitLog {
     }
 }
 
-/// How many bytes a file may have, where that is limited.
+/// Returns the greatest size of a file in bytes, or None if there is no limit or the system does
+/// not report it.
 fn limit_of<R: FolderSystem>(rt: &R) -> io::Result<Option<u64>> {
     let mut bytes = [0; ROOM];
     let count = read_start(rt, LIMITS, bytes.as_mut_slice())?;
@@ -61,7 +64,7 @@ fn limit_of<R: FolderSystem>(rt: &R) -> io::Result<Option<u64>> {
     Ok(limit.and_then(|text| text.parse().ok()))
 }
 
-/// Whether the system tells that the signal is not ignored.
+/// Whether the system reports that the signal is not ignored.
 fn is_fatal<R: FolderSystem>(rt: &R) -> io::Result<bool> {
     let mut bytes = [0; ROOM];
     let count = read_start(rt, STATUS, bytes.as_mut_slice())?;
@@ -70,7 +73,8 @@ fn is_fatal<R: FolderSystem>(rt: &R) -> io::Result<bool> {
     Ok(ignored.is_some_and(|signals| signals & XFSZ == 0))
 }
 
-/// Reads the first bytes of a file, and answers how many. None are read where there is no such file.
+/// Reads the first bytes of a file, and returns how many. Returns 0 if the file cannot be opened or
+/// read. It fails only if an allocation fails.
 fn read_start<R: FolderSystem>(rt: &R, path: &str, into: &mut [u8]) -> io::Result<usize>
     ensures { IfOk result (λ n. n ≤ length into.new) }
 {
@@ -81,7 +85,7 @@ fn read_start<R: FolderSystem>(rt: &R, path: &str, into: &mut [u8]) -> io::Resul
     }
 }
 
-/// The first word after this name, at the beginning of a line.
+/// Returns the first word after `name` in the first line that begins with it.
 fn value_of<'a>(bytes: &'a [u8], name: &str) -> Option<&'a str> {
     for line in str::from_utf8(bytes).ok()?.lines() {
         if let Some(rest) = line.strip_prefix(name) {

@@ -1,4 +1,4 @@
-//! Drives whose reels are files in folders, as the words of `rmtd` name them.
+//! Drives whose reels are files in folders, from the arguments of `rmtd`.
 ghost use Rattle.std.specs.Prelude.{◌≡◌, ◌≤◌, false, All, IfOk, length, map};
 ghost use Rattle.drives.specs.declared.holds.TheConstants.{DRIVE_LIMIT};
 ghost use Rattle.reel_files.specs.Folders.{folder_row};
@@ -12,10 +12,11 @@ use reel_files::{FolderDrive, FolderStacks, FolderSystem, Log, NoLog};
 use rmtd_args::DriveArgument;
 use std::alloc::{AllocError, Global};
 
-/// The stacks of these drives and the bin, in their folders. Each reel takes so many bytes. It reads no folder, and fails only
-/// where memory is refused. They keep no log.
+/// Makes the stacks of these drives and the bin, in their folders, without a log. Each reel has
+/// `capacity` bytes.
 ///
-/// There are from 1 to `DRIVE_LIMIT` of them.
+/// There must be 1 to `DRIVE_LIMIT` drives. It reads no folder, and fails only if an allocation
+/// fails.
 pub fn folder_stacks<R: FolderSystem>(
     rt: R,
     arguments: &[DriveArgument<'_>],
@@ -30,7 +31,7 @@ pub fn folder_stacks<R: FolderSystem>(
     logged_stacks(rt, arguments, bin, capacity, NoLog)
 }
 
-/// The same with a log of what they do.
+/// The same, with a log of what the stacks do.
 pub(crate) fn logged_stacks<R: FolderSystem, L: Log + Drop>(
     rt: R,
     arguments: &[DriveArgument<'_>],
@@ -47,7 +48,7 @@ pub(crate) fn logged_stacks<R: FolderSystem, L: Log + Drop>(
     FolderStacks::with_log(rt, &drives, bin, capacity, log)
 }
 
-/// The drives of these words, by name and folder.
+/// Returns the names and folders of the drives in these arguments.
 fn folder_drives<'a>(
     alloc: Global,
     arguments: &[DriveArgument<'a>],
@@ -66,11 +67,11 @@ fn folder_drives<'a>(
     Ok(drives)
 }
 
-/// Stacks of these drives for each of the seats of a table, in the order of their numbers: each looks at the same folders, by itself,
-/// and says on standard error what it does, with the seat's number, in lines that begin so. It reads no folder, and fails only where
-/// memory is refused.
+/// Makes stacks of these drives for each seat of a table, in the order of the seats' numbers.
 ///
-/// There are from 1 to `DRIVE_LIMIT` drives.
+/// All of them use the same folders, each independently. Each logs what it does to standard error,
+/// with the seat's number, in lines that begin as `start` says. There must be 1 to `DRIVE_LIMIT`
+/// drives. It reads no folder, and fails only if an allocation fails.
 pub fn seat_stacks<R: FolderSystem + Eprint>(
     rt: R,
     arguments: &[DriveArgument<'_>],
@@ -92,7 +93,7 @@ pub fn seat_stacks<R: FolderSystem + Eprint>(
     Ok(all)
 }
 
-/// The stacks of the seat of that number.
+/// Makes the stacks of seat `seat`.
 fn stacks_at<R: FolderSystem + Eprint>(
     rt: &R,
     arguments: &[DriveArgument<'_>],

@@ -1,4 +1,4 @@
-//! Benches that were not used yet.
+//! Workers that were not used yet.
 ghost use Rattle.std.specs.Prelude.{◌≡◌, ◌≤◌, None, All};
 ghost use Rattle.std.proofs.Props.{props};
 ghost use Rattle.drives.specs.Holding.{HoldsJust};
@@ -10,7 +10,7 @@ use drives::Stacks;
 use hold_table::{HoldSeat, HoldTable};
 use std::marker::PhantomData;
 
-/// The seats of a table that no session had yet, and the stacks.
+/// The seats of a table that no session had yet, and their stacks.
 #[derive(Drop)]
 pub(crate) struct Fresh<'t, S: Stacks + Drop, B: AtTable> {
     table: &'t HoldTable,
@@ -23,7 +23,7 @@ pub(crate) struct Fresh<'t, S: Stacks + Drop, B: AtTable> {
 }
 
 impl<'t, S: Stacks + Drop, B: AtTable> Fresh<'t, S, B> {
-    /// These seats and stacks of this table.
+    /// Takes these seats and stacks of this table.
     pub(crate) fn new(table: &'t HoldTable, seats: Vec<HoldSeat>, stacks: Vec<S>) -> Self
         requires here { table.now ≡ B.table }
         requires seats { All (λ s. IsSeatAt B.table s × HoldsJust s.view None) seats.items }
@@ -37,7 +37,8 @@ impl<'t, S: Stacks + Drop, B: AtTable> Fresh<'t, S, B> {
         }
     }
 
-    /// The seats that no session had, with room for as many as there once were.
+    /// Returns the seats that no session had. The vector has room for as many as there were at
+    /// first.
     pub(crate) fn into_seats(self) -> Vec<HoldSeat>
         ensures { All (λ s. IsSeatAt B.table s × HoldsJust s.view None) result.items }
     {
@@ -50,7 +51,7 @@ impl<'t, S: Stacks + Drop, B: AtTable> Fresh<'t, S, B> {
         seats
     }
 
-    /// The next seat with its stacks.
+    /// Returns the next seat with its stacks, or None if no seat is left.
     pub(crate) fn take(&mut self) -> Option<Worker<'t, S, B>> {
         let seat = self.seats.pop()?;
         let stacks = self.stacks.pop()?;

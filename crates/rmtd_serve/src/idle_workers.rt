@@ -1,4 +1,4 @@
-//! The benches that no thread has.
+//! The workers that no thread has.
 ghost use Rattle.std.specs.Prelude.{None, All};
 ghost use Rattle.drives.specs.Holding.{HoldsJust};
 ghost use Rattle.hold_table.specs.Seats.{IsSeatAt};
@@ -10,7 +10,7 @@ use drives::Stacks;
 use hold_table::{HoldSeat, SEAT_LIMIT};
 use std::alloc::Global;
 
-/// The benches that no thread has, and how many of them are promised to none.
+/// The workers that no thread has, and how many of them are not reserved.
 #[derive(Drop)]
 pub(crate) struct IdleWorkers<'t, S: Stacks + Drop, B: AtTable> {
     fresh: Fresh<'t, S, B>,
@@ -19,7 +19,7 @@ pub(crate) struct IdleWorkers<'t, S: Stacks + Drop, B: AtTable> {
 }
 
 impl<'t, S: Stacks + Drop, B: AtTable> IdleWorkers<'t, S, B> {
-    /// These, of which all are free. It takes no memory.
+    /// Starts with the seats of `fresh`. None is reserved. It allocates nothing.
     pub(crate) fn new(alloc: Global, fresh: Fresh<'t, S, B>) -> Self {
         IdleWorkers {
             fresh,
@@ -28,8 +28,8 @@ impl<'t, S: Stacks + Drop, B: AtTable> IdleWorkers<'t, S, B> {
         }
     }
 
-    /// Promises a bench to a thread that is to be started, and makes room for it to come back. It answers false where none is free,
-    /// and where memory is refused for that room.
+    /// Reserves a worker for a thread that is to be started, and the room for its return. Returns
+    /// false if no worker is free, or if the allocation for that room fails.
     pub(crate) fn reserve(&mut self) -> bool {
         let Some(free) = self.free.checked_sub(1) else {
             return false;
@@ -45,12 +45,12 @@ impl<'t, S: Stacks + Drop, B: AtTable> IdleWorkers<'t, S, B> {
         true
     }
 
-    /// Takes a promise back, where the thread was not started.
+    /// Cancels a reservation, because the thread was not started.
     pub(crate) fn release(&mut self) {
         self.free = self.free.saturating_add(1);
     }
 
-    /// Gives a bench that was promised.
+    /// Returns a worker that was reserved.
     pub(crate) fn take(&mut self) -> Option<Worker<'t, S, B>> {
         match self.workers.pop() {
             Some(worker) => Some(worker),
@@ -58,14 +58,15 @@ impl<'t, S: Stacks + Drop, B: AtTable> IdleWorkers<'t, S, B> {
         }
     }
 
-    /// Takes a bench back. It takes no memory: room was made when it was promised.
+    /// Takes a worker back. It allocates nothing, because the room was made when the worker was
+    /// reserved.
     pub(crate) fn put(&mut self, worker: Worker<'t, S, B>) {
         let is_back = self.workers.push(worker).is_ok();
         self.free = self.free.saturating_add(is_back as usize);
     }
 
-    /// The seats of all benches, none of which holds a drive. A seat is lost if there is no room for it, but each came from these
-    /// seats, so there is room for all.
+    /// Returns the seats of all workers. None of them holds a drive. The vector once had all these
+    /// seats, so there is room for them. A seat without room would be lost.
     pub(crate) fn into_seats(self) -> Vec<HoldSeat>
         ensures { All (λ s. IsSeatAt B.table s × HoldsJust s.view None) result.items }
     {

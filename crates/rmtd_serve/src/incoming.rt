@@ -1,28 +1,29 @@
-//! Where pairs of streams come from.
+//! The source of the pairs of streams that a server serves.
 ghost use Rattle.std.specs.Prelude.{◌≡◌, None};
 
 use std::io::{Read, Write};
 
-/// Pairs of streams, one for each session, as the connections of a listener.
+/// A source of pairs of streams, one for each session, such as the connections of a listener.
 pub trait Incoming {
-    /// What the requests are read from.
+    /// The stream from which requests are read.
     type In: Read + Send + Drop;
 
-    /// What the replies are written to.
+    /// The stream to which replies are written.
     type Out: Write + Send + Drop;
 
-    /// The last pair was given.
+    /// The last pair was returned.
     ghost is_over: { Self → Type 0 };
 
-    /// The next pair, or None where the last one was given. It may wait for one, as a read may.
+    /// Returns the next pair, or None after the last one. It may wait for one, as a read may.
     fn next(&mut self) -> Option<(Self::In, Self::Out)>
         ensures { result ≡ None → is_over self.new };
 
-    /// The number by which a log names the pair that was given last. It promises nothing.
+    /// Returns the number that a log has for the last pair returned. No contract speaks of it.
     fn number(&self) -> u64 {
         0
     }
 
-    /// Is told that the pair which was given last is let go without being served, and why. It promises nothing.
+    /// Called if the last pair returned is dropped without being served, with the reason. No
+    /// contract speaks of it.
     fn let_go(&self, _why: &str) {}
 }

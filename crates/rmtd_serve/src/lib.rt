@@ -1,5 +1,6 @@
-//! What `rmtd` does: its start by its words, and what it serves streams at. That is a drive in memory, or drives in folders, for one
-//! stream after the other or for 32 at once, each in a thread of its own.
+//! The server `rmtd`: it reads its arguments, and serves streams with a drive in memory or with
+//! drives in folders. It serves one stream after the other, or up to 32 in parallel, each in a
+//! thread of its own.
 #![tactic(auto)]
 
 mod at;

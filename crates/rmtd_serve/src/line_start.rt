@@ -1,4 +1,4 @@
-//! What a line of the log begins with.
+//! The beginning of a log line.
 
 use crate::error_log::text_of;
 use jiff::Timestamp;
@@ -9,27 +9,28 @@ use std::io::{self, ErrorKind};
 use std::os::unix::fs::MetadataExt;
 use std::rt::{Clock, Env};
 
-/// The variable by which systemd names the stream that leads to its journal, as `DEVICE:INODE`, by systemd.exec(5).
+/// The variable in which systemd names the stream that leads to its journal, as `DEVICE:INODE`
+/// (systemd.exec(5)).
 const JOURNAL_STREAM: &str = "JOURNAL_STREAM";
 
-/// What standard error leads to.
+/// The link to the file of standard error.
 const ERROR: &str = "/proc/self/fd/2";
 
-/// Two numbers of 64 bits and a colon have so many bytes at most.
+/// The greatest length in bytes of two numbers of 64 bits and a colon.
 const STREAM_ROOM: usize = 41;
 
-/// Whether a line of the log begins with the time.
+/// Whether a log line begins with the time.
 #[derive(Clone, Copy, Debug, PartialEq, Eq)]
 pub enum LineStart {
     /// It does: `2026-11-27T22:31:57Z rmtd: accept failed: ..`.
     Time,
-    /// It does not: `rmtd: accept failed: ..`. The journal of systemd notes the time itself.
+    /// It does not: `rmtd: accept failed: ..`. The journal of systemd adds the time itself.
     Name,
 }
 
 impl LineStart {
-    /// What lines on standard error begin with: not with the time if the environment says that standard error leads to systemd's
-    /// journal. It fails only where memory is refused.
+    /// Returns how lines on standard error begin: without the time if the environment says that
+    /// standard error leads to systemd's journal. It fails only if an allocation fails.
     pub(crate) fn of<R: FolderSystem + Env>(rt: &R) -> io::Result<LineStart> {
         let mut room = [0; STREAM_ROOM];
         let Ok(count) = rt.var(JOURNAL_STREAM, room.as_mut_slice()) else {
@@ -42,7 +43,8 @@ impl LineStart {
         }
     }
 
-    /// The time now, where a line begins with it. None too where the clock tells no time, or one that no date of four digits has.
+    /// Returns the time now, if lines begin with it. Returns None also if the clock cannot be read,
+    /// or if its year does not have four digits.
     pub(crate) fn time<C: Clock>(self, clock: &C) -> Option<Timestamp> {
         if self == LineStart::Name {
             return None;
@@ -52,7 +54,8 @@ impl LineStart {
     }
 }
 
-/// Whether this is the device and the inode of standard error, in decimal, with a colon between them.
+/// Whether `stream` is the device and the inode of standard error, in decimal, with a colon between
+/// them.
 fn is_error<R: FolderSystem>(rt: &R, stream: &[u8]) -> io::Result<bool> {
     match fs::metadata(rt, ERROR) {
         Ok(found) => {
@@ -64,12 +67,12 @@ fn is_error<R: FolderSystem>(rt: &R, stream: &[u8]) -> io::Result<bool> {
     }
 }
 
-/// What stands before the text of a line.
+/// The part of a log line before its text.
 #[derive(Clone, Copy)]
 pub(crate) struct LineHead {
-    /// The time, where the line begins with it.
+    /// The time, if the line begins with it.
     pub(crate) time: Option<Timestamp>,
-    /// The number of the seat, where it is a line of one.
+    /// The number of the seat, if the line belongs to one.
     pub(crate) seat: Option<usize>,
 }
 

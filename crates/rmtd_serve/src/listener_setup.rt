@@ -1,4 +1,4 @@
-//! What connections are served at, many at once.
+//! The setup of a listener that serves connections in parallel.
 ghost use Rattle.std.specs.Prelude.{◌≡◌, ◌≤◌, None, All, length};
 ghost use Rattle.std.proofs.Props.{props};
 ghost use Rattle.drives.specs.Holding.{HoldsJust};
@@ -10,18 +10,19 @@ use crate::line_start::LineStart;
 use hold_table::{HoldSeat, HoldTable};
 use reel_files::{FolderStacks, FolderSystem};
 
-/// What connections are served at: drives in folders, with a table of who holds them, its seats, and stacks for each seat.
+/// The setup of a listener that serves connections in parallel: drives in folders, the table of
+/// their holders, its seats, and stacks for each seat.
 #[derive(Drop)]
 pub struct ListenerSetup<R: FolderSystem + Eprint> {
-    /// How many of them are served, at most.
+    /// How many connections are served, at most.
     pub left: u64,
-    /// Who holds which drive.
+    /// The table of who holds which drive.
     pub table: HoldTable,
     /// The table's seats. None holds a drive.
     pub seats: Vec<HoldSeat>,
-    /// Each with the drives of the table.
+    /// The stacks of each seat, with the drives of the table.
     pub stacks: Vec<FolderStacks<R, ErrorLog<R>>>,
-    /// What lines of the log begin with.
+    /// How log lines begin.
     pub start: LineStart,
     ghost seated: { (length seats.items ≡ SEAT_LIMIT) × All (λ s. IsSeatAt table s × HoldsJust s.view None) seats.items } by { Prim.hlevel props },
     ghost stacked: { (length stacks.items ≡ SEAT_LIMIT) × All (λ s. length s.rows ≤ table.arguments) stacks.items } by { Prim.hlevel props },

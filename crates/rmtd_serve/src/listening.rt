@@ -1,4 +1,5 @@
-//! Serving the connections of a listener, one after the other, as `rmtd --listen` does at a drive in memory.
+//! Serves the connections of a listener one after the other, as `rmtd --listen` does with a drive
+//! in memory.
 ghost use Rattle.rmtd_serve.specs.Accepting.{AreOver};
 ghost use Rattle.rmtd_serve.specs.Serving.{ServedInTurn};
 
@@ -11,10 +12,11 @@ use rmt_wire::Counted;
 use std::net::TcpStream;
 use std::rt::Clock;
 
-/// Serves connections one after the other, until as many have come as were to come, or their listener is broken for good. The reels
-/// go from each to the next. It gives back the connections.
+/// Serves connections one after the other, until all have come or their listener can never accept
+/// again. Returns the connections.
 ///
-/// One that ended in mid request or failed has come too. The log of the connections has a line for the end of each.
+/// Each connection finds the reels as the one before left them. A connection that ended within a
+/// request, or failed, counts too. The log has a line for the end of each.
 pub fn serve_connections<'a, C: Clock, L: Log + Drop>(
     server: &mut MemoryServer,
     connections: Connections<'a, C, L>,
@@ -32,7 +34,7 @@ pub fn serve_connections<'a, C: Clock, L: Log + Drop>(
     connections
 }
 
-/// Serves the connection of that number, and answers how it ended.
+/// Serves connection `number`, and returns how it ended.
 fn serve_stream(server: &mut MemoryServer, stream: &TcpStream, number: u64) -> Ended
     ensures { ServedInTurn server.old server.new }
 {

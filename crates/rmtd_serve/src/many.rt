@@ -1,4 +1,4 @@
-//! A thread for each pair of streams.
+//! Serves each pair of streams in a thread of its own.
 ghost use Rattle.std.specs.Prelude.{◌≡◌, ◌≤◌, None, All, length};
 ghost use Rattle.std.specs.Thread.{IsSync, IsSend};
 ghost use Rattle.drives.specs.Holding.{HoldsJust};
@@ -16,7 +16,8 @@ use std::marker::Brand;
 use std::sync::{Mutex, Wait};
 use std::thread::{self, Threads};
 
-/// What a thread does: it serves the pair of that number at a bench that was promised, and puts the bench back.
+/// The work of a thread: takes a reserved worker, serves pair `number` with it, and puts the worker
+/// back.
 fn work<W: Wait, I: Read + Drop, O: Write + Drop, S: Stacks + Drop, B: AtTable>(
     rt: &W,
     alloc: Global,
@@ -32,13 +33,14 @@ fn work<W: Wait, I: Read + Drop, O: Write + Drop, S: Stacks + Drop, B: AtTable>(
     idle_workers.lock(rt).put(worker);
 }
 
-/// Why a pair is let go: each seat has one, or there was no memory for its seat to come back.
+/// Why a pair is closed unserved: all seats are taken, or an allocation for the return of its seat
+/// failed.
 const NO_SEAT: &str = "no seat is free";
 
-/// Why a pair is let go for which the system has no thread.
+/// Why a pair is closed unserved if the system cannot start a thread for it.
 const NO_THREAD: &str = "no thread";
 
-/// Starts a thread for each pair that comes while a bench is free, and waits for all.
+/// Starts a thread for each pair that comes while a worker is free, and waits for all threads.
 fn serve_all<
     R: Threads + Wait + Sync,
     I: Incoming + Drop,
@@ -85,7 +87,8 @@ where
     )
 }
 
-/// Serves the pairs at a table that its type names, and returns what they came from with the seats of its pool.
+/// Serves the pairs with a table that the type `B` names. Returns the source of the pairs, and the
+/// seats of the workers.
 fn serve_at_table<
     R: Threads + Wait + Sync,
     I: Incoming + Drop,
@@ -113,19 +116,24 @@ where
     (incoming, idle_workers.into_inner().into_seats())
 }
 
-/// Serves each pair of streams by a session in a thread of its own, at most `SEAT_LIMIT` at once. It returns once the last pair was given
-/// and each thread has ended, with what the pairs came from and the seats, in any order. Each seat is one of the table, and holds no
-/// drive; a seat that the memory of the server has no room for is not among them.
+/// Serves each pair of streams in a session in a thread of its own, at most `SEAT_LIMIT` in
+/// parallel.
 ///
-/// Each session has one of the seats and one of the stacks. The seats are those of the table, and hold no drive, before
-/// and after each session; the stacks have no more drives than the table. A session that ended serves a later pair with its seat
-/// and stacks.
+/// It returns after the last pair has come and each thread has ended. It returns the source of the
+/// pairs, and the seats in any order. Each seat belongs to the table, and holds no drive. A seat
+/// for which the server has no memory is missing.
 ///
-/// A pair that comes while so many are served is let go, and so is one for which memory or a thread is refused: nothing is read of
-/// it or written to it. It waits for pairs and for threads.
+/// Each session has one of the seats and one of the stacks. The seats must be those of the table,
+/// and hold no drive before and after each session. The stacks must have no more drives than the
+/// table. When a session has ended, its seat and stacks serve a later pair.
 ///
-/// The stacks of its seat note where a pair begins to be served and how it ended, by the pair's number; what the pairs come from is
-/// told of one that is let go.
+/// A pair is closed unserved if all seats are taken, or if an allocation or the start of a thread
+/// fails. Nothing is read from it or written to it then. The function waits for pairs and for
+/// threads.
+///
+/// The log of a seat's stacks has two lines for each pair that is served: when that begins, and how
+/// it ended. Both have the pair's number. For a pair that is closed unserved, `Incoming::let_go` is
+/// called.
 pub fn serve_many<R: Threads + Wait + Sync, I: Incoming + Drop, S: Stacks + Drop + Send>(
     rt: &R,
     alloc: Global,

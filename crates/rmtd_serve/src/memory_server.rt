@@ -21,7 +21,8 @@ const REEL: &[u8] = b"reel";
 
 /// A drive `/dev/st0` with a reel in memory, which serves one stream after the other.
 ///
-/// Contracts see the reels: those on the stack and those in the bin. Between two streams no session holds the drive.
+/// Contracts describe its reels: those on the stack and those in the bin. Between two streams no
+/// session holds the drive.
 #[derive(Drop)]
 pub struct MemoryServer {
     alloc: Global,
@@ -41,7 +42,8 @@ impl Model for MemoryServer {
 }
 
 impl MemoryServer {
-    /// The drive with one reel `reel`, which is empty and of this capacity in bytes. None where memory was refused.
+    /// Makes the drive, with one empty reel `reel` of `capacity` bytes. Returns None if an
+    /// allocation fails.
     pub fn new(alloc: Global, capacity: u64) -> Option<MemoryServer>
         ensures { IfSome result (λ s. s ≡ (blank_session_view capacity).library) }
     {
@@ -51,10 +53,11 @@ impl MemoryServer {
         Some(MemoryServer { alloc, drives })
     }
 
-    /// Serves one stream by a session of its own, which gives the drive back at its end.
+    /// Serves one stream in a session of its own, which releases the drive at its end. Returns how
+    /// the stream ended.
     ///
-    /// None where a stream failed, where memory was refused before the first request was read, or where no number is
-    /// left for a session.
+    /// Returns None if a stream failed, if an allocation failed before the first request was read,
+    /// or if no session number is left.
     pub fn serve<R: Read, W: Write>(
         &mut self,
         input: &mut Counted<R>,
@@ -69,7 +72,7 @@ impl MemoryServer {
     }
 }
 
-/// The drive with its one reel, which is empty. None where memory was refused.
+/// Makes the drive with its one reel, which is empty. Returns None if an allocation fails.
 fn one_reel(alloc: Global, capacity: u64) -> Option<ListStacks>
     ensures library { IfSome result (λ stacks. IsLibrary stacks (blank_session_view capacity).library) }
     ensures quiet { IfSome result (λ stacks. StacksCanFail stacks → ⊥) }

@@ -1,4 +1,4 @@
-//! Making ready for connections that are served at once.
+//! Prepares a listener that serves connections in parallel.
 ghost use Rattle.std.specs.Prelude.{◌≡◌, ◌≤◌, Some, IfOk, length, map, option_map};
 ghost use Rattle.drives.specs.declared.holds.TheConstants.{DRIVE_LIMIT};
 ghost use Rattle.rmtd_args.specs.Drive.{KeepsDriveRules, plain_drive};
@@ -12,7 +12,8 @@ use reel_files::FolderSystem;
 use rmtd_args::ServerLine;
 use std::io;
 
-/// What the line has connections served at, with a log whose lines begin so. It fails only where memory is refused.
+/// Makes the setup of a listener that the arguments ask for. Its log lines begin as `start` says.
+/// It fails only if an allocation fails.
 pub(crate) fn listener_setup_of<R: FolderSystem + Eprint>(
     rt: &R,
     line: &ServerLine<'_>,

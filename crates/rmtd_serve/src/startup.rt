@@ -1,4 +1,5 @@
-//! The start of `rmtd`: its words are read, and what they ask is done, until connections are served at once.
+//! The start of `rmtd`: reads its arguments and does what they ask, up to the point where
+//! connections are served in parallel.
 ghost use Rattle.std.specs.Prelude.{◌≡◌, ◌⊎◌, ◌≤◌, Some, None, IfOk, OnErr, length, map, option_map};
 ghost use Rattle.clap.specs.Arguments.{kind_of};
 ghost use Rattle.drives.specs.declared.holds.TheConstants.{DRIVE_LIMIT};
@@ -30,13 +31,13 @@ use std::io::{self, Read, Write};
 use std::net::{Net, TcpListener, TcpStream};
 use std::rt::Env;
 
-/// What the program ends with where its words are wrong, or it can't start.
+/// The exit status if the arguments are wrong, or if the program cannot start.
 const FAILED: u8 = 1;
 
-/// What is told where memory was refused at the start.
+/// The message if the program cannot start because it is out of memory.
 const NOT_STARTED: &str = "it did not start";
 
-/// What `rmtd` asks of the system beside its standard streams and its threads.
+/// The system services that `rmtd` uses, besides its standard streams and its threads.
 pub trait ServerSystem: FolderSystem
     + Net<Listener = TcpListener, Stream = TcpStream>
     + Print
@@ -48,20 +49,21 @@ where
     R: FolderSystem + Net<Listener = TcpListener, Stream = TcpStream> + Print + Eprint + Env,
 {}
 
-/// What is left to do once the words were followed.
+/// The remaining work after the arguments were followed.
 #[derive(Drop)]
 pub enum Begun<R: FolderSystem + Eprint> {
     /// To end with this status.
     End(u8),
-    /// To serve the connections of this listener at once.
+    /// To serve the connections of this listener in parallel.
     Serve(TcpListener, ListenerSetup<R>),
 }
 
-/// Reads the words that the program was called with, and does what they ask until connections are served at once.
+/// Reads the program's arguments and does what they ask, up to the point where connections are
+/// served in parallel.
 ///
-/// Where the words could not be read, or memory was refused at the start, that is told on standard error, and the status is 1.
-/// With `--stdio` the start lasts until the first request is read.
-/// It fails only where standard error could not be written.
+/// If the arguments cannot be read, or if an allocation fails at the start, it prints that on
+/// standard error and the status is 1. With `--stdio` the start lasts until the first request is
+/// read. It fails only if standard error cannot be written.
 pub fn start<R: ServerSystem, I: Read, O: Write>(
     rt: &R,
     input: &mut Counted<I>,
@@ -77,7 +79,8 @@ pub fn start<R: ServerSystem, I: Read, O: Write>(
     }
 }
 
-/// Reads the words of the program, and does what they ask until connections are served at once.
+/// Reads the program's arguments and does what they ask, up to the point where connections are
+/// served in parallel.
 fn run_process<R: ServerSystem, I: Read, O: Write>(
     rt: &R,
     input: &mut Counted<I>,
@@ -93,7 +96,7 @@ fn run_process<R: ServerSystem, I: Read, O: Write>(
     }
 }
 
-/// The words that the program was called with, its own name first.
+/// Returns the program's arguments, its own name first.
 fn arguments<R: Env + AllocGlobal>(rt: &R) -> io::Result<Vec<String>> {
     let mut arguments = Vec::new(rt.alloc());
     for argument in env::args(rt)? {
@@ -102,7 +105,7 @@ fn arguments<R: Env + AllocGlobal>(rt: &R) -> io::Result<Vec<String>> {
     Ok(arguments)
 }
 
-/// Does what these words ask until connections are served at once.
+/// Does what these arguments ask, up to the point where connections are served in parallel.
 fn run_arguments<R: ServerSystem, I: Read, O: Write>(
     rt: &R,
     arguments: &[String],
@@ -117,7 +120,7 @@ fn run_arguments<R: ServerSystem, I: Read, O: Write>(
     begin(rt, lent.as_slice(), input, output)
 }
 
-/// The same words, lent.
+/// Returns references to the arguments.
 fn lent(alloc: Global, arguments: &[String]) -> Result<Vec<&str>, AllocError> {
     let mut lent = Vec::new(alloc);
     for argument in arguments {
@@ -126,20 +129,26 @@ fn lent(alloc: Global, arguments: &[String]) -> Result<Vec<&str>, AllocError> {
     Ok(lent)
 }
 
-/// Does what the words of `rmtd` ask, of which the first is the name of the program itself, until connections are served at
-/// once. The standard streams are `input` and `output`, and what is told goes to those of the system.
+/// Does what the arguments of `rmtd` ask, up to the point where connections are served in parallel.
+/// The first argument is the name of the program. The standard streams are `input` and `output`;
+/// messages are printed on those of the system.
 ///
-/// With `--stdio` the streams are served, and the status is that of how they ended (`exit_status`). With `--listen` and a drive
-/// in memory connections are served one after the other: the status is 0 where as many have come as were to come, and 1 where the
-/// listener is broken for good. With `--listen` and drives in folders what is
-/// left is to serve them at once. Help and the version go to standard output, with the status 0.
+/// - With `--stdio` it serves the streams. The status says how they ended (`exit_status`).
+/// - With `--listen` and a drive in memory it serves connections one after the other. The status is
+///   0 if all have come, and 1 if the listener can never accept again.
+/// - With `--listen` and drives in folders, what remains is to serve the connections in parallel.
+/// - Help and the version are printed on standard output, and the status is 0.
 ///
-/// The status is 1, and what is at fault is told on standard error, where the words are wrong, a folder can't be used, the
-/// address can't be listened at, or memory is refused to the session of `--stdio`. Of the last the line is dropped where it
-/// cannot be written. It fails where other memory is refused or standard error could not be written. In all of these neither
-/// stream is touched.
+/// In these cases it prints the error on standard error, and the status is 1:
+/// - The arguments are wrong, a folder cannot be used, or the server cannot listen at the address.
+/// - Standard output cannot be written.
+/// - An allocation fails for the arguments, for the listener, or for the session of `--stdio`. In
+///   the last case the message is dropped if it cannot be written.
 ///
-/// Nothing that is opened here or later has the place of a standard stream.
+/// It fails if another allocation fails or standard error cannot be written. In all these cases
+/// neither stream is touched.
+///
+/// No file that is opened here or later gets the number of a standard stream.
 pub fn begin<R: ServerSystem, I: Read, O: Write>(
     rt: &R,
     arguments: &[&str],
@@ -158,7 +167,8 @@ pub fn begin<R: ServerSystem, I: Read, O: Write>(
     }
 }
 
-/// Serves as the line says, but for connections at drives in folders: it tells what is left to do.
+/// Serves as the arguments say. For a listener with drives in folders it returns what remains to be
+/// done.
 fn serve_line<R: ServerSystem, I: Read, O: Write>(
     rt: &R,
     line: &ServerLine<'_>,
@@ -187,9 +197,9 @@ fn serve_line<R: ServerSystem, I: Read, O: Write>(
     }
 }
 
-/// Serves the streams at drives whose reels are files in folders, or makes ready for connections. A folder that cannot be used
-/// is told before anything is read. What goes wrong while the streams are served is told on standard error, where that is not
-/// the stream that has the answers.
+/// Serves the streams with drives in folders, or prepares a listener. If a folder cannot be used,
+/// it prints that before anything is read. Errors while the streams are served are printed on
+/// standard error, unless that is the stream with the replies.
 fn serve_line_in_folders<R: ServerSystem, I: Read, O: Write>(
     rt: &R,
     line: &ServerLine<'_>,
@@ -215,7 +225,8 @@ fn serve_line_in_folders<R: ServerSystem, I: Read, O: Write>(
     }
 }
 
-/// The stacks of the line's drives, which tell on standard error what goes wrong. It fails only where memory is refused.
+/// Makes the stacks of the drives in the arguments. They log failures on standard error. It fails
+/// only if an allocation fails.
 fn stacks_with_warnings<R: ServerSystem>(
     rt: &R,
     line: &ServerLine<'_>,
@@ -231,7 +242,7 @@ fn stacks_with_warnings<R: ServerSystem>(
     Ok(logged_stacks(rt.clone()?, drives, bin, line.capacity, log)?)
 }
 
-/// Serves the streams at these stacks; what is left is to end.
+/// Serves the streams with these stacks. Returns `End` with their status.
 fn serve_in_folders<R: ServerSystem, S: Stacks + Drop, I: Read, O: Write>(
     rt: &R,
     line: &ServerLine<'_>,
@@ -254,8 +265,9 @@ fn serve_in_folders<R: ServerSystem, S: Stacks + Drop, I: Read, O: Write>(
     Ok(end(rt, status, input, output))
 }
 
-/// Makes ready for connections at this address, at drives whose reels are files in folders. All memory of the start is had before
-/// the line that says that it listens, so whoever reads that line can be served.
+/// Listens at this address, for drives in folders. All memory for the start is allocated before the
+/// line that says that it listens is printed. Therefore a client that waits for that line can be
+/// served.
 fn listen_in_folders<R: ServerSystem>(
     rt: &R,
     address: &str,
@@ -278,8 +290,9 @@ fn listen_in_folders<R: ServerSystem>(
     }
 }
 
-/// What is left once the streams were served, with this status: to end. Where memory was refused before the first request was read,
-/// that is told on standard error; a line that cannot be written is dropped.
+/// Returns `End` with this status, after the streams were served. If an allocation failed before
+/// the first request was read, it prints that on standard error. The message is dropped if it
+/// cannot be written.
 fn end<R: ServerSystem, I: Read, O: Write>(
     rt: &R,
     status: u8,
@@ -294,7 +307,8 @@ fn end<R: ServerSystem, I: Read, O: Write>(
     Begun::End(status)
 }
 
-/// Tells on standard error what is at fault and why; what is left is to end.
+/// Prints on standard error what failed and why. Returns `End` with status 1. It fails if standard
+/// error cannot be written.
 fn report<R: ServerSystem>(rt: &R, what: &str, why: io::Error) -> io::Result<Begun<R>>
     ensures { IfOk result (λ begun. begun ≡ Begun.End 1) }
 {
@@ -303,14 +317,15 @@ fn report<R: ServerSystem>(rt: &R, what: &str, why: io::Error) -> io::Result<Beg
     Ok(Begun::End(FAILED))
 }
 
-/// What is told of a reel in memory to which others come.
+/// The log line of a listener whose reel is in memory.
 const IN_MEMORY: &str = "the reel of /dev/st0 is in memory, and is gone when the server ends";
 
-/// What is told of it where there is a bin that it never comes to.
+/// The same if a bin is given. No reel in memory ever reaches the bin.
 const BIN_ALONE: &str =
     "--bin is given and no drive: the reel of /dev/st0 is in memory, and is gone when the server ends";
 
-/// Warns that the reel is in memory, where a bin is given that it never comes to. It fails only where memory is refused.
+/// Warns that the reel is in memory if a bin is given, which no such reel reaches. It fails only if
+/// an allocation fails.
 fn warn_of_bin<R: ServerSystem>(rt: &R, line: &ServerLine<'_>, start: LineStart) -> io::Result<()> {
     if line.bin.is_some() {
         Warnings::new(rt, start)?.warn(BIN_ALONE);
@@ -318,8 +333,10 @@ fn warn_of_bin<R: ServerSystem>(rt: &R, line: &ServerLine<'_>, start: LineStart)
     Ok(())
 }
 
-/// Listens at this address, and serves as many connections as the line says with a drive in memory, which is told on standard error.
-/// Answers the status: 0 where as many came, and 1 where the listener is broken for good.
+/// Listens at this address, and serves as many connections as the arguments say with a drive in
+/// memory. It logs that the reel is in memory.
+///
+/// Returns the status: 0 if all connections came, and 1 if the listener can never accept again.
 fn listen<R: ServerSystem>(
     rt: &R,
     address: &str,
@@ -343,7 +360,7 @@ fn listen<R: ServerSystem>(
     Ok(serve_connections(&mut server, connections).status())
 }
 
-/// The log of what belongs to no seat, whose lines begin so.
+/// Makes the log of the server itself, whose lines begin as `start` says.
 fn log_of<R>(rt: &R, start: LineStart) -> ErrorLog<&R> {
     ErrorLog {
         rt,
@@ -352,12 +369,12 @@ fn log_of<R>(rt: &R, start: LineStart) -> ErrorLog<&R> {
     }
 }
 
-/// What is told where it listens at each address of the machine.
+/// The log line if the server listens at each address of the machine.
 const ANYWHERE: &str =
     "it listens at each address of this machine: whoever reaches one of them can read and write all reels";
 
-/// A listener at this address, which is told on standard output. Where that is each address of the machine the log says what that
-/// means.
+/// Listens at this address, and prints it on standard output. If the server listens at each address
+/// of the machine, it logs a warning.
 fn bind<R: ServerSystem, L: Log>(rt: &R, address: &str, log: &L) -> io::Result<TcpListener> {
     let listener = TcpListener::bind(rt, address)?;
     let place = listener.local_addr()?;
@@ -368,7 +385,8 @@ fn bind<R: ServerSystem, L: Log>(rt: &R, address: &str, log: &L) -> io::Result<T
     Ok(listener)
 }
 
-/// Tells why words gave nothing to do; what is left is to end. Help and the version go to standard output.
+/// Prints why the arguments leave nothing to do: an error on standard error, or help and the
+/// version on standard output. Returns `End`, with status 0 for help and the version, else 1.
 fn refuse<R: ServerSystem>(rt: &R, error: Error) -> io::Result<Begun<R>>
     ensures { IfOk result (λ begun. (begun ≡ Begun.End 1) ⊎ ((begun ≡ Begun.End 0) × IsShown (kind_of error))) }
 {
@@ -386,7 +404,8 @@ fn refuse<R: ServerSystem>(rt: &R, error: Error) -> io::Result<Begun<R>>
     Ok(Begun::End(if error.use_stderr() { FAILED } else { 0 }))
 }
 
-/// Prints an error of words on standard error, in which words may stand as they were given.
+/// Prints an error about the arguments on standard error. The error may quote them, so control
+/// characters are printed as `?`.
 fn print_error<R: ServerSystem>(rt: &R, error: &Error) -> io::Result<()> {
     let text = format!(in rt.alloc(); "{error}")?;
     rt.eprint(PlainLines(text.as_str()))

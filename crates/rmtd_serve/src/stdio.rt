@@ -1,4 +1,4 @@
-//! Serving one stream with one drive in memory, as `rmtd --stdio` does.
+//! Serves one stream with one drive in memory, as `rmtd --stdio` does.
 ghost use Rattle.std.specs.Prelude.{◌≡◌};
 ghost use Rattle.rmt_server.specs.Stream.{streams, streams_kind};
 ghost use Rattle.rmtd_serve.specs.Stdio.{IsServedAlone, IsStdio, exit_status};
@@ -9,10 +9,11 @@ use rmt_wire::Counted;
 use std::alloc::Global;
 use std::io::{Read, Write};
 
-/// The status where a stream failed, or memory was refused at the start.
+/// The status if a stream failed, or if an allocation failed at the start.
 const FAILED: u8 = 1;
 
-/// Serves one stream with a drive in memory. None where memory was refused at the start, or a stream failed.
+/// Serves one stream with a drive in memory. Returns None if an allocation failed at the start, or
+/// if a stream failed.
 fn serve_alone<R: Read, W: Write>(
     alloc: Global,
     input: &mut Counted<R>,
@@ -26,12 +27,10 @@ fn serve_alone<R: Read, W: Write>(
     server.serve(input, output)
 }
 
-/// Serves the requests of `input` and writes the answers to `output`, with one drive `/dev/st0`, whose one reel is
-/// in memory, empty, and of this capacity in bytes.
+/// Serves the requests of `input` and writes the replies to `output`. It has one drive `/dev/st0`,
+/// with one empty reel of `capacity` bytes in memory.
 ///
-/// Answers the exit status of `rmtd --stdio`: 0 where the input ended between two requests, 2 where it ended inside
-/// one, 3 where it came to bytes that are no request, and 1 where a stream failed, or where memory was refused
-/// before the first request was read.
+/// Returns the exit status of `rmtd --stdio`; `exit_status` lists them.
 pub fn run_stdio<R: Read, W: Write>(
     alloc: Global,
     input: &mut Counted<R>,
@@ -43,8 +42,12 @@ pub fn run_stdio<R: Read, W: Write>(
     exit_status(serve_alone(alloc, input, output, capacity))
 }
 
-/// The exit status of `rmtd --stdio`, by how its stream ended: 0 between two requests, 2 inside one, 3 at bytes that are no
-/// request, and 1 where a stream failed, or where memory was refused before the first request was read.
+/// Returns the exit status of `rmtd --stdio` for this ending of the stream:
+///
+/// - 0: the input ended between two requests.
+/// - 1: a stream failed, or an allocation failed before the first request was read.
+/// - 2: the input ended within a request.
+/// - 3: the input has bytes that are not a request.
 pub fn exit_status(ending: Option<Served>) -> u8
     ensures { result ≡ exit_status ending }
 {

@@ -16,7 +16,7 @@ use std::marker::Model;
 
 /// Drives with their stacks, which serve one stream after the other.
 ///
-/// Contracts see the stacks. Between two streams no session holds a drive.
+/// Contracts describe its stacks. Between two streams no session holds a drive.
 #[derive(Drop)]
 pub struct TapeServer<S: Stacks + Drop> {
     alloc: Global,
@@ -37,7 +37,8 @@ impl<S: Stacks + Drop> Model for TapeServer<S> {
 }
 
 impl<S: Stacks + Drop> TapeServer<S> {
-    /// These stacks, of which there are so many drives, from 1 to `DRIVE_LIMIT` of `drives`. None where memory was refused.
+    /// Makes a server with these stacks. `drives` is the number of drives, 1 to `DRIVE_LIMIT`.
+    /// Returns None if an allocation fails.
     pub fn new(alloc: Global, drives: usize, stacks: S) -> Option<TapeServer<S>>
         requires some { 1 ≤ drives }
         requires few { drives ≤ DRIVE_LIMIT }
@@ -49,10 +50,11 @@ impl<S: Stacks + Drop> TapeServer<S> {
         Some(TapeServer { alloc, drives })
     }
 
-    /// Serves one stream by a session of its own, which gives the drive back at its end.
+    /// Serves one stream in a session of its own, which releases the drive at its end. Returns how
+    /// the stream ended.
     ///
-    /// None where a stream failed, where memory was refused before the first request was read, or where no number is
-    /// left for a session.
+    /// Returns None if a stream failed, if an allocation failed before the first request was read,
+    /// or if no session number is left.
     pub fn serve<R: Read, W: Write>(
         &mut self,
         input: &mut Counted<R>,

@@ -1,4 +1,4 @@
-//! Lines on standard error that say what went wrong, where standard output has the answers.
+//! A log of warnings on standard error, for a server whose replies are on standard output.
 
 use crate::error_log::ErrorLog;
 use crate::line_start::LineStart;
@@ -8,23 +8,26 @@ use std::io::{self, ErrorKind};
 use std::path::PathBuf;
 use std::rt::Clock;
 
-/// Where the system tells what standard output leads to.
+/// The link to the file of standard output.
 const OUTPUT: &str = "/proc/self/fd/1";
 
-/// Where it tells what standard error leads to.
+/// The link to the file of standard error.
 const ERROR: &str = "/proc/self/fd/2";
 
-/// A log on standard error of what went wrong, for one client on standard input and standard output. Other lines are dropped.
+/// A log of failures on standard error, for one client on standard input and standard output. Other
+/// lines are dropped.
 ///
-/// Nothing is told where standard error is the same stream as standard output, as inetd gives them, or where the system does
-/// not tell that: the lines would stand among the answers.
+/// If standard error is the same stream as standard output, as with inetd, it logs nothing, because
+/// the lines would be mixed with the replies. It also logs nothing if the system does not report
+/// what the streams are.
 #[derive(Drop)]
 pub(crate) struct Warnings<R> {
     log: Option<ErrorLog<R>>,
 }
 
 impl<R: FolderSystem> Warnings<R> {
-    /// A log on the standard error of this runtime, whose lines begin so. It fails only where memory is refused.
+    /// Makes a log on the standard error of this runtime, whose lines begin as `start` says. It
+    /// fails only if an allocation fails.
     pub(crate) fn new(rt: R, start: LineStart) -> io::Result<Warnings<R>> {
         if !is_apart(&rt)? {
             return Ok(Warnings { log: None });
@@ -49,7 +52,7 @@ impl<R: Eprint + Clock> Log for Warnings<R> {
     }
 }
 
-/// Whether the system tells that standard error is another stream than standard output.
+/// Whether the system reports that standard error is another stream than standard output.
 fn is_apart<R: FolderSystem>(rt: &R) -> io::Result<bool> {
     match (end_of(rt, OUTPUT)?, end_of(rt, ERROR)?) {
         (Some(output), Some(error)) => Ok(output != error),
@@ -57,7 +60,8 @@ fn is_apart<R: FolderSystem>(rt: &R) -> io::Result<bool> {
     }
 }
 
-/// What a link leads to, where the system tells that. It fails only where memory is refused.
+/// Returns the target of a link, or None if the system does not report it. It fails only if an
+/// allocation fails.
 fn end_of<R: FolderSystem>(rt: &R, link: &str) -> io::Result<Option<PathBuf>> {
     match fs::read_link(rt, link) {
         Ok(end) => Ok(Some(end)),

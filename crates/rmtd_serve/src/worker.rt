@@ -1,4 +1,4 @@
-//! A seat with its stacks.
+//! A seat with its stacks, for one thread.
 ghost use Rattle.std.specs.Prelude.{◌≡◌, ◌≤◌, None};
 ghost use Rattle.std.proofs.Props.{props};
 ghost use Rattle.drives.specs.Holding.{HoldsJust};
@@ -14,7 +14,7 @@ use std::alloc::Global;
 use std::io::{Read, Write};
 use std::marker::PhantomData;
 
-/// A seat of a table that holds no drive, and the stacks that sessions there work on.
+/// A seat of a table that holds no drive, and the stacks on which its sessions work.
 #[derive(Drop)]
 pub(crate) struct Worker<'t, S: Stacks + Drop, B: AtTable> {
     table: &'t HoldTable,
@@ -30,7 +30,8 @@ pub(crate) struct Worker<'t, S: Stacks + Drop, B: AtTable> {
 }
 
 impl<'t, S: Stacks + Drop, B: AtTable> Worker<'t, S, B> {
-    /// A seat of this table that holds no drive, and stacks of as many drives as the table has, or fewer.
+    /// Takes a seat of this table that holds no drive, and stacks with no more drives than the
+    /// table has.
     pub(crate) fn new(table: &'t HoldTable, seat: HoldSeat, stacks: S) -> Self
         requires here { table.now ≡ B.table }
         requires seat { IsSeatAt B.table seat }
@@ -45,7 +46,7 @@ impl<'t, S: Stacks + Drop, B: AtTable> Worker<'t, S, B> {
         }
     }
 
-    /// The seat, which holds no drive.
+    /// Returns the seat, which holds no drive.
     pub(crate) fn into_seat(self) -> HoldSeat
         ensures seat { IsSeatAt B.table result }
         ensures idle { HoldsJust result.view None }
@@ -59,7 +60,7 @@ impl<'t, S: Stacks + Drop, B: AtTable> Worker<'t, S, B> {
         seat
     }
 
-    /// Serves the pair of streams of that number by a session here, and lets them go.
+    /// Serves the streams of pair `number` in a session at this seat, and drops them.
     pub(crate) fn serve<I: Read + Drop, O: Write + Drop>(
         self,
         alloc: Global,

@@ -1,4 +1,4 @@
-//! The lines of counts.
+//! Reads the lines of counts in a checkpoint.
 ghost use Rattle.std.specs.Prelude.{◌≡◌, ◌≤◌, length};
 ghost use Rattle.dump_run.specs.CheckpointParts.{AreCounts};
 
@@ -7,7 +7,10 @@ use super::head::HEAD_LINES;
 use crate::{ResumeFault, VolumeCount};
 use std::alloc::Global;
 
-/// The counts that these lines say, up to the end.
+/// Reads lines of counts up to the end of `bytes`, which follow the lines of the run.
+///
+/// Returns `BadLine` with the number of the first line that is no count, or `OutOfMemory` if an
+/// allocation fails.
 pub(super) fn read_counts(alloc: Global, bytes: &[u8]) -> Result<Vec<VolumeCount>, ResumeFault>
     ensures { AreCounts bytes.now result }
 {

@@ -1,7 +1,8 @@
-//! Texts that are cut at a byte.
+//! Splits a text at a byte.
 ghost use Rattle.dump_run.specs.CheckpointParts.{IsCut};
 
-/// What stands before the first byte of this kind, and after it. None where there is no such byte.
+/// Splits `text` at the first `byte`: returns the text before it and the text after it. Returns
+/// None if there is no such byte.
 pub(super) fn cut(text: &[u8], byte: u8) -> Option<(&[u8], &[u8])>
     ensures { IsCut byte text.now result }
 {

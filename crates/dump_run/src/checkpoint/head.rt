@@ -1,4 +1,4 @@
-//! The lines of a run.
+//! Reads the lines of the run in a checkpoint.
 ghost use Rattle.dump_run.specs.CheckpointParts.{IsHead};
 
 use super::field::{device_field, name_field, number_field, title};
@@ -7,14 +7,19 @@ use crate::{BLOCKS_LIMIT, ResumeFault, Run};
 use dumpdates::LAST_SECOND;
 use rmt_wire::RECORD_LIMIT;
 
-/// How many lines say the run.
+/// The number of lines for the run: the title and seven fields.
 pub(super) const HEAD_LINES: usize = 8;
 
+/// The greatest size of a block in bytes.
 const BLOCK_LIMIT: u64 = RECORD_LIMIT as u64;
 
+/// The greatest number of blocks.
 const LAST_BLOCK: u64 = BLOCKS_LIMIT as u64;
 
-/// The run that the first lines say, and what stands after them.
+/// Reads the run from the first lines, and returns it with the bytes after them.
+///
+/// Returns `BadLine` with the number of the first line that does not have its form, breaks a limit,
+/// or is missing.
 pub(super) fn read_head(bytes: &[u8]) -> Result<(Run, &[u8]), ResumeFault>
     ensures { IsHead bytes.now result }
 {

@@ -1,10 +1,11 @@
-//! Numbers of a checkpoint.
+//! Reads the numbers of a checkpoint.
 ghost use Rattle.std.specs.Prelude.{◌≡◌, ◌^◌, ◌<◌, ◌↔◌, ℕ, decimal, true, Some};
 ghost use Rattle.dump_run.specs.CheckpointParts.{IsNumber};
 
 use itoa::Buffer;
 
-/// What a text is parsed as: a number, where it writes one without leading zeros.
+/// Parses a text as a number. It may also accept forms that `is_written` rejects, such as leading
+/// zeros.
 fn parsed(text: &[u8]) -> Option<u64>
     ensures { (n : ℕ) → n < 2 ^ 64 → text.now ≡ decimal n → result ≡ Some n }
 {
@@ -14,7 +15,7 @@ fn parsed(text: &[u8]) -> Option<u64>
     }
 }
 
-/// Whether this is how a number is written.
+/// Whether `text` is the decimal form of `n`, without leading zeros.
 fn is_written(n: u64, text: &[u8]) -> bool
     ensures { (result ≡ true) ↔ (text.now ≡ decimal n) }
 {
@@ -22,7 +23,8 @@ fn is_written(n: u64, text: &[u8]) -> bool
     digits.format(n).as_bytes() == text
 }
 
-/// The number that a text writes, without leading zeros. None where it writes none in this range.
+/// Returns the number that `text` is, in decimal without leading zeros. Returns None if `text` has
+/// another form, or if the number is not `least` to `most`.
 pub(super) fn number(text: &[u8], least: u64, most: u64) -> Option<u64>
     ensures { IsNumber least most text.now result }
 {

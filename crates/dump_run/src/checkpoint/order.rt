@@ -1,10 +1,11 @@
-//! The order of counts.
+//! Checks the order of the counts in a checkpoint.
 ghost use Rattle.std.specs.Prelude.{◌↔◌, ◌≤◌, IsTrue};
 ghost use Rattle.dump_run.specs.CheckpointParts.{IsNext, AreOrdered};
 
 use crate::{Run, VolumeCount};
 
-/// Whether this count is that of the volume of this number, from this block on, of a run of so many blocks.
+/// Whether `count` can be volume `volume` of a run of `blocks` blocks, if the volume begins at
+/// block `first`.
 fn is_next(blocks: u32, volume: usize, first: u32, count: &VolumeCount) -> bool
     requires { first ≤ blocks }
     ensures { IsTrue result ↔ IsNext blocks volume first count.now }
@@ -14,7 +15,7 @@ fn is_next(blocks: u32, volume: usize, first: u32, count: &VolumeCount) -> bool
     is_its && is_within && (volume == 1 || first < blocks)
 }
 
-/// How many of these counts, from the first on, are volumes of the run in order.
+/// Returns how many of the counts, beginning with the first, are volumes of the run in order.
 pub(super) fn ordered(run: &Run, counts: &[VolumeCount]) -> usize
     ensures { AreOrdered run.now counts.now result }
 {

@@ -1,4 +1,4 @@
-//! What writes the text of a checkpoint.
+//! Writes the text of a checkpoint.
 ghost use Rattle.std.specs.Prelude.{◌≡◌, ◌++◌, [], ◌∷◌, OnOk, OnErr, length, map, take};
 ghost use Rattle.rmt_wire.specs.Number.{line_feed};
 ghost use Rattle.dump_run.specs.Checkpoint.{checkpoint_text, count_line, joined, run_lines};
@@ -7,7 +7,7 @@ use crate::lines::TextLines;
 use crate::{Run, VolumeCount};
 use std::alloc::AllocError;
 
-/// The lines of a run.
+/// Returns the lines of the run.
 fn run_text(run: &Run) -> TextLines
     ensures { result ≡ joined (run_lines run.now) }
 {
@@ -23,7 +23,7 @@ fn run_text(run: &Run) -> TextLines
     lines
 }
 
-/// The line of a count.
+/// Returns the line of a count.
 fn count_text(count: &VolumeCount) -> TextLines
     ensures { result ≡ count_line count.now ++ line_feed ∷ [] }
 {
@@ -38,7 +38,8 @@ fn count_text(count: &VolumeCount) -> TextLines
     line
 }
 
-/// Appends the lines, or some of them.
+/// Appends the text of a checkpoint. If an allocation fails, part of the text may have been
+/// appended.
 fn push_lines(run: &Run, counts: &[VolumeCount], out: &mut Vec<u8>) -> Result<(), AllocError>
     ensures appended { OnOk result (out.new.items ≡ out.old.items ++ checkpoint_text run.now counts.now) }
     ensures begun { take (length out.old.items) out.new.items ≡ out.old.items }
@@ -50,9 +51,10 @@ fn push_lines(run: &Run, counts: &[VolumeCount], out: &mut Vec<u8>) -> Result<()
     Ok(())
 }
 
-/// Appends the text of a checkpoint: the lines of the run, and a line for each count, in order (docs/DUMP.md has the form).
+/// Appends the text of a checkpoint: the lines of the run, then a line for each count, in order.
+/// docs/DUMP.md describes the form.
 ///
-/// Where memory is refused for it nothing is appended.
+/// Fails if an allocation fails. Nothing is appended then.
 pub fn push_checkpoint(
     run: &Run,
     counts: &[VolumeCount],
