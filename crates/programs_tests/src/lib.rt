@@ -1,7 +1,12 @@
-//! Tests of what the programs are made of, by public calls alone: their words (`rmtd_args`, `rdump_args`), streams that are served
-//! (`rmtd_serve`), the files of a dump (`rdump_files`), its talk over a connection (`rdump_net`), what is said of reels
-//! (`rdump_list`), what `rdump` makes of these (`rdump_commands`), and a peer in memory (`rmt_tools`). They stand here so that each of
-//! these crates is proved once.
+//! Tests of the parts of the programs, by their public calls alone. They are a crate of their own
+//! so that each of these crates is proved only once:
+//! - the arguments: `rmtd_args`, `rdump_args`.
+//! - served streams: `rmtd_serve`.
+//! - the files of a dump: `rdump_files`.
+//! - its conversation over a connection: `rdump_net`.
+//! - lists of reels: `rdump_list`.
+//! - the commands of `rdump`: `rdump_commands`.
+//! - a peer in memory: `rmt_tools`.
 #![tactic(auto)]
 
 #[cfg(test)]

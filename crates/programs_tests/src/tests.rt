@@ -1,4 +1,5 @@
-//! Words, streams served, dumps, volumes that are read back, operations and dumpdates files, against what was written by hand.
+//! Arguments, served streams, dumps, volumes that are read back, operations and dumpdates files,
+//! against values worked out by hand.
 
 mod arguments;
 mod checkpoints;
@@ -27,7 +28,7 @@ mod volumes;
 
 use std::process::Abort;
 
-/// What the row of that number says has to be so.
+/// Fails the test with the number of the row if `right` is false.
 pub(crate) fn check_row(rt: &impl Abort, at: usize, right: bool) {
     assert!(rt; right, "row {at}");
 }

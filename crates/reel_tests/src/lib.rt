@@ -1,4 +1,5 @@
-//! Tests of `tape`, `drives`, `file_medium` and `reel_files`, by their public calls alone. They stand here so that each of these crates is proved once.
+//! Tests of `tape`, `drives`, `file_medium` and `reel_files`, by their public calls alone. They are
+//! a crate of their own so that each of these crates is proved only once.
 #![tactic(auto)]
 
 #[cfg(test)]

@@ -1,4 +1,4 @@
-//! What each crate has to do, by hand.
+//! Tests of each crate against values worked out by hand.
 
 mod of_drives;
 mod of_reel_files;

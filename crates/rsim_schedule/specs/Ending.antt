@@ -1,4 +1,4 @@
--- How a schedule ends: what it prints, and its status. Public contracts cite it.
+-- How a schedule ends: what it prints, and its exit status. Public contracts cite it.
 use Rattle.std.specs.Prelude.{◌≡◌, ◌≢◌, ◌⊎◌, ◌≤◌, ℕ, Bool, true, false, List, [], ◌++◌, codes, decimal, if◌then◌else◌, Option, Result, Ok, Err}
 use Rattle.rmt_wire.specs.Counted.{Counting}
 use Rattle.rmt_wire.specs.Print.{IsPrinted}
@@ -9,37 +9,38 @@ use Rattle.rsim_schedule.specs.Report.{report_text}
 use Rattle.rsim_schedule.specs.declared.halt.Halt.{Halt}
 use Rattle.rsim_schedule.specs.declared.halt.Halt.TheVariants.{BadLine, NotPossible, OutOfMemory, StreamFailed}
 
--- the line that ends a schedule early
+-- the line that is printed if a schedule ends early; nothing after a failed write
 abbrev pub halt_line : ℕ → Halt → List ℕ
 halt_line n BadLine = codes "line " ++ decimal n ++ codes ": bad line\n"
 halt_line n NotPossible = codes "line " ++ decimal n ++ codes ": not possible\n"
 halt_line n OutOfMemory = codes "line " ++ decimal n ++ codes ": out of memory\n"
 halt_line n StreamFailed = []
 
--- and its status
+-- the exit status of a schedule that ends early
 abbrev pub halt_status : Halt → ℕ
 halt_status BadLine = 1
 halt_status NotPossible = 1
 halt_status OutOfMemory = 3
 halt_status StreamFailed = 3
 
--- the line that ends a schedule early was printed, and this is the status; after a failed write nothing is printed
+-- The line for this halt was printed, and `status` is its exit status, or 3 if that write failed.
+-- For `StreamFailed` nothing is printed.
 abbrev pub IsHaltTold : {W : Type 0} → (W → Option (List ℕ)) → ℕ → Halt → Counting W → ℕ → Counting W → Type 0
 IsHaltTold contents n StreamFailed out status out' = (out' ≡ out) × (status ≡ 3)
 IsHaltTold contents n halt out status out' =
     (whole : Bool) × IsPrinted contents (halt_line n halt) out out' whole × (status ≡ (if whole then halt_status halt else 3))
 
--- a world of good drives has come so far, and events printed this on the way
+-- events led from the first world of these good drives to this world, and printed this text
 pub record HasPlayed (w : World) (text : List ℕ) : Type 0 where
   pub drives : List PlainDriveSpec
   pub good : AreGoodDrives drives
   pub plays : Plays (first_world drives) w text
 
--- what events print in some world; or nothing, before there is one
+-- a text that events print in some world, or the empty text before there is a world
 abbrev pub IsPlay : List ℕ → Type 0
 IsPlay text = (text ≡ []) ⊎ ((w : World) × HasPlayed w text)
 
--- what events print in some world, and after it the report of what that world has come to
+-- a text that events print in some world, followed by the report of the resulting world
 pub record IsReport (text : List ℕ) : Type 0 where
   pub drives : List PlainDriveSpec
   pub world : World
@@ -48,21 +49,26 @@ pub record IsReport (text : List ℕ) : Type 0 where
   pub plays : Plays (first_world drives) world played
   pub is : text ≡ played ++ report_text drives world
 
--- what events print, and after it the line that ends the schedule
+-- a text that events print, followed by the line for the halt
 pub record IsHalted (n : ℕ) (halt : Halt) (text : List ℕ) : Type 0 where
   pub played : List ℕ
   pub play : IsPlay played
   pub is : text ≡ played ++ halt_line n halt
 
--- All lines were run, and the report was printed; or a write failed. Or why they were not, after what was printed by then.
+-- How a run of a schedule ended:
+-- - `Ok`: all lines were run, and the report was printed.
+-- - `StreamFailed`: a write failed, and only a beginning of the text was printed.
+-- - another halt: the lines before it were run, and what they print was printed.
 abbrev pub IsScheduleRun : {W : Type 0} → (W → Option (List ℕ)) → Counting W → Result Unit Halt → Counting W → Type 0
 IsScheduleRun contents out (Ok x) out' = (text : List ℕ) × IsReport text × IsPrinted contents text out out' true
 IsScheduleRun contents out (Err StreamFailed) out' =
     (text : List ℕ) × (IsPlay text ⊎ IsReport text) × IsPrinted contents text out out' false
 IsScheduleRun contents out (Err halt) out' = (text : List ℕ) × IsPlay text × IsPrinted contents text out out' true
 
--- A report was printed, with status 0. Or the line that ends the schedule early was, with its status. Or a write failed, and a
--- beginning was printed of what else would have been, with status 3.
+-- How a schedule ended:
+-- - status 0: the report was printed.
+-- - the status of a halt: the line of that halt was printed.
+-- - status 3: a write failed, and only a beginning of the text was printed.
 abbrev pub IsScheduled : {W : Type 0} → (W → Option (List ℕ)) → Counting W → ℕ → Counting W → Type 0
 IsScheduled contents out status out' =
     ((text : List ℕ) × IsReport text × IsPrinted contents text out out' true × (status ≡ 0))
@@ -71,6 +77,7 @@ IsScheduled contents out status out' =
     ⊎ ((text : List ℕ) × (IsPlay text ⊎ IsReport text ⊎ ((n : ℕ) × (halt : Halt) × IsHalted n halt text))
     × IsPrinted contents text out out' false × (status ≡ 3))
 
--- A schedule was run, and this is its status. Or none was, and nothing was printed of one.
+-- A schedule was run, and this is its status. Or no schedule was run, nothing was printed on `out`,
+-- and the status is 0 or 1.
 abbrev pub IsRsim : {W : Type 0} → (W → Option (List ℕ)) → Counting W → ℕ → Counting W → Type 0
 IsRsim contents out status out' = IsScheduled contents out status out' ⊎ ((out' ≡ out) × ((status ≡ 0) ⊎ (status ≡ 1)))

@@ -1,4 +1,5 @@
--- In reading order: Playing, Report, Ending (what is printed, and the status); Cut, Drives (lines and their fields).
+-- In reading order: Playing, Report, Ending (what is printed, and the exit status). Then Cut,
+-- Drives (lines and their fields).
 pub mod Cut
 pub mod Drives
 pub mod Playing

@@ -1,4 +1,4 @@
--- What a world has come to, in lines. Public contracts stand on it (through Ending).
+-- The report of a world, in lines. Public contracts rely on this (through Ending).
 use Rattle.std.specs.Prelude.{ℕ, List, [], ◌∷◌, ◌++◌, length, codes, decimal, unwrap_or, nat_eq, if◌then◌else◌}
 use Rattle.std.specs.List.{flat_map}
 use Rattle.std.specs.Str.{bytes_eq}
@@ -10,25 +10,25 @@ use Rattle.world_model.specs.World.{World, Count}
 use Rattle.world_model.specs.First.{PlainDriveSpec}
 use Rattle.tape_world.specs.Entries.{entries_on}
 
--- an entry by its length: a mark is one without bytes
+-- an entry of a reel by its length: 0 is a mark, any other length a record
 abbrev pub length_text : ℕ → List ℕ
 length_text n = if nat_eq n 0 then codes " M" else codes " R" ++ decimal n
 
 abbrev pub entry_text : PlainEntry → List ℕ
 entry_text entry = length_text (length (bytes_of entry))
 
--- what stands on the reel of this name
+-- the entries of the reel with this name; none if there is no such reel
 abbrev pub entries_of_reel : World → List ℕ → List PlainEntry
 entries_of_reel w name = unwrap_or (entries_on w.server name) []
 
 abbrev pub reel_line : World → List ℕ → List ℕ
 reel_line w name = codes "reel " ++ name ++ flat_map entry_text (entries_of_reel w name) ++ codes "\n"
 
--- names, with a space before each
+-- the names, each with a space before it
 abbrev pub names_text : List (List ℕ) → List ℕ
 names_text names = flat_map (λ name. codes " " ++ name) names
 
--- the stack of the first drive of this name
+-- the stack of the first drive with this name; empty if there is none
 abbrev pub stack_of : List (Drive KeptReel) → List ℕ → List (ReelSlot KeptReel)
 stack_of [] name = []
 stack_of (drive ∷ all_drives) name = if bytes_eq name drive.name then drive.stack else stack_of all_drives name
@@ -39,13 +39,14 @@ stack_line w device = codes "stack " ++ device ++ names_text (names_of (stack_of
 abbrev pub bin_line : World → List ℕ
 bin_line w = codes "bin" ++ names_text (names_of w.server.library.bin) ++ codes "\n"
 
--- its run, volume, first block, how many blocks, and its reel
+-- the line of a count: its run, volume, first block, number of blocks, and reel
 abbrev pub count_line : Count → List ℕ
 count_line c =
     codes "counted " ++ decimal c.run ++ codes " " ++ decimal c.volume ++ codes " " ++ decimal c.first ++ codes " " ++ decimal c.count
     ++ codes " " ++ c.reel ++ codes "\n"
 
--- each reel in the order of the drives, each stack, the bin, what was counted, and dumpdates
+-- the whole report: each reel in the order of the drives, each stack, the bin, the counts, and
+-- dumpdates
 abbrev pub report_text : List PlainDriveSpec → World → List ℕ
 report_text drives w =
     flat_map (λ d. flat_map (reel_line w) d.reels) drives ++ flat_map (λ d. stack_line w d.name) drives ++ bin_line w

@@ -1,18 +1,18 @@
-//! The words of `rsim`.
+//! The command line of `rsim`.
 
 use clap::{Arg, ArgAction, Command, Error};
 use std::alloc::{AllocError, Global};
 
-/// The file that the words name, of which the first is the name of the program itself.
+/// Returns the file that the arguments name. The first argument is the name of the program itself.
 ///
-/// Else clap's text for the user: what is wrong with the words, or the help or the version where they ask for it. Where
-/// memory was refused its kind is `OutOfMemory`.
+/// Otherwise it fails with clap's text for the user: what is wrong with the arguments, or the help
+/// or the version if they ask for it. If an allocation fails, the error's kind is `OutOfMemory`.
 pub(crate) fn file_in<'a>(alloc: Global, arguments: &'a [&'a str]) -> Result<&'a str, Error> {
     let matches = command(alloc)?.try_get_matches_from(arguments)?;
     Ok(matches.get_str("file").unwrap_or(""))
 }
 
-/// The command `rsim` with its word.
+/// Builds the command `rsim` with its one argument.
 fn command<'a>(alloc: Global) -> Result<Command<'a>, AllocError> {
     let file = Arg::new(alloc, "file")
         .value_name("FILE")

@@ -3,14 +3,14 @@
 /// How many of the bytes on the way arrive.
 #[derive(Clone, Copy)]
 pub(crate) enum ByteCount {
-    /// All; at the server as many of them as it has room for.
+    /// All of them; at the server, as many as its reader has room for.
     All,
-    /// So many.
+    /// This many.
     Exactly(usize),
 }
 
 impl ByteCount {
-    /// How many that is, where these are all.
+    /// Returns the number of bytes, if `All` means `all` of them.
     pub(crate) fn of(self, all: usize) -> usize {
         match self {
             ByteCount::All => all,

@@ -1,6 +1,6 @@
-//! A drive, as its line says.
+//! A drive, as its line in a schedule describes it.
 
-/// A drive, as its line says: its device, how many bytes each of its reels takes, and their names.
+/// A drive of a schedule: its device, the capacity of each of its reels in bytes, and their names.
 #[derive(Drop)]
 pub(crate) struct DriveLine<'a> {
     pub(crate) device: &'a [u8],

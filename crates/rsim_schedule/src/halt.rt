@@ -1,15 +1,15 @@
-//! Why a schedule ends before its last line is run.
+//! Why a schedule ends early.
 
 use std::alloc::AllocError;
 
-/// Why a line is not run, or not to its end.
+/// Why a line was not run, or not to its end.
 #[derive(Clone, Copy)]
 pub(crate) enum Halt {
-    /// It is no line of a schedule, or does not stand where it may.
+    /// The line is not valid, or not allowed at this place.
     BadLine,
-    /// Its event is not possible there.
+    /// The event of the line is not possible in this world.
     NotPossible,
-    /// A growth in memory was refused.
+    /// An allocation failed.
     OutOfMemory,
     /// A write failed.
     StreamFailed,

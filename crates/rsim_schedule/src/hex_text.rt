@@ -3,14 +3,15 @@ ghost use Rattle.std.specs.Prelude.{◌≤◌};
 
 use std::alloc::{AllocError, Global};
 
-/// A text of one or more bytes in hexadecimal: two lower case digits for each.
+/// A text of one or more bytes in hexadecimal, two lower-case digits for each.
 #[derive(Clone, Copy)]
 pub(crate) struct HexText<'a> {
     digits: &'a [u8],
 }
 
 impl<'a> HexText<'a> {
-    /// The text, if it is one.
+    /// Checks the digits. Returns `None` if there are none, their number is odd, or one is not a
+    /// lower-case hexadecimal digit.
     pub(crate) fn new(digits: &'a [u8]) -> Option<HexText<'a>> {
         if digits.is_empty() || digits.len() % 2 != 0 || !digits.iter().all(is_digit) {
             return None;
@@ -18,7 +19,7 @@ impl<'a> HexText<'a> {
         Some(HexText { digits })
     }
 
-    /// Its bytes.
+    /// Returns the bytes. Fails if an allocation fails.
     pub(crate) fn bytes(&self, alloc: Global) -> Result<Vec<u8>, AllocError> {
         let mut bytes = Vec::new(alloc);
         for pair in self.digits.chunks(2) {
@@ -28,7 +29,7 @@ impl<'a> HexText<'a> {
     }
 }
 
-/// The byte of two digits.
+/// Returns the byte that two digits spell, or 0 if there are not exactly two.
 fn byte_of(digits: &[u8]) -> u8 {
     match digits {
         [high, low] => digit_value(*high) * 16 + digit_value(*low),
@@ -41,7 +42,7 @@ fn is_digit(byte: &u8) -> bool {
     matches!(*byte, b'0'..=b'9' | b'a'..=b'f')
 }
 
-/// The value of a digit, and 0 of other bytes.
+/// Returns the value of a digit, or 0 for any other byte.
 fn digit_value(digit: u8) -> u8
     ensures { result ≤ 15 }
 {

@@ -1,6 +1,8 @@
-//! Schedules: texts of one command a line that say what happens between a dump client, a tape server and strangers.
+//! Schedules: texts of one command a line that say what happens between a dump client, a tape
+//! server and strangers.
 //!
-//! `schedule` runs one in a world of its own, and prints what came of it. `rsim` is what the program does with its words.
+//! `schedule` runs one in a world of its own and prints a report. `rsim` is the whole program, from
+//! its arguments to its exit status.
 #![tactic(auto)]
 
 mod arguments;

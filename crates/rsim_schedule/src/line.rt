@@ -1,4 +1,4 @@
-//! What a line of a schedule says.
+//! The commands of a schedule, and how a line is read.
 
 use crate::byte_count::ByteCount;
 use crate::hex_text::HexText;
@@ -8,23 +8,23 @@ use dump_client::Answer;
 use tape::Trouble;
 use tape_world::Event;
 
-/// What a line that is a command says.
+/// A command.
 #[derive(Clone, Copy)]
 pub(crate) enum ScheduleLine<'a> {
-    /// There is a drive with these reels, which are empty and take so many bytes each.
+    /// Adds a drive. Its reels are empty and hold `capacity` bytes each.
     Drive {
         device: &'a [u8],
         capacity: u64,
         reels: Names<'a>,
     },
-    /// A run is begun: its device, the name of the file system, level, date, base date, the bytes of a block, and the number of
-    /// blocks.
+    /// Starts a run. `name` is the file system. The numbers are its level, date, base date, the
+    /// bytes of a block, and the number of blocks.
     Run {
         device: &'a [u8],
         name: &'a str,
         numbers: [u64; 5],
     },
-    /// The operator lays these reels on the stack of a drive.
+    /// The operator puts these reels on the stack of a drive.
     Arrange {
         device: &'a [u8],
         reels: Names<'a>,
@@ -34,22 +34,22 @@ pub(crate) enum ScheduleLine<'a> {
         connection: usize,
         text: HexText<'a>,
     },
-    /// Anything else.
+    /// Any other command.
     Act {
         act: Act,
     },
 }
 
-/// What a line says that names no device, and has no bytes.
+/// A command that has no device and no bytes.
 #[derive(Clone, Copy)]
 pub(crate) enum Act {
-    /// Bytes on the way reach an end.
+    /// Bytes on the way reach one end of a connection.
     Arrives {
         end: End,
         connection: usize,
         count: ByteCount,
     },
-    /// A connection is served for so many rounds.
+    /// Serves a connection for this many rounds.
     Pump {
         connection: usize,
         rounds: u64,
@@ -63,20 +63,21 @@ pub(crate) enum Act {
 /// An end of a connection.
 #[derive(Clone, Copy)]
 pub(crate) enum End {
-    /// The server.
+    /// The server's.
     Server,
-    /// The other side.
+    /// The client's or the stranger's.
     Client,
 }
 
-/// What a command says, of a line that is no comment. None where it is none of a schedule.
+/// Reads a command from a line that is neither empty nor a comment. Returns `None` if the line is
+/// not valid.
 pub(crate) fn read_command(text: &[u8]) -> Option<ScheduleLine<'_>> {
     let mut fields = LineFields::new(Some(text));
     let line = read_words(&mut fields);
     if fields.is_over() { line } else { None }
 }
 
-/// What a command says with the fields that it takes.
+/// Reads a command and its fields. Fields may be left over.
 fn read_words<'a>(fields: &mut LineFields<'a>) -> Option<ScheduleLine<'a>> {
     match fields.argument()? {
         "drive" => read_drive(fields),
@@ -90,7 +91,7 @@ fn read_words<'a>(fields: &mut LineFields<'a>) -> Option<ScheduleLine<'a>> {
     }
 }
 
-/// A drive: its device, the capacity of its reels, and their names.
+/// Reads a drive: its device, the capacity of its reels in bytes, and their names.
 fn read_drive<'a>(fields: &mut LineFields<'a>) -> Option<ScheduleLine<'a>> {
     match (fields.device(), fields.number(), fields.names()) {
         (Some(device), Some(capacity), Some(reels)) => Some(ScheduleLine::Drive {
@@ -102,7 +103,7 @@ fn read_drive<'a>(fields: &mut LineFields<'a>) -> Option<ScheduleLine<'a>> {
     }
 }
 
-/// A run: its device, the name of the file system, and its numbers.
+/// Reads a run: its device, the name of the file system, and its numbers.
 fn read_run<'a>(fields: &mut LineFields<'a>) -> Option<ScheduleLine<'a>> {
     match (fields.device(), fields.argument(), read_numbers(fields)) {
         (Some(device), Some(name), Some(numbers)) => Some(ScheduleLine::Run {
@@ -114,7 +115,7 @@ fn read_run<'a>(fields: &mut LineFields<'a>) -> Option<ScheduleLine<'a>> {
     }
 }
 
-/// Five numbers, one after the other.
+/// Reads five numbers.
 fn read_numbers(fields: &mut LineFields<'_>) -> Option<[u64; 5]> {
     let mut numbers = [0; 5];
     for number in &mut numbers {
@@ -123,7 +124,7 @@ fn read_numbers(fields: &mut LineFields<'_>) -> Option<[u64; 5]> {
     Some(numbers)
 }
 
-/// A device, and the names of reels.
+/// Reads a device and the names of reels.
 fn read_arrange<'a>(fields: &mut LineFields<'a>) -> Option<ScheduleLine<'a>> {
     match (fields.device(), fields.names()) {
         (Some(device), Some(reels)) => Some(ScheduleLine::Arrange { device, reels }),
@@ -131,7 +132,7 @@ fn read_arrange<'a>(fields: &mut LineFields<'a>) -> Option<ScheduleLine<'a>> {
     }
 }
 
-/// A connection, and bytes.
+/// Reads a connection and bytes in hexadecimal.
 fn read_says<'a>(fields: &mut LineFields<'a>) -> Option<ScheduleLine<'a>> {
     match (fields.connection(), fields.hex()) {
         (Some(connection), Some(text)) => Some(ScheduleLine::Says { connection, text }),
@@ -139,7 +140,7 @@ fn read_says<'a>(fields: &mut LineFields<'a>) -> Option<ScheduleLine<'a>> {
     }
 }
 
-/// What a command says that names no device, and has no bytes.
+/// Reads the fields of a command that has no device and no bytes.
 fn read_act(command: &str, fields: &mut LineFields<'_>) -> Option<Act> {
     match command {
         "to-server" => read_arrival(End::Server, fields),
@@ -150,7 +151,7 @@ fn read_act(command: &str, fields: &mut LineFields<'_>) -> Option<Act> {
     }
 }
 
-/// A connection, and a count.
+/// Reads a connection and a count.
 fn read_arrival(end: End, fields: &mut LineFields<'_>) -> Option<Act> {
     let connection = fields.connection()?;
     let count = fields.count()?;
@@ -161,14 +162,14 @@ fn read_arrival(end: End, fields: &mut LineFields<'_>) -> Option<Act> {
     })
 }
 
-/// A connection, and a number of rounds.
+/// Reads a connection and a number of rounds.
 fn read_pump(fields: &mut LineFields<'_>) -> Option<Act> {
     let connection = fields.connection()?;
     let rounds = fields.number()?;
     Some(Act::Pump { connection, rounds })
 }
 
-/// A connection, and the trouble of the device, if there is one.
+/// Reads a connection and, if there are more fields, an injected fault.
 fn read_serve(fields: &mut LineFields<'_>) -> Option<Act> {
     let connection = fields.connection()?;
     let trouble = read_trouble(fields)?;
@@ -179,7 +180,7 @@ fn read_serve(fields: &mut LineFields<'_>) -> Option<Act> {
     Some(Act::Event { event })
 }
 
-/// The event that a command is which takes a connection at most.
+/// Reads a command that takes nothing, a connection, or `fault`.
 fn read_event(command: &str, fields: &mut LineFields<'_>) -> Option<Act> {
     if fields.is_over() {
         return event_of(command);
@@ -190,7 +191,7 @@ fn read_event(command: &str, fields: &mut LineFields<'_>) -> Option<Act> {
     event_at(command, fields.connection()?)
 }
 
-/// The event that a command is which takes nothing.
+/// Returns the event of a command that takes nothing.
 fn event_of(command: &str) -> Option<Act> {
     let event = match command {
         "connect" => Event::Connect,
@@ -205,7 +206,7 @@ fn event_of(command: &str) -> Option<Act> {
     Some(Act::Event { event })
 }
 
-/// The answer that a command is.
+/// Returns the operator's answer for a command.
 fn answer_of(command: &str) -> Option<Act> {
     let answer = match command {
         "retry" => Answer::Retry,
@@ -216,7 +217,7 @@ fn answer_of(command: &str) -> Option<Act> {
     Some(Act::Event { event })
 }
 
-/// A send whose read fails, as `fault` says.
+/// Reads `fault`: the client sends, and the read of the block fails.
 fn read_send(fields: &mut LineFields<'_>) -> Option<Act> {
     if fields.argument()? != "fault" {
         return None;
@@ -225,7 +226,7 @@ fn read_send(fields: &mut LineFields<'_>) -> Option<Act> {
     Some(Act::Event { event })
 }
 
-/// The event that a command is on this connection.
+/// Returns the event of a command that takes only a connection.
 fn event_at(command: &str, connection: usize) -> Option<Act> {
     let event = match command {
         "cut" => Event::Cut { connection },
@@ -236,7 +237,7 @@ fn event_at(command: &str, connection: usize) -> Option<Act> {
     Some(Act::Event { event })
 }
 
-/// The trouble that is named: none after the last field.
+/// Reads an injected fault. After the last field it returns `Trouble::None`.
 fn read_trouble(fields: &mut LineFields<'_>) -> Option<Trouble> {
     if fields.is_over() {
         return Some(Trouble::None);
@@ -249,7 +250,7 @@ fn read_trouble(fields: &mut LineFields<'_>) -> Option<Trouble> {
     }
 }
 
-/// How many entries are written, at most so many as a request can ask for.
+/// Returns the number of entries written, at most `u32::MAX`.
 fn written_of(count: u64) -> u32 {
     u32::try_from(count).unwrap_or(u32::MAX)
 }

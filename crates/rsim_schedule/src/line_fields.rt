@@ -8,20 +8,20 @@ use crate::hex_text::HexText;
 use crate::names::{Names, is_ascii_device};
 use rmt_wire::argument::number_of;
 
-/// The fields of a line that are still to be read. They are parted by one space.
+/// The fields of a line that are still to be read. One space separates them.
 #[derive(Clone, Copy)]
 pub(crate) struct LineFields<'a> {
-    // What is left of the line; none after its last field.
+    // What is left of the line; `None` after its last field.
     pub(crate) rest: Option<&'a [u8]>,
 }
 
 impl<'a> LineFields<'a> {
-    /// All fields of this text. None is no field.
+    /// The fields of a text. `None` has no fields.
     pub(crate) fn new(rest: Option<&'a [u8]>) -> LineFields<'a> {
         LineFields { rest }
     }
 
-    /// The next field. None after the last.
+    /// Returns the next field, or `None` after the last.
     pub(crate) fn field(&mut self) -> Option<&'a [u8]>
         ensures { OnSome result (left_in self.new.rest < left_in self.old.rest) }
     {
@@ -31,7 +31,7 @@ impl<'a> LineFields<'a> {
         Some(field)
     }
 
-    /// The next field, if it is text.
+    /// Returns the next field, if it is UTF-8 text.
     pub(crate) fn word(&mut self) -> Option<&'a str> {
         str::from_utf8(self.field()?).ok()
     }
@@ -41,17 +41,17 @@ impl<'a> LineFields<'a> {
         self.rest.is_none()
     }
 
-    /// The next field, if it is a number.
+    /// Returns the next field, if it is a number: digits only, at most 9223372036854775807.
     pub(crate) fn number(&mut self) -> Option<u64> {
         number_of(self.word()?)
     }
 
-    /// The next field, if it is the number of a connection.
+    /// Returns the next field, if it is the number of a connection.
     pub(crate) fn connection(&mut self) -> Option<usize> {
         Some(self.number()? as usize)
     }
 
-    /// The next field, if it is a device.
+    /// Returns the next field, if it is a device of a schedule.
     pub(crate) fn device(&mut self) -> Option<&'a [u8]> {
         let field = self.field()?;
         if is_ascii_device(field) {
@@ -61,7 +61,7 @@ impl<'a> LineFields<'a> {
         }
     }
 
-    /// The next field, if it is a number or `all`.
+    /// Returns the next field, if it is a number or `all`.
     pub(crate) fn count(&mut self) -> Option<ByteCount> {
         match self.word()? {
             "all" => Some(ByteCount::All),
@@ -69,12 +69,12 @@ impl<'a> LineFields<'a> {
         }
     }
 
-    /// The next field, if it is bytes in hexadecimal.
+    /// Returns the next field, if it is bytes in hexadecimal.
     pub(crate) fn hex(&mut self) -> Option<HexText<'a>> {
         HexText::new(self.field()?)
     }
 
-    /// The fields that are left, if they are names of reels.
+    /// Returns all remaining fields, if each is the name of a reel.
     pub(crate) fn names(&mut self) -> Option<Names<'a>> {
         Names::new(self.rest.take())
     }

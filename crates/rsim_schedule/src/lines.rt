@@ -1,13 +1,14 @@
-//! The lines of a text.
+//! The lines of a schedule.
 ghost use Rattle.std.specs.Prelude.{◌<◌, ◌≤◌, ◌+◌, ◌^◌, OnSome};
 ghost use Rattle.rsim_schedule.specs.Cut.{left_in};
 
 use crate::cut::cut;
 
-/// The lines of a text that are still to be read, and the number of the last command that was read: 1 where none was.
+/// The lines that are still to be read, and `number`, the line of the last command that was read.
+/// Lines count from 1. Before the first command `number` is 1.
 #[derive(Clone, Copy)]
 pub(crate) struct ScheduleLines<'a> {
-    // What is left of the text; none after its last line.
+    // What is left of the text; `None` after its last line.
     pub(crate) rest: Option<&'a [u8]>,
     // How many lines were read.
     passed: usize,
@@ -17,7 +18,7 @@ pub(crate) struct ScheduleLines<'a> {
 }
 
 impl<'a> ScheduleLines<'a> {
-    /// All lines of this text.
+    /// All lines of a text.
     pub(crate) fn new(text: &'a [u8]) -> ScheduleLines<'a> {
         ScheduleLines {
             rest: Some(text),
@@ -26,7 +27,7 @@ impl<'a> ScheduleLines<'a> {
         }
     }
 
-    /// The next line. None after the last.
+    /// Returns the next line, or `None` after the last.
     fn line(&mut self) -> Option<&'a [u8]>
         ensures shorter { OnSome result (left_in self.new.rest < left_in self.old.rest) }
         ensures counted { OnSome result (1 ≤ self.new.passed) }
@@ -38,7 +39,7 @@ impl<'a> ScheduleLines<'a> {
         Some(line)
     }
 
-    /// The next line that is a command: it is not empty, and no comment. None after the last.
+    /// Returns the next line that is neither empty nor a comment, or `None` after the last.
     pub(crate) fn command(&mut self) -> Option<&'a [u8]>
         ensures { OnSome result (left_in self.new.rest < left_in self.old.rest) }
     {

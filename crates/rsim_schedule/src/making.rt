@@ -1,4 +1,4 @@
-//! Events that are made in a world, and the attempts that they make fail, which are printed.
+//! Runs events in a world, and prints the attempts that they make fail.
 ghost use Rattle.rmt_wire.specs.Print.{IsPrinted};
 ghost use Rattle.rsim_schedule.specs.Playing.{IsPlayed, failed_line, is_whole};
 
@@ -11,7 +11,9 @@ use std::io::Write;
 use tape::Trouble;
 use tape_world::{Event, World, WorldFault, run};
 
-/// Makes an event, and prints the attempt that it makes fail, if it makes one fail.
+/// Runs an event, and prints the attempt that it makes fail, if any.
+///
+/// Fails if the event is not possible, an allocation fails, or the write fails.
 pub(crate) fn make<W: Write>(
     world: &mut World,
     event: Event<'_>,
@@ -26,7 +28,7 @@ pub(crate) fn make<W: Write>(
     }
 }
 
-/// Prints the attempt that the last event made fail, if it made one fail.
+/// Prints the attempt that the last event made fail, if any.
 fn print_failed<W: Write>(world: &World, out: &mut Counted<W>) -> Result<(), Halt>
     ensures { IsPrinted W.contents (failed_line world.now.failure) out.old out.new (is_whole result) }
 {
@@ -36,7 +38,7 @@ fn print_failed<W: Write>(world: &World, out: &mut Counted<W>) -> Result<(), Hal
     }
 }
 
-/// Makes an event where it is possible, as `make` does. Answers whether it was.
+/// Runs an event as `make` does, if it is possible. Returns whether it was.
 fn make_if_possible<W: Write>(
     world: &mut World,
     event: Event<'_>,
@@ -51,7 +53,8 @@ fn make_if_possible<W: Write>(
     }
 }
 
-/// Makes so many rounds on a connection. A round in which nothing is possible is the last.
+/// Runs up to `rounds` rounds on a connection. It stops after a round in which nothing was
+/// possible.
 pub(crate) fn pump<W: Write>(
     world: &mut World,
     connection: usize,
@@ -68,8 +71,10 @@ pub(crate) fn pump<W: Write>(
     Ok(())
 }
 
-/// One round: the client's next request, where the connection is its own; all that is on the way to the server, one turn of
-/// the server, and all that is on the way back, each where it is possible. Answers whether one of them was.
+/// Runs one round on a connection, each step only if it is possible. Returns whether any step was.
+///
+/// The client sends its next request, if the connection is its own. The server receives what it has
+/// room for and serves once. The other end receives all that was sent.
 fn make_round<W: Write>(
     world: &mut World,
     connection: usize,
@@ -84,7 +89,8 @@ fn make_round<W: Write>(
     Ok(sent | arrived | served | heard)
 }
 
-/// The client sends its next request, where the connection is its own and that is possible. Answers whether it was.
+/// Has the client send its next request, if the connection is its own and a send is possible.
+/// Returns whether it sent.
 fn send_own<W: Write>(
     world: &mut World,
     connection: usize,
@@ -98,7 +104,7 @@ fn send_own<W: Write>(
     make_if_possible(world, Event::Send { fails: false }, out)
 }
 
-/// One turn of the server, where that is possible. Answers whether it was.
+/// Has the server serve once, if that is possible. Returns whether it was.
 fn serve<W: Write>(world: &mut World, connection: usize, out: &mut Counted<W>) -> Result<bool, Halt>
     ensures { IsPlayed W.contents world.old out.old (is_whole result) world.new out.new }
 {
@@ -113,7 +119,7 @@ fn serve<W: Write>(world: &mut World, connection: usize, out: &mut Counted<W>) -
     )
 }
 
-/// All that is on the way to that end and has room there arrives, where that is possible. Answers whether it was.
+/// Delivers all that can reach this end now, if that is possible. Returns whether it was.
 fn arrive<W: Write>(
     world: &mut World,
     end: End,
@@ -126,7 +132,8 @@ fn arrive<W: Write>(
     make_if_possible(world, event, out)
 }
 
-/// So many of the bytes on the way that can reach that end now do: none where there is no such connection.
+/// Returns the event in which bytes on the way reach this end. `ByteCount::All` is as many as can
+/// arrive now: 0 if there is no such connection.
 pub(crate) fn arrival<'a>(
     world: &World,
     end: End,

@@ -1,4 +1,4 @@
-//! A world that does what lines say.
+//! Runs the commands of a schedule in a world.
 ghost use Rattle.rsim_schedule.specs.Playing.{IsPlayed, is_whole};
 
 use crate::byte_count::ByteCount;
@@ -14,7 +14,7 @@ use std::alloc::{AllocError, Global};
 use std::io::Write;
 use tape_world::{Event, World};
 
-/// Does what all commands say that are left.
+/// Runs all remaining commands, up to the first that fails.
 pub(crate) fn play_all<W: Write>(
     alloc: Global,
     world: &mut World,
@@ -29,7 +29,7 @@ pub(crate) fn play_all<W: Write>(
     Ok(())
 }
 
-/// Does what a command says. A drive's has no place here.
+/// Runs a command. A drive is a bad line here.
 fn play<W: Write>(
     alloc: Global,
     world: &mut World,
@@ -54,7 +54,7 @@ fn play<W: Write>(
     }
 }
 
-/// Does what a line says that names no device, and has no bytes.
+/// Runs a command that has no device and no bytes.
 fn play_act<W: Write>(world: &mut World, act: Act, out: &mut Counted<W>) -> Result<(), Halt>
     ensures { IsPlayed W.contents world.old out.old (is_whole result) world.new out.new }
 {
@@ -69,7 +69,7 @@ fn play_act<W: Write>(world: &mut World, act: Act, out: &mut Counted<W>) -> Resu
     }
 }
 
-/// Begins the run of this device, name and numbers, if they are one's.
+/// Starts the run with these values. It is a bad line if they do not make a run.
 fn begin_run<W: Write>(
     alloc: Global,
     world: &mut World,
@@ -87,7 +87,8 @@ fn begin_run<W: Write>(
     }
 }
 
-/// Begins a run. Each byte of its block i is i modulo 256.
+/// Starts a run. Each byte of block i is i modulo 256. Fails if another run is under way, or if an
+/// allocation fails.
 fn start_run<W: Write>(
     alloc: Global,
     world: &mut World,
@@ -106,7 +107,7 @@ fn start_run<W: Write>(
     make(world, Event::StartRun { run, payload }, out)
 }
 
-/// Whether a run can begin: there is none, or it is finished or abandoned.
+/// Whether a run can start: there is no client, or its run is finished or abandoned.
 fn can_start(world: &World) -> bool {
     match world.client() {
         Some(client) => matches!(client.state(), State::Finished | State::Abandoned),
@@ -114,7 +115,7 @@ fn can_start(world: &World) -> bool {
     }
 }
 
-/// The payload of a run: each byte of block i is i modulo 256.
+/// Returns the payload of a run: each byte of block i is i modulo 256.
 fn payload_of(alloc: Global, run: &Run) -> Result<Vec<u8>, AllocError> {
     let bytes = run.block_bytes();
     let mut payload = Vec::with_capacity(alloc, run.blocks() as usize * bytes)?;
@@ -124,13 +125,13 @@ fn payload_of(alloc: Global, run: &Run) -> Result<Vec<u8>, AllocError> {
     Ok(payload)
 }
 
-/// Appends a block of so many bytes.
+/// Appends a block of this many bytes.
 fn push_block(payload: &mut Vec<u8>, block: u32, bytes: usize) -> Result<(), AllocError> {
     let end = payload.len().saturating_add(bytes);
     payload.resize(end, (block % 256) as u8)
 }
 
-/// The operator lays reels on the stack of a drive.
+/// Has the operator put reels on the stack of a drive.
 fn arrange<W: Write>(
     alloc: Global,
     world: &mut World,
@@ -153,7 +154,7 @@ fn arrange<W: Write>(
     }
 }
 
-/// A stranger sends bytes.
+/// Has a stranger send bytes.
 fn say<W: Write>(
     alloc: Global,
     world: &mut World,
@@ -170,7 +171,7 @@ fn say<W: Write>(
     make(world, Event::Says { connection, bytes }, out)
 }
 
-/// Bytes on the way reach that end.
+/// Has bytes on the way reach this end.
 fn arrive<W: Write>(
     world: &mut World,
     end: End,

@@ -1,4 +1,4 @@
-//! What is printed while a schedule runs, and of one that ends early.
+//! What is printed while a schedule runs, and when it ends early.
 ghost use Rattle.std.specs.Prelude.{◌≡◌, ◌≤◌, ◌++◌, Bool, length, codes, decimal, if◌then◌else◌, IfErr};
 ghost use Rattle.rdump_net.specs.Lines.{failure_line as line_of};
 ghost use Rattle.rmt_wire.specs.Print.{IsPrinted};
@@ -14,13 +14,13 @@ use rdump_net::{LINE_ROOM, failure_line};
 use rmt_wire::{Counted, print_text};
 use std::io::Write;
 
-/// The status of a schedule that has a line at fault.
+/// The exit status if a line is bad or not possible.
 const AT_FAULT: u8 = 1;
 
-/// The status where memory is refused, or a write failed.
+/// The exit status if an allocation or a write failed.
 const FAILED: u8 = 3;
 
-/// Prints the line of an attempt that failed.
+/// Prints the line of a failed attempt.
 pub(crate) fn print_failure<W: Write>(
     volume: u32,
     fault: AttemptFault,
@@ -31,7 +31,7 @@ pub(crate) fn print_failure<W: Write>(
     print_all(failure_line(volume, fault).as_bytes(), out)
 }
 
-/// Prints a text whole.
+/// Prints a whole text. Fails with `StreamFailed` if the write fails.
 pub(crate) fn print_all<W: Write>(text: &[u8], out: &mut Counted<W>) -> Result<(), Halt>
     ensures printed { IsPrinted W.contents text.now out.old out.new (is_whole result) }
     ensures only { IfErr result (λ halt. halt ≡ StreamFailed) }
@@ -42,7 +42,8 @@ pub(crate) fn print_all<W: Write>(text: &[u8], out: &mut Counted<W>) -> Result<(
     Err(Halt::StreamFailed)
 }
 
-/// Prints why the line of that number ends the schedule, and answers the status. After a failed write nothing is printed.
+/// Prints why the schedule ends at line `number`, and returns the exit status. After a failed write
+/// it prints nothing.
 pub(crate) fn print_halt<W: Write>(number: usize, halt: Halt, out: &mut Counted<W>) -> u8
     ensures { IsHaltTold W.contents number halt out.old result out.new }
 {
@@ -54,7 +55,8 @@ pub(crate) fn print_halt<W: Write>(number: usize, halt: Halt, out: &mut Counted<
     }
 }
 
-/// Prints what is wrong with the line of that number, and answers that status; where a write failed, that of a failure.
+/// Prints the last line of a schedule that ends early. Returns `status`, or `FAILED` if the write
+/// fails.
 fn print_last<W: Write>(number: usize, what: &str, status: u8, out: &mut Counted<W>) -> u8
     requires { length what.now ≤ 16 }
     ensures { (whole : Bool) × IsPrinted W.contents (codes "line " ++ decimal number ++ what.now) out.old out.new whole
@@ -68,7 +70,7 @@ fn print_last<W: Write>(number: usize, what: &str, status: u8, out: &mut Counted
     }
 }
 
-/// The line of a schedule that ends early.
+/// Builds the last line of a schedule that ends early.
 fn halt_text(number: usize, what: &str) -> ArrayString<LINE_ROOM>
     requires { length what.now ≤ 16 }
     ensures { result.bytes ≡ codes "line " ++ decimal number ++ what.now }

@@ -1,4 +1,4 @@
-//! What the program `rsim` does.
+//! The program `rsim`.
 ghost use Rattle.std.specs.Prelude.{◌≡◌, ◌⊎◌, OnErr, IfOk};
 ghost use Rattle.rsim_schedule.specs.Ending.{IsRsim};
 
@@ -10,16 +10,19 @@ use std::io::Write;
 use std::rt::Files;
 use std::{fs, io};
 
-/// The status where the words are wrong, or the file can't be read.
+/// The exit status if the arguments are wrong, or the file cannot be read.
 const FAILED: u8 = 1;
 
-/// Does what the words of `rsim` ask, of which the first is the program's own name: runs the schedule in the file that they
-/// name, and prints on `out`, as `schedule` does.
+/// Runs the program `rsim`: runs the schedule in the file that the arguments name, and prints on
+/// `out` as `schedule` does. The first argument is the name of the program itself.
 ///
-/// Answers the exit status: that of the schedule. Where the words are wrong, and where the file can't be read, one line on
-/// standard error tells of it, and the status is 1. Help and the version go to standard output, with status 0.
+/// Returns the exit status of the schedule. If the arguments are wrong or the file cannot be read,
+/// it prints one line on standard error and returns 1. It does the same if parsing the arguments
+/// runs out of memory. It prints the help and the version on standard output and returns 0, or 1 if
+/// that write fails.
 ///
-/// It fails only where memory for the words is refused, and where nothing can be told on standard error. No schedule is run then.
+/// Fails only if an allocation for the list of arguments fails, or if a line cannot be printed on
+/// standard error. In both cases no schedule was run.
 pub fn rsim<R: Files + Print + Eprint + AllocGlobal, W: Write>(
     rt: &R,
     arguments: &[String],
@@ -38,7 +41,8 @@ pub fn rsim<R: Files + Print + Eprint + AllocGlobal, W: Write>(
     }
 }
 
-/// Runs the schedule in a file. Answers the status.
+/// Runs the schedule in a file, and returns the exit status. If the file cannot be read, prints one
+/// line on standard error.
 fn run_file<R: Files + Eprint + AllocGlobal, W: Write>(
     rt: &R,
     file: &str,
@@ -53,7 +57,8 @@ fn run_file<R: Files + Eprint + AllocGlobal, W: Write>(
     }
 }
 
-/// Tells in one line that the words are wrong, and answers the status. Help and the version go to standard output.
+/// Prints one line on standard error that the arguments are wrong, and returns the exit status.
+/// Prints the help and the version on standard output.
 fn refuse<R: Print + Eprint>(rt: &R, error: clap::Error) -> io::Result<u8>
     ensures { IfOk result (λ status. (status ≡ 0) ⊎ (status ≡ FAILED)) }
 {
@@ -70,7 +75,7 @@ fn refuse<R: Print + Eprint>(rt: &R, error: clap::Error) -> io::Result<u8>
     }
 }
 
-/// Tells on standard error what is at fault and why, and answers the status.
+/// Prints on standard error what failed and why, and returns the exit status.
 fn print_error<R: Eprint>(rt: &R, what: &str, why: io::Error) -> io::Result<u8>
     ensures { IfOk result (λ status. status ≡ FAILED) }
 {

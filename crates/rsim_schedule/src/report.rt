@@ -1,4 +1,4 @@
-//! What a world has come to.
+//! The report of a world.
 ghost use Rattle.std.specs.Prelude.{◌≡◌, ◌++◌, [], codes, decimal, map, length, IfOk, OnOk};
 ghost use Rattle.std.specs.List.{flat_map};
 ghost use Rattle.drives.specs.TapeLibrary.{names_of};
@@ -13,8 +13,8 @@ use itoa::Buffer;
 use std::alloc::{AllocError, Global};
 use tape_world::{CountTold, World};
 
-/// What the world has come to, in lines: what stands on each reel of these drives, their stacks, the bin, all volumes that
-/// were counted, and dumpdates.
+/// Returns the report of a world: the entries of each reel of these drives, their stacks, the bin,
+/// the counted volumes, and dumpdates. Fails if an allocation fails.
 pub(crate) fn report_of(
     alloc: Global,
     world: &World,
@@ -27,7 +27,7 @@ pub(crate) fn report_of(
     Ok(text)
 }
 
-/// Appends all lines of a report, to no text.
+/// Appends the whole report. `text` must be empty.
 fn push_report(
     text: &mut Vec<u8>,
     world: &World,
@@ -69,7 +69,8 @@ fn push_reels(text: &mut Vec<u8>, world: &World, reels: &[&[u8]]) -> Result<(), 
     Ok(())
 }
 
-/// Appends the line of a reel: its name, and for each of its entries `M` for a mark, or `R` and the length of a record.
+/// Appends the line of a reel: its name, and for each entry `M` for a mark, or `R` and the length
+/// of a record in bytes.
 fn push_reel(text: &mut Vec<u8>, world: &World, reel: &[u8]) -> Result<(), AllocError>
     ensures { OnOk result (text.new.items ≡ text.old.items ++ reel_line world.now reel.now) }
 {
@@ -92,7 +93,7 @@ fn push_entries(text: &mut Vec<u8>, world: &World, reel: &[u8]) -> Result<(), Al
     Err(AllocError)
 }
 
-/// Appends an entry of this length: 0 is that of a mark.
+/// Appends an entry of this length. A mark has length 0.
 fn push_entry(text: &mut Vec<u8>, length: usize) -> Result<(), AllocError>
     ensures { OnOk result (text.new.items ≡ text.old.items ++ length_text length) }
 {
@@ -116,7 +117,7 @@ fn push_stacks(
     Ok(())
 }
 
-/// Appends the line of a drive's stack.
+/// Appends the line of a drive's stack. It has no names if there is no such drive.
 fn push_stack(text: &mut Vec<u8>, world: &World, device: &[u8]) -> Result<(), AllocError>
     ensures { OnOk result (text.new.items ≡ text.old.items ++ stack_line world.now device.now) }
 {
@@ -128,7 +129,7 @@ fn push_stack(text: &mut Vec<u8>, world: &World, device: &[u8]) -> Result<(), Al
     }
 }
 
-/// Appends a word and the names of reels, to the end of a line.
+/// Appends a text, the names of reels, and the end of the line.
 fn push_names(text: &mut Vec<u8>, argument: &str, reels: &[ListedReel]) -> Result<(), AllocError>
     ensures { OnOk result (text.new.items ≡ text.old.items ++ argument.now ++ names_text (names_of reels.now) ++ codes "\n") }
 {
@@ -172,7 +173,7 @@ fn push_count(text: &mut Vec<u8>, count: CountTold<'_>) -> Result<(), AllocError
     push_text(text, "\n")
 }
 
-/// Appends dumpdates.
+/// Appends the heading of dumpdates and its lines.
 fn push_dates(text: &mut Vec<u8>, world: &World) -> Result<(), AllocError>
     ensures { OnOk result (text.new.items ≡ text.old.items ++ codes "dumpdates\n" ++ written world.now.dates) }
 {
@@ -183,7 +184,7 @@ fn push_dates(text: &mut Vec<u8>, world: &World) -> Result<(), AllocError>
     }
 }
 
-/// Appends a text, and a number after it.
+/// Appends a text and a number after it.
 fn push_number(text: &mut Vec<u8>, before: &str, number: u64) -> Result<(), AllocError>
     ensures { OnOk result (text.new.items ≡ text.old.items ++ before.now ++ decimal number) }
 {

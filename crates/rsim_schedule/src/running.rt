@@ -1,4 +1,4 @@
-//! A schedule, from its first line to its report.
+//! Runs a schedule, from its first line to its report.
 ghost use Rattle.std.specs.Prelude.{◌≡◌, map};
 ghost use Rattle.world_model.specs.First.{AreGoodDrives, first_world};
 ghost use Rattle.rsim_schedule.specs.Drives.{plain_line};
@@ -16,15 +16,16 @@ use std::alloc::Global;
 use std::io::Write;
 use tape_world::World;
 
-/// Runs a schedule: a text of one command a line. Prints on `out` each attempt that fails, as it fails, and at the end what its
-/// world has come to: what stands on each reel, the stacks, the bin, the volumes that were counted, and dumpdates.
+/// Runs a schedule: a text of one command a line. It prints on `out` each attempt that fails, when
+/// it fails. At the end it prints a report of the world: the entries of each reel, the stacks, the
+/// bin, the counted volumes, and dumpdates.
 ///
-/// At the first line at fault it prints in place of that `line 3: bad line` or `line 3: not possible`, with the number of the
-/// line, counted from 1. Where memory is refused at a line it prints `line 3: out of memory`. After a failed write it prints
-/// nothing more.
+/// At the first faulty line it prints, in place of the report, `line 3: bad line` or
+/// `line 3: not possible`. Lines count from 1. If an allocation fails, it prints
+/// `line 3: out of memory`. After a failed write it prints nothing more.
 ///
-/// Answers the exit status of `rsim`: 0 where all lines were run, 1 where one is at fault, and 3 where memory was refused or a
-/// write failed.
+/// Returns the exit status of `rsim`: 0 if all lines were run, 1 if a line is faulty, and 3 if an
+/// allocation or a write failed.
 pub fn schedule<W: Write>(alloc: Global, text: &[u8], out: &mut Counted<W>) -> u8
     ensures { IsScheduled W.contents out.old result out.new }
 {
@@ -47,7 +48,7 @@ fn run_all<W: Write>(
     run_at(alloc, &drives, lines, out)
 }
 
-/// Runs the lines that follow those of the drives, and prints the report.
+/// Runs the lines after those of the drives, and prints the report.
 fn run_at<W: Write>(
     alloc: Global,
     drives: &[DriveLine<'_>],
@@ -63,7 +64,7 @@ fn run_at<W: Write>(
     }
 }
 
-/// Plays what is left in a world where nothing has happened yet, and prints the report.
+/// Runs the remaining lines in a world in which nothing has happened yet, and prints the report.
 fn play_and_report<W: Write>(
     alloc: Global,
     world: &mut World,

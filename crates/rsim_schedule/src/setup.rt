@@ -13,9 +13,11 @@ use crate::names::Names;
 use std::alloc::{AllocError, Global};
 use tape_world::{DriveSpec, World, good_drives};
 
-/// The drives that the lines begin with. `lines` stands after the last of their lines, and at one at fault.
+/// Reads the drives at the beginning of a schedule. Afterwards `lines` is past the last of their
+/// lines, or past the line that failed.
 ///
-/// Answers `BadLine` where the first command is none of a drive, where there is none, and where a world can't have the drives.
+/// Fails with `BadLine` if the first command is not a drive, if there is no command, or if a world
+/// cannot have these drives. Fails with `OutOfMemory` if an allocation fails.
 pub(crate) fn read_drives<'a>(
     alloc: Global,
     lines: &mut ScheduleLines<'a>,
@@ -27,7 +29,8 @@ pub(crate) fn read_drives<'a>(
     Ok(drives)
 }
 
-/// Adds the drives that the lines begin with to none, as `read_drives` answers them.
+/// Adds the drives at the beginning of a schedule to `drives`, which must be empty. Fails as
+/// `read_drives` does.
 fn add_drives<'a>(
     alloc: Global,
     drives: &mut Vec<DriveLine<'a>>,
@@ -58,7 +61,8 @@ fn add_drives<'a>(
     Ok(())
 }
 
-/// Adds a drive after the others. Answers `BadLine` where a world can't have them all.
+/// Adds a drive after the others. Fails with `BadLine` if a world cannot have them all, and with
+/// `OutOfMemory` if an allocation fails.
 fn add_drive<'a>(
     alloc: Global,
     drives: &mut Vec<DriveLine<'a>>,
@@ -89,7 +93,7 @@ fn are_good(alloc: Global, drives: &[DriveLine<'_>]) -> Result<bool, AllocError>
     Ok(good_drives(&specs))
 }
 
-/// A world of these drives, where nothing has happened.
+/// Makes a world with these drives, in which nothing has happened.
 pub(crate) fn world_of(alloc: Global, drives: &[DriveLine<'_>]) -> Result<World, AllocError>
     requires { AreGoodDrives (map plain_line drives.now) }
     ensures { IfOk result (λ w. w ≡ first_world (map plain_line drives.now)) }
@@ -98,7 +102,7 @@ pub(crate) fn world_of(alloc: Global, drives: &[DriveLine<'_>]) -> Result<World,
     World::new(alloc, &specs)
 }
 
-/// The same drives, as a world takes them.
+/// Returns the drives as a world takes them. Fails if an allocation fails.
 fn specs_of<'a>(
     alloc: Global,
     drives: &'a [DriveLine<'_>],
@@ -112,7 +116,7 @@ fn specs_of<'a>(
     Ok(specs)
 }
 
-/// The same drive, as a world takes it.
+/// Returns the drive as a world takes it.
 fn spec_of<'a>(drive: &'a DriveLine<'_>) -> DriveSpec<'a>
     ensures { plain_drive_spec result ≡ plain_line drive.entry.now }
 {

@@ -1,4 +1,5 @@
-//! Tests of `rmt_server` and `tape_host`, by their public calls alone. They stand here so that both are proved once.
+//! Tests of `rmt_server` and `tape_host`, by their public calls alone. They are a crate of their
+//! own so that both are proved only once.
 #![tactic(auto)]
 
 #[cfg(test)]

@@ -1,4 +1,5 @@
-//! Tests with threads, of `hold_table` and `rmtd_serve`, by their public calls alone. They stand here so that both are proved once.
+//! Tests with threads, of `hold_table` and `rmtd_serve`, by their public calls alone. They are a
+//! crate of their own so that both are proved only once.
 #![tactic(auto)]
 
 #[cfg(test)]

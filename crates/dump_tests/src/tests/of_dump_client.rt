@@ -1,4 +1,4 @@
-//! A client's attempts against what was written by hand.
+//! A client's attempts, against requests and replies written by hand.
 
 mod checkpoint;
 mod client;

@@ -1,4 +1,4 @@
-//! Runs, labels, blocks and texts of checkpoints that were worked out by hand, and the names of faults.
+//! Runs, labels, blocks and checkpoints against values worked out by hand, and the names of faults.
 
 mod blocks;
 mod checkpoint;

@@ -1,4 +1,4 @@
-//! The examples against bytes that were written by hand.
+//! The examples, against bytes that were written by hand.
 
 mod client;
 mod server;

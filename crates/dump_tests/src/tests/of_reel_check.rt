@@ -1,4 +1,4 @@
-//! Reels that were written by hand, and what they are said to hold.
+//! Reels that were written by hand, and what a check of them returns.
 
 use dump_run::{Run, label};
 use reel_check::{
@@ -8,27 +8,27 @@ use std::alloc::{AllocError, Global};
 use std::test::Fail;
 use tape::{FuseMedium, Medium, MediumFailed, MemoryMedium};
 
-/// What stands on a reel at one place.
+/// One part of a reel.
 #[derive(Clone, Copy)]
 enum Part {
     /// The label of the run's volume 2, from block 5 on.
     Label,
     Record(&'static [u8]),
     Mark,
-    /// The first bytes of a record.
+    /// The first bytes of a record whose end is missing.
     Torn,
 }
 
-/// What a reel is to be said to hold.
+/// The expected contents of a reel.
 #[derive(Clone, Copy)]
 enum Expected {
     Empty,
-    /// So many blocks of this length, and this end.
+    /// A volume: its number of blocks, their length in bytes, and how it ends.
     Volume(u64, usize, VolumeEnd),
     Foreign,
 }
 
-/// The parts of a reel, what it holds, and how many records and marks it has.
+/// The parts of a reel, the expected contents, and the number of records and of marks.
 type Row = (&'static [Part], Expected, u64, u64);
 
 const LABEL: Part = Part::Label;
@@ -77,12 +77,12 @@ static ROWS: [Row; 10] = [
     ),
 ];
 
-/// The run that the labels are of.
+/// Returns the run of the labels.
 fn dumped() -> Option<Run> {
     Run::new(b"/dev/st0", "/usr", 0, 951782400, 0, 5, 9).ok()
 }
 
-/// Whether a holding is what is wanted, and a volume's label says what the label said.
+/// Whether a holding is as expected. A volume must have the label of volume 2, from block 5 on.
 fn is_met(holding: &Holding, wanted: Expected) -> bool {
     match (holding, wanted) {
         (Holding::Empty, Expected::Empty) | (Holding::Foreign, Expected::Foreign) => true,
@@ -97,7 +97,7 @@ fn is_met(holding: &Holding, wanted: Expected) -> bool {
     }
 }
 
-/// Tells a tally of a part.
+/// Passes a part to a tally. A torn record is left out.
 fn tell(tally: &mut ReelTally, run: &Run, part: Part) {
     match part {
         Part::Label => tally.record(&label(run, 2, 5)),
@@ -107,7 +107,7 @@ fn tell(tally: &mut ReelTally, run: &Run, part: Part) {
     }
 }
 
-/// Whether a tally of the parts is what is wanted.
+/// Whether a tally of the parts gives the expected result.
 fn tallies(run: &Run, row: &Row) -> bool {
     let (parts, wanted, records, marks) = *row;
     let mut tally = ReelTally::new();
@@ -129,7 +129,7 @@ fn a_tally_says_what_a_reel_holds(rt: HostRuntime) {
     }
 }
 
-/// Puts a record at the end of a record file.
+/// Appends a record to a record file.
 fn put_record(medium: &mut MemoryMedium, bytes: &[u8]) -> Result<(), MediumFailed> {
     let Ok(length) = u32::try_from(bytes.len()) else {
         return Err(MediumFailed);
@@ -137,7 +137,7 @@ fn put_record(medium: &mut MemoryMedium, bytes: &[u8]) -> Result<(), MediumFaile
     medium.append_framed(&length.to_le_bytes(), bytes)
 }
 
-/// Puts a part at the end of a record file.
+/// Appends a part to a record file.
 fn put(medium: &mut MemoryMedium, run: &Run, part: Part) -> Result<(), MediumFailed> {
     match part {
         Part::Label => put_record(medium, &label(run, 2, 5)),
@@ -147,7 +147,7 @@ fn put(medium: &mut MemoryMedium, run: &Run, part: Part) -> Result<(), MediumFai
     }
 }
 
-/// A record file of the parts; none where it takes more than 4096 bytes.
+/// Returns a record file of the parts, or `None` if they take more than 4096 bytes.
 fn file_of(alloc: Global, run: &Run, parts: &[Part]) -> Result<Option<MemoryMedium>, AllocError> {
     let mut medium = MemoryMedium::new(alloc);
     medium.reserve(4096)?;
@@ -159,14 +159,16 @@ fn file_of(alloc: Global, run: &Run, parts: &[Part]) -> Result<Option<MemoryMedi
     Ok(Some(medium))
 }
 
-/// Whether the contents are what is wanted of a file of so many bytes.
+/// Whether the contents are as expected, for a file of `bytes` bytes of which `tail` are a torn
+/// end.
 fn are_met(contents: &ReelContents, row: &Row, bytes: usize, tail: u64) -> bool {
     is_met(&contents.holding, row.1)
         && (contents.records, contents.marks) == (row.2, row.3)
         && (contents.bytes, contents.tail) == (bytes as u64, tail)
 }
 
-/// Whether a file is found to hold what is wanted, in pieces as long as the room.
+/// Whether a check of the file gives the expected contents. Records are read in pieces as long as
+/// `room`.
 fn is_checked(medium: &mut MemoryMedium, row: &Row, room: &mut [u8], tail: u64) -> bool {
     let bytes = medium.bytes().len();
     match check_reel(medium, room) {
@@ -175,7 +177,8 @@ fn is_checked(medium: &mut MemoryMedium, row: &Row, room: &mut [u8], tail: u64) 
     }
 }
 
-/// Whether a file of the row's parts is found to hold what is wanted, whole and with a torn record after its last.
+/// Whether a file of the row's parts gives the expected contents, whole and with a torn record
+/// after its last.
 fn checks(alloc: Global, run: &Run, row: &Row) -> Result<bool, AllocError> {
     let Some(mut medium) = file_of(alloc, run, row.0)? else {
         return Ok(false);
@@ -196,7 +199,7 @@ fn a_record_file_is_read_once(rt: HostRuntime) -> Result<(), Fail> {
     Ok(())
 }
 
-/// Whether a check ends as the medium does that fails at this call, counted from 0.
+/// Whether a check fails if the medium fails at call `at`, counted from 0.
 fn fails_at(alloc: Global, run: &Run, at: u64) -> Result<bool, AllocError> {
     let Some(medium) = file_of(alloc, run, &[BLOCK, MARK])? else {
         return Ok(false);
@@ -205,8 +208,9 @@ fn fails_at(alloc: Global, run: &Run, at: u64) -> Result<bool, AllocError> {
     Ok(check_reel(&mut medium, &mut [0; 2]).is_err() && medium.failures() == 1)
 }
 
-/// The calls are for the bytes of the file, the length before the block, three pieces of it, the length after it, the mark, and the end. There
-/// is no ninth.
+/// A check makes eight calls of the medium, and fails if one of them does. They read the size of
+/// the file, the length before the block, its three pieces, the length after it, the mark, and the
+/// end.
 #[test]
 fn a_failure_of_the_medium_is_told(rt: HostRuntime) -> Result<(), Fail> {
     let run = dumped().expect(&rt, "a run");

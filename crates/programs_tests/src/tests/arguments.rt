@@ -1,11 +1,11 @@
-//! The words of both programs.
+//! The arguments of both programs.
 
 use rdump_args::{dump_error, rdump_args};
 use rmtd_args::{server_line, server_words};
 use std::alloc::Global;
 use std::fmt::Debug;
 
-/// Whether that is a value as text.
+/// Whether a value has this text.
 fn is_shown<T: Debug>(alloc: Global, value: &T, wanted: &str) -> bool {
     match format!(in alloc; "{value:?}") {
         Ok(text) => text.as_str() == wanted,
@@ -13,7 +13,7 @@ fn is_shown<T: Debug>(alloc: Global, value: &T, wanted: &str) -> bool {
     }
 }
 
-/// Words of `rdump`, and what is read of them, as text.
+/// Arguments of `rdump`, and the text of what is read from them.
 type Row = (&'static [&'static str], &'static str);
 
 static ROWS: [Row; 9] = [
@@ -116,7 +116,7 @@ fn arguments_of_the_client(rt: HostRuntime) {
     }
 }
 
-/// Words that are refused, and the sentence that tells why.
+/// Arguments that are refused, and the first line of the message.
 static REFUSED: [Row; 8] = [
     (
         &["rdump", "ls"],
@@ -159,7 +159,7 @@ static REFUSED: [Row; 8] = [
     ),
 ];
 
-/// Whether words are refused, and this is told first.
+/// Whether the arguments are refused, with this first line of the message.
 fn is_told(alloc: Global, arguments: &'static [&'static str], wanted: &str) -> bool {
     let Err(error) = rdump_args(alloc, arguments) else {
         return false;
@@ -177,7 +177,7 @@ fn arguments_that_break_a_rule(rt: HostRuntime) {
     }
 }
 
-/// Addresses that have no host or no port, and of IPv6 without brackets.
+/// Addresses without a host or a port, and IPv6 addresses without brackets.
 static ADDRESSES: [&str; 12] = [
     "h",
     "h:",
@@ -193,7 +193,7 @@ static ADDRESSES: [&str; 12] = [
     "[::1:4711",
 ];
 
-/// Whether the words of a read at this address are refused.
+/// Whether the arguments of a read at this address are refused.
 fn is_refused(alloc: Global, address: &str) -> bool {
     let arguments = [
         "rdump", "read", "--to", address, "--device", "d", "--out", "o",
@@ -219,7 +219,7 @@ fn a_value_past_a_limit(rt: HostRuntime) {
     assert!(rt; matches!(&told, Ok(error) if error.use_stderr()));
 }
 
-/// Words of `rmtd` with a drive.
+/// Arguments of `rmtd` with a drive.
 static DRIVE: [&str; 7] = [
     "rmtd",
     "/dev/st0=/srv/a=b",
@@ -238,7 +238,7 @@ fn arguments_of_the_server(rt: HostRuntime) {
     assert!(rt; is_shown(rt.alloc(), &read, wanted));
 }
 
-/// Words of `rmtd` without a drive.
+/// Arguments of `rmtd` without a drive.
 static STDIO: [&str; 2] = ["rmtd", "--stdio"];
 
 #[test]

@@ -1,4 +1,5 @@
-//! Dumps whose checkpoint is kept: the texts that are put, what is printed, and what comes back of them.
+//! Dumps whose checkpoint is kept: the texts that are kept, what is printed, and the dumps that are
+//! resumed from them.
 
 use super::check_row;
 use super::fake::{FakePeer, Replies};
@@ -15,7 +16,7 @@ use std::fs;
 use std::io::Stderr;
 use std::test::Fail;
 
-/// A keeper in memory, which takes so many texts. It keeps the last, and counts them.
+/// A keeper in memory, which accepts `most` texts. It keeps the last, and counts them.
 #[derive(Drop)]
 struct Texts {
     last: Vec<u8>,
@@ -24,7 +25,7 @@ struct Texts {
 }
 
 impl Texts {
-    /// One that has none.
+    /// Makes a keeper without a text.
     fn new(alloc: Global, most: usize) -> Self {
         Texts {
             last: Vec::new(alloc),
@@ -57,7 +58,8 @@ const ONE: &[u8] =
 const BOTH: &[u8] =
     b"rdump 1\ndevice /dev/st0\nfs /usr\nlevel 1\ndate 951868800\nsince 951782400\nblock 2\nblocks 3\ncounted 1 0 2\ncounted 2 2 1\n";
 
-/// The replies of each connection, how many texts are taken, what is printed, how the dump ends, how many were put, and the last.
+/// The replies of each connection, the number of accepted texts, what is printed, and how the dump
+/// ends. Then the number of kept texts, and the last.
 struct Row {
     connections: &'static [Replies],
     most: usize,
@@ -67,7 +69,8 @@ struct Row {
     last: &'static [u8],
 }
 
-/// Two volumes; an abandon; a keeper that takes nothing, one that takes the first text alone, and one that takes all but the last.
+/// Two volumes, and a dump that is abandoned. Then keepers that accept nothing, only the first
+/// text, and all but the last.
 static ROWS: [Row; 5] = [
     Row {
         connections: &[FULL, LAST],
@@ -111,7 +114,7 @@ static ROWS: [Row; 5] = [
     },
 ];
 
-/// Whether that comes of a dump by this client.
+/// Whether a dump by this client goes as the row says.
 fn goes(alloc: Global, client: &mut PayloadDumper, row: &Row) -> bool {
     let mut peer = FakePeer::new(alloc, row.connections);
     let mut keeper = Texts::new(alloc, row.most);
@@ -133,7 +136,7 @@ fn goes(alloc: Global, client: &mut PayloadDumper, row: &Row) -> bool {
         && peer.sent.is_empty() == (row.most == 0)
 }
 
-/// The same with a new client.
+/// Runs `goes` with a new client.
 fn is_kept(alloc: Global, row: &Row) -> bool {
     match client(alloc, TWO_BYTES) {
         Some(mut client) => goes(alloc, &mut client, row),
@@ -148,7 +151,7 @@ fn checkpoints_that_are_kept(rt: HostRuntime) {
     }
 }
 
-/// What comes back of these bytes: the volumes and the blocks that are counted.
+/// Resumes a dump from these bytes. Returns the number of counted volumes and of counted blocks.
 fn comes_back(alloc: Global, bytes: &[u8]) -> Option<Result<(usize, u32), ResumedDumpFault>> {
     let payload = payload(alloc, TWO_BYTES)?;
     let run = run_of(&line(TWO_BYTES), 0, 0, &payload).ok()?;
@@ -160,14 +163,14 @@ fn comes_back(alloc: Global, bytes: &[u8]) -> Option<Result<(usize, u32), Resume
     )
 }
 
-/// The text of another level, of no run, and of counts out of order.
+/// The checkpoint of a dump at another level, and one whose counts are out of order.
 const ANOTHER: &[u8] =
     b"rdump 1\ndevice /dev/st0\nfs /usr\nlevel 2\ndate 951868800\nsince 951782400\nblock 2\nblocks 3\n";
 
 const TWICE: &[u8] =
     b"rdump 1\ndevice /dev/st0\nfs /usr\nlevel 1\ndate 951868800\nsince 951782400\nblock 2\nblocks 3\ncounted 1 0 2\ncounted 1 0 2\n";
 
-/// Bytes, and what comes back of them.
+/// Bytes, and the result of resuming a dump from them.
 static TEXTS: [(&[u8], Result<(usize, u32), ResumedDumpFault>); 6] = [
     (NONE, Ok((0, 0))),
     (ONE, Ok((1, 2))),
@@ -187,10 +190,10 @@ fn clients_that_come_back(rt: HostRuntime) {
     }
 }
 
-/// No terminal, on which progress would be shown.
+/// No terminal on which progress would be shown.
 const NO_TERMINAL: Option<Stderr> = None;
 
-/// A dump with a checkpoint, to where no server is.
+/// A dump with a checkpoint, to an address without a server.
 static WORDS: [&str; 20] = [
     "rdump",
     "dump",
@@ -214,7 +217,7 @@ static WORDS: [&str; 20] = [
     "checkpoint",
 ];
 
-/// What the checkpoint file holds at the start, the status, and whether the file is there at the end.
+/// The checkpoint file at the start, the exit status, and whether the file is there at the end.
 static STARTS: [(&[u8], u8, bool); 4] = [
     (b"", 1, true),
     (ANOTHER, 1, true),
@@ -222,7 +225,7 @@ static STARTS: [(&[u8], u8, bool); 4] = [
     (BOTH, 0, false),
 ];
 
-/// Whether that comes of a dump with such a file.
+/// Whether a dump with such a file ends as the row says.
 fn starts_so(rt: &HostRuntime, text: &[u8], status: u8, stays: bool) -> Result<bool, Fail> {
     fs::write(rt, "checkpoint", text)?;
     let ended = run_arguments(rt, &WORDS, NO_TERMINAL);
@@ -233,8 +236,8 @@ fn starts_so(rt: &HostRuntime, text: &[u8], status: u8, stays: bool) -> Result<b
     Ok(ended == status && is_left == stays)
 }
 
-/// A file that is no checkpoint, and one of another dump, stay; that of a dump that is abandoned goes, and so does that of one
-/// that is complete, without a server.
+/// A file that is not a checkpoint stays, and so does one of another dump. The checkpoint of an
+/// abandoned dump is removed, and so is that of a complete dump, without a server.
 #[test]
 fn dumps_from_a_checkpoint_file(rt: HostRuntime) -> Result<(), Fail> {
     fs::write(&rt, "payload-of-three", b"abcdef")?;
@@ -246,7 +249,8 @@ fn dumps_from_a_checkpoint_file(rt: HostRuntime) -> Result<(), Fail> {
     Ok(())
 }
 
-/// A file that one run holds is not read by another; and what one made is not replaced by another that found none.
+/// A file that one run holds is not read by another. A file that one run made is not replaced by
+/// another run that found none.
 #[test]
 fn a_file_that_is_held(rt: HostRuntime) -> Result<(), Fail> {
     let mut one = ReplacedFile::held(&rt, rt.alloc(), "held");

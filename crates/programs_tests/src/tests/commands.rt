@@ -1,4 +1,5 @@
-//! The commands of `rdump`, at the system that runs the tests: their statuses. No server is there.
+//! The exit statuses of the commands of `rdump`, at the system that runs the tests. There is no
+//! server.
 
 use super::check_row;
 use super::fixture::{TWO_BYTES, client, line};
@@ -10,16 +11,16 @@ use std::io::Stderr;
 use std::os::unix::fs::symlink;
 use std::test::Fail;
 
-/// No terminal, on which progress would be shown.
+/// No terminal on which progress would be shown.
 const NO_TERMINAL: Option<Stderr> = None;
 
-/// Where no server is.
+/// An address without a server.
 const NOWHERE: &str = "127.0.0.1:1";
 
-/// Words, and the status that `rdump` ends with.
+/// Arguments, and the exit status of `rdump`.
 type Row = (&'static [&'static str], u8);
 
-/// Help, the version, words that are wrong, a file that is not there, and a server that is not.
+/// The help, the version, wrong arguments, a missing file, and a missing server.
 static ROWS: [Row; 5] = [
     (&["rdump", "--help"], 0),
     (&["rdump", "--version"], 0),
@@ -33,7 +34,7 @@ static ROWS: [Row; 5] = [
     ),
 ];
 
-/// Whether these words end with that status.
+/// Whether `rdump` ends with this status.
 fn ends_so(rt: &HostRuntime, row: &Row) -> bool {
     run_arguments(rt, row.0, NO_TERMINAL) == row.1
 }
@@ -45,7 +46,7 @@ fn statuses_of_arguments(rt: HostRuntime) {
     }
 }
 
-/// The words of the process that runs the tests are none of `rdump`.
+/// The arguments of the process that runs the tests are not valid for `rdump`.
 #[test]
 fn arguments_of_another_program(rt: HostRuntime) {
     assert!(rt; rdump(&rt, NO_TERMINAL) == 1);
@@ -65,7 +66,7 @@ fn a_payload_that_is_not_there(rt: HostRuntime) {
     assert!(rt; run_dump(&rt, &line(TWO_BYTES), NO_TERMINAL) == 1);
 }
 
-/// Whether a dump ends with 3, since there is no server, and the operator says nothing.
+/// Whether a dump ends with status 3, because there is no server and the operator's input is empty.
 fn is_abandoned(rt: &HostRuntime) -> bool {
     match client(rt.alloc(), TWO_BYTES) {
         Some(mut client) => run_client(rt, &line(TWO_BYTES), &mut client, NO_TERMINAL) == 3,
@@ -78,7 +79,7 @@ fn a_dump_to_no_server(rt: HostRuntime) {
     assert!(rt; is_abandoned(&rt));
 }
 
-/// The file that got no label is gone.
+/// The output file is removed if no label was read.
 #[test]
 fn a_volume_of_no_server(rt: HostRuntime) {
     let line = ReadLine {
@@ -93,7 +94,7 @@ fn a_volume_of_no_server(rt: HostRuntime) {
     assert!(rt; fs::remove_file(&rt, "volume").is_err());
 }
 
-/// A link to nothing stays one: the file that it leads to is gone.
+/// A dangling link stays, and the file that it leads to is removed.
 #[test]
 fn a_volume_of_no_server_by_a_link(rt: HostRuntime) -> Result<(), Fail> {
     let line = ReadLine {

@@ -1,4 +1,4 @@
-//! A dumpdates file that is asked: what is printed, and the status.
+//! Queries of a dumpdates file: what is printed, and the exit status.
 
 use super::check_row;
 use rdump_files::dates;
@@ -8,20 +8,21 @@ use std::alloc::Global;
 /// Two dumps of one file system.
 const TWO: &[u8] = b"/usr 0 Tue Feb 29 00:00:00 2000\n/usr 1 Wed Mar  1 00:00:00 2000\n";
 
-/// A file of a bad line.
+/// A file with a bad line.
 const BAD_LINE: &[u8] = b"a 0 Mon Jan 1 00:00:00 1970\n\nb 10 Thu Jan 1 00:00:00 1970\n";
 
-/// Files of bad dates.
+/// Files with a bad date.
 const FEBRUARY_30: &[u8] = b"/usr 0 Tue Feb 30 00:00:00 2000";
 
 const LEAP_2100: &[u8] = b"a 0 Mon Feb 29 00:00:00 2100";
 
 const LEAP_1968: &[u8] = b"a 0 Mon Feb 29 00:00:00 1968";
 
-/// A file, what is asked of it, and what is printed, with which status.
+/// A file, the query, what is printed, and the exit status.
 type Row = (&'static [u8], Option<(&'static str, u8)>, &'static [u8], u8);
 
-/// Texts that are printed anew, bases, and bad files with their first bad line. The dates come from the `date` command.
+/// Files that are printed, base dates, and bad files with their first bad line. The dates come from
+/// the `date` command.
 static ROWS: [Row; 19] = [
     (b"", None, b"", 0),
     (b" \t\n\n", None, b"", 0),
@@ -69,7 +70,7 @@ static ROWS: [Row; 19] = [
     (LEAP_1968, Some(("a", 1)), b"line 1: bad date\n", 1),
 ];
 
-/// Whether that is printed, with that status.
+/// Whether the row's text is printed, with its status.
 fn prints(alloc: Global, row: &Row) -> bool {
     let (file, asked, wanted, status) = *row;
     let mut printed = Vec::new(alloc);

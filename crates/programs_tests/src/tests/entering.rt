@@ -1,4 +1,4 @@
-//! What is entered in dumpdates, and a base date.
+//! Dumps that are entered in dumpdates, and a base date.
 
 use super::check_row;
 use super::store::{ENTERED, FIRST, Held, Kept, OLD};
@@ -9,12 +9,12 @@ use std::alloc::Global;
 use std::fs;
 use std::test::Fail;
 
-/// What a read of the file gives, and whether it can be replaced; what comes of a dump that is entered, and what is put in
-/// place of the file.
+/// The result of reading the file, whether it can be replaced, the result of entering a dump, and
+/// the text that replaces the file.
 type Row = (Held, bool, Result<(), UpdateFault>, &'static [u8]);
 
-/// A dump that is entered, and so once more; a file that is not there, one that cannot be read, one that cannot be replaced,
-/// and a bad one.
+/// A dump that is entered, and the same dump entered again. Then a missing file, one that cannot be
+/// read, one that cannot be replaced, and a bad one.
 static ROWS: [Row; 6] = [
     (Ok(Some(OLD)), true, Ok(()), ENTERED),
     (Ok(Some(ENTERED)), true, Ok(()), ENTERED),
@@ -29,14 +29,14 @@ static ROWS: [Row; 6] = [
     ),
 ];
 
-/// Whether that comes of a dump which is entered in such a file.
+/// Whether entering a dump in such a file goes as the row says.
 fn goes(alloc: Global, entry: Entry<'_>, row: &Row) -> bool {
     let (held, takes, wanted, put) = *row;
     let mut store = Kept::new(alloc, held, takes);
     update(alloc, &mut store, entry) == wanted && store.put.as_slice() == put
 }
 
-/// The same of a dump of `/usr`.
+/// Runs `goes` with a dump of `/usr`.
 fn enters(alloc: Global, row: &Row) -> bool {
     match Entry::new("/usr", 1, 951868800) {
         Some(entry) => goes(alloc, entry, row),
@@ -77,7 +77,7 @@ fn what_lies_in_place_of_a_new_file(rt: HostRuntime) -> Result<(), Fail> {
     Ok(())
 }
 
-/// A new file that another run has put in place of this one's stays.
+/// If another run has replaced this run's new file by its own, that file stays.
 #[test]
 fn what_takes_the_name_of_a_new_file(rt: HostRuntime) -> Result<(), Fail> {
     fs::write(&rt, "taken", OLD)?;

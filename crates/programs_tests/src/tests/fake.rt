@@ -1,12 +1,12 @@
-//! A peer that gives what it was told to.
+//! A peer with given replies.
 
 use rdump_net::Peer;
 use std::alloc::Global;
 
-/// The replies that a connection gives, one at a time. After the last it ends.
+/// The replies of a connection, one at a time. After the last the connection ends.
 pub(super) type Replies = &'static [&'static [u8]];
 
-/// It makes as many connections as it has replies for. It keeps what it is sent.
+/// A peer that makes as many connections as it has lists of replies. It keeps what it is sent.
 #[derive(Drop)]
 pub(super) struct FakePeer {
     pub(super) sent: Vec<u8>,

@@ -1,4 +1,4 @@
-//! What is dumped: a payload, and the clients of its dumps.
+//! What is dumped: a payload, and clients that dump it.
 
 ghost use Rattle.std.specs.Prelude.{◌≡◌, IfSome};
 
@@ -9,7 +9,7 @@ use rdump_files::{PayloadFile, Shown, dumper};
 use std::alloc::Global;
 use tape::MemoryMedium;
 
-/// The bytes of a block, where three of them are dumped.
+/// The size of a block in bytes, if three of them are dumped.
 pub(super) const TWO_BYTES: u64 = 2;
 
 pub(super) const DEVICE: &[u8] = b"/dev/st0";
@@ -17,10 +17,10 @@ pub(super) const DEVICE: &[u8] = b"/dev/st0";
 /// A payload on a medium in memory.
 pub(super) type Payload = PayloadFile<MemoryMedium>;
 
-/// A client whose blocks are read from a payload, and shown.
+/// A client that reads its blocks from a payload and shows its progress.
 pub(super) type PayloadDumper = Client<Shown<Payload, Seen>>;
 
-/// The words of a dump of `/usr` at level 1, in blocks of this size.
+/// The arguments of a dump of `/usr` at level 1, in blocks of this size.
 pub(super) fn line(block: u64) -> DumpLine<'static>
     ensures { result.block ≡ block }
 {
@@ -39,7 +39,7 @@ pub(super) fn line(block: u64) -> DumpLine<'static>
     }
 }
 
-/// The bytes `abcdef`, in blocks of so many.
+/// The bytes `abcdef`, in blocks of this many bytes.
 pub(super) fn payload(alloc: Global, block_bytes: u64) -> Option<Payload>
     ensures { IfSome result (λ p. p.size ≡ block_bytes) }
 {
@@ -47,7 +47,7 @@ pub(super) fn payload(alloc: Global, block_bytes: u64) -> Option<Payload>
     PayloadFile::open(MemoryMedium::from_bytes(bytes), block_bytes).ok()
 }
 
-/// The client of a dump of these bytes in blocks of so many.
+/// Makes a client that dumps these bytes, in blocks of this many bytes.
 pub(super) fn client(alloc: Global, block_bytes: u64) -> Option<PayloadDumper> {
     let payload = payload(alloc, block_bytes)?;
     let line = line(block_bytes);

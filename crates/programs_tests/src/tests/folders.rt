@@ -5,7 +5,7 @@ use rmtd_args::DriveArgument;
 use rmtd_serve::{LineStart, folder_stacks, seat_stacks};
 use std::alloc::AllocError;
 
-/// Two drives, whose folders are not there.
+/// Two drives whose folders do not exist.
 static WORDS: [DriveArgument<'static>; 2] = [
     DriveArgument {
         device: "/dev/st0",

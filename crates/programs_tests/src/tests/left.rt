@@ -1,9 +1,9 @@
-//! What a run that was stopped can have left of a new file.
+//! What an interrupted run can have left of a new file.
 
 use super::check_row;
 use rdump_files::{is_left_checkpoint, is_left_dates};
 
-/// Bytes, and whether a run can have left them.
+/// Bytes, and whether an interrupted run can have left them.
 type Row = (&'static [u8], bool);
 
 static DATES: [Row; 19] = [

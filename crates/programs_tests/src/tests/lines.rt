@@ -1,4 +1,4 @@
-//! Dumps over a peer that is told what to reply: what is printed, and what is entered in dumpdates then.
+//! Dumps over a peer with given replies: what is printed, and what is then entered in dumpdates.
 
 use super::check_row;
 use super::fake::{FakePeer, Replies};
@@ -11,21 +11,22 @@ use rdump_net::failure_line;
 use rmt_wire::Counted;
 use std::alloc::Global;
 
-/// A blank reel takes two blocks of two bytes, and has no room for the third.
+/// A blank reel that takes two blocks of two bytes, and has no room for the third.
 pub(super) const FULL: Replies = &[
     b"A0\n", b"A1\n", b"A0\n", b"A1\n", b"A1024\n", b"A2\n", b"A2\n", b"A0\n", b"A1\n", b"A1\n",
     b"A0\n",
 ];
 
-/// One block, which is the last.
+/// A reel that takes one block, which is the last.
 pub(super) const LAST: Replies = &[
     b"A0\n", b"A1\n", b"A0\n", b"A1\n", b"A1024\n", b"A2\n", b"A1\n", b"A1\n", b"A0\n",
 ];
 
-/// A reel for the label alone.
+/// A reel that takes the label alone.
 const SMALL: Replies = &[b"A0\n", b"A1\n", b"A0\n", b"A1\n", b"A1024\n", b"A0\n"];
 
-/// A reel that was counted: its first volume has these two blocks. The zero bytes of its label come in a piece of their own.
+/// A reel that was counted: it has the first volume, with these two blocks. The zero bytes of its
+/// label arrive as a separate piece.
 const COUNTED: Replies = &[
     b"A0\n",
     b"A1\n",
@@ -36,8 +37,9 @@ const COUNTED: Replies = &[
 /// A drive without a reel.
 pub(super) const EMPTY: Replies = &[b"E6\nDevice not configured\n"];
 
-/// A dump of three blocks: the replies of each connection, what the operator says, what a read of the dumpdates file gives, what is
-/// printed, the status, why the dump is not entered, and what is put in place of the file.
+/// A dump of three blocks: the replies of each connection, the operator's input, and the result of
+/// reading the dumpdates file. Then what is printed, the exit status, why the dump is not entered,
+/// and the text that replaces the file.
 struct Row {
     connections: &'static [Replies],
     said: &'static [u8],
@@ -48,12 +50,16 @@ struct Row {
     dates: &'static [u8],
 }
 
-/// What is printed of two volumes that are not entered.
+/// What is printed for two volumes of a dump that is not entered.
 const UNENTERED: &[u8] =
     b"volume 1: 2 blocks from 0\nvolume 2: 1 blocks from 2\ndump complete: 2 volumes, 3 blocks\ndumpdates not updated\n";
 
-/// Two volumes, also where the dumpdates file became a bad one, and where it can't be read; an abandon; a retry, where the second
-/// connection is made after `yes`, and the third cannot be; a reel that is too small; and a counted reel that is laid again.
+/// In order:
+/// - two volumes; also if the dumpdates file has become bad, and if it cannot be read.
+/// - a dump that is abandoned.
+/// - a retry: the second connection is made after `yes`, and the third cannot be made.
+/// - a reel that is too small.
+/// - a counted reel that was put on the stack again.
 static ROWS: [Row; 7] = [
     Row {
         connections: &[FULL, LAST],
@@ -120,7 +126,8 @@ static ROWS: [Row; 7] = [
     },
 ];
 
-/// Dumps over this peer, and enters the dump where it is complete. Whether it prints what the row says, with its status.
+/// Dumps over this peer, and enters the dump if it is complete. Returns whether it prints what the
+/// row says, with its status.
 fn prints(
     alloc: Global,
     client: &mut PayloadDumper,
@@ -142,7 +149,7 @@ fn goes(alloc: Global, client: &mut PayloadDumper, row: &Row) -> bool {
     prints(alloc, client, &mut peer, &mut store, row) && store.put.as_slice() == row.dates
 }
 
-/// The same with a new client.
+/// Runs `goes` with a new client.
 fn is_dumped(alloc: Global, row: &Row) -> bool {
     match client(alloc, TWO_BYTES) {
         Some(mut client) => goes(alloc, &mut client, row),

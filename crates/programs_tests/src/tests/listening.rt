@@ -1,4 +1,4 @@
-//! One drive in memory for a connection, and for a stream after it.
+//! One drive in memory that serves a connection, and then a stream.
 
 use reel_files::NoLog;
 use rmt_server::Served;
@@ -9,7 +9,8 @@ use std::io::{self, Read, Write};
 use std::net::{Shutdown, TcpListener, TcpStream};
 use std::rt::Clock;
 
-/// Whether a record and a mark are written on a connection and read back, and all of it sent before an answer.
+/// Whether a connection sends all its requests before it receives a reply. They write a record and
+/// a mark, and read them back.
 fn sends(stream: &mut TcpStream) -> bool {
     stream
         .write_all(b"O/dev/st0\n2\nW5\nhelloI0\n1\nI5\n1\nR10\nR10\nC\n")
@@ -17,17 +18,17 @@ fn sends(stream: &mut TcpStream) -> bool {
         && stream.shutdown(Shutdown::Write).is_ok()
 }
 
-/// What the answers are, and no more.
+/// All replies.
 const HEARD: &[u8] = b"A0\nA5\nA1\nA1\nA5\nhelloA0\nA0\n";
 
-/// Whether the answers come on a connection, and then its end.
+/// Whether the replies arrive on a connection, and then its end.
 fn hears(stream: &mut TcpStream) -> bool {
     let mut bytes = [0; 26];
     let is_heard = stream.read_exact(&mut bytes).is_ok() && bytes.as_slice() == HEARD;
     is_heard && matches!(stream.read(&mut [0; 1]), Ok(0))
 }
 
-/// Whether a drive serves the next connection, and then a stream that reads the one record of it.
+/// Whether a drive serves the next connection, and then a stream that reads its one record.
 fn serves_both<C: Clock>(clock: &C, alloc: Global, listener: &TcpListener) -> bool {
     let Some(mut server) = MemoryServer::new(alloc, 1024) else {
         return false;

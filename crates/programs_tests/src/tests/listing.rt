@@ -1,4 +1,5 @@
-//! What is said of record files, and the statuses of `rdump ls`, against what was written by hand.
+//! Descriptions of record files, and the exit statuses of `rdump ls`, against values worked out by
+//! hand.
 
 use super::check_row;
 use rdump_args::{ListLine, ListedReels};
@@ -8,13 +9,14 @@ use std::fs;
 use std::test::Fail;
 use tape::MemoryMedium;
 
-/// The lines of a label. Zero bytes come after them, up to 1,024 bytes.
+/// The lines of a label. Zero bytes follow them, up to 1,024 bytes.
 const LINES: &[u8] = b"name /usr\nlevel 0\ndate 951782400\nsince 0\nvolume 1\nfirst 0\n";
 
-/// The length of a label, as it stands before and after it.
+/// The length of a label, as it is framed in a record file.
 const LABEL_LENGTH: &[u8] = &[0, 4, 0, 0];
 
-/// Whether a record file begins with the label, and its other bytes. Then what is said of it, and whether it is whole.
+/// Whether a record file begins with the label, its other bytes, its description, and whether it is
+/// whole.
 type Row = (bool, &'static [u8], &'static str, bool);
 
 static ROWS: [Row; 10] = [
@@ -58,7 +60,7 @@ fn file_of(alloc: Global, row: &Row) -> Result<Vec<u8>, AllocError> {
     Ok(bytes)
 }
 
-/// Whether just that is said of a record file.
+/// Whether a record file has this description.
 fn is_said(alloc: Global, row: &Row) -> Result<bool, AllocError> {
     let mut medium = MemoryMedium::from_bytes(file_of(alloc, row)?);
     let Ok(contents) = check_reel(&mut medium, &mut [0; 100]) else {
@@ -78,7 +80,7 @@ fn what_is_said_of_reels(rt: HostRuntime) -> Result<(), Fail> {
     Ok(())
 }
 
-/// What `rdump ls` of one record file ends with.
+/// Returns the exit status of `rdump ls` for one record file.
 fn listed(rt: &HostRuntime, path: &'static str) -> Result<u8, AllocError> {
     let mut paths = Vec::new(rt.alloc());
     paths.push(path)?;
@@ -90,7 +92,8 @@ fn listed(rt: &HostRuntime, path: &'static str) -> Result<u8, AllocError> {
     Ok(run_ls(rt, line))
 }
 
-/// One that is whole, one that has a label alone, and one that is not there.
+/// `rdump ls` returns 0 for a whole volume, 3 for one that has only a label, and 1 for a missing
+/// file.
 #[test]
 fn a_reel_is_listed(rt: HostRuntime) -> Result<(), Fail> {
     for (row, status) in [(5, 0), (3, 3)] {

@@ -1,4 +1,4 @@
-//! Lines of the server's log.
+//! The lines of the server's log.
 
 use reel_files::Log;
 use rmtd_serve::{ErrorLog, LineStart};
@@ -9,7 +9,7 @@ use std::io::{self, ErrorKind};
 use std::rt::Clock;
 use std::time::Duration;
 
-/// The lines that are wanted, in order.
+/// The expected lines, in order.
 static WANTED: [&str; 5] = [
     "rmtd: seat 3: connection 7: served",
     "rmtd: accept failed",
@@ -18,10 +18,11 @@ static WANTED: [&str; 5] = [
     "rmtd: no time",
 ];
 
-/// What the clock tells, in milliseconds since 1970 began: 2004-02-29 23:59:59.7, UTC.
+/// The time of the clock, in milliseconds since 1970: 2004-02-29 23:59:59.7, UTC.
 const NOW_MILLIS: u64 = 1_078_099_199_700;
 
-/// Standard error that compares each line with the next one that is wanted, or refuses all.
+/// A standard error that compares each line with the next expected one. If `takes` is false, every
+/// write fails.
 #[derive(Drop)]
 struct Compared {
     alloc: Global,
@@ -62,7 +63,7 @@ impl Eprint for Compared {
     }
 }
 
-/// Notes a line in a log of this seat, or of none.
+/// Logs a line for this seat, or for no seat.
 fn note(told: &Compared, seat: Option<usize>, start: LineStart, line: &str) {
     ErrorLog {
         rt: told,
@@ -72,7 +73,8 @@ fn note(told: &Compared, seat: Option<usize>, start: LineStart, line: &str) {
     .note(line);
 }
 
-/// How many lines of logs, of seats and of none, with the time and without, are as is wanted.
+/// Returns how many of the expected lines were logged: for seats and for no seat, with the time and
+/// without.
 fn right_lines(alloc: Global, takes: bool) -> usize {
     let told = Compared {
         alloc,

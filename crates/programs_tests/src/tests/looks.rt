@@ -1,4 +1,4 @@
-//! Looks at a reel over a peer that is told what to reply, and on which reels a dump may write.
+//! Looks at a reel over a peer with given replies, and the reels on which a dump may write.
 
 use super::check_row;
 use super::fake::{FakePeer, Replies};
@@ -8,13 +8,13 @@ use rdump_net::{
 };
 use std::alloc::Global;
 
-/// What a look finds: the bytes of a record, none for an empty reel, and None for a mark.
+/// The result of a look: the bytes of a record, no bytes for an empty reel, and `None` for a mark.
 type Found = Result<Option<&'static [u8]>, LookFault>;
 
-/// What the peer replies, what it is sent, and what is found.
+/// The replies of the peer, what it is sent, and what is found.
 type Row = (&'static [Replies], &'static [u8], Found);
 
-/// The last is without a connection.
+/// The last row has no connection.
 static ROWS: [Row; 7] = [
     (
         &[&[b"A0\n", b"A1\n", b"A3\nabc", b"A0\n"]],
@@ -82,7 +82,7 @@ fn is_found(found: &Result<ReelFront, LookFault>, wanted: Found) -> bool {
     }
 }
 
-/// Whether a look at a peer that replies so goes as the row says.
+/// Whether a look over a peer with these replies goes as the row says.
 fn goes(alloc: Global, row: &Row) -> bool {
     let (replies, sent, wanted) = *row;
     let mut peer = FakePeer::new(alloc, replies);
@@ -108,7 +108,7 @@ static DUMPS: [(&str, u64, u64, bool); 4] = [
     ("/usr", 1, 951782401, false),
 ];
 
-/// The reel with that label, and zero bytes after its lines.
+/// Returns a reel with that label, with zero bytes after its lines.
 fn labelled(alloc: Global) -> Option<ReelFront> {
     let mut bytes = Vec::from_slice(alloc, LABEL).ok()?;
     bytes.resize(1024, 0).ok()?;

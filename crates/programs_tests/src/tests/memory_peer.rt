@@ -1,4 +1,5 @@
-//! A peer in memory: a request in pieces, sessions that end, and a volume that is written.
+//! A peer in memory: a request that arrives in pieces, sessions that end, and a volume that is
+//! written.
 
 ghost use Rattle.std.specs.Prelude.{◌≡◌, ◌≤◌, length};
 
@@ -10,13 +11,14 @@ use rmt_wire::Counted;
 use std::alloc::Global;
 use std::test::Fail;
 
-/// A label, two blocks of four bytes and the mark fill a reel of this capacity exactly.
+/// The capacity in bytes of a reel that a label, two blocks of four bytes and the mark fill
+/// exactly.
 const TWO_BLOCKS: u64 = 1060;
 
-/// What is printed of a dump to that reel.
+/// What a dump to that reel prints.
 const DUMPED: &[u8] = b"volume 1: 2 blocks from 0\ndump complete: 1 volumes, 2 blocks\n";
 
-/// A request that comes in pieces is answered.
+/// Whether a request that arrives in pieces gets its reply.
 fn takes_pieces(peer: &mut MemoryPeer) -> bool {
     let mut room = [0; 3];
     let sent = peer.connect() && peer.send(b"O/dev") && peer.send(b"/st0\n2\n");
@@ -25,24 +27,25 @@ fn takes_pieces(peer: &mut MemoryPeer) -> bool {
     answered
 }
 
-/// Whether the reel lies on the drive's stack, open in no session.
+/// Whether the reel is on the drive's stack, and no session has it open.
 fn lies(peer: &MemoryPeer) -> bool {
     peer.stacks().reel(b"r1").is_some()
 }
 
-/// A new connection opens the drive, and the reply waits.
+/// Whether a new connection opens the drive. The reply is not read yet.
 fn opens(peer: &mut MemoryPeer) -> bool {
     peer.connect() && peer.send(b"O/dev/st0\n2\n") && !lies(peer)
 }
 
-/// After a hang-up the drive is closed, and the reply that waited is lost.
+/// Whether a hang-up closes the drive, and the unread reply is lost.
 fn closes(peer: &mut MemoryPeer) -> bool {
     let opened = opens(peer);
     peer.hang_up();
     opened && lies(peer) && peer.receive(&mut [0; 3]) == 0
 }
 
-/// So it is after a connection in place of another, whose session has nothing open. After a hang-up nothing can be sent.
+/// Whether a new connection replaces another, and its session has nothing open. After a hang-up
+/// nothing can be sent.
 fn begins_anew(peer: &mut MemoryPeer) -> bool {
     let mut room = [0; 24];
     let anew = opens(peer) && peer.connect() && lies(peer);
@@ -55,7 +58,7 @@ fn begins_anew(peer: &mut MemoryPeer) -> bool {
     count == 23 && room == *b"E9\nBad file descriptor\n\0" && !peer.send(b"C\n")
 }
 
-/// This client writes its one volume.
+/// Whether this client writes its one volume.
 fn is_dumped(alloc: Global, client: &mut PayloadDumper, peer: &mut MemoryPeer) -> bool {
     let mut operator: &[u8] = b"";
     let mut room = [0; 61];
@@ -63,7 +66,7 @@ fn is_dumped(alloc: Global, client: &mut PayloadDumper, peer: &mut MemoryPeer) -
     dump(alloc, client, peer, &mut operator, &mut out) == 0 && room.as_slice() == DUMPED
 }
 
-/// So does a client of two blocks.
+/// Whether a client of two blocks writes its one volume.
 fn takes_a_dump(alloc: Global, peer: &mut MemoryPeer) -> bool {
     match client(alloc, 4) {
         Some(mut client) => is_dumped(alloc, &mut client, peer),
@@ -71,7 +74,8 @@ fn takes_a_dump(alloc: Global, peer: &mut MemoryPeer) -> bool {
     }
 }
 
-/// All this goes so with a peer whose reel is empty. Its drives have the reel in their bin then.
+/// Runs all these checks with a peer whose reel is empty. At the end the reel must be in the bin of
+/// its drives.
 fn goes_on(alloc: Global, mut peer: MemoryPeer) -> bool {
     let ended = takes_pieces(&mut peer) && closes(&mut peer) && begins_anew(&mut peer);
     let dumped = ended && takes_a_dump(alloc, &mut peer);
@@ -87,7 +91,7 @@ fn add_drive(stacks: &mut ListStacks) -> bool
     stacks.add_drive(DEVICE).is_ok() && stacks.add_reel(0, b"r1", TWO_BLOCKS).is_ok()
 }
 
-/// It goes so with a peer of that drive.
+/// Runs `goes_on` with a peer of that drive.
 fn goes(alloc: Global, holds: LocalHolds) -> bool
     requires { length holds.numbers ≡ 1 }
 {

@@ -1,4 +1,4 @@
-//! Operations of mtio over a peer that is told what to reply.
+//! Operations of mtio over a peer with given replies.
 
 use super::check_row;
 use super::fake::{FakePeer, Replies};
@@ -7,10 +7,11 @@ use rdump_net::mt;
 use rmt_wire::Counted;
 use std::alloc::Global;
 
-/// One operation of count 1: its number, what the peer replies on each connection, what it is sent, what is printed, and the status.
+/// An operation of count 1: its number, the replies on each connection, what the peer is sent, what
+/// is printed, and the exit status.
 type Row = (u8, &'static [Replies], &'static [u8], &'static [u8], u8);
 
-/// The last is without a connection.
+/// The last row has no connection.
 static ROWS: [Row; 9] = [
     (
         0,
@@ -72,7 +73,7 @@ fn prints(alloc: Global, peer: &mut FakePeer, row: &Row) -> bool {
     told == status && printed.as_slice() == wanted
 }
 
-/// Whether an operation over a peer that replies so goes as the row says.
+/// Whether an operation over a peer with these replies goes as the row says.
 fn goes(alloc: Global, row: &Row) -> bool {
     let mut peer = FakePeer::new(alloc, row.1);
     prints(alloc, &mut peer, row) && peer.sent.as_slice() == row.2

@@ -1,9 +1,10 @@
-//! Text of others as it is printed, against what was written by hand.
+//! Text from outside, as it is printed, against values worked out by hand.
 
 use printable::{PlainBytes, PlainLines, plain, plain_char, plain_line_char};
 use std::alloc::AllocError;
 
-/// Characters, and whether each is a control character: those at the ends of the two ranges of Unicode, and those beside them.
+/// Characters, and whether each is a control character. The table has the ends of both Unicode
+/// ranges, and their neighbors.
 static LETTERS: [(char, bool); 16] = [
     ('\0', true),
     ('\t', true),
@@ -33,8 +34,8 @@ fn control_characters_are_marked(rt: HostRuntime) {
     }
 }
 
-/// Bytes, and what is printed of them. `?` stands once for each sequence that is as long as it could begin a character (Unicode,
-/// chapter 3, "U+FFFD Substitution of Maximal Subparts").
+/// Bytes, and what is printed of them. One `?` is printed for each longest sequence that could
+/// begin a character (Unicode, chapter 3, "U+FFFD Substitution of Maximal Subparts").
 static BYTES: [(&[u8], &str); 12] = [
     (b"", ""),
     (b"/dev/st0", "/dev/st0"),

@@ -1,4 +1,4 @@
-//! What is shown of a dump.
+//! The progress of a dump, as it is shown.
 
 ghost use Rattle.std.specs.Prelude.{◌≡◌, length};
 
@@ -11,7 +11,7 @@ use std::io::{self, Write};
 use std::test::Fail;
 use std::time::{Clock, Duration};
 
-/// Counts what is shown.
+/// A gauge that counts what is shown.
 #[derive(Drop)]
 pub(super) struct Seen {
     blocks: u32,
@@ -46,7 +46,7 @@ impl Gauge for Seen {
     }
 }
 
-/// A clock that has gone on by 50 milliseconds each time that it is read.
+/// A clock that advances by 50 milliseconds each time it is read.
 #[derive(Drop)]
 struct Ticking {
     millis: Cell<u64>,
@@ -72,7 +72,8 @@ impl Clock for Ticking {
     }
 }
 
-/// Whether three blocks were begun, volume 2 from the second on, and that was shown.
+/// Whether the gauge has three blocks, is at volume 2 from the second block on, and showed that
+/// block once.
 fn is_shown(gauge: &Option<Seen>) -> bool {
     match gauge {
         Some(seen) => {
@@ -105,14 +106,18 @@ fn a_block_is_shown_and_read(rt: HostRuntime) -> Result<(), Fail> {
     Ok(())
 }
 
-/// A volume, its first block and how many of its blocks are read.
+/// A volume, its first block, and how many of its blocks are read.
 type Volume = (u32, u32, u32);
 
-/// Reads of blocks of so many bytes in volumes, one 50 milliseconds after the other, and what is shown of them.
+/// The size of a block in bytes, the volumes whose blocks are read, 50 milliseconds apart, and what
+/// is shown.
 type Row = (usize, &'static [Volume], &'static [u8]);
 
-/// A line each tenth of a second, in KiB and in MiB; a volume from the block on for which there was no room; one that begins
-/// anew; and a dump that goes on at its second block.
+/// Lines of progress:
+/// - one each tenth of a second, in KiB and in MiB.
+/// - a volume that starts at the block for which the volume before had no room.
+/// - a volume that is started again.
+/// - a dump that is resumed at its second block.
 static ROWS: [Row; 5] = [
     (
         1024,
@@ -150,7 +155,7 @@ fn show_volume(gauge: &mut impl Gauge, bytes: usize, volume: &Volume) {
     }
 }
 
-/// Shows such reads.
+/// Shows the reads of all these volumes.
 fn show(gauge: &mut impl Gauge, bytes: usize, volumes: &[Volume]) {
     gauge.begin(3);
     for volume in volumes {
@@ -158,7 +163,7 @@ fn show(gauge: &mut impl Gauge, bytes: usize, volumes: &[Volume]) {
     }
 }
 
-/// Whether that is shown of such reads.
+/// Whether the reads of a row are shown as it says.
 fn goes(alloc: Global, row: &Row) -> bool {
     let (bytes, volumes, wanted) = *row;
     let clock = Ticking::new();

@@ -1,7 +1,8 @@
-//! What words have `rmtd` do, and what is left, over streams in memory.
+//! Starts of `rmtd` with given arguments, over streams in memory, and the number of connections
+//! still to serve.
 //!
-//! A function that hands the host's runtime to the start names its files and sockets in a local, since the borrow checker knows the
-//! types of a function's own text alone.
+//! A function that passes the host's runtime to the start names its files and sockets in a local.
+//! The borrow checker knows only the types that occur in a function's own text.
 
 use rmt_wire::Counted;
 use rmtd_serve::{Begun, ServerSystem, begin, start};
@@ -10,7 +11,7 @@ use std::io;
 use std::net::{TcpListener, TcpStream};
 use std::rt::Env;
 
-/// Words, the bytes that are read, the status, and the bytes that are written.
+/// The arguments, the bytes that are read, the exit status, and the bytes that are written.
 type Row = (&'static [&'static str], &'static [u8], u8, &'static [u8]);
 
 static ROWS: [Row; 7] = [
@@ -33,7 +34,7 @@ static ROWS: [Row; 7] = [
     (&["rmtd", "--version"], b"C\n", 0, b""),
 ];
 
-/// Whether a start is done as the row says.
+/// Whether a start goes as the row says.
 fn is_done<R: ServerSystem>(rt: &R, row: &Row) -> bool {
     let (arguments, sent, status, wanted) = *row;
     let mut taken = Vec::new(rt.alloc());
@@ -51,7 +52,7 @@ fn arguments_are_followed(rt: HostRuntime) {
     }
 }
 
-/// Words of a server with a drive in a folder.
+/// The arguments of a server with a drive in a folder.
 static FOLDERS: [&str; 5] = [
     "rmtd",
     "--listen=127.0.0.1:0",
@@ -60,7 +61,7 @@ static FOLDERS: [&str; 5] = [
     "d=left",
 ];
 
-/// How many connections these words leave to serve.
+/// Returns how many connections are still to serve after a start with these arguments.
 fn left_by<R: ServerSystem>(rt: &R, arguments: &[&str]) -> io::Result<u64> {
     let mut output = Counted::new(Vec::new(rt.alloc()));
     let begun = begin(
@@ -83,7 +84,7 @@ fn connections_at_folders_are_left(rt: HostRuntime) -> io::Result<()> {
     Ok(())
 }
 
-/// Whether the program's own words, which are those of a test, are refused.
+/// Whether the arguments of the test program itself are refused.
 fn is_refused<R: ServerSystem + Env>(rt: &R) -> io::Result<bool> {
     let mut output = Counted::new(Vec::new(rt.alloc()));
     let begun = start(rt, &mut Counted::new(b"C\n".as_slice()), &mut output)?;

@@ -8,19 +8,20 @@ pub(super) const OLD: &[u8] = b"/usr                             0 Tue Feb 29 00
 /home                            0 Thu Jan  1 00:00:00 1970
 ";
 
-/// The same with a later dump of `/usr` at level 1.
+/// The same file with a later dump of `/usr` at level 1.
 pub(super) const ENTERED: &[u8] = b"/usr                             0 Tue Feb 29 00:00:00 2000
 /usr                             1 Wed Mar  1 00:00:00 2000
 /home                            0 Thu Jan  1 00:00:00 1970
 ";
 
-/// That dump alone.
+/// A file with that dump alone.
 pub(super) const FIRST: &[u8] = b"/usr                             1 Wed Mar  1 00:00:00 2000\n";
 
-/// What a read of a file in memory gives.
+/// The result of reading a file in memory.
 pub(super) type Held = Result<Option<&'static [u8]>, FileFailed>;
 
-/// A file in memory, which can be told not to be replaced. It keeps what is put in place of it.
+/// A file in memory, which cannot be replaced if `takes` is false. It keeps the text that replaces
+/// it.
 #[derive(Drop)]
 pub(super) struct Kept {
     pub(super) put: Vec<u8>,
@@ -29,7 +30,7 @@ pub(super) struct Kept {
 }
 
 impl Kept {
-    /// A read of the file gives this.
+    /// Makes a file whose reads return `held`.
     pub(super) fn new(alloc: Global, held: Held, takes: bool) -> Kept {
         Kept {
             put: Vec::new(alloc),

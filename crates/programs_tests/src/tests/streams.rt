@@ -1,4 +1,5 @@
-//! A record that is written and read back, by a stream at a drive in memory and by one at other drives.
+//! A record that is written and read back, by a stream at a drive in memory and by a stream at
+//! other drives.
 
 ghost use Rattle.std.specs.Prelude.{◌≡◌, IfOk, length};
 
@@ -30,7 +31,7 @@ fn keeps_a_record(alloc: Global, server: &mut TapeServer<ListStacks>) -> bool {
     server.serve(&mut input, &mut output) == Some(Served::End) && taken.as_slice() == ANSWERED
 }
 
-/// One drive with one reel.
+/// Makes one drive with one reel.
 fn one_drive(alloc: Global) -> Result<ListStacks, Fail>
     ensures { IfOk result (λ stacks. length stacks.library.drives ≡ 1) }
 {

@@ -1,4 +1,4 @@
-//! Volumes that are read over a peer that is told what to reply.
+//! Volumes that are read over a peer with given replies.
 
 use super::check_row;
 use super::fake::{FakePeer, Replies};
@@ -32,14 +32,14 @@ fn is_read(alloc: Global, peer: &mut FakePeer) -> bool {
     status == 0 && text == *b"one" && file == *b"abcde"
 }
 
-/// Whether a volume is, and so much is sent.
+/// Whether a volume is read, and exactly these requests are sent.
 fn is_read_whole(alloc: Global) -> bool {
     let mut peer = FakePeer::new(alloc, REPLIES);
     is_read(alloc, &mut peer) && peer.sent.as_slice() == ALL_SENT
 }
 
-/// What a peer replies on its one connection, and what comes of a copy of a volume then, where two bytes can be printed and two
-/// be written.
+/// The replies of a peer on its one connection, and the result of copying a volume. Only two bytes
+/// can be printed, and two written.
 type Row = (&'static [Replies], Result<(), ReadFault>);
 
 /// A label alone, and faults.
@@ -80,11 +80,16 @@ static COPIES: [Row; 7] = [
     ),
 ];
 
-/// The same of a reel that is to go, with what is sent.
+/// Like `Row`, for a volume whose reel is taken offline afterwards. The second field is what is
+/// sent.
 type OfflineRow = (&'static [Replies], &'static [u8], Result<(), ReadFault>);
 
-/// A label with a record, one without a mark, one whose mark cannot be told, a mark alone, whose reel stays, what the reel's end is answered, and faults
-/// before it.
+/// In order:
+/// - a label with a record.
+/// - a volume without a mark, and one whose mark cannot be determined.
+/// - a mark alone, whose reel stays.
+/// - errors in reply to the last requests, and a connection that ends there.
+/// - faults before the end of the volume.
 static OFFLINES: [OfflineRow; 11] = [
     (
         &[&[
@@ -209,7 +214,8 @@ static OFFLINES: [OfflineRow; 11] = [
     ),
 ];
 
-/// What comes of a copy of a volume over this peer, where two bytes can be printed and two be written.
+/// Returns the result of copying a volume over this peer, if two bytes can be printed and two
+/// written.
 fn copied(alloc: Global, peer: &mut FakePeer, after: AfterVolume) -> Result<(), ReadFault> {
     let (mut file, mut text) = ([0; 2], [0; 2]);
     let mut written = Counted::new(file.as_mut_slice());
@@ -217,13 +223,13 @@ fn copied(alloc: Global, peer: &mut FakePeer, after: AfterVolume) -> Result<(), 
     copy_volume(alloc, peer, DEVICE, after, &mut written, &mut printed)
 }
 
-/// Whether that comes of a copy of a volume.
+/// Whether copying a volume gives the row's result.
 fn goes(alloc: Global, row: &Row) -> bool {
     let mut peer = FakePeer::new(alloc, row.0);
     copied(alloc, &mut peer, AfterVolume::Stay) == row.1
 }
 
-/// Whether that comes of a copy of a volume whose reel is to go.
+/// Whether copying a volume and taking its reel offline gives the row's result and requests.
 fn goes_offline(alloc: Global, row: &OfflineRow) -> bool {
     let mut peer = FakePeer::new(alloc, row.0);
     let result = copied(alloc, &mut peer, AfterVolume::Offline);
@@ -256,7 +262,7 @@ fn a_fault_is_told(rt: HostRuntime) {
     assert!(rt; told && room == *b"rewind refused with E5");
 }
 
-/// Why a request has no reply, and what is printed of it.
+/// Why a request has no reply, and what is printed for it.
 static CALL_FAULTS: [(CallFault, &str); 3] = [
     (CallFault::ConnectionEnded, "the connection ended"),
     (CallFault::Botched, "no reply by the protocol"),

@@ -1,6 +1,6 @@
-//! Sessions and whole streams against answers that were written by hand.
+//! Sessions and whole streams, against replies written by hand.
 //!
-//! Where the capacity of the reels does not matter it is a mebibyte.
+//! If the capacity of the reels does not matter, it is a mebibyte.
 
 mod ample;
 mod fixture;
@@ -22,7 +22,7 @@ use std::process::Abort;
 /// A capacity in bytes that no row fills.
 pub(crate) const CAPACITY: u64 = 1048576;
 
-/// What the row of that number says has to be so.
+/// Fails the test with the number of the row if `right` is false.
 pub(crate) fn check_row(rt: &impl Abort, at: usize, right: bool) {
     assert!(rt; right, "row {at}");
 }

@@ -1,4 +1,4 @@
-//! Connections of one server: what they have room for, and one conversation.
+//! Connections of one server: the room that they have, and one conversation.
 
 use drives::ListStacks;
 use rmt_wire::{READER_LIMIT, WireFault};
@@ -13,8 +13,8 @@ fn join(host: &mut Host) {
     }
 }
 
-/// How many bytes connections have room for, and how many of some bytes they take, while two connections are made, the first
-/// one ends, and all end. Last stands the number of a drive.
+/// Returns the room of connections in bytes, how many bytes they accept, and the number of a drive.
+/// Meanwhile two connections are made, the first one ends, and the server restarts.
 fn told(host: &mut Host) -> [Option<usize>; 7] {
     let before = host.room(1);
     join(host);
@@ -38,7 +38,7 @@ fn told(host: &mut Host) -> [Option<usize>; 7] {
     ]
 }
 
-/// 262,156 bytes is the room of a reader to which nothing was pushed.
+/// A reader to which nothing was pushed has room for 262,156 bytes.
 static TOLD: [Option<usize>; 7] = [
     None,
     Some(262156),
@@ -49,12 +49,13 @@ static TOLD: [Option<usize>; 7] = [
     Some(0),
 ];
 
-/// Bytes that are pushed, how the device call of the request fails, whether its reply is lost, and what the turn comes to.
+/// The bytes that are pushed, and the fault that is injected into the request's device call. Then
+/// whether the reply is lost, and the outcome of the turn.
 type Row<'a> = (&'a [u8], Trouble, bool, Turn);
 
-/// A record is written, a second one meets a device failure, and the reply to marks after the first is lost. Then the record is
-/// read back. The beginning of a read is no request yet; a byte in it that is no digit breaks it off, and a request after it is
-/// not carried out.
+/// A record is written, a second one meets a device failure, and the reply to marks is lost. Then
+/// the record is read back. The beginning of a read is not a request yet. A byte in it that is not
+/// a digit breaks the stream, and a request after it is not carried out.
 static ROWS: [Row<'_>; 9] = [
     (
         b"O/dev/st0\n2\n",
@@ -122,7 +123,7 @@ static ROWS: [Row<'_>; 9] = [
 
 const REPLIES: &[u8] = b"A0\nA5\nE5\nInput/output error\nA1\nA5\nhello";
 
-/// Whether a turn of connection 3 comes to what its row says.
+/// Whether a turn of connection 3 has the outcome of its row.
 fn row_is_met(host: &mut Host, back: &mut Vec<u8>, row: &Row<'_>) -> bool {
     let (bytes, trouble, lost, turn) = *row;
     let Ok(()) = back.reserve(READER_LIMIT) else {
@@ -132,7 +133,7 @@ fn row_is_met(host: &mut Host, back: &mut Vec<u8>, row: &Row<'_>) -> bool {
     host.serve(3, trouble, back, lost) == turn
 }
 
-/// Whether each turn of connection 3 comes to what its row says, and the replies are those.
+/// Whether each turn of connection 3 has the outcome of its row, with these replies.
 fn rows_are_met(alloc: Global, host: &mut Host) -> bool {
     let mut back = Vec::new(alloc);
     let mut met = true;
@@ -143,7 +144,7 @@ fn rows_are_met(alloc: Global, host: &mut Host) -> bool {
     met && back.as_slice() == REPLIES
 }
 
-/// A server of the drive `/dev/st0` with one reel.
+/// Makes a server of the drive `/dev/st0` with one reel.
 fn host_of(alloc: Global) -> Option<Host> {
     let mut stacks = ListStacks::new(alloc);
     let drive = stacks.add_drive(b"/dev/st0").ok()?;
@@ -151,7 +152,7 @@ fn host_of(alloc: Global) -> Option<Host> {
     Host::new(alloc, 1, stacks).ok()
 }
 
-/// Whether a server to which nobody came before tells and answers that.
+/// Whether a new server has the expected room, outcomes and replies.
 fn host_is_met(alloc: Global) -> bool {
     let Some(mut host) = host_of(alloc) else {
         return false;

@@ -1,4 +1,4 @@
-//! What schedules print, and their statuses.
+//! What schedules print, and their exit statuses.
 
 mod bad_lines;
 mod faults;

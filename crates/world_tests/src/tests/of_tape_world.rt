@@ -1,4 +1,4 @@
-//! What a world has to do, by hand.
+//! Worlds, against values worked out by hand.
 
 mod cuts;
 mod dump;

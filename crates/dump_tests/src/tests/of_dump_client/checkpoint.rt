@@ -1,4 +1,4 @@
-//! The checkpoint of a client as a text, and a client that is made of it.
+//! The checkpoint of a client as a text, and a client that is resumed from it.
 
 ghost use Rattle.std.specs.Prelude.{List};
 ghost use Rattle.dump_run.specs.Checkpoint.{SpellsCheckpoint};
@@ -13,19 +13,19 @@ use dump_run::one_checkpoint;
 use std::alloc::Global;
 use std::test::Fail;
 
-/// The run, before anything is counted.
+/// The checkpoint before anything is counted.
 const NOTHING: &[u8] =
     b"rdump 1\ndevice /dev/st0\nfs /usr\nlevel 0\ndate 951782400\nsince 0\nblock 1024\nblocks 3\n";
 
-/// After its first count.
+/// The checkpoint after the first count.
 const ONE: &[u8] =
     b"rdump 1\ndevice /dev/st0\nfs /usr\nlevel 0\ndate 951782400\nsince 0\nblock 1024\nblocks 3\ncounted 1 0 2\n";
 
-/// Both volumes are counted.
+/// The checkpoint after both counts.
 const BOTH: &[u8] =
     b"rdump 1\ndevice /dev/st0\nfs /usr\nlevel 0\ndate 951782400\nsince 0\nblock 1024\nblocks 3\ncounted 1 0 2\ncounted 2 2 1\n";
 
-/// Its checkpoint is saved before each attempt and after the last, and in the midst of one.
+/// The checkpoint is saved before each attempt, in the middle of one, and after the last.
 const SAVED: &[Move] = &[
     Writes(FirstTwo),
     Saves(NOTHING),
@@ -54,7 +54,7 @@ fn a_checkpoint_as_a_text(rt: HostRuntime) -> Result<(), Fail> {
     check_cases(&rt, rt.alloc(), &CASES)
 }
 
-/// A client of a text of this run, whose blocks have their numbers as bytes.
+/// Resumes a client from a text of this run. Each byte of a block is its number modulo 256.
 fn resumed(alloc: Global, bytes: &[u8], run: &Run) -> Result<Client<ListBlocks>, Fail>
     requires { (counts : List VolumeCount) × SpellsCheckpoint bytes.now run.now counts }
 {
@@ -71,10 +71,10 @@ fn resumed(alloc: Global, bytes: &[u8], run: &Run) -> Result<Client<ListBlocks>,
     }
 }
 
-/// Where a client stands: its state, its counts, and the next volume and block.
+/// A client's state, its counts, and the next volume and block.
 type Place = (State, &'static [VolumeCount], (u32, u32));
 
-/// Whether a client stands so, and has this text.
+/// Whether a client is at `place`, and its checkpoint is `wanted`.
 fn stands(client: &Client<ListBlocks>, place: Place, text: &mut Vec<u8>, wanted: &[u8]) -> bool {
     (client.state(), client.checkpoint()) == (place.0, place.2)
         && client.counted() == place.1
@@ -82,7 +82,7 @@ fn stands(client: &Client<ListBlocks>, place: Place, text: &mut Vec<u8>, wanted:
         && text.as_slice() == wanted
 }
 
-/// Whether the text makes a client that stands so, and has the same text.
+/// Whether a client resumed from the text is at `place`, and saves the same text.
 fn comes_back_so(alloc: Global, bytes: &[u8], place: Place) -> Result<bool, Fail> {
     let Ok(run) = Run::spelled(alloc, bytes) else {
         return Ok(false);

@@ -1,4 +1,4 @@
-//! Whole attempts and runs of a client, with what it tells at each moment.
+//! Whole attempts and runs, with the client's state at each step.
 
 use super::play::Move::{Asks, AsksNot, Goes, Hears, Stands, Starts, Takes, Tells, Writes};
 use super::play::{Case, Dumped, Move, USR, check_cases};
@@ -83,7 +83,8 @@ const ABANDONED: &[Move] = &[
     Takes(Answer::Abandon, WRONG),
 ];
 
-/// An attempt starts only where none is under way, and is answered for only where it failed.
+/// An attempt starts only if none is under way. The operator's answer is accepted only after an
+/// attempt failed.
 const IN_A_WRONG_STATE: &[Move] = &[
     Takes(Answer::Retry, WRONG),
     Takes(Answer::Abandon, WRONG),
@@ -125,7 +126,7 @@ const TWO_VOLUMES: &[Move] = &[
     Tells("/usr", 0, 951782400),
 ];
 
-/// Blocks that are not of the label's size: each write is answered with the bytes that it has.
+/// Blocks smaller than the label. A write succeeds only if the reply is the number of its bytes.
 const SMALL: &[Move] = &[
     Writes(SmallBlocks),
     Starts(Ok(())),
@@ -153,7 +154,7 @@ const LARGE: &[Move] = &[
     Stands(State::Finished, &[TWO], (2, 2)),
 ];
 
-/// A run of which nothing is as in the others.
+/// A run in which every value differs from those of the other runs.
 const SMALL_RUN: &Dumped = &Dumped {
     device: b"/dev/nst1",
     name: "/home",
@@ -163,7 +164,7 @@ const SMALL_RUN: &Dumped = &Dumped {
     block_bytes: 3,
 };
 
-/// The same with the greatest size.
+/// The same run with the largest blocks.
 const GREATEST_RUN: &Dumped = &Dumped {
     device: b"/dev/nst1",
     name: "/home",

@@ -1,4 +1,4 @@
-//! Attempts whose replies come in pieces, and ones that are cut off in the midst of a reply.
+//! Replies that arrive in pieces, and replies that are cut off in the middle.
 
 use super::play::Move::{Asks, At, Goes, Hears, Stands, Starts, Writes};
 use super::play::{Case, Move, USR, check_cases};
@@ -36,7 +36,7 @@ const IN_PIECES: &[Move] = &[
     Stands(State::Finished, TWO_AND_ONE, (3, 3)),
 ];
 
-/// A reply of which all has come but its end is none. The dump then goes on to its end.
+/// A reply without its end is not a reply. Afterwards the dump goes on to its end.
 const CUT_OFF: &[Move] = &[
     Writes(FirstTwo),
     At(0, b"", Waiting),

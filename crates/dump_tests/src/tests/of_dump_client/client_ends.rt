@@ -18,7 +18,7 @@ const WITH_THE_COUNT: &[Move] = &[
     Stands(State::Finished, &[EMPTY], (2, 0)),
 ];
 
-/// Bytes come before the close is asked for.
+/// Bytes arrive before the close is requested.
 const BEFORE_THE_CLOSE: &[Move] = &[
     Writes(NoBlocks),
     Starts(Ok(())),
@@ -32,7 +32,7 @@ const BEFORE_THE_CLOSE: &[Move] = &[
     AsksNot(Ok(false)),
 ];
 
-/// An answer to the close ends the attempt, whether or not it is one.
+/// Any bytes after the close end the attempt, whether or not they are a reply.
 const TO_THE_CLOSE: &[Move] = &[
     Writes(NoBlocks),
     Starts(Ok(())),
@@ -55,7 +55,7 @@ const CUT_BEFORE_THE_CLOSE: &[Move] = &[
     Stands(State::Finished, &[EMPTY], (2, 0)),
 ];
 
-/// The connection ends after a beginning of the reply to the close.
+/// The connection ends after a part of the reply to the close.
 const CUT_AT_THE_CLOSE: &[Move] = &[
     Writes(NoBlocks),
     Starts(Ok(())),
@@ -68,7 +68,7 @@ const CUT_AT_THE_CLOSE: &[Move] = &[
     Stands(State::Finished, &[EMPTY], (2, 0)),
 ];
 
-/// Before the run is at its end, an attempt that is over leads to the next one.
+/// An attempt that ends before the run is complete leads to the next one.
 const NOT_THE_LAST: &[Move] = &[
     Writes(FirstTwo),
     Starts(Ok(())),
@@ -78,7 +78,7 @@ const NOT_THE_LAST: &[Move] = &[
     Stands(State::Ready, &[TWO], (2, 2)),
 ];
 
-/// Between attempts nothing that comes changes anything, nor what comes of the next attempt.
+/// Bytes that arrive between attempts change nothing, and do not affect the next attempt.
 const BETWEEN_ATTEMPTS: &[Move] = &[
     Hears(b"A0\n", Idle),
     Hears(b"zz", Idle),

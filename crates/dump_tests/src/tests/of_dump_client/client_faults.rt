@@ -1,4 +1,4 @@
-//! What replies lead to, wanted or not, at each step of a first volume that has two of three blocks, and the end of the
+//! Replies at each step of a first volume, which gets two of three blocks, and the end of the
 //! connection in a second volume.
 
 use super::play::Move::{Asks, AsksNot, At, Ends, Goes, Hears, Stands, Starts, Takes, Writes};
@@ -32,7 +32,7 @@ const UNLOAD: usize = 9;
 
 const CLOSE: usize = 10;
 
-/// Any number opens the device.
+/// Any number in the reply opens the device.
 const TO_THE_OPEN: &[Move] = &[
     Writes(FirstTwo),
     At(OPEN, b"A0\n", Send),
@@ -50,7 +50,7 @@ const TO_THE_OPEN: &[Move] = &[
     ),
 ];
 
-/// An operation was done where its count is answered, which is 1.
+/// An operation succeeded only if the reply is its count, 1.
 const TO_OPERATIONS: &[Move] = &[
     Writes(FirstTwo),
     At(REWIND, b"A1\n", Send),
@@ -82,7 +82,8 @@ const TO_OPERATIONS: &[Move] = &[
     ),
 ];
 
-/// The look wants at most 1,024 bytes of data. While nothing is counted it goes on at any.
+/// The look accepts at most 1,024 bytes of data. If nothing is counted yet, the attempt goes on
+/// whatever they are.
 const TO_THE_LOOK: &[Move] = &[
     Writes(FirstTwo),
     At(LOOK, b"A0\n", Send),
@@ -106,11 +107,12 @@ const TO_THE_LOOK: &[Move] = &[
     ),
 ];
 
-/// What follows the text of a label of these runs, of 58 bytes.
+/// The zero bytes that follow the text of a label. The text has 58 bytes in these runs.
 const ZEROS: &[u8] = &[0; 966];
 
-/// The first volume is counted. A reel with its label fails the attempt; one with the label of another volume or block goes on,
-/// whether it was left by an attempt at this volume or not, and so does one with a part of the label.
+/// Volume 1 is counted. A reel with its label fails the attempt. The attempt goes on if the label
+/// has another volume or first block, even if an attempt at this volume left it. It also goes on if
+/// the label is incomplete.
 const COUNTED_LABELS: &[Move] = &[
     Writes(FirstTwo),
     Starts(Ok(())),
@@ -185,7 +187,7 @@ const TO_FIRST_WRITES: &[Move] = &[
     ),
 ];
 
-/// One that has no room for a later block is at its end.
+/// A reel that has no room for a later block is at its end.
 const TO_LATER_WRITES: &[Move] = &[
     Writes(FirstTwo),
     At(SECOND, b"A1024\n", Send),
@@ -220,7 +222,7 @@ const COUNTS_TWO: &[Move] = &[
     Asks(CLOSE),
 ];
 
-/// The end of the connection, while a reply is waited for and while a request is to be sent.
+/// The connection ends while the client waits for a reply, and while it has a request to send.
 const CUT: &[Move] = &[
     Writes(FirstBlock),
     Starts(Ok(())),
@@ -251,7 +253,7 @@ const CUT: &[Move] = &[
     Stands(State::Asking, &[ONE], (2, 1)),
 ];
 
-/// An empty piece changes nothing, and one byte in place of a request fails the attempt.
+/// Before a request is sent, an empty piece changes nothing, and one byte fails the attempt.
 const BEFORE_A_REQUEST: &[Move] = &[
     Writes(FirstBlock),
     Starts(Ok(())),
@@ -274,7 +276,8 @@ const BEFORE_A_REQUEST: &[Move] = &[
     Stands(State::Asking, &[ONE], (2, 1)),
 ];
 
-/// What is no reply, or another one than is wanted. A later block for which there is no room leads to the mark.
+/// Bytes that are not a reply, or not the expected one, fail the attempt. A later block without
+/// room leads to the mark.
 const NOISE: &[Move] = &[
     Writes(FirstTwo),
     At(FIRST, b"X\n", Failed(AttemptFault::Botched)),
@@ -291,7 +294,8 @@ const NOISE: &[Move] = &[
     Asks(MARK),
 ];
 
-/// A number of ten digits is one, with zeros before it too. An error whose text has not come waits.
+/// A number may have up to ten digits, with leading zeros. An error is not complete until its text
+/// has arrived.
 const TO_THE_REWIND: &[Move] = &[
     Writes(FirstTwo),
     At(REWIND, b"A0000000001\n", Send),
@@ -307,7 +311,8 @@ const TO_THE_REWIND: &[Move] = &[
     Stands(State::Asking, &[], (1, 0)),
 ];
 
-/// The text of an error may be long and arrive in pieces. The attempt waits for its end, fails with the number, and counts nothing.
+/// The text of an error may be long and arrive in pieces. The attempt waits for its end, fails with
+/// the number, and counts nothing.
 const LONG_ERROR: &[Move] = &[
     Writes(FirstTwo),
     Starts(Ok(())),

@@ -1,4 +1,4 @@
-//! A client whose blocks cannot be read. A script's first block is its step 5, counted from 0.
+//! A client whose blocks cannot be read. The first block of a script is its step 5, counted from 0.
 
 use super::play::Move::{AsksNot, Ends, Goes, Hears, Stands, Starts, Takes, Trouble, Writes};
 use super::play::{Case, Move, USR, check_cases};
@@ -8,7 +8,7 @@ use dump_client::Progress::Idle;
 use dump_client::{Answer, AttemptFault, State};
 use std::test::Fail;
 
-/// Each block fails in turn, and then the volume is written from its label on.
+/// Each block fails in turn. The last attempt writes the volume from its label on.
 const EACH_BLOCK: &[Move] = &[
     Writes(AllThree),
     Starts(Ok(())),
@@ -49,7 +49,7 @@ const EACH_BLOCK: &[Move] = &[
     Stands(State::Finished, &[THREE], (2, 3)),
 ];
 
-/// A block of a second volume fails: what is counted stays.
+/// A block of a second volume fails, and the count of the first stays.
 const SECOND_VOLUME: &[Move] = &[
     Writes(FirstBlock),
     Starts(Ok(())),
@@ -71,7 +71,7 @@ const SECOND_VOLUME: &[Move] = &[
     Stands(State::Finished, ONE_AND_TWO, (3, 3)),
 ];
 
-/// Only the request of a block reads one, and the end of a reel is met at a block that was read.
+/// Only a request that writes a block reads one. The block that meets the end of the reel was read.
 const WITHOUT_A_BLOCK: &[Move] = &[
     Writes(FirstTwo),
     Trouble(true),
@@ -84,7 +84,8 @@ const WITHOUT_A_BLOCK: &[Move] = &[
     Stands(State::Ready, &[TWO], (2, 2)),
 ];
 
-/// A source that is still in trouble fails the next attempt, and one that is given up is not read.
+/// If the source still fails, so does the next attempt. After the operator abandons the run, the
+/// source is not read.
 const LASTS: &[Move] = &[
     Writes(AllThree),
     Starts(Ok(())),

@@ -23,7 +23,7 @@ fn is_named<F: Display>(alloc: Global, fault: &F, name: &str) -> Result<bool, Fa
     Ok(printed.as_str() == name)
 }
 
-/// A number stands with `Refused` and `CountedReel` alone.
+/// Only `Refused` and `CountedReel` are printed with a number.
 #[test]
 fn names_of_attempt_faults(rt: HostRuntime) -> Result<(), Fail> {
     for (fault, name) in &NAMES {

@@ -1,4 +1,4 @@
-//! The laws are functions, too: they can be called.
+//! The laws are functions, and can be called.
 
 use dump_client::{
     after_the_count, fed_in_pieces, granted_replies, lawful_positions, resumes, same_run,

@@ -8,38 +8,39 @@ use std::alloc::Global;
 use std::process::Abort;
 use std::test::Fail;
 
-/// One move of a conversation, and what is wanted of it. Steps of a script are counted from 0.
+/// One move of a conversation, and its expected outcome. Steps of a script count from 0.
 pub(crate) enum Move {
-    /// From here on the script is that of this volume.
+    /// From here on the script of this volume is used.
     Writes(Volume),
-    /// An attempt is to start, and this comes of it.
+    /// An attempt is started, with this result.
     Starts(Result<(), StartFault>),
-    /// What the script says is asked and answered as is wanted, from one of its steps up to another.
+    /// The client sends the script's requests and is fed its replies, from the first of these steps
+    /// up to the second, which is excluded.
     Goes(usize, usize),
-    /// What the script says at this step is asked.
+    /// The client sends the script's request of this step.
     Asks(usize),
-    /// Nothing is asked, and this is told.
+    /// The client writes no request, and returns this.
     AsksNot(Result<bool, AttemptFault>),
-    /// A piece is heard, and this comes of it.
+    /// The client is fed a piece of a reply, and returns this.
     Hears(&'static [u8], Progress),
-    /// An attempt starts, goes up to this step, and this comes of a piece that is heard then. The attempt ends, and the
-    /// operator wants another, with nothing counted.
+    /// An attempt is started, goes up to this step, and is fed a piece, with this result. Then the
+    /// connection ends and the operator retries, and nothing is counted.
     At(usize, &'static [u8], Progress),
-    /// The connection ends, and this comes of it.
+    /// The connection ends, with this result.
     Ends(Progress),
-    /// The operator answers, and this comes of it.
+    /// The operator answers, with this result.
     Takes(Answer, Result<(), StartFault>),
-    /// From here on reads of the payload fail, or do not.
+    /// From here on reads of the payload fail, or succeed again.
     Trouble(bool),
-    /// It is in this state, with these counts, and this volume and block come next.
+    /// The client is in this state, with these counts, and this volume and block come next.
     Stands(State, &'static [VolumeCount], (u32, u32)),
-    /// The text of its checkpoint is this, after what the buffer holds.
+    /// The checkpoint is appended to a buffer, as this text.
     Saves(&'static [u8]),
-    /// This name, level and date are told.
+    /// The finished dump has this name, level and date.
     Tells(&'static str, u8, u64),
 }
 
-/// What a run is made of, but for how many blocks it has. Each byte of a block is its number.
+/// The values of a run, except its number of blocks. Each byte of a block is its number modulo 256.
 pub(crate) struct Dumped {
     pub(crate) device: &'static [u8],
     pub(crate) name: &'static str,
@@ -67,7 +68,7 @@ pub(crate) struct Case {
     pub(crate) moves: &'static [Move],
 }
 
-/// A client, the script of its volume, and all that it has asked.
+/// A client, the script of its volume, and a buffer for what it writes.
 #[derive(Drop)]
 struct Play {
     client: Client<ListBlocks>,
@@ -75,7 +76,8 @@ struct Play {
     asked: Vec<u8>,
 }
 
-/// So many blocks of this size.
+/// Returns a payload of `blocks` blocks of `size` bytes. Each byte of a block is its number modulo
+/// 256.
 pub(crate) fn payload(alloc: Global, blocks: u32, size: usize) -> Result<Vec<u8>, Fail> {
     let mut payload = Vec::new(alloc);
     for number in 0..blocks {
@@ -85,7 +87,7 @@ pub(crate) fn payload(alloc: Global, blocks: u32, size: usize) -> Result<Vec<u8>
     Ok(payload)
 }
 
-/// A client of this run with so many blocks, that has not started.
+/// Returns a client for a run of `blocks` blocks. No attempt has started.
 fn client_of(alloc: Global, dumped: &Dumped, blocks: u32) -> Result<Client<ListBlocks>, Fail> {
     let size = dumped.block_bytes as usize;
     let payload = payload(alloc, blocks, size)?;
@@ -107,7 +109,7 @@ fn client_of(alloc: Global, dumped: &Dumped, blocks: u32) -> Result<Client<ListB
     Ok(Client::new(alloc, run, source)?)
 }
 
-/// Whether all of these bytes are that one.
+/// Whether each of these bytes is `wanted`.
 fn are_all(bytes: &[u8], wanted: u8) -> bool {
     for byte in bytes {
         if *byte != wanted {
@@ -117,7 +119,7 @@ fn are_all(bytes: &[u8], wanted: u8) -> bool {
     true
 }
 
-/// Whether the bytes are this text, and a byte that follows it so many times.
+/// Whether the bytes are `text`, followed by `byte` this many times.
 fn is_filled(bytes: &[u8], text: &[u8], (byte, times): (u8, usize)) -> bool {
     match bytes.strip_prefix(text) {
         Some(rest) => rest.len() == times && are_all(rest, byte),
@@ -126,7 +128,7 @@ fn is_filled(bytes: &[u8], text: &[u8], (byte, times): (u8, usize)) -> bool {
 }
 
 impl Play {
-    /// It asks just what the script says at this step.
+    /// Whether the client sends exactly the script's request of this step.
     fn asks(&mut self, step: usize) -> bool {
         let Some((text, fill, _, _)) = self.script.steps.get(step) else {
             return false;
@@ -138,13 +140,13 @@ impl Play {
             && self.client.state() == State::Waiting
     }
 
-    /// It asks nothing, and tells this.
+    /// Whether the client writes no request, and returns this.
     fn asks_not(&mut self, told: Result<bool, AttemptFault>) -> bool {
         self.asked.clear();
         self.client.next_request(&mut self.asked) == told && self.asked.is_empty()
     }
 
-    /// It hears the reply that the script has at this step.
+    /// Whether the client is fed the script's reply of this step, with the result in the script.
     fn hears(&mut self, step: usize) -> bool {
         match self.script.steps.get(step) {
             Some((_, _, reply, progress)) => self.client.feed(reply) == *progress,
@@ -152,7 +154,8 @@ impl Play {
         }
     }
 
-    /// It asks what the script says, and hears the replies, from one of the steps up to another.
+    /// Whether the client goes through the script from step `from` up to step `to`, which is
+    /// excluded.
     fn goes(&mut self, from: usize, to: usize) -> bool {
         for step in from..to {
             if !self.asks(step) || !self.hears(step) {
@@ -162,7 +165,7 @@ impl Play {
         true
     }
 
-    /// It starts, goes up to this step, and this comes of a piece that is heard then.
+    /// Whether an attempt is started, goes up to this step, and is fed a piece, with this result.
     fn comes_to(&mut self, step: usize, piece: &[u8], progress: Progress) -> bool {
         self.client.start() == Ok(())
             && self.goes(0, step)
@@ -170,14 +173,14 @@ impl Play {
             && self.client.feed(piece) == progress
     }
 
-    /// Where the attempt has not failed its connection ends. The operator has the volume tried again, which is not counted.
+    /// Ends the connection and has the operator retry. Returns whether nothing was counted.
     fn tries_anew(&mut self) -> bool {
         self.client.ended();
         self.client.answer(Answer::Retry) == Ok(())
             && self.stands(State::Ready, self.script.counted, self.script.next)
     }
 
-    /// It is in this state, with these counts, and this volume and block come next.
+    /// Whether the client is in this state, with these counts, and this volume and block come next.
     fn stands(&self, state: State, counts: &[VolumeCount], next: (u32, u32)) -> bool {
         self.client.state() == state
             && self.client.counted() == counts
@@ -185,7 +188,7 @@ impl Play {
             && self.client.finished().is_some() == (state == State::Finished)
     }
 
-    /// The run is finished, and what is dumped is told.
+    /// Whether the run is finished, with this name, level and date.
     fn tells(&self, name: &str, level: u8, date: u64) -> bool {
         match self.client.finished() {
             Some(entry) => (entry.name, entry.level, entry.date) == (name, level, date),
@@ -193,7 +196,7 @@ impl Play {
         }
     }
 
-    /// It appends this text of its checkpoint.
+    /// Whether the checkpoint is appended to a buffer, as this text.
     fn saves(&mut self, text: &[u8]) -> bool {
         self.asked.clear();
         self.asked.extend_from_slice(b"before").is_ok()
@@ -201,7 +204,7 @@ impl Play {
             && self.asked.as_slice().strip_prefix(b"before") == Some(text)
     }
 
-    /// From here on the script is that of this volume.
+    /// Uses the script of this volume from here on.
     fn turns_to(&mut self, volume: &Volume) -> bool {
         self.script = script_of(volume);
         true
@@ -213,7 +216,7 @@ impl Play {
         true
     }
 
-    /// Makes a move. Whether all was as is wanted.
+    /// Makes a move. Returns whether it had the expected outcome.
     fn makes(&mut self, next: &Move) -> bool {
         match next {
             Move::Starts(told) => self.client.start() == *told,
@@ -228,7 +231,7 @@ impl Play {
         }
     }
 
-    /// Makes a move in which no bytes come or go.
+    /// Makes a move in which no bytes are sent or received.
     fn makes_other(&mut self, next: &Move) -> bool {
         match next {
             Move::Writes(volume) => self.turns_to(volume),
@@ -243,7 +246,7 @@ impl Play {
     }
 }
 
-/// The first move that is not as is wanted, counted from 0.
+/// Returns the number of the first move with another outcome, counted from 0.
 fn wrong_move(play: &mut Play, moves: &[Move]) -> Option<usize> {
     for (at, next) in moves.iter().enumerate() {
         if !play.makes(next) {
@@ -253,7 +256,7 @@ fn wrong_move(play: &mut Play, moves: &[Move]) -> Option<usize> {
     None
 }
 
-/// Where the conversation does not go so.
+/// Returns the number of the first move with another outcome, in a conversation with a new client.
 fn wrong_in(alloc: Global, case: &Case) -> Result<Option<usize>, Fail> {
     let mut play = Play {
         client: client_of(alloc, case.dumped, case.blocks)?,
@@ -263,7 +266,7 @@ fn wrong_in(alloc: Global, case: &Case) -> Result<Option<usize>, Fail> {
     Ok(wrong_move(&mut play, case.moves))
 }
 
-/// Each of these conversations goes as its moves say.
+/// Checks that each conversation goes as its moves say.
 pub(crate) fn check_cases(rt: &impl Abort, alloc: Global, cases: &[Case]) -> Result<(), Fail> {
     for case in cases {
         let wrong = wrong_in(alloc, case)?;

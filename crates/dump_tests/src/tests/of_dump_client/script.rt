@@ -1,9 +1,10 @@
-//! The requests of attempts, written by hand, and replies to them that are wanted.
+//! The requests of attempts, written by hand, and replies with which an attempt goes on.
 
 use dump_client::Progress::{self, Ended, Send};
 use dump_client::VolumeCount;
 
-/// A request, as its text and the byte that follows it so many times, a reply that is wanted, and what comes of it.
+/// A request (its text, and a byte that follows it so many times), a reply, and the result of
+/// feeding it.
 pub(crate) type Step = (&'static [u8], (u8, usize), &'static [u8], Progress);
 
 /// An attempt at a volume: what is counted before it, its number and first block, and its steps.
@@ -27,11 +28,11 @@ pub(crate) enum Volume {
     LastTwo,
     /// A second volume of the last block of three.
     LastBlock,
-    /// A first volume of two blocks, with other replies that are wanted as well.
+    /// A first volume of two blocks, with other replies that are accepted as well.
     OtherReplies,
     /// The volume of a run of two blocks of 3 bytes.
     SmallBlocks,
-    /// The same with the greatest size.
+    /// The volume of a run of two blocks of 262144 bytes.
     GreatestBlocks,
 }
 
@@ -42,7 +43,7 @@ pub(crate) const EMPTY: VolumeCount = VolumeCount {
     count: 0,
 };
 
-/// A first volume of one block, and a second one of the two after it.
+/// A first volume of one block, and a second volume of the two blocks after it.
 pub(crate) const ONE: VolumeCount = VolumeCount {
     volume: 1,
     first: 0,
@@ -58,7 +59,7 @@ pub(crate) const ONE_AND_TWO: &[VolumeCount] = &[
     },
 ];
 
-/// A first volume of two blocks, and a second one of the last.
+/// A first volume of two blocks, and a second volume of the last.
 pub(crate) const TWO: VolumeCount = VolumeCount {
     volume: 1,
     first: 0,
@@ -88,7 +89,7 @@ const OPEN: Step = (b"O/dev/st0\n2\n", NONE, b"A0\n", Send);
 
 const REWIND: Step = (b"I5\n1\n", NONE, b"A1\n", Send);
 
-/// A blank reel has no record to show.
+/// A blank reel has no record to read.
 const LOOK: Step = (b"R1024\n", NONE, b"A0\n", Send);
 
 const MARK: Step = (b"I0\n1\n", NONE, b"A1\n", Send);
@@ -105,7 +106,7 @@ const LABEL: Step = (
     Send,
 );
 
-/// The label of a second volume from the block 1 on.
+/// The label of a second volume, from block 1 on.
 const LABEL_FROM_1: Step = (
     b"W1024\nname /usr\nlevel 0\ndate 951782400\nsince 0\nvolume 2\nfirst 1\n",
     (0, 966),
@@ -113,7 +114,7 @@ const LABEL_FROM_1: Step = (
     Send,
 );
 
-/// The label of a second volume from the block 2 on.
+/// The label of a second volume, from block 2 on.
 const LABEL_FROM_2: Step = (
     b"W1024\nname /usr\nlevel 0\ndate 951782400\nsince 0\nvolume 2\nfirst 2\n",
     (0, 966),
@@ -127,7 +128,7 @@ const BLOCK_1: Step = (b"W1024\n", (1, 1024), b"A1024\n", Send);
 
 const BLOCK_2: Step = (b"W1024\n", (2, 1024), b"A1024\n", Send);
 
-/// Blocks for which there is no room.
+/// Blocks for which the reel has no room.
 const BLOCK_1_REFUSED: Step = (b"W1024\n", (1, 1024), b"A0\n", Send);
 
 const BLOCK_2_REFUSED: Step = (b"W1024\n", (2, 1024), b"A0\n", Send);
@@ -237,7 +238,8 @@ static OTHER_REPLIES: Script = Script {
     ],
 };
 
-/// The open of another run's device, and the write of its label: 70 bytes of text, and 954 zero bytes.
+/// The open of another run's device, and the write of its label: 70 bytes of text, and 954 zero
+/// bytes.
 const OTHER_OPEN: Step = (b"O/dev/nst1\n2\n", NONE, b"A0\n", Send);
 
 const OTHER_LABEL: Step = (
@@ -281,7 +283,7 @@ static GREATEST_BLOCKS: Script = Script {
     ],
 };
 
-/// How the volume is written.
+/// Returns the script of a volume.
 pub(crate) fn script_of(volume: &Volume) -> &'static Script {
     match volume {
         Volume::NoBlocks => &NO_BLOCKS,

@@ -1,11 +1,11 @@
-//! Blocks of a payload in memory, with and without trouble.
+//! Blocks of a payload in memory, with and without an injected fault.
 
 ghost use Rattle.dump_run.specs.Blocks.{HasBlock};
 
 use dump_run::{Blocks, ListBlocks};
 
-/// Whether the last one of three blocks is not read while reads fail, and is read when they fail no more, and the failure was
-/// counted.
+/// Whether the last of three blocks is not read while reads fail, is read once they succeed again,
+/// and the failure was counted.
 fn reads_are_met(source: &mut ListBlocks) -> bool
     requires last { HasBlock source.old.blocks 2 3 }
 {

@@ -1,17 +1,18 @@
-//! The text of a checkpoint: by hand, cut at each byte, and with each byte changed, beside a plain decoder.
+//! The text of a checkpoint: written by hand, cut at each byte, and with each byte changed. It is
+//! compared with a plain decoder.
 
 use super::decoder::{Verdict, verdict_of};
 use dump_run::{Checkpoint, ResumeFault, Run, one_checkpoint, push_checkpoint};
 use std::alloc::Global;
 
-/// A run of three blocks, of which two volumes are counted.
+/// The checkpoint of a run of three blocks, with two counted volumes.
 const TEXT: &[u8] =
     b"rdump 1\ndevice /dev/st0\nfs /usr\nlevel 0\ndate 951782400\nsince 0\nblock 1024\nblocks 3\ncounted 1 0 2\ncounted 2 2 1\n";
 
-/// How many bytes say the run.
+/// The number of bytes before the counts.
 const HEAD: usize = 83;
 
-/// What stands after the run, and what such a text is.
+/// The text after the lines of the run, and the verdict on the whole text.
 type Row = (&'static [u8], Verdict);
 
 static COUNTS: [Row; 16] = [
@@ -39,14 +40,14 @@ static COUNTS: [Row; 16] = [
     (b"counted 1 0 3\ncounted 2 3 0\n", Verdict::NotInOrder(10)),
 ];
 
-/// Whether what was read is written as the same bytes.
+/// Whether the checkpoint is written as these bytes.
 fn is_written_so(alloc: Global, checkpoint: &Checkpoint, bytes: &[u8]) -> bool {
     let mut text = Vec::new(alloc);
     push_checkpoint(&checkpoint.run, &checkpoint.counts, &mut text).is_ok()
         && text.as_slice() == bytes
 }
 
-/// Whether a text is read as this verdict says.
+/// Whether reading the text gives this verdict.
 fn is_read_so(alloc: Global, bytes: &[u8], verdict: Verdict) -> bool {
     match Checkpoint::read(alloc, bytes) {
         Ok(checkpoint) => verdict == Verdict::Spells && is_written_so(alloc, &checkpoint, bytes),
@@ -56,7 +57,8 @@ fn is_read_so(alloc: Global, bytes: &[u8], verdict: Verdict) -> bool {
     }
 }
 
-/// Whether it is read so after the lines of the run, and the decoder agrees.
+/// Whether the crate and the decoder both give the row's verdict, with the lines of the run before
+/// its text.
 fn row_is_met(alloc: Global, row: &Row) -> bool {
     let mut bytes = Vec::new(alloc);
     bytes.extend_from_slice(&TEXT[..HEAD]).is_ok()
@@ -80,10 +82,10 @@ fn a_text_that_is_cut(rt: HostRuntime) {
     }
 }
 
-/// What a byte is changed by.
+/// The values with which a byte is XORed.
 static CHANGES: [u8; 6] = [1, 2, 4, 16, b'0' ^ b'\n', 128];
 
-/// Whether the text is read as the decoder says with this byte changed.
+/// Whether the crate and the decoder agree, with each change of the byte at `at`.
 fn changes_are_met(alloc: Global, bytes: &mut Vec<u8>, at: usize) -> bool {
     for change in &CHANGES {
         let Some(byte) = bytes.get_mut(at) else {
@@ -110,7 +112,7 @@ fn a_text_with_a_byte_changed(rt: HostRuntime) {
     assert!(rt; verdict_of(&bytes) == Verdict::Spells);
 }
 
-/// Whether the run of the text is told as it was, and a fault of the counts by its name.
+/// Whether the run of `TEXT` is the same dump as `run`, and has the dates of the text.
 fn run_is_met(alloc: Global, run: &Run) -> bool {
     let Ok(found) = Run::spelled(alloc, TEXT) else {
         return false;
@@ -127,7 +129,7 @@ fn a_run_is_read(rt: HostRuntime) {
     one_checkpoint();
 }
 
-/// Whether this is how a fault is printed.
+/// Whether a fault is printed as this text.
 fn is_printed_so(alloc: Global, fault: ResumeFault, text: &str) -> bool {
     match fault.to_string(alloc) {
         Ok(printed) => printed.as_str() == text,

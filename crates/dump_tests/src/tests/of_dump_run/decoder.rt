@@ -1,20 +1,20 @@
-//! A plain decoder of the text of a checkpoint, line by line, which knows nothing of the crate.
+//! A plain decoder of the text of a checkpoint, line by line. It uses nothing of the crate.
 
-/// What a text is.
+/// The verdict on a text.
 #[derive(Clone, Copy, Debug, PartialEq, Eq)]
 pub(crate) enum Verdict {
-    /// All its lines have their shape, and its counts are in order.
+    /// All lines are well formed, and the counts are in order.
     Spells,
-    /// The first line that has not its shape, or is missing.
+    /// The first line that is malformed or missing.
     BadLine(usize),
     /// The line of the first count that is not in order.
     NotInOrder(usize),
 }
 
-/// More lines than a text of these tests has.
+/// More lines than any text of these tests has.
 const LINES: usize = 20;
 
-/// What stands before the first byte of this kind, and after it.
+/// Returns the text before the first `byte`, and the text after it.
 fn cut(text: &[u8], byte: u8) -> Option<(&[u8], &[u8])> {
     for at in 0..text.len() {
         if text[at] == byte {
@@ -24,7 +24,7 @@ fn cut(text: &[u8], byte: u8) -> Option<(&[u8], &[u8])> {
     None
 }
 
-/// A number of at most twelve digits, with no 0 before others.
+/// Reads a number: one to twelve digits, without a leading zero.
 fn value_of(text: &[u8]) -> Option<u64> {
     if text.is_empty() || text.len() > 12 || (text.len() > 1 && text[0] == b'0') {
         return None;
@@ -40,12 +40,12 @@ fn value_of(text: &[u8]) -> Option<u64> {
     Some(value)
 }
 
-/// The number after a word.
+/// Reads the number after `word`.
 fn number_in(line: &[u8], word: &[u8]) -> Option<u64> {
     value_of(line.strip_prefix(word)?)
 }
 
-/// Whether a number in this range stands after a word.
+/// Whether a number from `least` to `most` follows `word`.
 fn has_number(line: &[u8], word: &[u8], least: u64, most: u64) -> bool {
     match number_in(line, word) {
         Some(value) => least <= value && value <= most,
@@ -53,7 +53,7 @@ fn has_number(line: &[u8], word: &[u8], least: u64, most: u64) -> bool {
     }
 }
 
-/// Whether 1 to 255 bytes stand after a word.
+/// Whether 1 to 255 bytes follow `word`.
 fn has_text(line: &[u8], word: &[u8]) -> bool {
     match line.strip_prefix(word) {
         Some(text) => !text.is_empty() && text.len() <= 255,
@@ -61,7 +61,7 @@ fn has_text(line: &[u8], word: &[u8]) -> bool {
     }
 }
 
-/// Whether each of the bytes prints, and none is a space.
+/// Whether each byte is printable ASCII and not a space.
 fn is_printed(text: &[u8]) -> bool {
     for byte in text {
         if *byte < 33 || *byte > 126 {
@@ -71,7 +71,7 @@ fn is_printed(text: &[u8]) -> bool {
     true
 }
 
-/// Whether a name stands after its word.
+/// Whether the line is `fs ` and a name.
 fn has_name(line: &[u8]) -> bool {
     match line.strip_prefix(b"fs ") {
         Some(name) => has_text(line, b"fs ") && is_printed(name),
@@ -79,7 +79,7 @@ fn has_name(line: &[u8]) -> bool {
     }
 }
 
-/// The three numbers of a count.
+/// Reads the three numbers of a count: its volume, its first block, and its number of blocks.
 fn count_in(line: &[u8]) -> Option<(u64, u64, u64)> {
     let text = line.strip_prefix(b"counted ")?;
     let (volume, more) = cut(text, b' ')?;
@@ -87,7 +87,7 @@ fn count_in(line: &[u8]) -> Option<(u64, u64, u64)> {
     Some((value_of(volume)?, value_of(first)?, value_of(count)?))
 }
 
-/// Whether a line of a count has its shape.
+/// Whether a line is a well-formed count.
 fn is_count(line: &[u8]) -> bool {
     match count_in(line) {
         Some((volume, first, count)) => {
@@ -97,7 +97,7 @@ fn is_count(line: &[u8]) -> bool {
     }
 }
 
-/// Whether the line of this number, counted from 1, has its shape.
+/// Whether line `number`, counted from 1, is well formed.
 fn is_good(number: usize, line: &[u8]) -> bool {
     match number {
         1 => line == b"rdump 1".as_slice(),
@@ -112,7 +112,7 @@ fn is_good(number: usize, line: &[u8]) -> bool {
     }
 }
 
-/// The first line that has not its shape, or is missing.
+/// Returns the number of the first line that is malformed or missing.
 fn bad_line(bytes: &[u8]) -> Option<usize> {
     let mut rest = bytes;
     for number in 1..LINES {
@@ -127,7 +127,7 @@ fn bad_line(bytes: &[u8]) -> Option<usize> {
     None
 }
 
-/// Whether a count is that of this volume from this block on, in a run of so many blocks.
+/// Whether a count is of this volume from block `first` on, and fits a run of `blocks` blocks.
 fn is_due(count: (u64, u64, u64), volume: u64, first: u64, blocks: u64) -> bool {
     let end = first.saturating_add(count.2);
     count.0 == volume
@@ -137,7 +137,7 @@ fn is_due(count: (u64, u64, u64), volume: u64, first: u64, blocks: u64) -> bool 
         && (volume == 1 || first < blocks)
 }
 
-/// The line of the first count that is not in order. All lines have their shape.
+/// Returns the line of the first count that is not in order. All lines must be well formed.
 fn misplaced_line(bytes: &[u8]) -> Option<usize> {
     let mut rest = bytes;
     let mut blocks = 0;
@@ -159,7 +159,7 @@ fn misplaced_line(bytes: &[u8]) -> Option<usize> {
     None
 }
 
-/// What a text is.
+/// Returns the verdict on a text.
 pub(crate) fn verdict_of(bytes: &[u8]) -> Verdict {
     match (bad_line(bytes), misplaced_line(bytes)) {
         (Some(number), _) => Verdict::BadLine(number),

@@ -1,15 +1,15 @@
-//! Runs within their limits, and beyond each of them; what a run tells, and the greatest label.
+//! Runs within and beyond each limit, the values that a run returns, and the longest label.
 
 use dump_run::{LABEL_BYTES, Run, RunFault, label};
 use std::alloc::Global;
 
-/// Devices of the most bytes that one has, and of one more.
+/// The longest device, and one that is a byte too long.
 const LONGEST: [u8; 255] = [b'x'; 255];
 
 const LONG: [u8; 256] = [b'x'; 256];
 
-/// What a run is to be made of: a device, a name, a level, both dates, the size of a block, and the number of blocks.
-/// Last stands the name of its fault, or nothing where it has none.
+/// The values of a run: device, name, level, both dates, block size, and number of blocks. The last
+/// field is the name of the fault, or empty if there is none.
 type Row = (
     &'static [u8],
     &'static str,
@@ -20,7 +20,8 @@ type Row = (
     &'static str,
 );
 
-/// Each limit alone; other ways past one; and more than one that is broken, of which the first tells.
+/// Each limit alone, other ways to exceed one, and several at once. If several are exceeded, the
+/// first is reported.
 static ROWS: [Row; 18] = [
     (b"/dev/st0", "/usr", 0, (951782400, 0), 1024, 3, ""),
     (b"", "/usr", 0, (951782400, 0), 1024, 3, "BadDevice"),
@@ -122,13 +123,13 @@ static ROWS: [Row; 18] = [
     ),
 ];
 
-/// The fault of the run that a row is to make.
+/// Returns the fault of a row's run, if any.
 fn fault_of(row: &Row) -> Option<RunFault> {
     let (device, name, level, dates, size, blocks, _) = *row;
     Run::new(device, name, level, dates.0, dates.1, size, blocks).err()
 }
 
-/// Whether this is the name of the fault, or nothing where there is none.
+/// Whether the fault is printed as this name. If there is no fault, the name must be empty.
 fn is_named(alloc: Global, fault: Option<RunFault>, name: &str) -> bool {
     let Some(fault) = fault else {
         return name.is_empty();
@@ -152,7 +153,7 @@ const NAME: [u8; 255] = [b'~'; 255];
 /// A level, both dates, the size of a block, and the number of blocks.
 static NUMBERS: [u64; 5] = [9, 253402300799, 253402300798, 262144, 2147483647];
 
-/// Whether a run tells what it was made of.
+/// Whether a run returns the values that it was made of.
 fn tells(run: &Run) -> bool {
     let numbers = [
         u64::from(run.level()),
@@ -166,11 +167,11 @@ fn tells(run: &Run) -> bool {
         && numbers == NUMBERS
 }
 
-/// What follows the name in a label, at its longest: 81 bytes.
+/// The longest text after the name in a label: 81 bytes.
 const LINES: &[u8; 81] =
     b"\nlevel 9\ndate 253402300799\nsince 253402300798\nvolume 2147483647\nfirst 2147483646\n";
 
-/// Whether the label is its lines, and all after them are zero bytes.
+/// Whether the label is the expected lines, followed by zero bytes.
 fn label_is_met(run: &Run) -> bool {
     let mut wanted = [0; LABEL_BYTES];
     wanted[..5].copy_from_slice(b"name ");

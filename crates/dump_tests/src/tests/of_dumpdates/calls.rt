@@ -1,4 +1,4 @@
-//! Calls that tests share, each with a plain answer.
+//! Calls that the tests share.
 
 use dumpdates::{Dates, DatesFault, Entry};
 use std::alloc::Global;
@@ -7,12 +7,12 @@ use std::process::Abort;
 /// An entry: its name, its level and its date.
 pub(crate) type Row = (&'static str, u8, u64);
 
-/// It is so, or the test ends with this.
+/// Fails the test with this message if `is_so` is false.
 pub(crate) fn expect(rt: &impl Abort, is_so: bool, what: &str) {
     assert!(rt; is_so, "{what}");
 }
 
-/// Enters a dump into a list. Whether that is an entry, and was done.
+/// Enters a dump into a list. Returns whether it is a valid entry and was entered.
 pub(crate) fn enter(dates: &mut Dates, (name, level, date): Row) -> bool {
     match Entry::new(name, level, date) {
         Some(entry) => dates.enter(entry).is_ok(),
@@ -20,7 +20,7 @@ pub(crate) fn enter(dates: &mut Dates, (name, level, date): Row) -> bool {
     }
 }
 
-/// The list of these entries, each entered in turn.
+/// Returns a list in which these entries were entered in turn.
 pub(crate) fn dates_of(alloc: Global, entries: &[Row]) -> Option<Dates> {
     let mut dates = Dates::new(alloc);
     for entry in entries {
@@ -39,7 +39,7 @@ pub(crate) fn is_entry(entry: Option<Entry<'_>>, fields: Row) -> bool {
     }
 }
 
-/// Whether a list has just these entries, in this order.
+/// Whether a list has exactly these entries, in this order.
 pub(crate) fn holds(dates: &Dates, entries: &[Row]) -> bool {
     for (at, entry) in entries.iter().enumerate() {
         if !is_entry(dates.get(at), *entry) {
@@ -57,7 +57,7 @@ pub(crate) fn has_text(dates: &Dates, wanted: &[u8]) -> bool {
     }
 }
 
-/// Whether the bytes are read with this fault.
+/// Whether reading the bytes fails with this fault.
 pub(crate) fn has_fault(alloc: Global, bytes: &[u8], fault: DatesFault) -> bool {
     Dates::read(alloc, bytes).err() == Some(fault)
 }

@@ -1,11 +1,11 @@
-//! Dates as days of the calendar, as date(1) gives them.
+//! Dates as days of the calendar, as date(1) prints them.
 
 use super::calls::has_text;
 use dumpdates::Dates;
 use std::alloc::Global;
 
-/// Lines of entries, each with its date as its name, and the date as `LC_ALL=C date -u -d @N '+%a %b %e %H:%M:%S %Y'`
-/// prints it.
+/// Lines of entries. The name of each is its date N in seconds. The date is what
+/// `LC_ALL=C date -u -d @N '+%a %b %e %H:%M:%S %Y'` prints.
 const PRINTED: &str = "\
 0                                0 Thu Jan  1 00:00:00 1970\n\
 59                               0 Thu Jan  1 00:00:59 1970\n\
@@ -55,7 +55,7 @@ const PRINTED: &str = "\
 253402214400                     0 Fri Dec 31 00:00:00 9999\n\
 253402300799                     0 Fri Dec 31 23:59:59 9999\n";
 
-/// Whether each entry has the date that its name says.
+/// Whether each of the 47 entries has the date that is its name.
 fn are_dated(dates: &Dates) -> bool {
     for at in 0..dates.len() {
         let Some(entry) = dates.get(at) else {
@@ -68,7 +68,7 @@ fn are_dated(dates: &Dates) -> bool {
     dates.len() == 47
 }
 
-/// Whether the lines are read as their dates, and written again as they are.
+/// Whether the lines are read with these dates, and written back unchanged.
 fn are_printed(alloc: Global) -> bool {
     match Dates::read(alloc, PRINTED.as_bytes()) {
         Ok(dates) => are_dated(&dates) && has_text(&dates, PRINTED.as_bytes()),

@@ -1,4 +1,4 @@
-//! Base dates of lists, and what lists hold once an entry is entered.
+//! Base dates, and what a list holds after an entry was entered.
 
 use super::calls::{Row, enter, expect, has_text, holds};
 use dumpdates::{Dates, LAST_SECOND};
@@ -9,7 +9,7 @@ use std::test::Fail;
 /// One name at two levels.
 const TWO_LEVELS: &str = "/usr 0 Tue Feb 29 00:00:00 2000\n/usr 1 Wed Mar  1 00:00:00 2000\n";
 
-/// The same with the later date at the lower level, and the levels the other way round.
+/// The same name with the later date at the lower level, and the levels in the other order.
 const LATER_BELOW: &str = "/usr 1 Tue Feb 29 00:00:00 2000\n/usr 0 Wed Mar  1 00:00:00 2000\n";
 
 /// One name and level twice.
@@ -23,7 +23,7 @@ const THREE: &str = "/usr 0 Tue Feb 29 00:00:00 2000\n\
 /// The latest date.
 const LATEST: &str = "/usr 0 Fri Dec 31 23:59:59 9999\n";
 
-/// A file, a name and a level, and their base date.
+/// A file, a name and a level, and the expected base date.
 type Base = (&'static str, &'static str, u8, u64);
 
 static BASES: [Base; 13] = [
@@ -42,7 +42,7 @@ static BASES: [Base; 13] = [
     ("", "/usr", 9, 0),
 ];
 
-/// Whether a dump of that name and level is based on this date, after a file.
+/// Whether a dump of this name and level has this base date, according to a file.
 fn has_base(alloc: Global, (file, name, level, base): Base) -> bool {
     match Dates::read(alloc, file.as_bytes()) {
         Ok(dates) => dates.base(name, level) == base,
@@ -66,18 +66,18 @@ const SINGLES: &str = "/a 1 Thu Jan  1 00:00:10 1970\n\
 /a 2 Thu Jan  1 00:00:20 1970\n\
 /b 1 Thu Jan  1 00:00:30 1970\n";
 
-/// Two names and two levels, one of them three times.
+/// Two names and two levels. `/a` at level 1 occurs three times.
 const DOUBLES: &str = "/a 1 Thu Jan  1 00:00:10 1970\n\
 /b 1 Thu Jan  1 00:00:20 1970\n\
 /a 1 Thu Jan  1 00:00:30 1970\n\
 /a 2 Thu Jan  1 00:00:40 1970\n\
 /a 1 Thu Jan  1 00:00:50 1970\n";
 
-/// A file, an entry, and what the file's list holds once it is entered.
+/// A file, an entry, and what the file's list holds after the entry was entered.
 type Entering = (&'static str, Row, &'static [Row]);
 
 static ENTERED: [Entering; 12] = [
-    // another name or another level, at the end
+    // another name or another level is added at the end
     ("", ("/a", 1, 99), &[("/a", 1, 99)]),
     (
         SINGLES,
@@ -94,7 +94,7 @@ static ENTERED: [Entering; 12] = [
         ("/b", 2, 99),
         &[("/a", 1, 10), ("/a", 2, 20), ("/b", 1, 30), ("/b", 2, 99)],
     ),
-    // in the place of an earlier one
+    // an entry replaces an earlier one in its place
     (
         SINGLES,
         ("/a", 2, 99),
@@ -114,13 +114,13 @@ static ENTERED: [Entering; 12] = [
             ("/home", 0, 0),
         ],
     ),
-    // an earlier date
+    // also if its date is earlier
     (
         SINGLES,
         ("/a", 2, 0),
         &[("/a", 1, 10), ("/a", 2, 0), ("/b", 1, 30)],
     ),
-    // doubles go, and stay where another name or level is entered
+    // doubles are removed, but stay if another name or level is entered
     (TWICE, ("/usr", 0, 70), &[("/usr", 0, 70)]),
     (
         DOUBLES,
@@ -152,12 +152,13 @@ static ENTERED: [Entering; 12] = [
     ),
 ];
 
-/// Whether a list holds these once the entry is entered.
+/// Whether a list holds `wanted` after the entry was entered.
 fn comes_to(dates: &mut Dates, entry: Row, wanted: &[Row]) -> bool {
     enter(dates, entry) && holds(dates, wanted)
 }
 
-/// Whether a file's list comes to these entries, and to the same ones at a second time.
+/// Whether a file's list holds `wanted` after the entry was entered once, and after it was entered
+/// twice.
 fn is_entered(alloc: Global, (file, entry, wanted): Entering) -> bool {
     match Dates::read(alloc, file.as_bytes()) {
         Ok(mut dates) => comes_to(&mut dates, entry, wanted) && comes_to(&mut dates, entry, wanted),
@@ -176,12 +177,12 @@ fn entries_are_entered(rt: HostRuntime) {
     check_entered(&rt, rt.alloc(), &ENTERED);
 }
 
-/// The three lines of two names, the second with the date that is entered.
+/// The three lines of `THREE`, with the entered date in the second.
 const THREE_ENTERED: &str = "/usr                             0 Tue Feb 29 00:00:00 2000\n\
 /usr                             1 Wed Mar  1 00:00:00 2000\n\
 /home                            0 Thu Jan  1 00:00:00 1970\n";
 
-/// Whether a list is written as this text once the entry is entered.
+/// Whether a list is written as this text after the entry was entered.
 fn is_written_after(dates: &mut Dates, entry: Row, wanted: &str) -> bool {
     enter(dates, entry) && has_text(dates, wanted.as_bytes())
 }
@@ -196,7 +197,7 @@ fn an_entry_keeps_its_line(rt: HostRuntime) -> Result<(), Fail> {
     Ok(())
 }
 
-/// The base follows the entry that took the place of two.
+/// The base date is that of the entry that replaced two.
 #[test]
 fn a_base_after_entering(rt: HostRuntime) -> Result<(), Fail> {
     let mut dates = Dates::read(rt.alloc(), TWICE.as_bytes())?;

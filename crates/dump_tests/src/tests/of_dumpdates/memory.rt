@@ -1,4 +1,4 @@
-//! Memory that is had, and memory that is refused.
+//! Allocations that succeed, and one that fails.
 
 use super::calls::{enter, has_text};
 use dumpdates::{Dates, DatesFault};
@@ -10,7 +10,7 @@ const TEXT: &[u8] = b"/usr                             0 Tue Feb 29 00:00:00 200
 /usr                             1 Tue Feb 29 00:00:00 2000\n\
 /home                            0 Thu Jan  1 00:00:00 1970\n";
 
-/// Whether a list is written, and takes a new entry.
+/// Whether a list is written, and accepts a new entry.
 fn is_ample(dates: &mut Dates) -> bool {
     has_text(dates, TEXT) && enter(dates, ("/var", 1, 5)) && dates.base("/var", 2) == 5
 }
@@ -22,7 +22,7 @@ fn ample_memory(rt: HostRuntime) -> Result<(), Fail> {
     Ok(())
 }
 
-/// A refused growth of the allocator is want of memory here.
+/// An allocation failure is reported as `OutOfMemory`.
 #[test]
 fn refused_growths_are_want_of_memory(rt: HostRuntime) {
     assert!(rt; DatesFault::from(AllocError) == DatesFault::OutOfMemory);

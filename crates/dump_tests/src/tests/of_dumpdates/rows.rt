@@ -32,7 +32,7 @@ a                                3 Tue Feb 29 12:34:56 2000\n\
     (&[], ""),
 ];
 
-/// Whether a list of the entries is written as the text, and the text is read as them.
+/// Whether a list of the entries is written as the text, and read back from it.
 fn is_written(alloc: Global, (entries, text): Written) -> bool {
     match dates_of(alloc, entries) {
         Some(dates) => has_text(&dates, text.as_bytes()) && is_spelled(alloc, (text, entries)),
@@ -51,7 +51,7 @@ fn entries_are_written(rt: HostRuntime) {
     check_written(&rt, rt.alloc(), &WRITTEN);
 }
 
-/// A text, and the entries that it spells.
+/// A text, and the entries that are read from it.
 type Spelled = (&'static str, &'static [Row]);
 
 static SPELLED: [Spelled; 14] = [
@@ -86,7 +86,7 @@ a 9 Thu Jan 1 00:00:00 1970\n\
     ),
 ];
 
-/// Whether the text is read as just these entries.
+/// Whether exactly these entries are read from the text.
 fn is_spelled(alloc: Global, (text, entries): Spelled) -> bool {
     match Dates::read(alloc, text.as_bytes()) {
         Ok(dates) => holds(&dates, entries),
@@ -129,7 +129,7 @@ static BAD: [Bad; 12] = [
     ("a 0 Thu Jan 1 00:00:00 1970\r", DatesFault::BadLine(1)),
 ];
 
-/// Lines with other words than an entry has.
+/// Lines whose fields are not those of an entry.
 const BAD_LINES: &str = "\
 a\n\
 a 0\n\
@@ -177,7 +177,7 @@ a 0 Thu Jan 1 00::00:00 1970\n\
 a 0 Thu Jan 1 00:00:000 1970\n\
 a 0 Thu Jan 1 00:00:00 19 70";
 
-/// Lines with a date that is none.
+/// Lines with an invalid date.
 const BAD_DATES: &str = "\
 a 0 Thu Jan 0 00:00:00 1970\n\
 a 0 Thu Jan 32 00:00:00 1970\n\
@@ -202,7 +202,7 @@ fn check_lines(rt: &impl Abort, alloc: Global, lines: &str, fault: DatesFault) {
     }
 }
 
-/// A bad line and a bad date are told by the number of their line.
+/// A bad line and a bad date are reported with the number of their line.
 #[test]
 fn what_is_bad_is_told_by_its_line(rt: HostRuntime) {
     check_bad(&rt, rt.alloc(), &BAD);
@@ -210,7 +210,7 @@ fn what_is_bad_is_told_by_its_line(rt: HostRuntime) {
     check_lines(&rt, rt.alloc(), BAD_DATES, DatesFault::BadDate(1));
 }
 
-/// A name of as many bytes as one can have, and one with a byte too many.
+/// The longest name, and one that is a byte too long.
 const LONGEST: &str = "nnnnnnnnnnnnnnnnnnnnnnnnnnnnnnnnnnnnnnnnnnnnnnnnnnnnnnnnnnnnnnnn\
 nnnnnnnnnnnnnnnnnnnnnnnnnnnnnnnnnnnnnnnnnnnnnnnnnnnnnnnnnnnnnnnn\
 nnnnnnnnnnnnnnnnnnnnnnnnnnnnnnnnnnnnnnnnnnnnnnnnnnnnnnnnnnnnnnnn\
@@ -221,7 +221,7 @@ nnnnnnnnnnnnnnnnnnnnnnnnnnnnnnnnnnnnnnnnnnnnnnnnnnnnnnnnnnnnnnnn\
 nnnnnnnnnnnnnnnnnnnnnnnnnnnnnnnnnnnnnnnnnnnnnnnnnnnnnnnnnnnnnnnn\
 nnnnnnnnnnnnnnnnnnnnnnnnnnnnnnnnnnnnnnnnnnnnnnnnnnnnnnnnnnnnnnnn";
 
-/// A name, a level and a date, whether the first is a name, and whether they are an entry.
+/// A name, a level and a date, whether the name is valid, and whether all three make an entry.
 type Judged = (&'static str, u8, u64, bool, bool);
 
 static JUDGED: [Judged; 18] = [
@@ -245,7 +245,7 @@ static JUDGED: [Judged; 18] = [
     (LONGER, 0, 0, false, false),
 ];
 
-/// Whether they are judged so.
+/// Whether the name and the entry are judged as the row says.
 fn is_judged((name, level, date, a_name, an_entry): Judged) -> bool {
     is_name(name.as_bytes()) == a_name && Entry::new(name, level, date).is_some() == an_entry
 }

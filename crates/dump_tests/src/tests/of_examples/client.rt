@@ -4,11 +4,12 @@ use dump_client::{AttemptFault, Client, ListBlocks, Run, State};
 use example_client::{Server, Stopped, dump};
 use std::alloc::{AllocError, Global};
 
-/// How the requests of a volume end: with both blocks and all after them.
+/// The last requests of a volume: both blocks, the mark, the unload and the close.
 const LAST: &[u8] = b"W4\nabcdW4\nefghI0\n1\nI6\n1\nC\n";
 
-/// The reply to a request: the bytes of the label, which is written in a request of 1,030 bytes, or
-/// those of a block; none to the look, which has 6; and 1.
+/// Returns the reply to a request, which it recognizes by its length. A label's write has 1,030
+/// bytes, a block's 7, and the look 6. The look is replied to with no data, and all other requests
+/// with 1.
 fn reply_to(request: &[u8]) -> &'static [u8] {
     match request.len() {
         1030 => b"A1024\n",
@@ -18,7 +19,7 @@ fn reply_to(request: &[u8]) -> &'static [u8] {
     }
 }
 
-/// A tape that keeps what it hears, and takes each request as done.
+/// A tape that keeps all requests and replies that each was carried out.
 #[derive(Drop)]
 struct Tape {
     heard: Vec<u8>,
@@ -52,7 +53,7 @@ fn client_of(alloc: Global) -> Option<Client<ListBlocks>> {
     Client::new(alloc, run, ListBlocks::new(payload, 4, 2)).ok()
 }
 
-/// Whether a client of these blocks dumps them, and the tape hears all of it.
+/// Whether the client dumps both blocks, and the tape receives all requests.
 fn dump_is_met(alloc: Global, client: &mut Client<ListBlocks>) -> bool {
     let mut tape = Tape {
         heard: Vec::new(alloc),
@@ -70,8 +71,8 @@ fn a_dump_is_written_and_counted(rt: HostRuntime) {
     assert!(rt; dump_is_met(rt.alloc(), &mut client));
 }
 
-/// Whether a dump that is refused stops with the cause, and leaves it to the operator whether it goes on. The next one says that no run is
-/// under way, and leaves it so.
+/// Whether a refused dump stops with the cause, and leaves the decision to the operator. Another
+/// call fails with `NotUnderWay`, and changes nothing.
 fn refusal_is_met(alloc: Global, client: &mut Client<ListBlocks>) -> bool {
     dump(alloc, client, &mut Refusing) == Err(Stopped::Failed(AttemptFault::Refused(5)))
         && client.state() == State::Asking

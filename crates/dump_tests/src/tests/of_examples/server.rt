@@ -7,10 +7,11 @@ use rmt_wire::{Counted, OutputFault, RequestReader, StreamFault, WireFault};
 use std::alloc::Global;
 use std::io::{self, ErrorKind, Read, Write};
 
-/// What is served, how the server ends at it, and what it writes.
+/// The bytes of a stream, the server's result, and what it writes.
 type Row = (&'static [u8], Result<(), Stop>, &'static [u8]);
 
-/// One of each request, operations of more counts, a stream that ends inside a request, and one with bytes that are no request.
+/// One request of each kind, operations with other counts, a stream that ends inside a request, and
+/// one with bytes that are not a request.
 static ROWS: [Row; 4] = [
     (
         b"O/dev/st0\n2\nW5\nhelloR5\nI5\n1\nC\n",
@@ -34,7 +35,7 @@ static ROWS: [Row; 4] = [
     ),
 ];
 
-/// Whether the server ends at the bytes of a row as it says, and writes that.
+/// Whether the server ends and replies as the row says.
 fn row_is_met(alloc: Global, row: &Row) -> bool {
     let (bytes, wanted, replies) = *row;
     let Ok(mut requests) = RequestReader::new(alloc) else {
@@ -53,7 +54,7 @@ fn each_request_has_one_reply(rt: HostRuntime) {
     }
 }
 
-/// A stream that ends, and goes on after that: a request, the end, and requests again.
+/// A stream that gives a request, its end, and requests again.
 #[derive(Drop)]
 struct Resumed {
     reads: u8,
@@ -70,7 +71,7 @@ impl Read for Resumed {
     }
 }
 
-/// A stream that fails its first write, and takes each after it.
+/// A stream whose first write fails, and whose later writes succeed.
 #[derive(Drop)]
 struct Recovered {
     writes: u8,
@@ -90,7 +91,7 @@ impl Write for Recovered {
     }
 }
 
-/// Whether the server ends at the end of its stream, and reads no more.
+/// Whether the server stops at the end of its stream, and reads no more.
 fn end_is_met(alloc: Global, requests: &mut RequestReader) -> bool
     requires { Unread requests.old [] }
 {
@@ -102,7 +103,7 @@ fn end_is_met(alloc: Global, requests: &mut RequestReader) -> bool
         && output.into_inner().as_slice() == b"A0\n".as_slice()
 }
 
-/// Whether the server stops at a write that failed, and writes no more.
+/// Whether the server stops at a failed write, and writes no more.
 fn failure_is_met(requests: &mut RequestReader) -> bool
     requires { Unread requests.old [] }
 {

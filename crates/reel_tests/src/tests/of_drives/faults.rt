@@ -1,4 +1,4 @@
-//! What faults print.
+//! The texts that faults print.
 
 use drives::DriveFault;
 use std::test::Fail;

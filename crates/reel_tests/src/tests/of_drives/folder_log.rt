@@ -1,4 +1,4 @@
-//! The lines that drives in folders note.
+//! The lines that drives in folders log.
 
 ghost use Rattle.std.specs.Prelude.{◌≡◌, length};
 
@@ -8,10 +8,10 @@ use std::cell::Cell;
 use std::{fs, io};
 use tape::Reel;
 
-/// A log that compares each line with the next one that is wanted.
+/// A log that compares each line with the next expected one.
 #[derive(Clone, Copy)]
 struct Compared<'a> {
-    /// How many lines were as is wanted; none after one that was not.
+    /// The number of expected lines so far; `None` after another line.
     right: &'a Cell<Option<usize>>,
 }
 
@@ -42,7 +42,7 @@ static WANTED: [&str; 10] = [
     "a line of another",
 ];
 
-/// The stack of both drives, and the bin, all in one folder.
+/// A parent folder, the stack of both drives, and the bin.
 static FOLDERS: [&str; 3] = ["logged", "logged/st0", "logged/bin"];
 
 static DRIVES: [FolderDrive; 2] = [
@@ -64,13 +64,14 @@ fn make_all(rt: &HostRuntime) -> io::Result<()> {
     fs::write(rt, "logged/st0/r1", "")
 }
 
-/// Makes a reel with a name in the stack and one in the bin, as a stop leaves it in a move.
+/// Makes a reel with one name in the stack and one in the bin, as a stop in the middle of a move
+/// leaves it.
 fn make_both_names(rt: &HostRuntime) -> io::Result<()> {
     fs::write(rt, "logged/st0/r0", "")?;
     fs::hard_link(rt, "logged/st0/r0", "logged/bin/r0")
 }
 
-/// Whether the first drive's reel takes a record, while the second cannot open it.
+/// Whether a record is written to the first drive's reel, while the second drive cannot open it.
 fn is_written(stacks: &mut Logged<'_>) -> bool
     requires { length stacks.old.rows ≡ 2 }
     ensures { length stacks.new.rows ≡ 2 }
@@ -84,7 +85,7 @@ fn is_written(stacks: &mut Logged<'_>) -> bool
     other && written
 }
 
-/// Whether the first drive's reel takes no record and is not moved, since the bin has its name.
+/// Whether the first drive's reel can be neither written nor moved, because the bin has its name.
 fn is_refused(stacks: &mut Logged<'_>) -> bool
     requires { length stacks.old.rows ≡ 2 }
     ensures { length stacks.new.rows ≡ 2 }
@@ -112,8 +113,10 @@ fn is_moved(stacks: &mut Logged<'_>) -> bool
     stacks.offline(1, reel).is_ok()
 }
 
-/// Whether the reel is written to, is neither written nor moved while the bin has its name, and is moved then, after one whose move
-/// was cut short.
+/// Runs three steps with the reel, and returns whether each had the expected outcome:
+/// - it is written to.
+/// - it is neither written nor moved while the bin has its name.
+/// - it is moved, after another reel whose move was cut short.
 fn go_round(rt: &HostRuntime, stacks: &mut Logged<'_>) -> io::Result<bool>
     requires { length stacks.old.rows ≡ 2 }
 {
@@ -127,7 +130,7 @@ fn go_round(rt: &HostRuntime, stacks: &mut Logged<'_>) -> io::Result<bool>
     Ok(written && refused && moved)
 }
 
-/// The same of new folders, which are removed then.
+/// Runs `go_round` in new folders, and removes them afterwards.
 fn go_round_anew(rt: HostRuntime, right: &Cell<Option<usize>>) -> io::Result<bool> {
     let _ = fs::remove_dir_all(&rt, "logged");
     make_all(&rt)?;

@@ -10,7 +10,7 @@ use tape::Reel;
 
 type Folders = FolderStacks<HostRuntime, NoLog>;
 
-/// The stacks and the bin, all in one folder.
+/// A parent folder, both stacks, and the bin.
 static FOLDERS: [&str; 4] = ["folders", "folders/st0", "folders/st1", "folders/bin"];
 
 /// The reels of the first stack.
@@ -21,7 +21,7 @@ static REELS: [&str; 4] = [
     "folders/st0/B",
 ];
 
-/// The paths to which the reels are moved, in the order of the bytes of their names.
+/// The paths to which the reels are moved, in the byte order of their names.
 const IN_BYTE_ORDER: &[&str] = &[
     "folders/bin/B",
     "folders/bin/a10",
@@ -29,7 +29,7 @@ const IN_BYTE_ORDER: &[&str] = &[
     "folders/bin/é",
 ];
 
-/// Makes the folders, and the reels without records.
+/// Makes the folders, and reels without records.
 fn make_all(rt: &HostRuntime) -> io::Result<()> {
     for path in &FOLDERS {
         fs::create_dir(rt, *path)?;
@@ -51,7 +51,7 @@ static DRIVES: [FolderDrive; 2] = [
     },
 ];
 
-/// Whether the folder of the first stack is the first that cannot be used, since it is missing.
+/// Whether the first folder that cannot be used is that of the first stack, because it is missing.
 fn is_missing(stacks: &Folders) -> bool {
     match stacks.find_fault() {
         Some(fault) => fault.folder == "folders/st0" && fault.reason.kind() == ErrorKind::NotFound,
@@ -59,7 +59,7 @@ fn is_missing(stacks: &Folders) -> bool {
     }
 }
 
-/// Whether a record is written to the first drive's reel, which is laid back.
+/// Whether a record is written to the first drive's reel. The reel is unlatched afterwards.
 fn is_written(stacks: &mut Folders) -> bool
     requires { length stacks.old.rows ≡ 2 }
     ensures { length stacks.new.rows ≡ 2 }
@@ -72,7 +72,7 @@ fn is_written(stacks: &mut Folders) -> bool
     written
 }
 
-/// Whether the first drive's reel becomes the file at that path of the bin: it is moved there.
+/// Whether the first drive's first reel is moved to this path of the bin.
 fn moves(rt: &HostRuntime, stacks: &mut Folders, path: &str) -> bool
     requires { length stacks.old.rows ≡ 2 }
     ensures { length stacks.new.rows ≡ 2 }
@@ -91,7 +91,7 @@ fn is_empty(stacks: &mut Folders) -> bool
     none && stacks.failures() == 0
 }
 
-/// Whether the first drive has the reels in order and no others: they are moved to the bin.
+/// Whether the first drive has exactly these reels, in this order. They are moved to the bin.
 fn has_reels(rt: &HostRuntime, stacks: &mut Folders) -> bool
     requires { length stacks.old.rows ≡ 2 }
 {
@@ -103,14 +103,15 @@ fn has_reels(rt: &HostRuntime, stacks: &mut Folders) -> bool
     is_empty(stacks)
 }
 
-/// Whether the first reel takes a record, and all are moved to the bin, once the folder is not missing.
+/// Whether the folder is there, the first reel takes a record, and all reels are moved to the bin.
 fn go_round(rt: &HostRuntime, stacks: &mut Folders) -> bool
     requires { length stacks.old.rows ≡ 2 }
 {
     !is_missing(stacks) && is_written(stacks) && has_reels(rt, stacks)
 }
 
-/// Whether the first folder is missing, and reels go round once the folders are made. They are removed then.
+/// Whether the first folder is missing, and the reels can be used once the folders are made. The
+/// folders are removed afterwards.
 fn are_used(rt: &HostRuntime, stacks: &mut Folders) -> io::Result<bool>
     requires { length stacks.old.rows ≡ 2 }
 {
@@ -121,7 +122,8 @@ fn are_used(rt: &HostRuntime, stacks: &mut Folders) -> io::Result<bool>
     Ok(missing && round)
 }
 
-/// The same of new drives of reels of 100 bytes, once what a run that was ended early has left is removed.
+/// Runs `are_used` with new drives whose reels hold 100 bytes each. It first removes what an
+/// interrupted run has left.
 fn are_used_anew(rt: HostRuntime) -> io::Result<bool> {
     let _ = fs::remove_dir_all(&rt, "folders");
     let mut stacks = FolderStacks::open(rt, &DRIVES, "folders/bin", 100)?;

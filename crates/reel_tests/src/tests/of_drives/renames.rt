@@ -10,7 +10,7 @@ use std::io::{self, ErrorKind};
 use std::rt::Clock;
 use std::time::Duration;
 
-/// A runtime that renames nothing, and passes on each other call that stacks make.
+/// A runtime whose renames fail. It passes on every other call that the stacks make.
 #[derive(Clone, Copy)]
 struct Stuck<R> {
     rt: R,
@@ -84,7 +84,7 @@ impl<R: Clock> Clock for Stuck<R> {
     }
 }
 
-/// The stack and the bin, all in one folder.
+/// A parent folder, the stack, and the bin.
 static FOLDERS: [&str; 3] = ["renames", "renames/st0", "renames/bin"];
 
 static DRIVES: [FolderDrive; 1] = [FolderDrive {
@@ -100,7 +100,7 @@ fn make_all(rt: &HostRuntime) -> io::Result<()> {
     fs::write(rt, "renames/st0/r1", "")
 }
 
-/// Whether the first reel cannot be moved, for this fault, and stands in its folder.
+/// Whether the move of the first reel fails with this fault, and the reel is still in its folder.
 fn stands<R: FolderSystem>(
     rt: &HostRuntime,
     stacks: &mut FolderStacks<R, NoLog>,
@@ -120,7 +120,7 @@ fn stands<R: FolderSystem>(
     }
 }
 
-/// Whether a rename that fails is a device fault, and a name that the bin has is one that is taken.
+/// Whether a failed rename is reported as `Device`, and a name that the bin has as `NameTaken`.
 fn are_refused(rt: HostRuntime) -> io::Result<bool> {
     let _ = fs::remove_dir_all(&rt, "renames");
     make_all(&rt)?;

@@ -1,4 +1,4 @@
-//! Rounds at two drives in memory, and what lies where after each.
+//! Rounds at two drives in memory, and where each reel is afterwards.
 
 ghost use Rattle.std.specs.Prelude.{◌≡◌, ◌<◌, length};
 
@@ -8,27 +8,27 @@ use drives::{ListStacks, Stacks, lying_troubles, told_orders};
 use std::alloc::Global;
 use std::test::Fail;
 
-/// What is done at a drive.
+/// One action at a drive.
 enum Round {
-    /// Its first reel is latched and laid back.
+    /// Latches its first reel and unlatches it.
     LaidBack,
-    /// Its first reel is latched and moved to the bin.
+    /// Latches its first reel and moves it to the bin.
     Moved,
-    /// Its first reel is latched and stays so.
+    /// Latches its first reel and keeps it latched.
     Latched,
-    /// It is looked for by this name, which is answered by `NoSuchDrive` where it does not have it.
+    /// Looks for the drive by this name. Fails with `NoSuchDrive` if the drive has another name.
     Named(&'static str),
-    /// A reel of this name is added.
+    /// Adds a reel of this name.
     Added(&'static str),
-    /// Its stack becomes the reels of these names where it can be arranged so.
+    /// Arranges the stack as the reels of these names, if it can be arranged so.
     Arranged(&'static [&'static [u8]]),
-    /// The reel of this name is looked for anywhere, which is answered by `NoReel` where it is not found.
+    /// Looks for the reel of this name anywhere. Fails with `NoReel` if it is not found.
     Looked(&'static str),
-    /// The next call of the device is to fail.
+    /// Injects a fault into the next call of the device.
     Troubled,
 }
 
-/// Latches the first reel of the drive and lays it back.
+/// Latches the first reel of the drive and unlatches it.
 fn lay_back(stacks: &mut ListStacks, drive: usize) -> Result<(), DriveFault>
     requires { drive < length stacks.old.library.drives }
     ensures { length stacks.new.library.drives ≡ length stacks.old.library.drives }
@@ -61,7 +61,8 @@ fn latch(stacks: &mut ListStacks, drive: usize) -> Result<(), DriveFault>
     }
 }
 
-/// Has the drive's stack become the reels of these names, where it can be arranged so.
+/// Arranges the drive's stack as the reels of these names, if it can be arranged so. If it cannot,
+/// does nothing.
 fn arrange(stacks: &mut ListStacks, drive: usize, names: &[&[u8]]) -> Result<(), DriveFault>
     requires { drive < length stacks.old.library.drives }
     ensures { length stacks.new.library.drives ≡ length stacks.old.library.drives }
@@ -73,7 +74,7 @@ fn arrange(stacks: &mut ListStacks, drive: usize, names: &[&[u8]]) -> Result<(),
     }
 }
 
-/// `NoReel` where no reel of that name is found.
+/// Fails with `NoReel` if no reel of this name is found.
 fn find_reel(stacks: &ListStacks, name: &[u8]) -> Result<(), DriveFault> {
     if stacks.reel(name).is_some() {
         Ok(())
@@ -82,7 +83,7 @@ fn find_reel(stacks: &ListStacks, name: &[u8]) -> Result<(), DriveFault> {
     }
 }
 
-/// `NoSuchDrive` where the drive does not have that name.
+/// Fails with `NoSuchDrive` if the drive does not have this name.
 fn find_drive(stacks: &ListStacks, drive: usize, name: &[u8]) -> Result<(), DriveFault> {
     if stacks.drive(name) == Some(drive) {
         Ok(())
@@ -91,7 +92,7 @@ fn find_drive(stacks: &ListStacks, drive: usize, name: &[u8]) -> Result<(), Driv
     }
 }
 
-/// Makes the round at the drive.
+/// Runs the action at the drive.
 fn go(stacks: &mut ListStacks, drive: usize, round: &Round) -> Result<(), DriveFault>
     requires { drive < length stacks.old.library.drives }
     ensures { length stacks.new.library.drives ≡ length stacks.old.library.drives }
@@ -111,11 +112,11 @@ fn go(stacks: &mut ListStacks, drive: usize, round: &Round) -> Result<(), DriveF
     }
 }
 
-/// At which drive, the round, what it answers, the reels afterwards, and how often the device has failed then.
+/// The drive, the action, its result, and then the reels and the number of device failures.
 type Row = (usize, Round, Result<(), DriveFault>, Letters, u64);
 
-/// A drive is found by its name. A reel that is laid back stays first. One reel of each drive is latched, and no other while
-/// it is.
+/// A drive is found by its name. A reel that is unlatched stays first. Each drive has at most one
+/// latched reel.
 const LATCHES: &[Row] = &[
     (1, Round::Named("/dev/st1"), Ok(()), ["ab", "c", ""], 0),
     (
@@ -139,7 +140,8 @@ const MOVES: &[Row] = &[
     (0, Round::Moved, Err(NoReel), ["", "C", "ab"], 0),
 ];
 
-/// A name is taken on each stack, in the bin, and while its reel is latched. Another is not.
+/// A name is taken if it is on any stack, in the bin, or that of a latched reel. Another name is
+/// free.
 const TAKEN: &[Row] = &[
     (1, Round::Added("b"), Err(NameTaken), ["ab", "c", ""], 0),
     (0, Round::Moved, Ok(()), ["b", "c", "a"], 0),
@@ -149,7 +151,7 @@ const TAKEN: &[Row] = &[
     (1, Round::Added("d"), Ok(()), ["B", "cd", "a"], 0),
 ];
 
-/// A trouble waits past a stack that gives no reel, and meets one latch.
+/// An injected fault is kept if the stack has no reel to latch. It then fails one latch.
 const TROUBLED: &[Row] = &[
     (1, Round::Latched, Ok(()), ["ab", "C", ""], 0),
     (1, Round::Troubled, Ok(()), ["ab", "C", ""], 0),
@@ -158,8 +160,8 @@ const TROUBLED: &[Row] = &[
     (0, Round::Latched, Ok(()), ["Ab", "C", ""], 1),
 ];
 
-/// A stack becomes the reels that are named, of its own and of the bin. No name stands twice, nor that of a reel of another
-/// drive.
+/// A stack is arranged from its own reels and those of the bin. No name may occur twice, and none
+/// may be that of another drive's reel.
 const ARRANGED: &[Row] = &[
     (0, Round::Arranged(&[b"b"]), Ok(()), ["b", "c", "a"], 0),
     (0, Round::Added("d"), Ok(()), ["bd", "c", "a"], 0),
@@ -180,7 +182,8 @@ const ARRANGED: &[Row] = &[
     (0, Round::Arranged(&[b"c"]), Ok(()), ["ab", "c", "d"], 0),
 ];
 
-/// A reel is found in the bin, but neither it nor its stack's order can be had while it is latched.
+/// A reel is found in the bin. While a reel is latched it is not found, and its stack cannot be
+/// arranged.
 const LATCHED: &[Row] = &[
     (0, Round::Moved, Ok(()), ["b", "c", "a"], 0),
     (1, Round::Looked("a"), Ok(()), ["b", "c", "a"], 0),
@@ -189,10 +192,10 @@ const LATCHED: &[Row] = &[
     (0, Round::Arranged(&[b"a"]), Ok(()), ["B", "c", "a"], 0),
 ];
 
-/// Rounds that begin with the reels a and b at the first drive, and c at the second.
+/// Tables that start with the reels a and b at the first drive, and c at the second.
 static ALL: [&[Row]; 6] = [LATCHES, MOVES, TAKEN, TROUBLED, ARRANGED, LATCHED];
 
-/// Whether the round goes as it has to.
+/// Whether the row has the expected outcome.
 fn goes(stacks: &mut ListStacks, row: &Row) -> bool
     requires { length stacks.old.library.drives ≡ 2 }
     ensures { length stacks.new.library.drives ≡ 2 }
@@ -204,7 +207,7 @@ fn goes(stacks: &mut ListStacks, row: &Row) -> bool
         && stacks.failures() == *failures
 }
 
-/// Whether all rounds go as they have to.
+/// Whether all rows have the expected outcome.
 fn all_go(stacks: &mut ListStacks, rows: &[Row]) -> bool
     requires { length stacks.old.library.drives ≡ 2 }
 {
@@ -216,7 +219,7 @@ fn all_go(stacks: &mut ListStacks, rows: &[Row]) -> bool
     true
 }
 
-/// The same, once the drives and the reels are added.
+/// Runs `all_go` after adding the drives and the reels.
 fn all_go_from_none(stacks: &mut ListStacks, rows: &[Row]) -> Result<bool, DriveFault>
     requires { length stacks.old.library.drives ≡ 0 }
 {
@@ -227,7 +230,7 @@ fn all_go_from_none(stacks: &mut ListStacks, rows: &[Row]) -> Result<bool, Drive
     Ok(numbered && all_go(stacks, rows))
 }
 
-/// The same at new drives.
+/// Runs `all_go_from_none` with new drives.
 fn all_go_anew(alloc: Global, rows: &[Row]) -> Result<bool, DriveFault> {
     let mut stacks = ListStacks::new(alloc);
     all_go_from_none(&mut stacks, rows)

@@ -1,4 +1,4 @@
-//! Steps of two seats, and who holds which drive after each.
+//! Steps of two seats, and who holds each drive afterwards.
 
 ghost use Rattle.std.specs.Prelude.{◌≡◌, ◌≢◌, ◌<◌, IfOk, length};
 ghost use Rattle.drives.specs.declared.view.View.{View};
@@ -8,17 +8,18 @@ use drives::{Holds, LocalHolds, LocalSeat, Taken};
 use std::alloc::Global;
 use std::test::Fail;
 
-/// What a seat does at a drive, and what that has to come to.
+/// An action of a seat at a drive, and its expected outcome.
 enum Step {
-    /// It takes the drive, which is answered so.
+    /// Takes the drive, with this result.
     Take(Taken),
-    /// It gives the drive back where it holds it, as it does or not.
+    /// Gives the drive back if the seat holds it. The flag is whether it does.
     Give(bool),
-    /// It asks for the drive's holder, which is the seat of that number, or none at 0.
+    /// Asks for the drive's holder: the number of a seat, or 0 if there is none.
     Look(u64),
 }
 
-/// Has the seat of that number do a step at the drive. Answers whether it comes to what it has to.
+/// Has the seat of this number run a step at the drive. Returns whether the outcome was as
+/// expected.
 fn goes(
     holds: &mut LocalHolds,
     seat: &mut LocalSeat,
@@ -47,7 +48,7 @@ fn goes(
     }
 }
 
-/// The first two seats.
+/// Returns the first two seats.
 fn two_seats(holds: &mut LocalHolds) -> Result<(LocalSeat, LocalSeat), Fail>
     requires new { holds.old.last ≡ 0 }
     ensures first { IfOk result (λ seats. IsSeatOf holds.new seats.0) }
@@ -76,7 +77,7 @@ struct Pair {
 }
 
 impl Pair {
-    /// The seats 1 and 2.
+    /// Makes the seats 1 and 2.
     fn new(alloc: Global) -> Result<Pair, Fail> {
         let mut holds = LocalHolds::new(alloc, 2)?;
         let (first, second) = two_seats(&mut holds)?;
@@ -87,7 +88,8 @@ impl Pair {
         })
     }
 
-    /// Has the first seat, or else the second, do a step at the drive. Answers whether it comes to what it has to.
+    /// Has the first seat run a step at the drive, or the second if `first` is false. Returns
+    /// whether the outcome was as expected.
     fn goes(&mut self, first: bool, drive: usize, step: &Step) -> bool {
         if drive >= 2 {
             return false;
@@ -100,10 +102,10 @@ impl Pair {
     }
 }
 
-/// Whether the first seat has a turn, or else the second, at which drive, and its step.
+/// Whether the first seat acts (otherwise the second), the drive, and the step.
 type Row = (bool, usize, Step);
 
-/// One drive goes from seat to seat, and then each seat holds one of the two.
+/// One drive passes from seat to seat. Then each seat holds one of the two drives.
 static STEPS: [Row; 14] = [
     (true, 0, Step::Take(Taken::Held)),
     (true, 0, Step::Take(Taken::Busy(1))),
@@ -121,7 +123,7 @@ static STEPS: [Row; 14] = [
     (true, 0, Step::Look(0)),
 ];
 
-/// Whether the seats do all steps as they have to.
+/// Whether all steps have the expected outcome.
 fn all_go(pair: &mut Pair) -> bool {
     for (first, drive, step) in &STEPS {
         if !pair.goes(*first, *drive, step) {

@@ -1,4 +1,4 @@
-//! What an open of a drive latches.
+//! An open of a drive latches a reel.
 
 ghost use Rattle.std.specs.Prelude.{◌≡◌, length};
 ghost use Rattle.drives.specs.Local.{IsSeatOf};
@@ -10,7 +10,7 @@ use std::test::Fail;
 
 type Drives = DriveTable<LocalHolds, ListStacks>;
 
-/// Whether the seat, which is the first, opens the second drive and holds it then.
+/// Whether the first seat opens the second drive, and then holds it.
 fn opens(drives: &mut Drives, seat: &mut LocalSeat) -> bool
     requires seat { IsSeatOf drives.old.holds seat.old }
     requires stacks { length drives.old.stacks.library.drives ≡ 2 }
@@ -22,7 +22,7 @@ fn opens(drives: &mut Drives, seat: &mut LocalSeat) -> bool
     }
 }
 
-/// The same, once two drives with their reels are added.
+/// Runs `opens` after adding two drives with their reels.
 fn first_opens(drives: &mut Drives) -> Result<bool, DriveFault>
     requires none { length drives.old.stacks.library.drives ≡ 0 }
     requires two { length drives.old.holds.numbers ≡ 2 }
@@ -35,7 +35,7 @@ fn first_opens(drives: &mut Drives) -> Result<bool, DriveFault>
     }
 }
 
-/// The same at new drives.
+/// Runs `first_opens` with new drives.
 fn first_opens_anew(alloc: Global) -> Result<bool, DriveFault> {
     let holds = LocalHolds::new(alloc, 2)?;
     let stacks = ListStacks::new(alloc);

@@ -1,4 +1,5 @@
-//! A file of which one sync fails: it is not taken offline until it was written anew from its beginning.
+//! A file of which one sync fails. It is not taken offline until it is written again from its
+//! beginning.
 
 ghost use Rattle.std.specs.Prelude.{◌≡◌};
 
@@ -8,7 +9,7 @@ use std::test::Fail;
 use std::{io, process};
 use tape::{FileReel, Reel, TapeFault};
 
-/// A reel in a file, of which so many syncs are to fail.
+/// A reel in a file whose first `fails` syncs fail.
 #[derive(Drop)]
 struct Failing {
     reel: FileReel<FileMedium>,
@@ -55,13 +56,14 @@ impl MovableFile for Failing {
 }
 
 impl Failing {
-    /// Whether it is taken offline, and how many syncs and moves were asked of it then in all.
+    /// Whether the file is taken offline, and how many syncs and moves it was asked for so far.
     fn goes(&mut self, syncs: &mut Syncs<NotSynced>) -> (bool, u32, u32) {
         let done = take_offline(self, syncs).is_ok();
         (done, self.syncs, self.moves)
     }
 
-    /// Writes records, and asks for it to be taken offline after each: the first sync fails.
+    /// Writes records, and asks for the file to be taken offline after each. Returns whether that
+    /// succeeds only after the file is written again from its beginning.
     fn answers(&mut self) -> Result<bool, TapeFault> {
         let mut syncs = Syncs::new();
         self.reel.write(b"hello")?;
@@ -76,7 +78,7 @@ impl Failing {
     }
 }
 
-/// The reel in a new file of this path, of which one sync is to fail.
+/// Makes a reel in a new file at this path. Its first sync is to fail.
 fn reel_in_a_file(rt: &HostRuntime, path: &str) -> io::Result<Failing> {
     let file = OpenOptions::new()
         .read(true)
@@ -91,7 +93,7 @@ fn reel_in_a_file(rt: &HostRuntime, path: &str) -> io::Result<Failing> {
     })
 }
 
-/// Whether a reel in a new file of this path answers as is wanted.
+/// Runs `answers` with a reel in a new file at this path.
 fn file_of_path_answers(rt: &HostRuntime, path: &str) -> Result<bool, Fail> {
     let mut reel = reel_in_a_file(rt, path)?;
     Ok(matches!(reel.answers(), Ok(true)))

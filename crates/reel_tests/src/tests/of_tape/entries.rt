@@ -3,7 +3,7 @@
 use std::test::Fail;
 use tape::{Entry, read_entries};
 
-/// A record `abc`, a mark, a record of one zero byte, and what is left of a record whose end was never written.
+/// A record `abc`, a mark, a record of one zero byte, and a record whose end was never written.
 static FILE: &[u8] = b"\x03\0\0\0abc\x03\0\0\0\0\0\0\0\x01\0\0\0\0\x01\0\0\0\x02\0\0\0de\x02\0\0";
 
 /// Whether these are the entries of the file.

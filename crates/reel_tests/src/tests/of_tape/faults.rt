@@ -1,4 +1,4 @@
-//! What faults print, and which fault a failure below a reel is.
+//! The texts that faults print, and the fault that a failure below a reel becomes.
 
 use std::alloc::{AllocError, Global};
 use std::fmt::Display;

@@ -1,4 +1,4 @@
-//! A medium that is a file, by tables of calls.
+//! A medium in a file, by tables of calls.
 
 use super::medium_calls::{DONE, MediumCall, WantedOfMedium, medium_answers};
 use reel_files::FileMedium;
@@ -6,7 +6,7 @@ use std::fs::{self, File, OpenOptions};
 use std::test::Fail;
 use std::{io, process};
 
-/// A file that has no bytes. The last bytes are `axyz`.
+/// Calls of a medium in an empty file. The file has `axyz` at the end.
 static ON_AN_EMPTY_FILE: &[WantedOfMedium] = &[
     (MediumCall::Append(b"abc"), DONE),
     (MediumCall::Append(b"de"), DONE),
@@ -21,8 +21,8 @@ static ON_AN_EMPTY_FILE: &[WantedOfMedium] = &[
     (MediumCall::Failures, Ok((0, b""))),
 ];
 
-/// Bytes between frames, of which any may be empty, are added to a file that has no bytes. Then lengths are read: over
-/// the edge of the window, and at the end, where they are short. All bytes are cut off then.
+/// Frames and bytes, each of which may be empty, are appended to an empty file. Then reads of four
+/// bytes cross the edge of the window, and are short at the end. At last all bytes are cut off.
 static FRAMED: &[WantedOfMedium] = &[
     (MediumCall::AppendFramed(b"()", b"abc"), DONE),
     (MediumCall::AppendFramed(b"", b"def"), DONE),
@@ -41,7 +41,7 @@ static FRAMED: &[WantedOfMedium] = &[
     (MediumCall::Cut(0), DONE),
 ];
 
-/// A new file of this path, open to read and to append.
+/// Makes a new file at this path, open to read and to append.
 fn new_file(rt: &HostRuntime, path: &str) -> io::Result<File> {
     OpenOptions::new()
         .read(true)
@@ -50,20 +50,21 @@ fn new_file(rt: &HostRuntime, path: &str) -> io::Result<File> {
         .open(rt, path)
 }
 
-/// The path of a file that no other test has.
+/// Returns the path of a file that no other test uses.
 fn new_path(rt: &HostRuntime) -> Result<String, Fail> {
     let id = process::id(rt.process());
     Ok(format!(in rt.alloc(); "file_medium_{id}")?)
 }
 
-/// Whether a medium that is a new file answers as is wanted, and the file has its bytes once it is synced.
+/// Whether a medium in a new file gives the expected results, and the file has 4 bytes after a
+/// sync.
 fn new_file_answers(medium: &mut FileMedium) -> Result<bool, Fail> {
     let answered = medium_answers(medium, FRAMED) && medium_answers(medium, ON_AN_EMPTY_FILE);
     medium.sync()?;
     Ok(answered && medium.file().metadata()?.len() == 4)
 }
 
-/// Whether a medium that is a new file of this path answers as is wanted.
+/// Runs `new_file_answers` with a new file at this path.
 fn file_of_path_answers(rt: &HostRuntime, path: &str) -> Result<bool, Fail> {
     let mut medium = FileMedium::new(new_file(rt, path)?);
     new_file_answers(&mut medium)

@@ -9,7 +9,8 @@ use tape::{FileReel, MemoryMedium, TapeFault};
 /// A record `abc` and a record `de`.
 const TWO: &[u8] = b"\x03\0\0\0abc\x03\0\0\0\x02\0\0\0de\x02\0\0\0";
 
-/// What a medium has, the calls of a reel of 100 bytes on it, and what the medium has after the last.
+/// The bytes of a medium, the calls of a reel of 100 bytes on it, and the bytes of the medium after
+/// the last.
 type Run = (&'static [u8], &'static [Wanted], &'static [u8]);
 
 static RUNS: [Run; 9] = [
@@ -81,19 +82,19 @@ const LOSES_WHAT_STOOD_BEHIND: &[Wanted] = &[
     (Call::Read(8), Ok(b"")),
 ];
 
-/// A reel of 100 bytes on these, with room in memory for as many more.
+/// Makes a reel of 100 bytes on these bytes. The medium has room in memory for 100 more.
 fn reel_on(alloc: Global, bytes: &[u8]) -> Result<FileReel<MemoryMedium>, AllocError> {
     let mut medium = MemoryMedium::from_bytes(bytes.to_vec(alloc)?);
     medium.reserve(100)?;
     Ok(FileReel::open(medium, 100))
 }
 
-/// Whether the reel answers each of the calls as is wanted, and the medium has these bytes afterwards.
+/// Whether each call has the expected result, and the medium has the bytes `after`.
 fn leaves(reel: &mut FileReel<MemoryMedium>, calls: &[Wanted], after: &[u8]) -> bool {
     answers(reel, calls) && reel.medium().bytes() == after
 }
 
-/// Whether a reel on these bytes answers each of the calls as is wanted, and the medium has those afterwards.
+/// Runs `leaves` with a reel on these bytes.
 fn goes(alloc: Global, bytes: &[u8], calls: &[Wanted], after: &[u8]) -> Result<bool, AllocError> {
     let mut reel = reel_on(alloc, bytes)?;
     Ok(leaves(&mut reel, calls, after))
@@ -107,20 +108,20 @@ fn its_entries_are_what_the_medium_spells(rt: HostRuntime) -> Result<(), Fail> {
     Ok(())
 }
 
-/// A record and a mark, on a reel that has none.
+/// A record and a mark are written to an empty reel.
 const WRITES: &[Wanted] = &[
     (Call::Write(b"hello"), Ok(b"")),
     (Call::Op(MTWEOF, 1), Ok(b"")),
 ];
 
-/// The same, from the beginning of the reel.
+/// The same record and mark are found from the beginning of the reel.
 const FINDS: &[Wanted] = &[
     (Call::Read(8), Ok(b"hello")),
     (Call::Op(MTFSF, 1), Ok(b"")),
     (Call::Op(MTFSF, 1), Err(TapeFault::EndOrMark)),
 ];
 
-/// Whether what is written to a reel is found where its medium is opened again.
+/// Whether what was written to a reel is found after its medium is opened again.
 fn is_found_again(mut reel: FileReel<MemoryMedium>) -> bool {
     if !answers(&mut reel, WRITES) {
         return false;

@@ -1,11 +1,11 @@
-//! Calls of media as values, to make them by tables.
+//! Calls of media as values, for use in tables.
 
 use tape::{Medium, MediumFailed};
 
 /// A call of a medium.
 pub(crate) enum MediumCall {
     Len,
-    /// A read from this offset on, into so many dots, of which there are 16 at most.
+    /// A read from this offset on, into this many dots, at most 16.
     ReadAt(u64, usize),
     Append(&'static [u8]),
     /// The frame, and the bytes.
@@ -14,13 +14,14 @@ pub(crate) enum MediumCall {
     Failures,
 }
 
-/// A call, and what it has to answer: the number that it gives, or 0, and the buffer of a read after it.
+/// A call and its expected result: the number that it returns, or 0, and the buffer of a read after
+/// it.
 pub(crate) type WantedOfMedium = (MediumCall, Result<(u64, &'static [u8]), MediumFailed>);
 
-/// The answer to a call that gives nothing.
+/// The result of a call that returns nothing.
 pub(crate) const DONE: Result<(u64, &[u8]), MediumFailed> = Ok((0, b""));
 
-/// Makes the call, and answers the number that it gave, or 0, and the buffer of a read.
+/// Makes the call. Returns its number, or 0, and the buffer of a read.
 fn make_medium_call<'a, M: Medium>(
     medium: &mut M,
     call: &MediumCall,
@@ -34,7 +35,7 @@ fn make_medium_call<'a, M: Medium>(
     Ok((given as u64, part))
 }
 
-/// Makes a call that is no read, and answers the number that it gave, or 0.
+/// Makes a call that is not a read. Returns its number, or 0.
 fn number_of<M: Medium>(medium: &mut M, call: &MediumCall) -> Result<u64, MediumFailed> {
     match call {
         MediumCall::Len => medium.len(),
@@ -46,7 +47,7 @@ fn number_of<M: Medium>(medium: &mut M, call: &MediumCall) -> Result<u64, Medium
     }
 }
 
-/// Makes a call that changes the medium, or else none.
+/// Makes a call that changes the medium. For other calls it does nothing.
 fn change<M: Medium>(medium: &mut M, call: &MediumCall) -> Result<(), MediumFailed> {
     match call {
         MediumCall::Append(bytes) => medium.append(bytes),
@@ -56,7 +57,7 @@ fn change<M: Medium>(medium: &mut M, call: &MediumCall) -> Result<(), MediumFail
     }
 }
 
-/// Whether each of the calls answers as is wanted.
+/// Whether each call has the expected result.
 pub(crate) fn medium_answers<M: Medium>(medium: &mut M, calls: &[WantedOfMedium]) -> bool {
     for (call, wanted) in calls {
         let mut into = [b'.'; 16];

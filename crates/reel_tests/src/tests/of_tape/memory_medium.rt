@@ -14,7 +14,7 @@ static WITHOUT_ROOM: &[WantedOfMedium] = &[
     (MediumCall::Failures, Ok((1, b""))),
 ];
 
-/// The same medium with room for 5 bytes. The last bytes are `(abc(`.
+/// The same medium with room for 5 bytes. It has `(abc(` at the end.
 static WITH_ROOM_FOR_FIVE: &[WantedOfMedium] = &[
     (MediumCall::Append(b"abc"), DONE),
     (MediumCall::Append(b"de"), DONE),
@@ -34,12 +34,12 @@ static WITH_ROOM_FOR_FIVE: &[WantedOfMedium] = &[
     (MediumCall::Failures, Ok((2, b""))),
 ];
 
-/// Whether these are the last bytes of the medium.
+/// Whether the medium has these bytes at the end.
 fn leaves(medium: MemoryMedium, bytes: &[u8]) -> bool {
     medium.into_bytes().as_slice() == bytes
 }
 
-/// Whether a new medium fails with no room, and takes five bytes where there is room for them.
+/// Whether a new medium without room fails, and takes five bytes once it has room for them.
 fn takes_five(medium: &mut MemoryMedium) -> bool {
     medium_answers(medium, WITHOUT_ROOM)
         && medium.reserve(5).is_ok()
@@ -47,7 +47,7 @@ fn takes_five(medium: &mut MemoryMedium) -> bool {
         && medium.bytes() == b"(abc(".as_slice()
 }
 
-/// The same of a new medium, which gives its last bytes back.
+/// Runs `takes_five` with a new medium, and checks the bytes that it returns at the end.
 fn new_medium_takes_five(alloc: Global) -> bool {
     let mut medium = MemoryMedium::new(alloc);
     takes_five(&mut medium) && leaves(medium, b"(abc(")

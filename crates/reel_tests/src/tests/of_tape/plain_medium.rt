@@ -1,4 +1,4 @@
-//! A medium of the plain calls alone: it frames what it appends by the calls that it has.
+//! A medium that implements only the required calls. It frames what it appends by these calls.
 
 ghost use Rattle.tape.specs.Media.{IsMemory};
 
@@ -6,7 +6,7 @@ use super::medium_calls::{DONE, MediumCall, WantedOfMedium, medium_answers};
 use std::test::Fail;
 use tape::{Medium, MediumFailed, MemoryMedium};
 
-/// A medium in memory, by its plain calls.
+/// A medium in memory that implements only the required calls.
 #[derive(Drop)]
 struct PlainMedium(MemoryMedium);
 
@@ -46,7 +46,8 @@ impl Medium for PlainMedium {
     ghost bounded = { λ _ _ told. told.1 };
 }
 
-/// Bytes between frames come to a medium with room for 8 bytes. What has no room fails, and a part of it stands.
+/// Bytes between frames are appended to a medium with room for 8 bytes. An append without room
+/// fails, and a part of it stays.
 static FRAMED: &[WantedOfMedium] = &[
     (MediumCall::AppendFramed(b"(", b"abc"), DONE),
     (MediumCall::AppendFramed(b"<", b"de"), Err(MediumFailed)),
@@ -55,7 +56,7 @@ static FRAMED: &[WantedOfMedium] = &[
     (MediumCall::Failures, Ok((1, b""))),
 ];
 
-/// Whether the medium answers as is wanted, with room for so many bytes as are.
+/// Whether a medium with room for 8 bytes gives the expected results.
 fn frames(medium: MemoryMedium) -> bool {
     let mut plain = PlainMedium(medium);
     medium_answers(&mut plain, FRAMED)

@@ -1,4 +1,4 @@
-//! Calls of reels as values, to make them by tables.
+//! Calls of reels as values, for use in tables.
 
 use tape::{Reel, TapeFault, is_record};
 
@@ -6,17 +6,18 @@ use tape::{Reel, TapeFault, is_record};
 #[derive(Clone, Copy)]
 pub(crate) enum Call {
     Write(&'static [u8]),
-    /// A read into so many bytes, of which there are 8 at most.
+    /// A read into this many bytes, at most 8.
     Read(usize),
     /// An operation of mtio, and its count.
     Op(u32, u32),
     Rewind,
 }
 
-/// A call, and what it has to answer: the bytes that it gives.
+/// A call and its expected result: the bytes that it returns.
 pub(crate) type Wanted = (Call, Result<&'static [u8], TapeFault>);
 
-/// Makes the call, and answers the bytes that it gave. Bytes that are no record are not written: `EndOrMark`.
+/// Makes the call and returns its bytes. Bytes that are not a record are not written, and
+/// `EndOrMark` is returned.
 fn make_call<'a, R: Reel>(
     reel: &mut R,
     request: Call,
@@ -31,7 +32,7 @@ fn make_call<'a, R: Reel>(
     Ok(&part[..given])
 }
 
-/// Makes a call that gives no bytes; a read is none.
+/// Makes a call that returns no bytes. For a read it does nothing.
 fn make_blindly<R: Reel>(reel: &mut R, request: Call) -> Result<(), TapeFault> {
     match request {
         Call::Write(bytes) if is_record(bytes) => reel.write(bytes),
@@ -45,7 +46,7 @@ fn make_blindly<R: Reel>(reel: &mut R, request: Call) -> Result<(), TapeFault> {
     }
 }
 
-/// Whether each of the calls answers as is wanted.
+/// Whether each call has the expected result.
 pub(crate) fn answers<R: Reel>(reel: &mut R, calls: &[Wanted]) -> bool {
     for (request, wanted) in calls {
         let mut into = [0u8; 8];

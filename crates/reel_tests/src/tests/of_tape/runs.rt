@@ -1,4 +1,4 @@
-//! Calls of new reels, and what they answer.
+//! Calls of new reels, and their results.
 
 use super::reel_calls::{Call, Wanted};
 use super::{list_reel, troubled_reel};
@@ -48,7 +48,7 @@ const WRITES_AND_READS_BACK: &[Wanted] = &[
     (Call::Read(8), Ok(b"")),
 ];
 
-/// What is refused changes nothing.
+/// A call that fails changes nothing.
 const KEEPS_ROOM_FOR_A_MARK: &[Wanted] = &[
     (Call::Write(b"four"), Ok(b"")),
     (Call::Write(b"x"), Err(TapeFault::Full)),
@@ -133,7 +133,7 @@ const SPACES_OVER_MARKS: &[Wanted] = &[
     (Call::Read(1), Ok(b"b")),
 ];
 
-/// Places among `a`, a mark, `bb`, `ccc`, a mark and `d`.
+/// Spacing over records from each place among `a`, a mark, `bb`, `ccc`, a mark and `d`.
 const SPACES_OVER_RECORDS_FROM_EACH_PLACE: &[Wanted] = &[
     (Call::Write(b"a"), Ok(b"")),
     (Call::Op(MTWEOF, 1), Ok(b"")),
@@ -171,7 +171,7 @@ const SPACES_OVER_RECORDS_FROM_EACH_PLACE: &[Wanted] = &[
     (Call::Op(MTBSR, 1), Ok(b"")),
     (Call::Op(MTFSR, 2), Err(TapeFault::EndOrMark)),
     (Call::Read(8), Ok(b"bb")),
-    // A count of none, and the greatest.
+    // A count of zero, and the greatest count.
     (Call::Op(MTFSR, 0), Ok(b"")),
     (Call::Op(MTFSR, 2), Err(TapeFault::EndOrMark)),
     (Call::Read(8), Ok(b"d")),
@@ -180,7 +180,7 @@ const SPACES_OVER_RECORDS_FROM_EACH_PLACE: &[Wanted] = &[
     (Call::Read(8), Ok(b"d")),
 ];
 
-/// Places among the same entries.
+/// Spacing over marks from each place among the same entries.
 const SPACES_OVER_MARKS_FROM_EACH_PLACE: &[Wanted] = &[
     (Call::Write(b"a"), Ok(b"")),
     (Call::Op(MTWEOF, 1), Ok(b"")),
@@ -227,7 +227,8 @@ const SPACES_OVER_MARKS_FROM_EACH_PLACE: &[Wanted] = &[
     (Call::Read(8), Ok(b"d")),
 ];
 
-/// Whether new reels in memory of this capacity, one of them with troubles that are not set, answer the calls as is wanted.
+/// Whether new reels in memory of this capacity give the expected results. One of them can have
+/// injected faults, but has none.
 fn go(alloc: Global, capacity: u64, calls: &[Wanted]) -> bool {
     list_reel::goes(alloc, capacity, calls) && troubled_reel::goes(alloc, capacity, calls)
 }

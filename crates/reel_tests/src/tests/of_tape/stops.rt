@@ -1,4 +1,5 @@
-//! Reels whose medium stops at each of its calls, after each number of bytes, and what they have when they are opened again.
+//! Reels whose medium stops at each of its calls, after each number of bytes, and their entries
+//! after they are opened again.
 
 use super::reel_calls::{Call, Wanted, answers};
 use rmt_wire::mtio::{MTFSF, MTFSR};
@@ -12,12 +13,12 @@ use tape::{
 /// A record `abc` and a record `de`.
 const TWO: &[u8] = b"\x03\0\0\0abc\x03\0\0\0\x02\0\0\0de\x02\0\0\0";
 
-/// How many bytes a reel takes: 2,000 marks and a little more.
+/// The capacity of a reel in bytes: 2,000 marks and a little more.
 const CAPACITY: u64 = 8_100;
 
 type Stopped = FileReel<FuseMedium<MemoryMedium>>;
 
-/// What a reel has, by its calls.
+/// The entries of a reel, as calls and their expected results.
 type Entries = &'static [Wanted];
 
 static OLD: Entries = &[
@@ -44,14 +45,16 @@ static FIRST_AND_X: Entries = &[
     (Call::Op(MTFSR, 1), Err(TapeFault::EndOrMark)),
 ];
 
-/// A reel with the two records, on a medium that stops so.
+/// Makes a reel with the two records, whose medium fails at call `at`. A failing append still
+/// writes `left` bytes, and a failing cut is made if `left` is above 0. If `once` is false, all
+/// later calls fail too.
 fn reel_on(alloc: Global, at: u64, left: usize, once: bool) -> Result<Stopped, AllocError> {
     let mut medium = MemoryMedium::from_bytes(TWO.to_vec(alloc)?);
     medium.reserve(CAPACITY as usize)?;
     Ok(FileReel::open(FuseMedium::new(medium, at, left, once), CAPACITY))
 }
 
-/// What a write answers whose medium fails, or does not.
+/// Returns the result of a write whose medium fails, or succeeds.
 fn answer(fails: bool) -> Result<(), TapeFault> {
     if fails {
         return Err(TapeFault::Device);
@@ -59,13 +62,14 @@ fn answer(fails: bool) -> Result<(), TapeFault> {
     Ok(())
 }
 
-/// Whether a write of `x` fails exactly where that is wanted, and leaves these entries.
+/// Whether a write of `x` fails exactly if `fails` is true, and leaves these entries.
 fn leaves(reel: Stopped, fails: bool, entries: Entries) -> bool {
     let (written, mut again) = write_and_reopen(reel, b"x", CAPACITY);
     written == answer(fails) && answers(&mut again, entries)
 }
 
-/// What stands after `x` was written at the beginning: the cut is call 0, and the append of its 9 bytes call 1.
+/// Returns the entries after `x` was written at the beginning. The cut is call 0, and the append of
+/// its 9 bytes call 1.
 fn after_x(at: u64, left: usize) -> Entries {
     match (at, left) {
         (0, 0) => OLD,
@@ -75,7 +79,7 @@ fn after_x(at: u64, left: usize) -> Entries {
     }
 }
 
-/// Whether a write of `x` at the beginning that is stopped so leaves what it has to.
+/// Whether a stopped write of `x` at the beginning leaves the expected entries.
 fn leaves_x(alloc: Global, at: u64, left: usize, once: bool) -> Result<bool, AllocError> {
     let reel = reel_on(alloc, at, left, once)?;
     Ok(leaves(reel, at < 2, after_x(at, left)))
@@ -92,8 +96,8 @@ fn a_stopped_write_leaves_what_stood_or_nothing_or_the_record(rt: HostRuntime) -
     Ok(())
 }
 
-/// What stands after `x` was written after `abc`. To pass `abc` both its lengths are asked for, by calls 0 and 1; the cut is call 2,
-/// and the append call 3.
+/// Returns the entries after `x` was written after `abc`. The calls 0 and 1 read both lengths of
+/// `abc`. The cut is call 2, and the append call 3.
 fn after_abc(at: u64, left: usize) -> Entries {
     match (at, left) {
         (2, 0) => OLD,
@@ -103,7 +107,7 @@ fn after_abc(at: u64, left: usize) -> Entries {
     }
 }
 
-/// Whether a write of `x` after `abc` that is stopped so leaves what it has to.
+/// Whether a stopped write of `x` after `abc` leaves the expected entries.
 fn leaves_after_abc(alloc: Global, at: u64, left: usize, once: bool) -> Result<bool, AllocError> {
     let mut reel = reel_on(alloc, at, left, once)?;
     let passed = reel.op(MTFSR, 1).is_ok();
@@ -121,20 +125,21 @@ fn a_stopped_write_leaves_the_entries_before_the_place(rt: HostRuntime) -> Resul
     Ok(())
 }
 
-/// Whether the reel has so many marks and nothing else.
+/// Whether the reel has exactly this many marks and nothing else.
 fn has_marks<R: Reel>(reel: &mut R, count: u32) -> bool {
     let passed = reel.op(MTFSF, count);
     passed.is_ok() && answers(reel, NO_MORE)
 }
 
-/// After the last mark there is none, and no record at the beginning.
+/// No mark follows the last, and the reel has no record at the beginning.
 static NO_MORE: Entries = &[
     (Call::Op(MTFSF, 1), Err(TapeFault::EndOrMark)),
     (Call::Rewind, Ok(b"")),
     (Call::Read(8), Ok(b"")),
 ];
 
-/// Whether so many marks fail exactly where that is wanted, and leave so many of them. None where the old entries are left.
+/// Whether the write of `count` marks fails exactly if `fails` is true, and leaves `wanted` marks.
+/// `None` means that the old entries are left.
 fn leaves_marks(reel: Stopped, count: u32, fails: bool, wanted: Option<u32>) -> bool {
     let (written, mut again) = mark_and_reopen(reel, count, CAPACITY);
     let left = match wanted {
@@ -144,7 +149,8 @@ fn leaves_marks(reel: Stopped, count: u32, fails: bool, wanted: Option<u32>) -> 
     written == answer(fails) && left
 }
 
-/// How many of three marks stand: the cut is call 0, and the append of their 12 bytes call 1. None where the old entries do.
+/// Returns how many of three marks are left. The cut is call 0, and the append of their 12 bytes
+/// call 1. `None` means that the old entries are left.
 fn after_three(at: u64, left: usize) -> Option<u32> {
     match (at, left) {
         (0, 0) => None,
@@ -154,7 +160,7 @@ fn after_three(at: u64, left: usize) -> Option<u32> {
     }
 }
 
-/// Whether three marks that are stopped so leave what they have to.
+/// Whether three marks that are stopped leave the expected entries.
 fn leaves_three(alloc: Global, at: u64, left: usize, once: bool) -> Result<bool, AllocError> {
     let reel = reel_on(alloc, at, left, once)?;
     Ok(leaves_marks(reel, 3, at < 2, after_three(at, left)))
@@ -171,7 +177,8 @@ fn stopped_marks_leave_what_stood_or_some_of_them(rt: HostRuntime) -> Result<(),
     Ok(())
 }
 
-/// How many bytes the second append of 2,000 marks leaves, and how many marks stand then. The first one adds 1,024 of them.
+/// The bytes that the second append of 2,000 marks writes, and the marks that are left. The first
+/// append writes 1,024 marks.
 static SECOND_APPENDS: [(usize, u32); 7] = [
     (0, 1_024),
     (3, 1_024),
@@ -182,7 +189,7 @@ static SECOND_APPENDS: [(usize, u32); 7] = [
     (4_000, 2_000),
 ];
 
-/// Whether 2,000 marks whose second append is stopped so leave so many.
+/// Whether 2,000 marks, stopped in their second append, leave `wanted` marks.
 fn leaves_many(alloc: Global, left: usize, wanted: u32) -> Result<bool, AllocError> {
     let reel = reel_on(alloc, 2, left, false)?;
     Ok(leaves_marks(reel, 2_000, true, Some(wanted)))
@@ -196,22 +203,22 @@ fn many_marks_stop_at_a_later_append(rt: HostRuntime) -> Result<(), Fail> {
     Ok(())
 }
 
-/// A read that fails once leaves the place, and the next one gives the record.
+/// A read that fails once leaves the place, and the next read returns the record.
 static READ_AGAIN: Entries = &[
     (Call::Read(8), Err(TapeFault::Device)),
     (Call::Read(8), Ok(b"abc")),
     (Call::Read(8), Ok(b"de")),
 ];
 
-/// A read is three calls, so the fourth call is the first one of the second read.
+/// A read makes three calls, so the fourth call is the first of the second read.
 static READ_ON: Entries = &[
     (Call::Read(8), Ok(b"abc")),
     (Call::Read(8), Err(TapeFault::Device)),
     (Call::Read(8), Ok(b"de")),
 ];
 
-/// Whether a read that fails once at that call is made again, with these answers, and the reel has what it had. A read asks for both
-/// lengths and the bytes: three calls.
+/// Whether a read fails once, at this call, and can be made again, with these results. The reel
+/// must keep its entries. A read makes three calls: one for each length, and one for the bytes.
 fn is_read_again(alloc: Global, at: u64, calls: Entries) -> Result<bool, AllocError> {
     let mut reel = reel_on(alloc, at, 0, true)?;
     let read = answers(&mut reel, calls) && reel.failures() == 1;

@@ -21,8 +21,8 @@ pub(crate) type Drives = DriveTable<LocalHolds, ListStacks>;
 /// The sessions of these tests.
 pub(crate) type Client = Session<LocalHolds, ListStacks>;
 
-/// How serving ended, as a number: between two requests, inside one, at bytes that are no request, or with a failed
-/// read or write that was not made again.
+/// How serving ended: between two requests, inside one, at bytes that are not a request, or with a
+/// failed read or write that was not retried.
 pub(crate) const END: u8 = 0;
 
 pub(crate) const NO_INPUT: u8 = 1;
@@ -35,10 +35,10 @@ pub(crate) const BAD_NUMBER: u8 = 4;
 
 pub(crate) const NO_OUTPUT: u8 = 5;
 
-/// It was not served, or ended in another way.
+/// The stream was not served, or serving ended in another way.
 const NOT_SERVED: u8 = 6;
 
-/// That number, after so many failed reads and writes.
+/// Returns this number, from the result of serving and the number of failed reads and writes.
 fn status_of(ending: Result<Served, ServeFault>, reads: u64, writes: u64) -> u8 {
     match (ending, reads, writes) {
         (Ok(Served::End), 0, 0) => END,
@@ -71,7 +71,7 @@ fn add_reels(stacks: &mut ListStacks, capacity: u64) -> Result<(), DriveFault>
     stacks.add_reel(1, b"c", capacity)
 }
 
-/// Those drives with those reels, which are empty. None where memory was refused.
+/// Makes these drives, with empty reels. Returns `None` if an allocation fails.
 pub(crate) fn two_drives(alloc: Global, capacity: u64) -> Option<Drives>
     ensures { IfSome result (λ drives. length drives.stacks.library.drives ≤ length drives.holds.numbers) }
 {
@@ -82,7 +82,8 @@ pub(crate) fn two_drives(alloc: Global, capacity: u64) -> Option<Drives>
     Some(DriveTable { holds, stacks })
 }
 
-/// A session with nothing open, of a new seat at the drives. None where there is no seat or no memory.
+/// Makes a session with a new seat and nothing open. Returns `None` if there is no seat, or if an
+/// allocation fails.
 pub(crate) fn new_session<S: Stacks>(
     alloc: Global,
     drives: &mut DriveTable<LocalHolds, S>,
@@ -102,7 +103,7 @@ pub(crate) fn new_session<S: Stacks>(
     Session::new(alloc, seat).ok()
 }
 
-/// Serves one stream by a new session.
+/// Serves one stream with a new session.
 pub(crate) fn serve_once<R: Read + Drop, W: Write + Drop, S: Stacks>(
     alloc: Global,
     drives: &mut DriveTable<LocalHolds, S>,
@@ -117,7 +118,7 @@ pub(crate) fn serve_once<R: Read + Drop, W: Write + Drop, S: Stacks>(
     serve_counted(alloc, drives, &mut input, &mut output)
 }
 
-/// The same with a new reader.
+/// Serves one stream with a new session and a new reader.
 fn serve_counted<R: Read, W: Write, S: Stacks>(
     alloc: Global,
     drives: &mut DriveTable<LocalHolds, S>,
@@ -133,7 +134,7 @@ fn serve_counted<R: Read, W: Write, S: Stacks>(
     }
 }
 
-/// The same with that reader.
+/// Serves one stream with a new session and this reader.
 fn serve_new<R: Read, W: Write, S: Stacks>(
     alloc: Global,
     drives: &mut DriveTable<LocalHolds, S>,
@@ -152,7 +153,7 @@ fn serve_new<R: Read, W: Write, S: Stacks>(
     status_of(ending, input.failures(), output.failures())
 }
 
-/// The number of the seat that holds the first drive, or 0.
+/// Returns the number of the seat that holds the first drive, or 0.
 pub(crate) fn first_holder(drives: &mut Drives, seat: &mut LocalSeat) -> Option<u64>
     requires few { length drives.old.stacks.library.drives ≤ length drives.old.holds.numbers }
     requires seat { IsSeatOf drives.old.holds seat.old }

@@ -1,10 +1,10 @@
-//! A drive with one reel and a bin that takes none, which tell nothing of their reels.
+//! A drive with one reel, and a bin that accepts none. Its contracts say nothing about the reel.
 
 use drives::{DriveFault, Stacks};
 use std::alloc::Global;
 use tape::ListReel;
 
-/// The drive `/dev/st0` with the reel on its stack, unless that is latched.
+/// The drive `/dev/st0` with one reel, on its stack unless it is latched.
 #[derive(Drop)]
 pub(crate) struct FullBin {
     reel: Option<ListReel>,
@@ -12,7 +12,7 @@ pub(crate) struct FullBin {
 }
 
 impl FullBin {
-    /// The reel is empty, of 100 bytes.
+    /// Makes the drive with an empty reel of 100 bytes.
     pub(crate) fn new(alloc: Global) -> FullBin {
         FullBin {
             reel: Some(ListReel::new(alloc, 100)),
@@ -50,7 +50,7 @@ impl Stacks for FullBin {
         self.reel = Some(reel);
     }
 
-    // First memory is refused, then the name of the reel.
+    // The first call fails with `OutOfMemory`, later calls with `NameTaken`.
     fn offline(&mut self, drive: usize, reel: ListReel) -> Result<(), (ListReel, DriveFault)> {
         let fault = if self.has_refused {
             DriveFault::NameTaken

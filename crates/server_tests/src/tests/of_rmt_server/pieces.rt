@@ -1,8 +1,9 @@
-//! A reader of given bytes, and a writer of wanted bytes.
+//! A reader of given bytes, and a writer of expected bytes.
 
 use std::io::{self, ErrorKind, Read, Write};
 
-/// It gives bytes, at most `most` a call. After them it ends, or fails. Where it is read again after its end it fails too.
+/// A reader that gives `bytes`, at most `most` per call. Then it ends, or fails if `fails` is true.
+/// A read after the end fails too.
 #[derive(Drop)]
 pub(crate) struct Pieces<'a> {
     pub(crate) bytes: &'a [u8],
@@ -23,8 +24,8 @@ impl Read for Pieces<'_> {
     }
 }
 
-/// It takes so many bytes, at most `most` a call. Then it fails; where it takes a byte a call it takes none. It tells
-/// whether they were those that are wanted.
+/// A writer that accepts `room` bytes, at most `most` per call, and compares them with the expected
+/// bytes. Then each write fails, or returns 0 if `most` is 1.
 #[derive(Drop)]
 pub(crate) struct Expected<'a> {
     rest: &'a [u8],
@@ -34,12 +35,12 @@ pub(crate) struct Expected<'a> {
 }
 
 impl<'a> Expected<'a> {
-    /// It takes all.
+    /// Makes a writer that accepts all bytes.
     pub(crate) fn all(bytes: &'a [u8]) -> Self {
         Expected::narrow(bytes, usize::MAX, usize::MAX)
     }
 
-    /// It takes `room` bytes, at most `most` a call.
+    /// Makes a writer that accepts `room` bytes, at most `most` per call.
     pub(crate) fn narrow(bytes: &'a [u8], room: usize, most: usize) -> Self {
         Expected {
             rest: bytes,
@@ -49,7 +50,7 @@ impl<'a> Expected<'a> {
         }
     }
 
-    /// Whether it took the bytes that are wanted, and no others.
+    /// Whether exactly the expected bytes were written.
     pub(crate) fn is_met(&self) -> bool {
         self.rest.is_empty() && !self.is_other
     }

@@ -1,4 +1,4 @@
-//! What a session answers where the bin refuses its reel.
+//! The replies of a session if the bin refuses its reel.
 
 ghost use Rattle.std.specs.Prelude.{◌≤◌, length};
 
@@ -9,13 +9,14 @@ use drives::{DriveTable, LocalHolds};
 use std::alloc::Global;
 use std::test::Fail;
 
-/// The requests that have the bin refuse the reel, and read it then.
+/// Requests that try to move the reel to the bin twice, and then read it.
 const REQUESTS: &[u8] = b"O/dev/st0\n2\nW3\nabcI6\n1\nI6\n1\nR5\n";
 
-/// Memory is refused, then the name is taken. The reel is open at its beginning after each.
+/// The moves fail with out of memory, then because the name is taken. After each the reel is still
+/// open, at its beginning.
 const ANSWERS: &[u8] = b"A0\nA3\nE12\nCannot allocate memory\nE5\nInput/output error\nA3\nabc";
 
-/// Whether the requests are answered so by one drive with such a bin.
+/// Whether one drive with such a bin gives these replies.
 fn is_refused(alloc: Global, holds: LocalHolds) -> bool
     requires { 1 ≤ length holds.numbers }
 {

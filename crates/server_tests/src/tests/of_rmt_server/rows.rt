@@ -1,4 +1,4 @@
-//! Streams whose answers were written by hand.
+//! Streams whose replies were written by hand.
 
 use super::check_row;
 use super::fixture::{BAD_NUMBER, END, NO_INPUT, NO_OUTPUT, TRUNCATED, UNKNOWN};
@@ -7,20 +7,20 @@ use std::alloc::{AllocError, Global};
 use std::test::Fail;
 
 static ROWS: [Row<'static>; 30] = [
-    // nothing is answered with nothing
+    // an empty stream gets no reply
     (b"", b"", END, b"A0\nA0\n"),
     // a write with nothing open
     (b"W3\nabc", b"E9\nBad file descriptor\n", END, b"A0\nA0\n"),
-    // a part of a write is not answered
+    // an incomplete write gets no reply
     (b"O/dev/st0\n2\nW5\nhel", b"A0\n", TRUNCATED, b"A0\nA0\n"),
-    // nothing is written to a reel that was opened for reads
+    // nothing is written to a reel that was opened for reading
     (
         b"O/dev/st0\n0\nW1\nxI0\n1\n",
         b"A0\nE9\nBad file descriptor\nE13\nPermission denied\n",
         END,
         b"A0\nA0\n",
     ),
-    // the number of a mode is the access
+    // the number of a mode decides the access
     (b"O/dev/st0\n2 O_RDWR\n", b"A0\n", END, b"A0\nA0\n"),
     (
         b"O/dev/st0\n3\n",
@@ -40,12 +40,12 @@ static ROWS: [Row<'static>; 30] = [
         END,
         b"A0\nA0\n",
     ),
-    // another letter ends the session
+    // an unknown letter ends the session
     (b"O/dev/st0\n2\nS\n", b"A0\n", UNKNOWN, b"A0\nA0\n"),
-    // so does a bad number
+    // a bad number does too
     (b"W99999999999\n", b"", BAD_NUMBER, b"A0\nA0\n"),
     (b"W3x", b"", BAD_NUMBER, b"A0\nA0\n"),
-    // nothing is answered past bytes that are no request
+    // no reply follows bytes that are not a request
     (
         b"C\nXC\nC\n",
         b"E9\nBad file descriptor\n",
@@ -59,56 +59,57 @@ static ROWS: [Row<'static>; 30] = [
         END,
         b"A0\nA1\nx",
     ),
-    // the reel goes to the bin
+    // the reel is moved to the bin
     (
         b"O/dev/st1\n2\nI6\n1\nW1\nxI7\n1\nC\nO/dev/st1\n2\n",
         b"A0\nA1\nE6\nDevice not configured\nE6\nDevice not configured\nA0\nE6\nDevice not configured\n",
         END,
         b"A0\nA0\n",
     ),
-    // records ahead are wanting
+    // there is no record ahead
     (
         b"O/dev/st0\n2\nI3\n1\nI8\n1\n",
         b"A0\nE5\nInput/output error\nE22\nInvalid argument\n",
         END,
         b"A0\nA0\n",
     ),
-    // marks are spaced over both ways
+    // marks are spaced over in both directions
     (
         b"O/dev/st0\n2\nW1\naI0\n1\nW1\nbI0\n1\nI2\n2\nR9\nI4\n1\nI1\n1\nR1\nC\n",
         b"A0\nA1\nA1\nA1\nA1\nA2\nA0\nE5\nInput/output error\nA1\nA1\nbA0\n",
         END,
         b"A0\nA1\na",
     ),
-    // records and marks are spaced over by every operation, past the ends and by no count
+    // every operation spaces over records and marks, past the ends and with a count of 0
     (
         b"O/dev/st0\n2\nW1\naW1\nbI0\n1\nI4\n1\nI4\n5\nI3\n2\nI3\n1\nI2\n1\nI2\n1\nI1\n2\nI2\n0\n",
         b"A0\nA1\nA1\nA1\nE5\nInput/output error\nE5\nInput/output error\nA2\nE5\nInput/output error\nA1\nE5\nInput/output error\nE5\nInput/output error\nA0\n",
         END,
         b"A0\nA1\na",
     ),
-    // a mode without an access is refused before the name is looked for, and a name is that of a drive whole
+    // a mode without an access is refused before the name is looked up, and the name must match
+    // exactly
     (
         b"O/dev/st9\n3\nO/dev/st0 \n2\nO\n2\n",
         b"E22\nInvalid argument\nE2\nNo such file or directory\nE2\nNo such file or directory\n",
         END,
         b"A0\nA0\n",
     ),
-    // what is open is closed by an open that is refused
+    // a refused open closes what was open
     (
         b"O/dev/st0\n2\nO/dev/st9\n2\nR1\nC\n",
         b"A0\nE2\nNo such file or directory\nE9\nBad file descriptor\nE9\nBad file descriptor\n",
         END,
         b"A0\nA0\n",
     ),
-    // the access is that of the mode modulo 4
+    // the access is the mode modulo 4
     (
         b"O/dev/st0\n2147483647\nO/dev/st0\n2147483644\nW1\nxR1\n",
         b"E22\nInvalid argument\nA0\nE9\nBad file descriptor\nA0\n",
         END,
         b"A0\nA0\n",
     ),
-    // the access is asked before the count is
+    // the access is checked before the count
     (
         b"O/dev/st0\n0\nW0\nO/dev/st0\n1\nR0\nI8\n0\n",
         b"A0\nE9\nBad file descriptor\nA0\nE9\nBad file descriptor\nE22\nInvalid argument\n",
@@ -122,7 +123,7 @@ static ROWS: [Row<'static>; 30] = [
         END,
         b"A0\nA3\nabc",
     ),
-    // what a write before it wrote stays
+    // a record stays if the stream ends after it, or if a bad number follows
     (
         b"O/dev/st0\n2\nW5\nhello",
         b"A0\nA5\n",
@@ -144,7 +145,7 @@ static ROWS: [Row<'static>; 30] = [
         b"A0\nA5\nhello",
     ),
     (b"O/dev/st0\n2\nW5\nhel", b"A0\n", NO_INPUT, b"A0\nA0\n"),
-    // so does a failing output: no answer is written, or a part of one, or all but the last
+    // a failing output does too: no reply is written, a part of one, or all but the last
     (b"O/dev/st0\n2\nW5\nhello", b"", NO_OUTPUT, b"A0\nA0\n"),
     (
         b"O/dev/st0\n2\nW5\nhelloI5\n1\nR10\n",
@@ -167,10 +168,10 @@ fn streams_are_answered_as_was_written_by_hand(rt: HostRuntime) {
     }
 }
 
-/// A text, and how many bytes of data there are after it.
+/// A text, and the number of data bytes after it.
 type Line = (&'static [u8], usize);
 
-/// The texts, each with its data.
+/// Returns the texts, each with its data.
 fn with_data(alloc: Global, lines: &[Line]) -> Result<Vec<u8>, AllocError> {
     let mut bytes = Vec::new(alloc);
     for (line, count) in lines {
@@ -181,7 +182,7 @@ fn with_data(alloc: Global, lines: &[Line]) -> Result<Vec<u8>, AllocError> {
     Ok(bytes)
 }
 
-/// The greatest record, one byte more, none, and counts at their limits.
+/// The largest record, one byte more, none, and counts at their limits.
 static LIMITS: [Line; 7] = [
     (b"W262145\n", 262145),
     (b"O/dev/st0\n2147483646\nW0000262144\n", 262144),
@@ -205,7 +206,8 @@ static LIMITS_ANSWERS: [Line; 7] = [
     (b"E22\nInvalid argument\n", 0),
 ];
 
-/// A write of the greatest record, one of a byte more, one of none, and an operation that does nothing.
+/// A write of the largest record, of one byte more, and of none, and an operation that does
+/// nothing.
 static WRITES: [Line; 4] = [
     (b"O/dev/st0\n2\nW262144\n", 262144),
     (b"W262145\n", 262145),
@@ -218,7 +220,7 @@ static WRITES_ANSWERS: [Line; 1] = [(
     0,
 )];
 
-/// Whether these are answered so, and serving ends with this.
+/// Whether these lines get these replies, and serving ends with this status.
 fn are_answered(
     alloc: Global,
     lines: &[Line],

@@ -1,4 +1,4 @@
-//! What a whole stream is answered with, how serving it ends, and what is left on the drive.
+//! The replies to a whole stream, how serving it ends, and what is left on the drive.
 
 ghost use Rattle.std.specs.Prelude.{◌≤◌, length};
 
@@ -8,12 +8,14 @@ use super::pieces::{Pieces, Wanted};
 use rmt_server::ServeFault;
 use std::alloc::Global;
 
-/// A stream, what it is answered, how serving it ends, and what another session is answered then that opens the first
-/// drive and reads 8 bytes. An input that fails does so after the stream, and an output that fails after those answers.
-/// Where the output fails, or after bytes that are no request, the input would fail too, and is not read again.
+/// A stream, the replies, how serving ends, and the replies to another session that then opens the
+/// first drive and reads 8 bytes. An input that fails does so after the stream, and an output that
+/// fails does so after the replies. If the output fails, or after bytes that are not a request, the
+/// input would fail too, and is not read again.
 pub(crate) type Row<'a> = (&'a [u8], &'a [u8], u8, &'a [u8]);
 
-/// Whether a stream is answered so, where the input gives and the output takes at most `most` bytes a call.
+/// Whether a stream gets its replies, if the input gives and the output accepts at most `most`
+/// bytes per call.
 fn is_served(alloc: Global, drives: &mut Drives, row: &Row<'_>, most: usize) -> bool
     requires { length drives.old.stacks.library.drives ≤ length drives.old.holds.numbers }
     ensures { length drives.new.stacks.library.drives ≤ length drives.new.holds.numbers }
@@ -32,7 +34,7 @@ fn is_served(alloc: Global, drives: &mut Drives, row: &Row<'_>, most: usize) -> 
     status == row.2 && output.is_met()
 }
 
-/// Whether both sessions are answered so.
+/// Whether both sessions get their replies.
 fn are_served(alloc: Global, drives: &mut Drives, row: &Row<'_>, most: usize) -> bool
     requires { length drives.old.stacks.library.drives ≤ length drives.old.holds.numbers }
 {
@@ -41,7 +43,7 @@ fn are_served(alloc: Global, drives: &mut Drives, row: &Row<'_>, most: usize) ->
     is_served(alloc, drives, &reads, most) && served
 }
 
-/// The same with new drives.
+/// Runs `are_served` with new drives.
 fn are_served_anew(alloc: Global, row: &Row<'_>, most: usize) -> bool {
     match two_drives(alloc, CAPACITY) {
         Some(mut drives) => are_served(alloc, &mut drives, row, most),
@@ -49,7 +51,7 @@ fn are_served_anew(alloc: Global, row: &Row<'_>, most: usize) -> bool {
     }
 }
 
-/// The same in one piece, and a byte a piece.
+/// Whether both sessions get their replies, in one piece and byte by byte.
 pub(crate) fn is_answered(alloc: Global, row: &Row<'_>) -> bool {
     are_served_anew(alloc, row, usize::MAX) && are_served_anew(alloc, row, 1)
 }

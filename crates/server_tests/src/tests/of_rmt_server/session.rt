@@ -6,7 +6,7 @@ use super::CAPACITY;
 use super::fixture::{Drives, first_holder, new_session, two_drives};
 use std::alloc::Global;
 
-/// Whether a session with nothing open gives back its seat, which finds the first drive free.
+/// Whether a session with nothing open gives back its seat, and the first drive is then free.
 fn gives_its_seat_back(alloc: Global, mut drives: Drives) -> bool
     requires { length drives.stacks.library.drives ≤ length drives.holds.numbers }
 {
@@ -17,7 +17,7 @@ fn gives_its_seat_back(alloc: Global, mut drives: Drives) -> bool
     first_holder(&mut drives, &mut seat) == Some(0)
 }
 
-/// The same with new drives.
+/// Runs `gives_its_seat_back` with new drives.
 fn gives_a_new_seat_back(alloc: Global) -> bool {
     match two_drives(alloc, CAPACITY) {
         Some(drives) => gives_its_seat_back(alloc, drives),

@@ -1,4 +1,4 @@
-//! What two sessions do that share two drives.
+//! Two sessions that share two drives.
 
 use super::check_row;
 use super::two::{DONE, Event, INVALID, IO, ONE, OPEN, Row, Table, is_met};
@@ -24,29 +24,29 @@ const BUSY: Reply<'static> = Reply::Error {
     text: b"Device busy",
 };
 
-/// An open of the second drive for both.
+/// Opens the second drive for reading and writing.
 const OPEN_SECOND: Request<'static> = Request::Open {
     device: b"/dev/st1",
     mode: 2,
 };
 
-/// An open of a drive that there is not.
+/// Opens a drive that does not exist.
 const OPEN_OTHER: Request<'static> = Request::Open {
     device: b"/dev/st9",
     mode: 2,
 };
 
-/// An open of the first drive for no access.
+/// Opens the first drive with a mode that has no access.
 const OPEN_FOR_NONE: Request<'static> = Request::Open {
     device: b"/dev/st0",
     mode: 3,
 };
 
-/// The reel is moved to the bin.
+/// Moves the reel to the bin.
 const OFFLINE: Request<'static> = Request::Op { op: 6, count: 1 };
 
-/// Each session has a drive; a held one is refused, and what the asking session had is free then. The end of a session
-/// frees its drive.
+/// Each session has a drive. An open of a held drive is refused, and frees the drive that the
+/// session had. The end of a session frees its drive.
 const TWO_SESSIONS: &[Row] = &[
     (1, Event::Ask(OPEN, DONE), [1, 0], Some((0, 0))),
     (2, Event::Ask(OPEN_SECOND, DONE), [1, 2], Some((1, 0))),
@@ -56,7 +56,7 @@ const TWO_SESSIONS: &[Row] = &[
     (2, Event::Ask(OPEN, DONE), [2, 0], Some((0, 0))),
 ];
 
-/// Each refusal of an open comes after what was open is given back.
+/// An open that is refused first gives back what was open.
 const REFUSED: &[Row] = &[
     (1, Event::Ask(Request::Close, NO_DESCRIPTOR), [0, 0], None),
     (1, Event::Ask(OPEN_SECOND, DONE), [0, 1], Some((1, 0))),
@@ -68,7 +68,8 @@ const REFUSED: &[Row] = &[
     (1, Event::Ask(OPEN_FOR_NONE, INVALID), [0, 0], None),
 ];
 
-/// A drive whose reel lies in the bin stays held, also with an empty stack; the next reel is latched by the next open.
+/// A drive whose reel is in the bin stays held, also if its stack is empty. The next open latches
+/// the next reel.
 const AWAY: &[Row] = &[
     (1, Event::Ask(OFFLINE, NO_DESCRIPTOR), [0, 0], None),
     (1, Event::Ask(OPEN_SECOND, DONE), [0, 1], Some((1, 0))),
@@ -85,7 +86,7 @@ const AWAY: &[Row] = &[
     (2, Event::Ask(Request::Close, DONE), [0, 0], None),
 ];
 
-/// A latch that is told to fail fails once, after what was open is closed.
+/// An injected fault fails one latch, after what was open is closed.
 const FAILED_LATCH: &[Row] = &[
     (2, Event::Ask(OPEN_SECOND, DONE), [0, 2], Some((1, 0))),
     (1, Event::Stacks, [0, 2], None),
@@ -94,14 +95,14 @@ const FAILED_LATCH: &[Row] = &[
     (2, Event::Ask(OFFLINE, ONE), [2, 0], None),
 ];
 
-/// A move that is told to fail fails: the reel lies where it was.
+/// An injected fault fails one move, and the reel stays where it was.
 const FAILED_MOVE: &[Row] = &[
     (1, Event::Ask(OPEN, DONE), [1, 0], Some((0, 0))),
     (1, Event::Stacks, [1, 0], Some((0, 0))),
     (1, Event::Ask(OFFLINE, IO), [1, 0], Some((0, 0))),
 ];
 
-/// After that it is moved.
+/// Afterwards the reel is moved.
 const MOVED: &[Row] = &[(1, Event::Ask(OFFLINE, ONE), [1, 0], None)];
 
 static SHARED: [Table; 6] = [

@@ -1,4 +1,4 @@
-//! What a session answers while the device of its reel fails.
+//! The replies of a session while the device of its reel fails.
 
 use super::check_row;
 use super::two::{DONE, Event, INVALID, IO, ONE, OPEN, Row, Table, is_met};
@@ -13,7 +13,7 @@ const NO_SPACE: Reply<'static> = Reply::Error {
 /// The record `abc` is written.
 const WRITE_ABC: Event = Event::Ask(Request::Write { bytes: b"abc" }, Reply::Done { number: 3 });
 
-/// The record `de` is.
+/// The record `de` is written.
 const WRITE_DE: Event = Event::Ask(Request::Write { bytes: b"de" }, Reply::Done { number: 2 });
 
 /// The reel is rewound.
@@ -23,12 +23,12 @@ const READ: Request<'static> = Request::Read { count: 9 };
 
 const WRITE_X: Request<'static> = Request::Write { bytes: b"x" };
 
-/// A read gives the record `abc`, or nothing.
+/// A read returns the record `abc`, or nothing.
 const READ_ABC: Event = Event::Ask(READ, Reply::Data { bytes: b"abc" });
 
 const READ_NONE: Event = Event::Ask(READ, Reply::Data { bytes: b"" });
 
-/// The records `abc` and `de`, and the place between them.
+/// Writes the records `abc` and `de`, and goes to the place between them.
 const BETWEEN: &[Row] = &[
     (1, Event::Ask(OPEN, DONE), [1, 0], Some((0, 0))),
     (1, WRITE_ABC, [1, 0], Some((0, 0))),
@@ -41,7 +41,7 @@ const BETWEEN: &[Row] = &[
     ),
 ];
 
-/// The same records, and the place before both.
+/// Writes the same records, and goes to the place before both.
 const BEFORE: &[Row] = &[
     (1, Event::Ask(OPEN, DONE), [1, 0], Some((0, 0))),
     (1, WRITE_ABC, [1, 0], Some((0, 0))),
@@ -50,8 +50,8 @@ const BEFORE: &[Row] = &[
 ];
 
 static TROUBLED: [Table; 10] = [
-    // A write of `x` after `abc` fails, and leaves what its trouble says: the place is read, then the records from the
-    // beginning, and `x` is written after `abc`.
+    // A write of `x` after `abc` fails, and leaves what the injected fault says. Then the place is
+    // read, the records are read from the beginning, and `x` is written after `abc`.
     Table {
         before: BETWEEN,
         rows: &[
@@ -118,7 +118,8 @@ static TROUBLED: [Table; 10] = [
         names: [b"ab", b"c", b""],
         failures: 0,
     },
-    // Of three failed marks over the records as many stand as the trouble says, and nothing after them.
+    // Three marks over the records fail. As many are left as the injected fault says, and nothing
+    // follows them.
     Table {
         before: BEFORE,
         rows: &[
@@ -197,7 +198,7 @@ static TROUBLED: [Table; 10] = [
         names: [b"ab", b"c", b""],
         failures: 0,
     },
-    // A failed read moves nothing.
+    // A failed read does not move the place.
     Table {
         before: BEFORE,
         rows: &[
@@ -215,7 +216,7 @@ static TROUBLED: [Table; 10] = [
         names: [b"ab", b"c", b""],
         failures: 0,
     },
-    // Trouble waits over operations with a count of 0.
+    // Operations with a count of 0 do not use up an injected fault.
     Table {
         before: BETWEEN,
         rows: &[
@@ -267,7 +268,8 @@ static TROUBLED: [Table; 10] = [
         names: [b"ab", b"c", b""],
         failures: 0,
     },
-    // It waits over what does not come to the device: nothing, an operation that there is not, marks without room, and a rewind.
+    // Neither do requests without a device call: an operation that does nothing, an unknown
+    // operation, marks without room, and a rewind.
     Table {
         before: BETWEEN,
         rows: &[
@@ -303,7 +305,7 @@ static TROUBLED: [Table; 10] = [
         names: [b"ab", b"c", b""],
         failures: 0,
     },
-    // Without a reel no trouble is set.
+    // Without a reel no fault is injected.
     Table {
         before: &[(1, Event::Device(Trouble::Lost), [0, 0], None)],
         rows: &[

@@ -1,4 +1,4 @@
-//! A client that sends its next request only once the one before is answered.
+//! A client that sends its next request only after it received the reply to the one before.
 
 ghost use Rattle.std.specs.Prelude.{◌≤◌, length};
 
@@ -8,7 +8,7 @@ use std::alloc::Global;
 use std::cell::Cell;
 use std::io::{self, ErrorKind, Read, Write};
 
-/// A record is written and read back: each request, and how many bytes are answered up to it.
+/// A record is written and read back: each request, and the number of reply bytes up to it.
 static READ_BACK: [(&[u8], usize); 7] = [
     (b"O/dev/st0\n2\n", 3),
     (b"W5\nhello", 6),
@@ -19,8 +19,8 @@ static READ_BACK: [(&[u8], usize); 7] = [
     (b"C\n", 26),
 ];
 
-/// It gives a request of `READ_BACK` a call. It fails where the requests given so far, and no others, were not answered
-/// yet.
+/// A reader that gives one request of `READ_BACK` per call. It fails unless exactly the requests
+/// given so far have their replies.
 #[derive(Drop)]
 struct Asking<'a> {
     answered: &'a Cell<usize>,
@@ -43,7 +43,7 @@ impl Read for Asking<'_> {
     }
 }
 
-/// It says how much was written.
+/// A writer that counts the bytes that were written.
 #[derive(Drop)]
 struct Answers<'a> {
     answered: &'a Cell<usize>,
@@ -61,7 +61,7 @@ impl Write for Answers<'_> {
     }
 }
 
-/// Whether all is answered.
+/// Whether all requests get their replies.
 fn takes_turns(alloc: Global, drives: &mut Drives) -> bool
     requires { length drives.old.stacks.library.drives ≤ length drives.old.holds.numbers }
 {
@@ -77,7 +77,7 @@ fn takes_turns(alloc: Global, drives: &mut Drives) -> bool
     serve_once(alloc, drives, input, output) == END && answered.get() == 26
 }
 
-/// The same with new drives.
+/// Runs `takes_turns` with new drives.
 fn takes_turns_anew(alloc: Global) -> bool {
     match two_drives(alloc, CAPACITY) {
         Some(mut drives) => takes_turns(alloc, &mut drives),

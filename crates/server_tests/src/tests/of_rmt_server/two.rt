@@ -1,4 +1,4 @@
-//! Two sessions that share two drives: what one of them does, and what is so then.
+//! Two sessions that share two drives: what one of them does, and the state afterwards.
 
 ghost use Rattle.std.specs.Prelude.{◌≡◌, ◌≢◌, ◌≤◌, length};
 ghost use Rattle.tape.specs.contracts.troubled.TroubledReelReel.TheImpl.{ghosts as of_reel};
@@ -14,14 +14,14 @@ use rmt_wire::{Reply, Request};
 use std::alloc::Global;
 use tape::{Reel, Trouble};
 
-/// What a session does.
+/// An action of a session.
 pub(crate) enum Event {
-    /// It asks for this, and is answered so.
+    /// The session sends this request and gets this reply.
     Ask(Request<'static>, Reply<'static>),
     End,
-    /// The next device call of its reel fails so, where that is online.
+    /// The next device call of its reel fails with this injected fault, if a reel is online.
     Device(Trouble),
-    /// The next latch or move of the stacks fails, of whichever session.
+    /// The next latch or move of the stacks fails, whichever session makes it.
     Stacks,
 }
 
@@ -41,7 +41,7 @@ fn is_answer(reply: &Reply<'_>, wanted: &Reply<'_>) -> bool {
     }
 }
 
-/// Whether a session answers a request so, beside another.
+/// Whether a session gives this reply to a request, beside another session.
 fn carry(
     drives: &mut Drives,
     session: &mut Client,
@@ -73,7 +73,7 @@ fn end(drives: &mut Drives, session: &mut Client, other: &Client)
     session.end(drives);
 }
 
-/// The name of the drive of that number.
+/// Returns the name of the drive with this number.
 fn device(drive: usize) -> &'static [u8] {
     match drive {
         0 => b"/dev/st0",
@@ -81,7 +81,7 @@ fn device(drive: usize) -> &'static [u8] {
     }
 }
 
-/// Whether a session does that beside another.
+/// Has a session act beside another. Returns whether the reply was as expected.
 fn does(drives: &mut Drives, session: &mut Client, other: &Client, event: &Event) -> bool
     requires at { IsAt (kinds of_holds of_stacks of_reel) (state drives.old session.old) }
     requires other { IsAt (kinds of_holds of_stacks of_reel) (state drives.old other.now) }
@@ -120,7 +120,7 @@ struct Two {
 }
 
 impl Two {
-    /// Whether the session of that number does that.
+    /// Has session `number` act. Returns whether the reply was as expected.
     fn does(&mut self, number: usize, event: &Event) -> bool {
         let drives = &mut self.drives;
         match number {
@@ -129,7 +129,8 @@ impl Two {
         }
     }
 
-    /// The number of the seat that holds the drive, or 0. None where no seat is left to ask.
+    /// Returns the number of the seat that holds the drive, or 0. Returns `None` if there is no
+    /// seat left to ask with.
     fn holder(&mut self, drive: usize) -> Option<u64> {
         more_seats::<ListStacks>();
         let drive = self.drives.stacks.drive(device(drive))?;
@@ -137,7 +138,8 @@ impl Two {
         Some(self.drives.holds.holder(&mut seat, drive))
     }
 
-    /// The drive that the session of that number has open with its reel, and how often the device of that has failed.
+    /// Returns the drive that session `number` has open with a reel, and the number of failures of
+    /// the reel's device.
     fn online(&self, number: usize) -> Option<(usize, u64)> {
         let session = match number {
             1 => &self.first,
@@ -148,7 +150,7 @@ impl Two {
     }
 }
 
-/// Whether these reels have those names, of one byte each.
+/// Whether these reels have these names, of one byte each.
 fn has_names(reels: &[ListedReel], names: &[u8]) -> bool {
     for (at, reel) in reels.iter().enumerate() {
         if reel.name() != names.get(at..=at).unwrap_or(&[]) {
@@ -158,7 +160,7 @@ fn has_names(reels: &[ListedReel], names: &[u8]) -> bool {
     reels.len() == names.len()
 }
 
-/// Whether the stack of the drive has those names.
+/// Whether the stack of the drive has reels of these names.
 fn has_stack(stacks: &ListStacks, drive: usize, names: &[u8]) -> bool {
     match stacks.drive(device(drive)) {
         Some(drive) => has_names(stacks.stack(drive), names),
@@ -166,16 +168,16 @@ fn has_stack(stacks: &ListStacks, drive: usize, names: &[u8]) -> bool {
     }
 }
 
-/// Whether both stacks and the bin have those names.
+/// Whether both stacks and the bin have reels of these names.
 fn has_reels(stacks: &ListStacks, [first, second, bin]: [&[u8]; 3]) -> bool {
     has_stack(stacks, 0, first) && has_stack(stacks, 1, second) && has_names(stacks.bin(), bin)
 }
 
-/// A row: the number of the session, what it does, who holds each drive then, and the drive that the session has open with its
-/// reel, with how often the device of that has failed.
+/// The number of the session, what it does, and who then holds each drive. The last field is the
+/// drive that the session has open with its reel, and the number of failures of the reel's device.
 pub(crate) type Row = (usize, Event, [u64; 2], Option<(usize, u64)>);
 
-/// Whether the row goes as it has to.
+/// Whether the row has the expected outcome.
 fn is_row(two: &mut Two, row: &Row) -> bool {
     let (number, event, holders, online) = row;
     two.does(*number, event)
@@ -184,7 +186,7 @@ fn is_row(two: &mut Two, row: &Row) -> bool {
         && two.online(*number) == *online
 }
 
-/// Whether the rows do.
+/// Whether all rows have the expected outcome.
 fn are_rows(two: &mut Two, rows: &[Row]) -> bool {
     for row in rows {
         if !is_row(two, row) {
@@ -194,7 +196,8 @@ fn are_rows(two: &mut Two, rows: &[Row]) -> bool {
     true
 }
 
-/// Rows after others, and the names of the reels that both stacks and the bin have then, and how often a latch or a move failed.
+/// Rows, and the rows before them. Then the names of the reels on both stacks and in the bin, and
+/// the number of failed latches and moves.
 pub(crate) struct Table {
     pub(crate) before: &'static [Row],
     pub(crate) rows: &'static [Row],
@@ -202,14 +205,14 @@ pub(crate) struct Table {
     pub(crate) failures: u64,
 }
 
-/// Whether two sessions do what the table says.
+/// Whether two sessions act as the table says.
 fn is_table(mut two: Two, table: &Table) -> bool {
     let right = are_rows(&mut two, table.before) && are_rows(&mut two, table.rows);
     let stacks = &two.drives.stacks;
     right && has_reels(stacks, table.names) && stacks.failures() == table.failures
 }
 
-/// The same with this session and a new one, whose seat is the next.
+/// Runs `is_table` with this session and a new one, which has the next seat.
 fn is_beside(alloc: Global, mut drives: Drives, first: Client, table: &Table) -> bool
     requires few { length drives.stacks.library.drives ≤ length drives.holds.numbers }
     requires at { IsAt (kinds of_holds of_stacks of_reel) (state drives first) }
@@ -228,7 +231,7 @@ fn is_beside(alloc: Global, mut drives: Drives, first: Client, table: &Table) ->
     }
 }
 
-/// The same with new sessions, whose seats have the numbers 1 and 2.
+/// Runs `is_table` with two new sessions, whose seats have the numbers 1 and 2.
 fn is_new(alloc: Global, mut drives: Drives, table: &Table) -> bool
     requires { length drives.stacks.library.drives ≤ length drives.holds.numbers }
 {
@@ -238,7 +241,7 @@ fn is_new(alloc: Global, mut drives: Drives, table: &Table) -> bool
     }
 }
 
-/// The same with new drives, whose reels are of 100 bytes.
+/// Runs `is_new` with new drives, whose reels have 100 bytes each.
 pub(crate) fn is_met(alloc: Global, table: &Table) -> bool {
     match two_drives(alloc, 100) {
         Some(drives) => is_new(alloc, drives, table),
@@ -246,10 +249,10 @@ pub(crate) fn is_met(alloc: Global, table: &Table) -> bool {
     }
 }
 
-/// The answer to an open, a close or an operation of no count that was done.
+/// The reply to an open or a close that succeeded, or to an operation of count 0.
 pub(crate) const DONE: Reply<'static> = Reply::Done { number: 0 };
 
-/// The answer to an operation of count 1, or to a write of one byte.
+/// The reply to an operation of count 1, or to a write of one byte.
 pub(crate) const ONE: Reply<'static> = Reply::Done { number: 1 };
 
 pub(crate) const INVALID: Reply<'static> = Reply::Error {
@@ -262,7 +265,7 @@ pub(crate) const IO: Reply<'static> = Reply::Error {
     text: b"Input/output error",
 };
 
-/// An open of the first drive for both.
+/// Opens the first drive for reading and writing.
 pub(crate) const OPEN: Request<'static> = Request::Open {
     device: b"/dev/st0",
     mode: 2,

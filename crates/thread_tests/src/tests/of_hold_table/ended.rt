@@ -1,4 +1,5 @@
-//! Seats that are looked at together, and the words of a table at its end.
+//! Two seats that are compared with each other, and the holders that a table returns when it is
+//! closed.
 
 ghost use Rattle.std.specs.Prelude.{◌≡◌, ◌⊎◌, ◌<◌, ◌≤◌, IsTrue};
 ghost use Rattle.drives.specs.Holding.{has, found_by};
@@ -9,8 +10,8 @@ use drives::Taken;
 use hold_table::{HoldSeat, HoldTable};
 use std::test::Fail;
 
-/// Takes the drive with one of two seats. If the answer names the other seat, that seat holds the drive or has made two steps or
-/// more: so it does not name a seat that has made none.
+/// Takes the drive with one of two seats. If the result names the other seat, that seat holds the
+/// drive or has made at least two steps. A seat that has made no step is never named.
 fn take_beside(
     table: &HoldTable,
     mut one: HoldSeat,
@@ -29,7 +30,7 @@ fn take_beside(
     (one, other, taken)
 }
 
-/// Two seats that took a drive each are apart, and the words name the seat that holds each drive.
+/// After two seats took a drive each, `apart` and `close` agree on the holder of each drive.
 #[test]
 fn words_agree_with_the_seats(rt: HostRuntime) -> Result<(), Fail> {
     let (table, first, second) = two_seats(rt.alloc(), 3)?;

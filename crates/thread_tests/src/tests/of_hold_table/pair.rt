@@ -8,7 +8,7 @@ use hold_table::{HoldSeat, HoldTable};
 use std::alloc::Global;
 use std::test::Fail;
 
-/// A table of so many drives, from 1 to 64, and the seats 1 and 2.
+/// Makes a table of this many drives, from 1 to 64, and the seats 1 and 2.
 pub(crate) fn two_seats(
     alloc: Global,
     drives: usize,

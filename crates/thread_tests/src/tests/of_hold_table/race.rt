@@ -13,8 +13,8 @@ use std::thread::{self, Threads};
 /// How often each seat tries to take the one drive.
 const TRIES: u32 = 2000;
 
-/// Takes the one drive over and over, and gives it back each time. `inside` counts the seats that have it, and `faults` the times
-/// that the seat was not alone or did not see itself there. Returns the seat.
+/// Takes the one drive over and over, and gives it back each time. `inside` counts the seats that
+/// hold it. `faults` counts how often the seat was not alone, or saw no holder. Returns the seat.
 fn race(table: &HoldTable, mut seat: HoldSeat, inside: &AtomicU64, faults: &AtomicU64) -> HoldSeat
     requires seat { IsSeatAt table.now seat }
     requires drives { 0 < table.now.arguments }
@@ -33,7 +33,7 @@ fn race(table: &HoldTable, mut seat: HoldSeat, inside: &AtomicU64, faults: &Atom
     seat
 }
 
-/// Has each seat take the one drive and give it back, each in a thread of its own, and returns the seats.
+/// Runs `race` with each seat, in a thread of its own, and returns the seats.
 fn race_in_threads<R: Threads + Sync>(
     rt: &R,
     table: &HoldTable,
@@ -56,8 +56,8 @@ fn race_in_threads<R: Threads + Sync>(
     Ok(seats)
 }
 
-/// All 32 seats take one drive and give it back, over and over, each seat in a thread of its own: no two have it at once. At the end
-/// all seats are back, and no word names a holder.
+/// All 32 seats take one drive and give it back, over and over, each in a thread of its own. No two
+/// hold it at once. At the end all seats are back, and the table has no holder.
 #[test]
 fn no_two_have_a_drive_at_once(rt: HostRuntime) -> Result<(), Fail> {
     let (table, seats) = HoldTable::new(rt.alloc(), 1)?;

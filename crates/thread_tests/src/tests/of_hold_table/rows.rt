@@ -7,8 +7,9 @@ use drives::{Holds, Taken};
 use hold_table::TableHand;
 use std::test::Fail;
 
-/// What two seats find at a drive, each through holds of its own: the first takes it, the second finds it held and sees who
-/// holds it, the first gives it back, the second sees that it is free and takes it, and then finds itself there.
+/// Returns what two seats find at a drive, each through holds of its own. The first takes it. The
+/// second finds it held, and sees who holds it. The first gives it back. The second sees that it is
+/// free, takes it, and then finds itself there.
 fn found<H: Holds>(
     holds: &mut H,
     first: &mut H::Seat,

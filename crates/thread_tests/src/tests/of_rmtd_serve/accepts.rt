@@ -1,4 +1,5 @@
-//! Accepts that fail: after a wait the next is made, and a listener that is broken for good ends what serves it.
+//! Accepts that fail. The next is made after a wait, and a listener that is broken for good ends
+//! the serving.
 
 use super::table::serve_pairs;
 use rmtd_serve::{Connections, ErrorLog, Incoming, LineStart, MemoryServer, serve_connections};
@@ -13,7 +14,7 @@ use std::rt::Clock;
 use std::test::Fail;
 use std::time::Duration;
 
-/// Standard error that counts its lines, beside a clock that tells no time.
+/// A standard error that counts its lines, with a clock that fails.
 #[derive(Drop)]
 struct Lines {
     count: Cell<u64>,
@@ -40,8 +41,8 @@ impl Clock for Lines {
     }
 }
 
-/// A clock that waits for nothing and adds up the milliseconds of the waits. At each third one a client comes, where there is an
-/// address.
+/// A clock that does not wait, and adds up the milliseconds of the waits. At each third wait a
+/// client connects, if there is an address.
 #[derive(Drop)]
 struct Waits<'a> {
     rt: &'a HostRuntime,
@@ -83,8 +84,8 @@ impl Clock for Waits<'_> {
     }
 }
 
-/// Whether two clients come, each after three accepts that failed and as many waits of 100 milliseconds, and no more. The failures
-/// before each have one line, and each client has one.
+/// Whether exactly two clients are accepted, each after three failed accepts and three waits of 100
+/// milliseconds. The log has one line for the failures before each client, and one for each client.
 fn two_come(clock: &Waits<'_>, listener: &TcpListener) -> bool {
     let lines = Lines {
         count: Cell::new(0),
@@ -110,12 +111,13 @@ fn a_failed_accept_is_made_again_after_a_wait(rt: HostRuntime) -> Result<(), Fai
     Ok(())
 }
 
-/// What is no socket, in a listener's place: the system says of it that it is none, by the error 88.
+/// Makes a listener that is not a socket. The system reports error 88 for it.
 fn no_listener(rt: &HostRuntime) -> Result<TcpListener, Fail> {
     Ok(TcpListener::from(OwnedFd::from(fs::open(rt, "/")?)))
 }
 
-/// Whether the connections of a listener that is none are over at once, with a line, no wait, and the status 1.
+/// Whether a listener that is not a socket ends at once, with one line in the log, no wait, and the
+/// status 1.
 fn none_come(clock: &Waits<'_>, listener: &TcpListener) -> bool {
     let lines = Lines {
         count: Cell::new(0),
@@ -139,7 +141,7 @@ fn a_listener_that_is_none_has_no_connections(rt: HostRuntime) -> Result<(), Fai
     Ok(())
 }
 
-/// The status of a server in memory whose listener is this one.
+/// Returns the status of a server in memory with this listener.
 fn status_in_memory(alloc: Global, clock: &Waits<'_>, listener: &TcpListener) -> Option<u8> {
     let mut server = MemoryServer::new(alloc, 1024)?;
     let lines = Lines {

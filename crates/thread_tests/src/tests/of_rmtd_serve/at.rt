@@ -1,4 +1,4 @@
-//! One pair served at a seat.
+//! One pair of streams that is served at a seat.
 
 ghost use Rattle.std.specs.Prelude.{◌≡◌, None, length};
 ghost use Rattle.drives.specs.Holding.{HoldsJust};
@@ -12,7 +12,7 @@ use rmtd_serve::serve_at;
 use std::alloc::Global;
 use std::test::Fail;
 
-/// What a stream is answered that ends while its drive is open.
+/// Returns the replies to a stream that ends while its drive is open.
 fn served(alloc: Global, table: &HoldTable, seat: HoldSeat, stacks: ListStacks) -> Vec<u8>
     requires arguments { table.now.arguments ≡ 2 }
     requires drives { length stacks.library.drives ≡ 2 }

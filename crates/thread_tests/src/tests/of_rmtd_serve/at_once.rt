@@ -5,8 +5,9 @@ use super::table::serve_pairs;
 use rmtd_serve::Incoming;
 use std::test::Fail;
 
-/// Two pairs. The first session's input gives nothing until the second has answered; the second's gives nothing after its first
-/// request until the first has answered.
+/// Two pairs of streams. The first session's input gives nothing until the second session has
+/// replied. The second session's input gives nothing after its first request until the first
+/// session has replied.
 #[derive(Drop)]
 struct TwoPairs<'a> {
     given: u8,
@@ -38,7 +39,7 @@ impl<'a> Incoming for TwoPairs<'a> {
     }
 }
 
-/// Each session answers only after the other has, so no one can be served after the other.
+/// Each session waits for a reply of the other, so both must be served at the same time.
 #[test]
 fn two_sessions_at_once(rt: HostRuntime) -> Result<(), Fail> {
     let (first, second) = (Counts::new(), Counts::new());

@@ -1,4 +1,4 @@
-//! More pairs than seats.
+//! More pairs of streams than seats.
 
 use super::streams::{Counts, Gated, Told, reaches};
 use super::table::serve_pairs;
@@ -6,8 +6,9 @@ use rmtd_serve::Incoming;
 use std::sync::atomic::{AtomicU64, Ordering};
 use std::test::Fail;
 
-/// 32 pairs of two requests, the second after a sign; one when each of them has answered its first; and, after the sign, one
-/// when all of them have ended.
+/// Pairs of streams. First 32 of two requests each, the second of which is given after a sign. Then
+/// one, when each of these has had its first reply. Then, after the sign, one when all 32 have
+/// ended.
 #[derive(Drop)]
 struct Full<'a> {
     given: u64,
@@ -18,7 +19,7 @@ struct Full<'a> {
 }
 
 impl<'a> Full<'a> {
-    /// Whose answers are counted of the next pair.
+    /// Returns the counts for the replies to the next pair.
     fn counts(&self) -> Option<&'a Counts> {
         match self.given {
             0..=31 => Some(self.seated),
@@ -56,7 +57,8 @@ impl<'a> Incoming for Full<'a> {
     }
 }
 
-/// A pair that comes while 32 are served is let go without an answer, and one that comes after an end is served.
+/// A pair that comes while 32 are served is dropped without a reply. A pair that comes after others
+/// have ended is served.
 #[test]
 fn a_pair_past_32_is_let_go(rt: HostRuntime) -> Result<(), Fail> {
     let sign = AtomicU64::new(0);

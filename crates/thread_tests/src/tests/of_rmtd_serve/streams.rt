@@ -4,10 +4,10 @@ use std::io::{self, ErrorKind, Read, Write};
 use std::sync::atomic::{AtomicU64, Ordering};
 use std::thread;
 
-/// How often a stream lets others run before it gives up.
+/// How often a stream yields to other threads before it gives up.
 const TURNS: u32 = 1_000_000;
 
-/// Whether the count comes to so many, while others are let run.
+/// Whether the count reaches `wanted`, while other threads run.
 pub(crate) fn reaches(count: &AtomicU64, wanted: u64) -> bool {
     for _ in 0..TURNS {
         if count.load(Ordering::SeqCst) >= wanted {
@@ -18,7 +18,8 @@ pub(crate) fn reaches(count: &AtomicU64, wanted: u64) -> bool {
     false
 }
 
-/// Bytes that are given at once, and bytes that are given when a count has come to a number. Where it does not, the read fails.
+/// A reader that gives `early` at once, and `late` when `sign` has reached `wanted`. If it does
+/// not, the read fails.
 #[derive(Drop)]
 pub(crate) struct Gated<'a> {
     pub(crate) early: &'static [u8],
@@ -39,14 +40,14 @@ impl Read for Gated<'_> {
     }
 }
 
-/// What is counted of the replies to one or more sessions. A short reply is one write.
+/// Counts for one or more sessions. Each short reply is one write.
 #[derive(Drop)]
 pub(crate) struct Counts {
-    /// The replies without an error.
+    /// The replies that are not errors.
     pub(crate) done: AtomicU64,
-    /// The errors.
+    /// The error replies.
     pub(crate) errors: AtomicU64,
-    /// The streams that were let go.
+    /// The streams that were dropped.
     pub(crate) ended: AtomicU64,
 }
 
@@ -59,7 +60,7 @@ impl Counts {
         }
     }
 
-    /// How many replies without an error there were, how many errors, and how many streams were let go.
+    /// Returns the number of replies that are not errors, of error replies, and of dropped streams.
     pub(crate) fn all(&self) -> (u64, u64, u64) {
         (
             self.done.load(Ordering::SeqCst),
@@ -69,7 +70,7 @@ impl Counts {
     }
 }
 
-/// Counts the replies.
+/// A writer that counts the replies.
 pub(crate) struct Told<'a> {
     pub(crate) counts: &'a Counts,
 }

@@ -12,7 +12,7 @@ use std::sync::Wait;
 use std::test::Fail;
 use std::thread::Threads;
 
-/// A table of the drives `/dev/st0` and `/dev/st1`.
+/// Makes a table for two drives, with its seats.
 pub(crate) fn two_words(alloc: Global) -> Result<(HoldTable, Vec<HoldSeat>), Fail>
     ensures drives { IfOk result (λ made. made.0.arguments ≡ 2) }
     ensures count { IfOk result (λ made. length made.1.items ≡ 32) }
@@ -30,7 +30,7 @@ fn add(stacks: &mut ListStacks, device: &[u8], reel: &[u8]) -> Result<(), Fail>
     Ok(())
 }
 
-/// The drives `/dev/st0` and `/dev/st1`, with one empty reel each.
+/// Makes the drives `/dev/st0` and `/dev/st1`, with one empty reel each.
 pub(crate) fn two_drives(alloc: Global) -> Result<ListStacks, Fail>
     ensures { IfOk result (λ stacks. length stacks.library.drives ≡ 2) }
 {
@@ -40,7 +40,7 @@ pub(crate) fn two_drives(alloc: Global) -> Result<ListStacks, Fail>
     Ok(stacks)
 }
 
-/// Such drives for each of 32 seats.
+/// Makes such drives for each of 32 seats.
 fn all_stacks(alloc: Global) -> Result<Vec<ListStacks>, Fail>
     ensures count { IfOk result (λ all. length all.items ≡ 32) }
     ensures drives { IfOk result (λ all. All (λ s. length s.library.drives ≡ 2) all.items) }
@@ -52,8 +52,8 @@ fn all_stacks(alloc: Global) -> Result<Vec<ListStacks>, Fail>
     Ok(all)
 }
 
-/// Serves pairs at two drives, each pair in a thread of its own, and gives back what they came from. It fails if a seat does not
-/// come back, or a drive is held at the end.
+/// Serves pairs of streams at two drives, each pair in a thread of its own, and returns the source
+/// of the pairs. Fails if a seat does not come back, or if a drive is held at the end.
 pub(crate) fn serve_pairs<R: Threads + Wait + Sync, I: Incoming + Drop>(
     rt: &R,
     alloc: Global,

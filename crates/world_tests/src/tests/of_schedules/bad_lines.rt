@@ -1,9 +1,9 @@
-//! Schedules with a line at fault.
+//! Schedules with a faulty line.
 
 use super::fixture::{Case, check, check_cases};
 use std::test::Fail;
 
-/// Of a bad line, a line that is not possible, and none.
+/// Schedules with a bad line, with a line that is not possible, and without a faulty line.
 static WHOLE: [Case; 12] = [
     Case {
         text: b"drive /dev/st0 3100 r1\n\nretry\n",
@@ -72,7 +72,7 @@ fn the_first_line_at_fault_decides(rt: HostRuntime) -> Result<(), Fail> {
     check_cases(rt.alloc(), &WHOLE)
 }
 
-/// Lines that are none, with a drive before them.
+/// Bad lines, after the line of a drive.
 const BAD: &[&str] = &[
     " connect",
     "connect ",
@@ -132,7 +132,7 @@ const BAD: &[&str] = &[
     "run /dev/st0 /usr 0 0 0 1024",
 ];
 
-/// Lines that are some, and not possible with a drive alone before them.
+/// Lines that are valid, but not possible after only the line of a drive.
 const IMPOSSIBLE: &[&str] = &[
     "connect",
     "send",
@@ -159,7 +159,7 @@ const IMPOSSIBLE: &[&str] = &[
     "says 1 4f",
 ];
 
-/// Lines that do something, or nothing, with a drive alone before them.
+/// Lines that are possible after only the line of a drive. Some of them do nothing.
 const POSSIBLE: &[&str] = &[
     "restart-server",
     "stranger",
@@ -171,7 +171,7 @@ const POSSIBLE: &[&str] = &[
     "run d /usr 0000000000000000000000009 253402300799 0 262144 0",
 ];
 
-/// Lines after a line of a drive, what they print, and the status.
+/// Lines that follow the line of a drive, what they print, and the exit status.
 static LINES: [(&[&str], &[u8], u8); 3] = [
     (BAD, b"line 2: bad line\n", 1),
     (IMPOSSIBLE, b"line 2: not possible\n", 1),

@@ -4,7 +4,7 @@ use rmt_wire::Counted;
 use rsim_schedule::schedule;
 use std::io::{self, ErrorKind, Write};
 
-/// A stream that takes so many writes, and then fails.
+/// A stream that accepts `left` writes, and then fails.
 #[derive(Drop)]
 struct Failing<'a> {
     taken: &'a mut Vec<u8>,
@@ -26,7 +26,7 @@ impl Write for Failing<'_> {
     }
 }
 
-/// Two attempts that fail, and a line at fault.
+/// Two attempts that fail, and a faulty line.
 const TEXT: &[u8] = b"drive /dev/st0 1040 r1\n\
 run /dev/st0 /usr 0 951782400 0 1024 1\n\
 connect\n\
@@ -37,8 +37,8 @@ connect\n\
 pump 2 11\n\
 connect\n";
 
-/// A schedule, how many writes are taken, what was printed then, and the status with the number of failures. The first
-/// schedule prints in three writes.
+/// A schedule, the number of writes that succeed, what they print, and then the exit status and the
+/// number of failures. The first schedule prints in three writes.
 static CASES: [(&[u8], u32, &[u8], (u8, u64)); 5] = [
     (TEXT, 0, b"", (3, 1)),
     (TEXT, 1, b"volume 1 failed: ReelTooSmall\n", (3, 1)),

@@ -1,18 +1,18 @@
-//! A schedule, and what it has to print.
+//! A schedule, and what it must print.
 
 use rmt_wire::Counted;
 use rsim_schedule::schedule;
 use std::alloc::Global;
 use std::test::Fail;
 
-/// A schedule, what it prints, and its status.
+/// A schedule, what it prints, and its exit status.
 pub(crate) struct Case {
     pub(crate) text: &'static [u8],
     pub(crate) printed: &'static [u8],
     pub(crate) status: u8,
 }
 
-/// Runs the schedule. It fails where the schedule prints something else, or has another status.
+/// Runs the schedule. Fails if it prints something else, or has another status.
 pub(crate) fn check(alloc: Global, text: &[u8], wanted: &[u8], status: u8) -> Result<(), Fail> {
     let mut printed = Vec::new(alloc);
     let mut out = Counted::new(&mut printed);

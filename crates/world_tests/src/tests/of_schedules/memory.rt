@@ -1,4 +1,4 @@
-//! A run to its end, with all kinds of lines that take memory.
+//! A run to its end, with all kinds of lines that allocate memory.
 
 use super::fixture::check;
 use std::test::Fail;

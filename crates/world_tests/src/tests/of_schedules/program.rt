@@ -1,22 +1,22 @@
-//! What `rsim` does with its words.
+//! The program `rsim` with its arguments.
 
 use rmt_wire::Counted;
 use rsim_schedule::rsim;
 use std::test::Fail;
 use std::{fs, process};
 
-/// A reel that is online, and a line that is not possible.
+/// A drive with a reel, and a line that is not possible.
 const TEXT: &str = "drive /dev/st0 3100 r1\nretry\n";
 
 const PRINTED: &[u8] = b"line 2: not possible\n";
 
-/// The path of a file that no other test has.
+/// Returns the path of a file that no other test uses.
 fn new_path(rt: &HostRuntime) -> Result<String, Fail> {
     let id = process::id(rt.process());
     Ok(format!(in rt.alloc(); "schedule_{id}")?)
 }
 
-/// What is printed, and the status, where this file is the word of `rsim`.
+/// Returns what `rsim` prints for this file, and its exit status.
 fn ended_on(rt: &HostRuntime, path: &str) -> Result<(Vec<u8>, u8), Fail> {
     let mut arguments = Vec::new(rt.alloc());
     arguments.push(String::from_str(rt.alloc(), "rsim")?)?;

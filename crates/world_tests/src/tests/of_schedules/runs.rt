@@ -1,10 +1,10 @@
-//! Whole schedules, with a failure each of their own.
+//! Whole schedules, each with a failure of its own.
 
 use super::fixture::{Case, check_cases};
 use std::test::Fail;
 
 static RUNS: [Case; 17] = [
-    // The answer to MTOFFL is lost: the first reel has a whole volume and is not counted.
+    // The reply to MTOFFL is lost: the first reel has a whole volume and is not counted.
     Case {
         text: b"drive /dev/st0 3100 r1 r2 r3\n\
     run /dev/st0 /usr 0 951782400 0 1024 3\n\
@@ -102,7 +102,8 @@ static RUNS: [Case; 17] = [
     dumpdates\n",
         status: 0,
     },
-    // More entries than any number of 32 bits tells were to be written before a fault: all are.
+    // An injected fault lets more entries be written than a 32-bit number can count: all are
+    // written.
     Case {
         text: b"drive /dev/st0 3100 r1\n\
     run /dev/st0 /usr 0 951782400 0 1024 1\n\
@@ -117,7 +118,7 @@ static RUNS: [Case; 17] = [
     dumpdates\n",
         status: 0,
     },
-    // A run is abandoned, and the next one is begun.
+    // A run is abandoned, and the next one is started.
     Case {
         text: b"drive /dev/st0 3100 r1\n\
     run /dev/st0 /usr 0 951782400 0 1024 1\n\
@@ -152,7 +153,7 @@ static RUNS: [Case; 17] = [
     dumpdates\n",
         status: 0,
     },
-    // A reel that was counted is laid on the stack again, and a stranger writes on it.
+    // A reel that was counted is put on the stack again, and a stranger writes on it.
     Case {
         text: b"drive /dev/st0 3100 r1\n\
     run /dev/st0 /usr 0 951782400 0 1024 1\n\
@@ -171,7 +172,7 @@ static RUNS: [Case; 17] = [
     dumpdates\n",
         status: 0,
     },
-    // The server restarts in mid volume.
+    // The server restarts in the middle of a volume.
     Case {
         text: b"drive /dev/st0 3100 r1 r2\n\
     run /dev/st0 /usr 0 951782400 0 1024 3\n\
@@ -194,7 +195,7 @@ static RUNS: [Case; 17] = [
     dumpdates\n",
         status: 0,
     },
-    // The client comes back with what was kept after its first count.
+    // The client resumes the run that was saved after its first count.
     Case {
         text: b"drive /dev/st0 3100 r1 r2 r3\n\
     run /dev/st0 /usr 0 951782400 0 1024 3\n\
@@ -219,7 +220,7 @@ static RUNS: [Case; 17] = [
     /usr                             0 Tue Feb 29 00:00:00 2000\n",
         status: 0,
     },
-    // The same, and nothing is kept.
+    // The same run, which was not saved.
     Case {
         text: b"drive /dev/st0 3100 r1 r2 r3\n\
     run /dev/st0 /usr 0 951782400 0 1024 3\n\
@@ -235,7 +236,7 @@ static RUNS: [Case; 17] = [
         printed: b"line 9: not possible\n",
         status: 1,
     },
-    // It was kept before any count, so the first volume is written and counted twice.
+    // The run was saved before any count, so the first volume is written and counted twice.
     Case {
         text: b"drive /dev/st0 3100 r1 r2 r3\n\
     run /dev/st0 /usr 0 951782400 0 1024 3\n\
@@ -260,7 +261,7 @@ static RUNS: [Case; 17] = [
     /usr                             0 Tue Feb 29 00:00:00 2000\n",
         status: 0,
     },
-    // A counted reel is laid on the stack again: the run that counted it does not write on it.
+    // A counted reel is put on the stack again: the run that counted it does not write on it.
     Case {
         text: b"drive /dev/st0 3100 r1 r2\n\
     run /dev/st0 /usr 0 951782400 0 1024 3\n\
@@ -284,7 +285,7 @@ static RUNS: [Case; 17] = [
     dumpdates\n",
         status: 0,
     },
-    // A run that is entered is not kept.
+    // A run that was entered cannot be saved.
     Case {
         text: b"drive /dev/st0 3100 r1\n\
     run /dev/st0 /usr 0 951782400 0 1024 1\n\
@@ -295,7 +296,7 @@ static RUNS: [Case; 17] = [
         printed: b"line 6: not possible\n",
         status: 1,
     },
-    // Nor is one that is given up.
+    // A run that was abandoned cannot be saved.
     Case {
         text: b"drive /dev/st0 3100 r1\n\
     run /dev/st0 /usr 0 951782400 0 1024 1\n\
@@ -308,7 +309,7 @@ static RUNS: [Case; 17] = [
     line 7: not possible\n",
         status: 1,
     },
-    // What was kept of it is dropped then.
+    // If a run is abandoned, its saved state is dropped.
     Case {
         text: b"drive /dev/st0 3100 r1\n\
     run /dev/st0 /usr 0 951782400 0 1024 1\n\

@@ -1,5 +1,6 @@
-//! A dump of two volumes of which a connection is cut after each byte of a direction, and which is tried to its end. What is foretold
-//! stands in two tables of requests and their answers, by their numbers of bytes.
+//! A dump of two volumes in which one connection is cut after each byte of one direction. It is
+//! then retried to its end. The expected outcome follows from two tables with the sizes of all
+//! requests and replies.
 
 use super::dump::Dump;
 use super::world::new_world;
@@ -16,11 +17,11 @@ static DRIVES: [DriveSpec<'static>; 1] = [DriveSpec {
     reels: &[b"r1", b"r2", b"r3", b"r4"],
 }];
 
-/// A request of an attempt: how many bytes it has, and how many its answer has.
+/// A request of an attempt: its number of bytes, and that of its reply.
 type Round = (usize, usize);
 
-/// The first attempt: open, rewind, a look at a blank reel, rewind, label, two blocks, a third that
-/// has no room, mark, move to the bin, close.
+/// The first attempt: open, rewind, a look at a blank reel, rewind, label, two blocks, a third
+/// block without room, mark, move to the bin, close.
 static FIRST_ATTEMPT: [Round; 11] = [
     (12, 3),
     (5, 3),
@@ -35,7 +36,8 @@ static FIRST_ATTEMPT: [Round; 11] = [
     (2, 3),
 ];
 
-/// The second: open, rewind, a look at a blank reel, rewind, label, the third block, mark, move to the bin, close.
+/// The second attempt: open, rewind, a look at a blank reel, rewind, label, the third block, mark,
+/// move to the bin, close.
 static SECOND_ATTEMPT: [Round; 9] = [
     (12, 3),
     (5, 3),
@@ -48,7 +50,7 @@ static SECOND_ATTEMPT: [Round; 9] = [
     (2, 3),
 ];
 
-/// The bytes of these requests.
+/// Returns the number of bytes of these requests.
 fn sent(rounds: &[Round]) -> usize {
     let mut total: usize = 0;
     for (bytes, _) in rounds {
@@ -57,7 +59,7 @@ fn sent(rounds: &[Round]) -> usize {
     total
 }
 
-/// The bytes of their answers.
+/// Returns the number of bytes of their replies.
 fn answered(rounds: &[Round]) -> usize {
     let mut total: usize = 0;
     for (_, bytes) in rounds {
@@ -69,7 +71,7 @@ fn answered(rounds: &[Round]) -> usize {
 /// The text of the first label.
 const FIRST: &[u8] = b"name /usr\nlevel 0\ndate 951782400\nsince 0\nvolume 1\nfirst 0\n";
 
-/// The text of the second.
+/// The text of the second label.
 const SECOND: &[u8] = b"name /usr\nlevel 0\ndate 951782400\nsince 0\nvolume 2\nfirst 2\n";
 
 /// What follows a cut.
@@ -82,7 +84,7 @@ enum After {
 
 static AFTER: [After; 3] = [After::Nothing, After::ServerRestart, After::ClientRestart];
 
-/// One direction of one attempt is cut after so many bytes.
+/// A cut of one direction of one attempt, after `count` bytes.
 #[derive(Clone, Copy)]
 struct Cut {
     /// The attempt's connection, 1 or 2.
@@ -98,12 +100,13 @@ fn happens(world: &mut World, event: Event<'_>) -> bool {
     run(world, &[event]) == Ok(())
 }
 
-/// The client sends its next request, where it is to send one on this connection.
+/// Has the client send its next request on this connection, if it has one to send. Returns whether
+/// it sent.
 fn sends(world: &mut World, connection: usize) -> bool {
     world.own() == Some(connection) && happens(world, Event::Send { fails: false })
 }
 
-/// What is on the way to the server is delivered, and so many bytes at most.
+/// Delivers at most `left` bytes to the server. Returns whether there were any.
 fn delivers(world: &mut World, connection: usize, left: &mut usize) -> bool {
     let Some((toward, _)) = world.on_way(connection) else {
         return false;
@@ -113,7 +116,7 @@ fn delivers(world: &mut World, connection: usize, left: &mut usize) -> bool {
     happens(world, Event::ToServer { connection, count })
 }
 
-/// What is on the way to the client is delivered, and so many bytes at most.
+/// Delivers at most `left` bytes to the client. Returns whether there were any.
 fn answers(world: &mut World, connection: usize, left: &mut usize) -> bool {
     let Some((_, back)) = world.on_way(connection) else {
         return false;
@@ -134,7 +137,7 @@ fn serves(world: &mut World, connection: usize) -> bool {
     )
 }
 
-/// All that can move on the connection moves once. Whether something did.
+/// Moves all that can move on the connection once. Returns whether something moved.
 fn moves(world: &mut World, connection: usize, toward: &mut usize, back: &mut usize) -> bool {
     let sent = sends(world, connection);
     let delivered = delivers(world, connection, toward);
@@ -143,7 +146,7 @@ fn moves(world: &mut World, connection: usize, toward: &mut usize, back: &mut us
     sent || delivered || served || answered
 }
 
-/// All that can move on the connection moves, and so many bytes of each direction at most.
+/// Moves all that can move on the connection, at most this many bytes in each direction.
 fn pump(world: &mut World, connection: usize, toward: usize, back: usize) {
     let mut toward = toward;
     let mut back = back;
@@ -154,13 +157,13 @@ fn pump(world: &mut World, connection: usize, toward: usize, back: usize) {
     }
 }
 
-/// An attempt on a new connection, from its beginning to its end, which the server sees.
+/// Makes a whole attempt on a new connection.
 fn attempt(world: &mut World, connection: usize) {
     let _ = happens(world, Event::Connect);
     pump(world, connection, usize::MAX, usize::MAX);
 }
 
-/// The attempts up to that of the cut, which is cut.
+/// Makes the attempts up to the one that is cut, and cuts it.
 fn cut_short(world: &mut World, cut: &Cut) {
     if cut.connection == 2 {
         attempt(world, 1);
@@ -180,7 +183,7 @@ fn cut_short(world: &mut World, cut: &Cut) {
     }
 }
 
-/// What follows the cut. Whether it is possible.
+/// Makes what follows the cut. Returns whether it is possible.
 fn follows(world: &mut World, dump: &Dump, after: After) -> bool {
     match after {
         After::Nothing => true,
@@ -191,12 +194,12 @@ fn follows(world: &mut World, dump: &Dump, after: After) -> bool {
     }
 }
 
-/// What the client waits for.
+/// Returns the state of the client, if there is one.
 fn state(world: &World) -> Option<State> {
     Some(world.client()?.state())
 }
 
-/// The dump is tried until it is finished, five times at most. Whether it is.
+/// Makes attempts until the dump is finished, and enters it. Gives up after five attempts.
 fn is_finished(world: &mut World, cut: &Cut) -> bool {
     for number in 1..6 {
         if state(world) == Some(State::Finished) {
@@ -215,7 +218,7 @@ fn is_finished(world: &mut World, cut: &Cut) -> bool {
     false
 }
 
-/// Whether the entry has these bytes, and then zero bytes or the last of them up to 1,024.
+/// Whether the reel's first entry is this text, followed by zero bytes up to 1,024 bytes.
 fn is_label(world: &World, reel: &[u8], text: &[u8]) -> bool {
     let mut bytes = [1; 1024];
     let told = world.entry(reel, 0, &mut bytes);
@@ -223,14 +226,14 @@ fn is_label(world: &World, reel: &[u8], text: &[u8]) -> bool {
     told == Some(1024) && bytes.starts_with(text) && rest.iter().all(|byte| *byte == 0)
 }
 
-/// Whether the entry is this block.
+/// Whether the entry at this place is this block.
 fn is_block(world: &World, reel: &[u8], place: usize, block: u32) -> bool {
     let mut bytes = [255; 1024];
     let told = world.entry(reel, place, &mut bytes);
     told == Some(1024) && bytes.iter().all(|byte| u32::from(*byte) == block)
 }
 
-/// Whether the reel has the volume's blocks and one mark after the label, and nothing else.
+/// Whether the reel has exactly the volume's blocks and one mark after the label.
 fn has_blocks(world: &World, told: &CountTold<'_>) -> bool {
     let mut place: usize = 1;
     for block in told.first..told.first.saturating_add(told.count) {
@@ -245,13 +248,13 @@ fn has_blocks(world: &World, told: &CountTold<'_>) -> bool {
             .is_none()
 }
 
-/// Whether the reel has just the volume that was counted.
+/// Whether the reel has exactly the volume that was counted.
 fn has_volume(world: &World, told: &CountTold<'_>) -> bool {
     let text = if told.volume == 1 { FIRST } else { SECOND };
     is_label(world, told.reel, text) && has_blocks(world, told)
 }
 
-/// Whether each counted reel has its volume.
+/// Whether each counted reel has its volume. There must be a count.
 fn has_volumes(world: &World) -> bool {
     let counts = world.counts();
     for place in 0..counts.len() {
@@ -263,13 +266,14 @@ fn has_volumes(world: &World) -> bool {
     !counts.is_empty()
 }
 
-/// The reel of the first count, and the connection that made it.
+/// Returns the reel of the first count, and the connection that made it.
 fn first_count(world: &World) -> Option<(&[u8], usize)> {
     let told = world.counts().get(0)?;
     Some((told.reel, told.connection))
 }
 
-/// Whether the session of the first attempt, cut there, had opened the drive and not closed it.
+/// Whether the session of the first attempt, if it is cut there, has opened the drive and not
+/// closed it.
 fn holds_the_drive(cut: &Cut) -> bool {
     let whole = &FIRST_ATTEMPT;
     let (opened, _) = whole[0];
@@ -280,15 +284,16 @@ fn holds_the_drive(cut: &Cut) -> bool {
     }
 }
 
-/// The connection that counts the first volume where the first did not: the second, but the third where the second met a drive that the
-/// cut session still had.
+/// Returns the connection that counts the first volume if the first does not. It is the second, or
+/// the third if the second finds the drive held by the cut session.
 fn later_connection(cut: &Cut) -> usize {
     let is_held = cut.late && cut.after == After::Nothing && holds_the_drive(cut);
     if is_held { 3 } else { 2 }
 }
 
-/// The reel that the first volume has to be on, and the connection that has to have counted it, by the bytes that came before the cut of
-/// the first attempt. It is counted once the move to the bin is answered; carried out and not answered, it leaves the reel uncounted.
+/// Returns the reel that must have the first volume, and the connection that must have counted it.
+/// Both follow from the number of bytes before the cut of the first attempt. The volume is counted
+/// once the reply to the move to the bin arrives. If that reply is lost, the reel stays uncounted.
 fn foretold(cut: &Cut) -> (&'static [u8], usize) {
     let moved = sent(&FIRST_ATTEMPT[..10]);
     let marked = answered(&FIRST_ATTEMPT[..9]);
@@ -301,14 +306,15 @@ fn foretold(cut: &Cut) -> (&'static [u8], usize) {
     }
 }
 
-/// Whether the first volume is where it has to be: of a cut of the first attempt, and with the client as it was.
+/// Whether the first volume is where it must be. This is checked only for a cut of the first
+/// attempt, and if the client was not restarted.
 fn is_foretold(world: &World, cut: &Cut) -> bool {
     cut.connection == 2
         || cut.after == After::ClientRestart
         || first_count(world) == Some(foretold(cut))
 }
 
-/// Whether the dump comes to its end as it has to.
+/// Whether the dump ends as expected.
 fn ends(world: &mut World, dump: &Dump, cut: &Cut) -> bool {
     if !happens(world, dump.start()) {
         return false;
@@ -320,13 +326,14 @@ fn ends(world: &mut World, dump: &Dump, cut: &Cut) -> bool {
         && is_foretold(world, cut)
 }
 
-/// Whether it does so in a new world.
+/// Runs `ends` in a new world.
 fn is_right(alloc: Global, dump: &Dump, cut: &Cut) -> Result<bool, Fail> {
     let mut world: Box<World> = new_world(alloc, &DRIVES)?;
     Ok(ends(world.as_mut(), dump, cut))
 }
 
-/// Whether it does so whatever follows, and whenever the server sees the end.
+/// Whether the dump ends as expected, whatever follows the cut, and whenever the server sees the
+/// end.
 fn are_right(alloc: Global, dump: &Dump, cut: Cut) -> Result<bool, Fail> {
     for after in &AFTER {
         let seen = Cut {
@@ -346,7 +353,8 @@ fn are_right(alloc: Global, dump: &Dump, cut: Cut) -> Result<bool, Fail> {
     Ok(true)
 }
 
-/// The first number of bytes after which a cut of the attempt does not end as it has to, up to the bytes of the direction.
+/// Returns the smallest number of bytes after which a cut of the attempt does not end as expected.
+/// It tries all numbers up to `total`, the bytes of the direction.
 fn wrong_cut(
     alloc: Global,
     connection: usize,

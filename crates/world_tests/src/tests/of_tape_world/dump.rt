@@ -13,8 +13,8 @@ pub(crate) struct Dump {
 }
 
 impl Dump {
-    /// The file system `/usr` is dumped to `/dev/st0` at level 0, in so many blocks of 1,024 bytes. Each byte of block i
-    /// is i modulo 256.
+    /// Makes a dump of the file system `/usr` to `/dev/st0` at level 0, with this many blocks of
+    /// 1,024 bytes. Each byte of block i is i modulo 256.
     pub(crate) fn new(alloc: Global, blocks: u64) -> Result<Dump, Fail> {
         let run = Run::new(b"/dev/st0", "/usr", 0, 951782400, 0, 1024, blocks)?;
         let mut dump = Dump {
@@ -34,7 +34,7 @@ impl Dump {
         Ok(())
     }
 
-    /// The run is begun.
+    /// Returns the event that starts the run.
     pub(crate) fn start(&self) -> Event<'_> {
         Event::StartRun {
             run: &self.run,

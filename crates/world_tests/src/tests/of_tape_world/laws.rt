@@ -1,4 +1,4 @@
-//! The laws of the world as plain data, each called once, and what a world tells of itself.
+//! The laws of the world as plain data, each called once, and what holds of every world.
 
 ghost use Rattle.world_model.specs.Headline.{Headline};
 ghost use Rattle.world_model.specs.Further.{LabelledReels};
@@ -17,7 +17,7 @@ fn each_law_is_called(_rt: HostRuntime) {
     faultless();
 }
 
-/// The headline, and what is kept, hold of the world that is asked.
+/// Shows that the headline and the invariants hold of any world.
 fn ask(world: &World)
     ensures headline { Headline world.now }
     ensures labelled_reels { LabelledReels world.now }

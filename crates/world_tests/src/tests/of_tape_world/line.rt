@@ -1,10 +1,10 @@
-//! What is to happen in a world.
+//! Events, as rows of tables.
 
 use dump_client::Answer;
 use tape::Trouble;
 use tape_world::{Event, World, run};
 
-/// An event that has no run. A connection is told by its number, and bytes by how many they are.
+/// An event other than the start of a run. Connections and bytes are given as numbers.
 pub(crate) enum Line {
     Connect,
     Send,
@@ -25,7 +25,7 @@ pub(crate) enum Line {
     Save,
 }
 
-/// The event that the line is.
+/// Returns the event of a line.
 fn event(line: &Line) -> Event<'static> {
     match *line {
         Line::Connect => Event::Connect,
@@ -50,7 +50,7 @@ fn event(line: &Line) -> Event<'static> {
     }
 }
 
-/// Makes the lines one after the other, up to the first that is not made. It tells the place of that.
+/// Runs the lines in order, up to the first that fails. Returns the place of that line.
 pub(crate) fn stop_of(world: &mut World, lines: &[Line]) -> Option<usize> {
     for (place, line) in lines.iter().enumerate() {
         if run(world, &[event(line)]) != Ok(()) {

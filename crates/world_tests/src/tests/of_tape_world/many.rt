@@ -21,12 +21,13 @@ static LINES: [Line; 6] = [
     Line::Serve(1),
 ];
 
-/// A hundred strangers connect, and the lines are made.
+/// Connects a hundred strangers, and runs the lines.
 fn makes_all(world: &mut World) -> bool {
     run(world, &[Event::Stranger; 100]) == Ok(()) && stop_of(world, &LINES).is_none()
 }
 
-/// Whether the session of this connection has a reel, where the server's side is live.
+/// Whether the session of this connection has a reel. Returns `None` if the server's side is not
+/// live.
 fn has_reel(world: &World, connection: usize) -> Option<bool> {
     let session = world.session(connection)?;
     Some(session.reel().is_some())

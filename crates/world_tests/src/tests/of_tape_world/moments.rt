@@ -1,4 +1,4 @@
-//! What a world tells on the way through a run, moment by moment.
+//! What a world reports during a run, moment by moment.
 
 use super::dump::Dump;
 use super::line::{Line, stop_of};
@@ -10,26 +10,28 @@ use std::test::Fail;
 use tape::Trouble;
 use tape_world::{DriveSpec, Event, World, run};
 
-/// What happens, and what the world tells then of its client and of a connection.
+/// One moment: what happens, and what the world then reports of its client and of a connection.
 struct Moment {
-    /// Whether the run of the dump is begun first.
+    /// Whether the run of the dump is started first.
     starts: bool,
     lines: &'static [Line],
     connection: usize,
-    /// The client's requests then, on that connection, each with its reply: how many bytes they have.
+    /// The client's requests after the lines, on that connection: the number of bytes of each, and
+    /// of its reply.
     rounds: &'static [(usize, usize)],
     /// The connection of the client's attempt.
     own: Option<usize>,
-    /// How many of the bytes on the way can reach the server, and how many the other side.
+    /// How many bytes on the way can reach the server now, and how many the other end.
     way: Option<(usize, usize)>,
-    /// The drive whose reel the session has online, where the server's side is live.
+    /// The drive whose reel the session has online. The outer `None` means that the server's side
+    /// is not live.
     online: Option<Option<usize>>,
-    /// What it waits for, the volume that is next with its first block, and the volumes that it counted.
+    /// The client's state, the next volume and its first block, and the counted volumes.
     client: Option<(State, (u32, u32), &'static [VolumeCount])>,
     failure: Option<(u32, AttemptFault)>,
 }
 
-/// A reel has room for a label, two blocks, and a mark.
+/// Each reel has room for a label, two blocks, and a mark.
 static DRIVES: [DriveSpec<'static>; 1] = [DriveSpec {
     name: b"/dev/st0",
     capacity: 3100,
@@ -59,7 +61,7 @@ const LABEL: (usize, usize) = (1030, 6);
 
 const BLOCK: (usize, usize) = (1030, 6);
 
-/// A block for which there is no room.
+/// A block for which the reel has no room.
 const REFUSED: (usize, usize) = (1030, 3);
 
 const MARK: (usize, usize) = (5, 3);
@@ -81,7 +83,7 @@ static MOMENTS: [Moment; 23] = [
         client: None,
         failure: None,
     },
-    // A run is begun.
+    // A run is started.
     Moment {
         starts: true,
         lines: &[],
@@ -117,7 +119,7 @@ static MOMENTS: [Moment; 23] = [
         client: Some((State::Waiting, (1, 0), &[])),
         failure: None,
     },
-    // A part of it is at the server.
+    // A part of the open is at the server.
     Moment {
         starts: false,
         lines: &[Line::ToServer(1, 5)],
@@ -129,7 +131,7 @@ static MOMENTS: [Moment; 23] = [
         client: Some((State::Waiting, (1, 0), &[])),
         failure: None,
     },
-    // It is carried out, and its reply is on the way.
+    // The open is carried out, and its reply is on the way.
     Moment {
         starts: false,
         lines: &[Line::ToServer(1, 7), Line::Serve(1)],
@@ -141,7 +143,7 @@ static MOMENTS: [Moment; 23] = [
         client: Some((State::Waiting, (1, 0), &[])),
         failure: None,
     },
-    // A part of the reply is heard.
+    // A part of the reply arrives.
     Moment {
         starts: false,
         lines: &[Line::ToClient(1, 2)],
@@ -153,7 +155,7 @@ static MOMENTS: [Moment; 23] = [
         client: Some((State::Waiting, (1, 0), &[])),
         failure: None,
     },
-    // All of it is.
+    // All of the reply has arrived.
     Moment {
         starts: false,
         lines: &[Line::ToClient(1, 1)],
@@ -165,8 +167,8 @@ static MOMENTS: [Moment; 23] = [
         client: Some((State::ToSend, (1, 0), &[])),
         failure: None,
     },
-    // The tape is rewound and is blank, a label and two blocks are written, the third has no room, and
-    // there is a mark.
+    // The reel is rewound and found blank, a label and two blocks are written, the third block has
+    // no room, and a mark is written.
     Moment {
         starts: false,
         lines: &[],
@@ -178,7 +180,7 @@ static MOMENTS: [Moment; 23] = [
         client: Some((State::ToSend, (1, 0), &[])),
         failure: None,
     },
-    // The reel is moved off, which the client does not know yet.
+    // The reel is moved to the bin, and the client does not know it yet.
     Moment {
         starts: false,
         lines: &[Line::Send, Line::ToServer(1, 5), Line::Serve(1)],
@@ -214,7 +216,7 @@ static MOMENTS: [Moment; 23] = [
         client: Some((State::Ready, (2, 2), &[ONE])),
         failure: None,
     },
-    // Now it is.
+    // The session is over too.
     Moment {
         starts: false,
         lines: &[Line::EndAtServer(1)],
@@ -250,7 +252,7 @@ static MOMENTS: [Moment; 23] = [
         client: Some((State::Finished, (3, 3), &[ONE, TWO])),
         failure: None,
     },
-    // It is entered.
+    // The run is entered.
     Moment {
         starts: false,
         lines: &[Line::Enter],
@@ -262,7 +264,7 @@ static MOMENTS: [Moment; 23] = [
         client: Some((State::Finished, (3, 3), &[ONE, TWO])),
         failure: None,
     },
-    // Another run is begun, and its connection ends while its first request is on the way.
+    // Another run is started, and its connection ends while its first request is on the way.
     Moment {
         starts: true,
         lines: &[
@@ -279,7 +281,7 @@ static MOMENTS: [Moment; 23] = [
         client: Some((State::Asking, (1, 0), &[])),
         failure: Some((1, AttemptFault::ConnectionEnded)),
     },
-    // That run is given up. The request arrives.
+    // That run is abandoned. The request arrives.
     Moment {
         starts: false,
         lines: &[Line::Respond(Answer::Abandon), Line::ToServer(3, 12)],
@@ -291,7 +293,7 @@ static MOMENTS: [Moment; 23] = [
         client: Some((State::Abandoned, (1, 0), &[])),
         failure: None,
     },
-    // It is carried out, and its reply is lost.
+    // The request is carried out, and its reply is lost.
     Moment {
         starts: false,
         lines: &[Line::Serve(3)],
@@ -303,7 +305,7 @@ static MOMENTS: [Moment; 23] = [
         client: Some((State::Abandoned, (1, 0), &[])),
         failure: None,
     },
-    // A run is begun and forgotten. The session stays.
+    // A run is started, and the client restarts without a saved run. The session stays.
     Moment {
         starts: true,
         lines: &[Line::ClientRestart],
@@ -315,7 +317,7 @@ static MOMENTS: [Moment; 23] = [
         client: None,
         failure: None,
     },
-    // What a stranger says is no request.
+    // A stranger sends bytes that are not a request.
     Moment {
         starts: false,
         lines: &[
@@ -332,7 +334,7 @@ static MOMENTS: [Moment; 23] = [
         client: None,
         failure: None,
     },
-    // The server restarts, and what another stranger said is lost.
+    // The server restarts, and what another stranger sent is lost.
     Moment {
         starts: false,
         lines: &[Line::Stranger, Line::Says(5, b"C\n"), Line::ServerRestart],
@@ -344,7 +346,7 @@ static MOMENTS: [Moment; 23] = [
         client: None,
         failure: None,
     },
-    // The operator lays the first reel back, after the third.
+    // The operator puts the first reel back on the stack, after the third.
     Moment {
         starts: false,
         lines: &[Line::Arrange(b"/dev/st0", &[b"r3", b"r1"])],
@@ -358,7 +360,7 @@ static MOMENTS: [Moment; 23] = [
     },
 ];
 
-/// Makes each of these requests, and brings it and its reply over. Whether that is possible.
+/// Sends each of these requests, and delivers it and its reply. Returns whether that is possible.
 fn makes_rounds(world: &mut World, connection: usize, rounds: &[(usize, usize)]) -> bool {
     for (request, reply) in rounds {
         let round = [
@@ -383,7 +385,7 @@ fn makes_rounds(world: &mut World, connection: usize, rounds: &[(usize, usize)])
     true
 }
 
-/// Makes what happens. Whether that is possible.
+/// Makes what happens at this moment. Returns whether that is possible.
 fn makes(world: &mut World, dump: &Dump, moment: &Moment) -> bool {
     let can_start = !moment.starts || run(world, &[dump.start()]) == Ok(());
     can_start
@@ -391,7 +393,8 @@ fn makes(world: &mut World, dump: &Dump, moment: &Moment) -> bool {
         && makes_rounds(world, moment.connection, moment.rounds)
 }
 
-/// The drive whose reel the session of this connection has online, where the server's side is live.
+/// Returns the drive whose reel the session of this connection has online. The outer `None` means
+/// that the server's side is not live.
 fn online(world: &World, connection: usize) -> Option<Option<usize>> {
     match world.session(connection)?.reel() {
         Some((drive, _)) => Some(Some(drive)),
@@ -399,7 +402,7 @@ fn online(world: &World, connection: usize) -> Option<Option<usize>> {
     }
 }
 
-/// The client is as is wanted, or there is none.
+/// Whether the client is as expected, or there is none.
 fn has_client(world: &World, wanted: Option<(State, (u32, u32), &[VolumeCount])>) -> bool {
     match (world.client(), wanted) {
         (Some(client), Some((state, next, counted))) => {
@@ -410,7 +413,7 @@ fn has_client(world: &World, wanted: Option<(State, (u32, u32), &[VolumeCount])>
     }
 }
 
-/// The world tells what it has to.
+/// Whether the world reports what the moment says.
 fn is_met(world: &World, moment: &Moment) -> bool {
     let connection = moment.connection;
     world.own() == moment.own
@@ -420,7 +423,7 @@ fn is_met(world: &World, moment: &Moment) -> bool {
         && world.failure() == moment.failure
 }
 
-/// Makes the moments one after the other. It tells the first that is not as is wanted.
+/// Makes the moments in order. Returns the first that is not as expected.
 fn wrong_moment(world: &mut World, dump: &Dump) -> Option<usize> {
     for (at, moment) in MOMENTS.iter().enumerate() {
         if !makes(world, dump, moment) || !is_met(world, moment) {

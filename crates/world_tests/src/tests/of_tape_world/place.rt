@@ -2,7 +2,7 @@
 
 use std::process::Abort;
 
-/// No row is wrong.
+/// Fails the test if a row is wrong.
 pub(crate) fn expect_none(rt: &impl Abort, wrong: Option<usize>) {
     assert!(rt; wrong.is_none(), "row {wrong:?}");
 }

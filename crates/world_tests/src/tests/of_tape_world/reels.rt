@@ -1,4 +1,5 @@
-//! What a world tells after two volumes: the entries of reels, where the reels lie, counts and dumpdates.
+//! What a world reports after two volumes: the entries of reels, where the reels are, counts and
+//! dumpdates.
 
 use drives::ListedReel;
 use std::test::Fail;
@@ -7,14 +8,15 @@ use tape_world::{CountTold, World};
 /// The text of the first label.
 const FIRST: &[u8] = b"name /usr\nlevel 0\ndate 951782400\nsince 0\nvolume 1\nfirst 0\n\0";
 
-/// The text of the second.
+/// The text of the second label.
 const SECOND: &[u8] = b"name /usr\nlevel 0\ndate 951782400\nsince 0\nvolume 2\nfirst 2\n\0";
 
-/// No byte of an entry.
+/// No byte of an entry was written.
 const NONE: &[u8] = b"....";
 
-/// A reel, a place on it, what is told of the entry there, and how the array begins then in which its bytes are wanted: the
-/// length of a record, 0 for a mark, and nothing past the last or of no reel.
+/// A reel, a place on it, and the expected length: that of a record, 0 for a mark, and `None` past
+/// the last entry or if there is no such reel. The last field is how the array for the bytes then
+/// begins.
 static ENTRIES: [(&[u8], usize, Option<usize>, &[u8]); 11] = [
     (b"r1", 0, Some(1024), FIRST),
     (b"r1", 1, Some(1024), &[0, 0, 0, 0]),
@@ -51,7 +53,8 @@ static COUNTS: [CountTold<'static>; 2] = [
 
 const DATES: &[u8] = b"/usr                             0 Tue Feb 29 00:00:00 2000\n";
 
-/// The entry is told so, with an array that begins so then. What is after a record in a larger array stays.
+/// Whether the entry has this length, and the array begins with these bytes. The end of a larger
+/// array must not change.
 fn has_entry(
     world: &World,
     reel: &[u8],
@@ -64,7 +67,7 @@ fn has_entry(
     told == wanted && bytes.starts_with(front) && bytes.ends_with(b"..")
 }
 
-/// All entries are told so.
+/// Whether all entries are as expected.
 fn has_entries(world: &World) -> bool {
     for (reel, place, wanted, front) in &ENTRIES {
         if !has_entry(world, reel, *place, *wanted, front) {
@@ -74,7 +77,7 @@ fn has_entries(world: &World) -> bool {
     true
 }
 
-/// These counts are told, and no others.
+/// Whether the world has exactly these counts.
 fn has_counts(world: &World) -> bool {
     let counts = world.counts();
     for (place, count) in COUNTS.iter().enumerate() {
@@ -85,7 +88,7 @@ fn has_counts(world: &World) -> bool {
     counts.len() == 2 && !counts.is_empty()
 }
 
-/// These reels have these names.
+/// Whether these reels have these names.
 fn have_names(reels: &[ListedReel], names: &[&[u8]]) -> bool {
     for (place, name) in names.iter().enumerate() {
         match reels.get(place) {
@@ -96,7 +99,7 @@ fn have_names(reels: &[ListedReel], names: &[&[u8]]) -> bool {
     reels.len() == names.len()
 }
 
-/// The drive has these reels on its stack, or there is no such drive.
+/// Whether the drive has these reels on its stack. `None` means that there is no such drive.
 fn has_stack(world: &World, drive: &[u8], names: Option<&[&[u8]]>) -> bool {
     match (world.stack(drive), names) {
         (Some(reels), Some(names)) => have_names(reels, names),
@@ -105,14 +108,14 @@ fn has_stack(world: &World, drive: &[u8], names: Option<&[&[u8]]>) -> bool {
     }
 }
 
-/// Two reels are on the stack, and the second one is in the bin.
+/// Whether the third and the first reel are on the stack, and the second one is in the bin.
 fn has_reels(world: &World) -> bool {
     has_stack(world, b"/dev/st0", Some(&[b"r3", b"r1"]))
         && has_stack(world, b"/dev/st1", None)
         && have_names(world.bin(), &[b"r2"])
 }
 
-/// All stands as after two volumes.
+/// Whether all is as expected after two volumes.
 pub(crate) fn is_at_end(world: &World) -> Result<bool, Fail> {
     let dates = world.dates().text()?;
     let is_entered = dates.as_slice() == DATES;

@@ -14,7 +14,8 @@ static DRIVES: [DriveSpec<'static>; 1] = [DriveSpec {
     reels: &[b"r1", b"r2"],
 }];
 
-/// Lines, one after the other in one world, of which the last alone is not possible, and its place.
+/// Lines that are run in one world, row by row. In each row only the last line is not possible. The
+/// number is its place.
 static STOPS: [(&[Line], usize); 18] = [
     (&[Line::Connect], 0),
     (&[Line::Send], 0),
@@ -51,7 +52,7 @@ static STOPS: [(&[Line], usize); 18] = [
     ),
 ];
 
-/// The first row of which another line is not possible, or none.
+/// Returns the first row in which another line is the first that fails.
 fn wrong_stop(world: &mut World) -> Option<usize> {
     for (at, (lines, place)) in STOPS.iter().enumerate() {
         if stop_of(world, lines) != Some(*place) {
@@ -68,12 +69,12 @@ fn lines_that_are_not_possible(rt: HostRuntime) -> Result<(), Fail> {
     Ok(())
 }
 
-/// Whether a world has had one connection, and this one is the client's own.
+/// Whether a world has had exactly one connection, and `own` is the client's own.
 fn has_one_connection(world: &World, own: Option<usize>) -> bool {
     world.on_way(1).is_some() && world.on_way(2).is_none() && world.own() == own
 }
 
-/// A list is made up to the event that is not possible, and no further.
+/// A list of events is run up to the first that is not possible, and no further.
 #[test]
 fn lists_with_an_event_that_is_not_possible(rt: HostRuntime) -> Result<(), Fail> {
     let dump = Dump::new(rt.alloc(), 3)?;
