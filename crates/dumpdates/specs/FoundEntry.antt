@@ -1,4 +1,4 @@
--- What was found in a line, as plain values. No public contract needs it.
+-- The contents of a line, as plain values. No public contract needs it.
 use Rattle.std.specs.Prelude.{◌≡◌, ◌⊎◌, ◌++◌, [], ◌∷◌, List, ℕ, Option, Some, None, Result, Ok, Err}
 use Rattle.dumpdates.specs.Entry.{DatesEntry}
 use Rattle.dumpdates.specs.Clock.{plain_moment}
@@ -13,6 +13,7 @@ use Rattle.dumpdates.specs.declared.line.EntryFault.TheVariants.{BadShape, NoDat
 use Rattle.dumpdates.specs.declared.fault.DatesFault.{DatesFault}
 use Rattle.dumpdates.specs.declared.fault.DatesFault.TheVariants.{BadLine, BadDate, OutOfMemory}
 
+-- the plain values of a line's words
 abbrev pub plain_words : LineWords → PlainWords
 plain_words w = record {
   name = w.name.now;
@@ -24,29 +25,31 @@ plain_words w = record {
   year = w.year.now;
 }
 
+-- the plain value of what a line's words spell
 abbrev pub plain_fields : LineFields → PlainFields
 plain_fields f = record { name = f.name.now; level = f.level; moment = plain_moment f.moment }
 
--- the words of a date say this moment, whether it is one or not
+-- the words of a date spell this moment, which need not be valid
 abbrev pub SpellsMoment : PlainWords → Moment → Type 0
 SpellsMoment w m =
     SpellsMonth w.month m.month × SpellsDigits 1 2 w.day m.day × SpellsTime w.time m.hour m.minute m.second × SpellsDigits 4 4 w.year m.year
 
+-- the plain value of an entry that was found
 abbrev pub plain_found : FoundEntry → DatesEntry
 plain_found e = record { name = e.name.now; level = e.level; date = e.date }
 
--- what a line was found to be
+-- the line is blank, or this entry, or bad in this way
 abbrev pub IsLineFound : List ℕ → Result (Option FoundEntry) EntryFault → Type 0
 IsLineFound line (Ok None) = AreSpaces line
 IsLineFound line (Ok (Some found)) = SpellsLine line (plain_found found)
 IsLineFound line (Err BadShape) = IsBadLine line
 IsLineFound line (Err NoDate) = IsBadDate line
 
--- a line that was read: nothing for a blank one, or its entry at the end
+-- reading the line changed nothing, if it is blank, or appended its entry
 abbrev pub IsAdded : List ℕ → List DatesEntry → List DatesEntry → Type 0
 IsAdded line before now = (AreSpaces line × (now ≡ before)) ⊎ ((e : DatesEntry) × SpellsLine line e × (now ≡ before ++ e ∷ []))
 
--- why the line numbered n was not read
+-- why line n was not read: it is bad, or it is an entry for which an allocation failed
 abbrev pub IsLineRefused : List ℕ → ℕ → DatesFault → Type 0
 IsLineRefused line n (BadLine k) = (k ≡ n) × IsBadLine line
 IsLineRefused line n (BadDate k) = (k ≡ n) × IsBadDate line

@@ -1,21 +1,22 @@
--- The words of a line, computed from its front. `Line` says the same of whole lines. No public contract needs it.
+-- The words of a line, computed from its front. `Line` defines the same by whole lines. No public
+-- contract needs it.
 use Rattle.std.specs.Prelude.{ℕ, if◌then◌else◌, List, take, drop, Option, Some, None}
 use Rattle.std.specs.List.{prefix_len, position_or_len, list_all}
 use Rattle.dumpdates.specs.Line.{PlainWords, is_space}
 
--- what stands after the spaces and tabs at the front
+-- the bytes after the spaces and tabs at the front
 unfoldable pub after_spaces : List ℕ → List ℕ
 after_spaces bytes = drop (prefix_len is_space bytes) bytes
 
--- the first word, which is empty where there is none
+-- the first word, which is empty if there is none
 unfoldable pub first_word : List ℕ → List ℕ
 first_word bytes = take (position_or_len is_space (after_spaces bytes)) (after_spaces bytes)
 
--- what stands after the first word
+-- the bytes after the first word
 unfoldable pub after_word : List ℕ → List ℕ
 after_word bytes = drop (position_or_len is_space (after_spaces bytes)) (after_spaces bytes)
 
--- seven words, if there are no more; there may be fewer, and then the last ones are empty
+-- the words of a line, if it has at most seven; if it has fewer, the last ones are empty
 unfoldable pub words_of : List ℕ → Option PlainWords
 words_of line =
     let level = after_word line in

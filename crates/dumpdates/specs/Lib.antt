@@ -1,4 +1,5 @@
--- In reading order: Entry, Dates (a list); Moment, Names, Text (as written); Line, Lines (as read); Stored, Clock, Front, Found (in code).
+-- In reading order. A list: Entry, Dates. As written: Moment, Names, Text. As read: Line, Lines.
+-- Inside the code: Stored, Clock, Front, FoundEntry.
 pub mod Entry
 pub mod Moment
 pub mod Names

@@ -1,4 +1,4 @@
--- How dumpdates is read: line by line. Public contracts cite it.
+-- How dumpdates is read, line by line. Public contracts cite it.
 use Rattle.std.specs.Prelude.{◌≡◌, ◌⊎◌, ℕ, ◌+◌, ◌==◌, List, [], ◌∷◌, ◌++◌, length}
 use Rattle.std.specs.List.{slice_split}
 use Rattle.dumpdates.specs.Entry.{DatesEntry}
@@ -7,11 +7,12 @@ use Rattle.dumpdates.specs.Text.{line_feed}
 use Rattle.dumpdates.specs.declared.fault.DatesFault.{DatesFault}
 use Rattle.dumpdates.specs.declared.fault.DatesFault.TheVariants.{BadLine, BadDate, OutOfMemory}
 
--- the lines of a text, cut at its line feeds; after the last line feed stands one more, which may be empty
+-- the lines of a text, cut at its line feeds; after the last line feed there is one more, which may
+-- be empty
 abbrev pub lines_of : List ℕ → List (List ℕ)
 lines_of bytes = slice_split (λ b. b == line_feed) bytes
 
--- each line is blank, and skipped, or the next entry
+-- each line is blank and skipped, or it is the next entry
 abbrev pub SpellLines : List (List ℕ) → List DatesEntry → Type 0
 SpellLines [] entries = entries ≡ []
 SpellLines (line ∷ lines) entries =
@@ -22,7 +23,7 @@ SpellLines (line ∷ lines) entries =
 abbrev pub SpellsDates : List ℕ → List DatesEntry → Type 0
 SpellsDates bytes entries = SpellLines (lines_of bytes) entries
 
--- the line numbered n, counted from 1, is one of these, and all lines before it are blank or entries
+-- line n, counted from 1, is of this kind, and all lines before it are blank or entries
 pub record IsReached (Kind : List ℕ → Type 0) (bytes : List ℕ) (n : ℕ) : Type 0 where
   pub before : List (List ℕ)
   pub line : List ℕ
@@ -37,7 +38,8 @@ pub record IsReached (Kind : List ℕ → Type 0) (bytes : List ℕ) (n : ℕ) :
 abbrev pub IsEntryLine : List ℕ → Type 0
 IsEntryLine line = (e : DatesEntry) × SpellsLine line e
 
--- The text has this fault: the first bad line, by its number and its kind. Memory is wanted where an entry is reached.
+-- The text has this fault: the number of its first bad line, and why it is bad. An allocation can
+-- fail only for an entry with no bad line before it.
 abbrev pub HasDatesFault : List ℕ → DatesFault → Type 0
 HasDatesFault bytes (BadLine n) = IsReached IsBadLine bytes n
 HasDatesFault bytes (BadDate n) = IsReached IsBadDate bytes n

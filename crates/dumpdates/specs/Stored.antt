@@ -1,19 +1,22 @@
--- Entries in memory, as the plain entries that they are. Public contracts cite it.
+-- The plain values of entries in memory. Public contracts cite it.
 use Rattle.std.specs.Prelude.{Bool, not, List, map}
 use Rattle.dumpdates.specs.Entry.{DatesEntry}
 use Rattle.dumpdates.specs.Dates.{is_same}
 use Rattle.dumpdates.specs.declared.entry.Entry.{Entry}
 use Rattle.dumpdates.specs.declared.stored.Stored.{Stored}
 
+-- the plain value of an entry that lends its name
 abbrev pub plain_entry : Entry → DatesEntry
 plain_entry e = record { name = e.name.now; level = e.level; date = e.date }
 
+-- the plain value of an entry that owns its name
 abbrev pub plain_stored : Stored → DatesEntry
 plain_stored e = record { name = e.name.items; level = e.level; date = e.date }
 
+-- the plain values of a list of entries
 abbrev pub plain_all : List Stored → List DatesEntry
 plain_all entries = map plain_stored entries
 
--- an entry of another name or level
+-- the stored entry has another name or level
 abbrev pub is_other : DatesEntry → Stored → Bool
 is_other e s = not (is_same e (plain_stored s))

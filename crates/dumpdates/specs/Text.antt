@@ -1,15 +1,19 @@
--- How dumpdates is written: a line for each entry, with its date as ctime(3) has it. Public contracts cite it.
+-- How dumpdates is written: a line for each entry, with its date as ctime(3) prints it. Public
+-- contracts cite it.
 use Rattle.std.specs.Prelude.{ℕ, ◌+◌, ◌-◌, ◌/◌, ◌%◌, if◌then◌else◌, nat_lt, List, [], ◌∷◌, ◌++◌, length, replicate, flat_map, decimal}
 use Rattle.dumpdates.specs.Entry.{DatesEntry}
 use Rattle.dumpdates.specs.Moment.{PlainMoment, moment_of}
 use Rattle.dumpdates.specs.Names.{weekday_name, month_name}
 
+-- the byte LF
 abbrev pub line_feed : ℕ
 line_feed = 10
 
+-- the byte of a space
 abbrev pub space : ℕ
 space = 32
 
+-- the byte of a colon
 abbrev pub colon : ℕ
 colon = 58
 
@@ -21,7 +25,7 @@ digit n = 48 + n
 abbrev pub two_digits : ℕ → List ℕ
 two_digits n = digit (n / 10) ∷ digit (n % 10) ∷ []
 
--- a day of a month in two places, with a space in place of a leading 0
+-- a day of a month in two bytes, with a space in place of a leading 0
 abbrev pub day_text : ℕ → List ℕ
 day_text n = if nat_lt n 10 then space ∷ digit n ∷ [] else two_digits n
 
@@ -41,14 +45,14 @@ ctime_text date =
     weekday_name (date / 86400)
     ++ (space ∷ (month_name m.month ++ (space ∷ (day_text m.day ++ (space ∷ (time_text m ++ (space ∷ decimal m.year)))))))
 
--- a name in 32 places, with spaces after it; a longer one as it is
+-- a name padded with spaces to 32 bytes, or unchanged if it is longer
 abbrev pub padded_name : List ℕ → List ℕ
 padded_name name = name ++ replicate (32 - length name) space
 
--- the name, a space, the level, a space, the date, and the end of the line
+-- the name, a space, the level, a space, the date, and a line feed
 unfoldable pub line_text : DatesEntry → List ℕ
 line_text e = padded_name e.name ++ (space ∷ digit e.level ∷ space ∷ (ctime_text e.date ++ line_feed ∷ []))
 
--- the one text that is written of these entries
+-- the text that is written for these entries
 abbrev pub written : List DatesEntry → List ℕ
 written entries = flat_map line_text entries

@@ -1,4 +1,4 @@
-//! The list of entries that a file holds: read, asked, changed, and written again.
+//! The list of entries in the file: reads, queries, changes and writes it.
 
 ghost use Rattle.std.specs.Prelude.{◌≡◌, ◌≤◌, [], List, length, slice_get, option_map, IsOk, IfOk, OnOk, OnErr, IfErr, MatchResult};
 ghost use Rattle.dumpdates.specs.Dates as spec;
@@ -18,7 +18,7 @@ use std::marker::Model;
 
 /// The entries of dumpdates, in the order of their lines.
 ///
-/// Contracts see the list of the entries.
+/// Contracts see the list of entries.
 #[derive(Drop)]
 pub struct Dates {
     alloc: Global,
@@ -36,7 +36,7 @@ impl Model for Dates {
 }
 
 impl Dates {
-    /// A list without entries. It takes no memory yet.
+    /// Returns a list without entries. Allocates nothing.
     pub fn new(alloc: Global) -> Dates
         ensures { result ≡ [] }
     {
@@ -46,15 +46,18 @@ impl Dates {
         }
     }
 
-    /// The entries of a file (dump(8)), one for each of its lines that is not blank, in the order of the lines.
+    /// Reads the entries of a file (dump(8)): one for each line that is not blank, in the order of
+    /// the lines.
     ///
-    /// Lines end with a line feed, but for the last, which need not. A line that holds nothing but spaces and tabs is
-    /// blank. Any other has seven words with spaces or tabs between them, and perhaps before and after them: the name,
-    /// of 1 to 255 bytes of printed ASCII; the level, one digit; and the date as ctime(3) prints it, in UTC: a weekday,
-    /// whichever it is, a month, a day of one or two digits, `hh:mm:ss` with two digits each, and a year of four.
+    /// Each line ends with a line feed, but the last one need not. A line with only spaces and
+    /// tabs, or nothing, is blank. Any other line has seven words with spaces or tabs between them,
+    /// and perhaps before and after them. The first is the name, of 1 to 255 bytes of printable
+    /// ASCII, and the second the level, one digit. The other five are the date as ctime(3) prints
+    /// it, in UTC: a weekday, a month, a day of one or two digits, `hh:mm:ss` with two digits each,
+    /// and a year of four digits. The weekday need not be the right one.
     ///
-    /// Answers `BadLine` or `BadDate` with the number of the first line that is bad, and `OutOfMemory` where memory is
-    /// refused for an entry while no line up to it is bad.
+    /// Fails with `BadLine` or `BadDate` and the number of the first bad line, counted from 1.
+    /// Fails with `OutOfMemory` if an allocation for an entry fails and no line up to it is bad.
     pub fn read(alloc: Global, bytes: &[u8]) -> Result<Dates, DatesFault>
         ensures spelled { IfOk result (λ dates. SpellsDates bytes.now dates) }
         ensures only { (entries : List DatesEntry) → SpellsDates bytes.now entries →
@@ -75,10 +78,11 @@ impl Dates {
         }
     }
 
-    /// The text of the file (dump(8)), a line for each entry: the name, with spaces up to 32 places where it is shorter,
-    /// a space, the level, a space, the date as ctime(3) prints it, in UTC, and a line feed.
+    /// Returns the text of the file (dump(8)), with a line for each entry. A line is the name, a
+    /// space, the level, a space, the date as ctime(3) prints it, in UTC, and a line feed. A name
+    /// of less than 32 bytes is padded with spaces to 32.
     ///
-    /// Answers `OutOfMemory` where memory is refused. Without entries it takes none.
+    /// Fails with `OutOfMemory` if an allocation fails. Without entries it allocates nothing.
     pub fn text(&self) -> Result<Vec<u8>, DatesFault>
         ensures written { IfOk result (λ text. text.items ≡ written self.now) }
         ensures spelled { IfOk result (λ text. SpellsDates text.items self.now) }
@@ -90,8 +94,8 @@ impl Dates {
         Ok(out)
     }
 
-    /// How many entries there are. Each has a name of 1 to 255 bytes of printed ASCII without a space, a level of 0 to 9,
-    /// and a date of 0 to `LAST_SECOND`.
+    /// Returns how many entries there are. Each name has 1 to 255 bytes of printable ASCII without
+    /// a space. Each level is from 0 to 9, and each date from 0 to `LAST_SECOND`.
     pub fn len(&self) -> usize
         ensures value { result ≡ length self.now }
         ensures within { AreEntries self.now }
@@ -99,15 +103,16 @@ impl Dates {
         self.entries.len()
     }
 
-    /// The entry at a place, counted from 0. None where there are no more than that many.
+    /// Returns the entry at an index, counted from 0, or None if the list is not that long.
     pub fn get(&self, at: usize) -> Option<Entry<'_>>
         ensures { option_map plain_entry result ≡ slice_get self.now at }
     {
         Some(self.entries.get(at)?.entry())
     }
 
-    /// The date that a dump of this name and level is based on, in seconds since 1970 began, UTC (dump(8)): that of the
-    /// latest dump of the name at any lower level. It is 0 if no lower level was dumped, and at most `LAST_SECOND`.
+    /// Returns the date that a dump of this name and level is based on, in seconds since 1970
+    /// began, UTC (dump(8)). It is the date of the latest dump of the name at any lower level. It
+    /// is 0 if no lower level was dumped, and at most `LAST_SECOND`.
     pub fn base(&self, name: &str, level: u8) -> u64
         ensures value { result ≡ spec.base_of self.now name.now level }
         ensures bound { result ≤ last_second }
@@ -121,12 +126,12 @@ impl Dates {
         greatest
     }
 
-    /// Enters a dump (dump(8)). It takes the place of the first entry that has its name and level, earlier or later than
-    /// that one, and any more of these go. The entries of other names and levels stay as they are. Without an entry of
-    /// its name and level it stands at the end.
+    /// Enters a dump (dump(8)). It replaces the first entry with its name and level, even if that
+    /// one has a later date, and any further ones are removed. Entries of other names and levels
+    /// are unchanged. If there is no entry with its name and level, it is appended.
     ///
-    /// Answers `OutOfMemory` where a new entry is to stand at the end and memory is refused for it. Nothing has changed
-    /// then.
+    /// Fails with `OutOfMemory` if a new entry is to be appended and an allocation for it fails.
+    /// Then the list is unchanged.
     pub fn enter(&mut self, entry: Entry<'_>) -> Result<(), DatesFault>
         ensures entered { OnOk result (self.new ≡ spec.entered self.old (plain_entry entry.entry)) }
         ensures fault { IfErr result (λ fault. fault ≡ OutOfMemory) }

@@ -1,22 +1,22 @@
-//! An entry, its name, and their limits.
+//! An entry, and the limits of its name, level and date.
 
 ghost use Rattle.std.specs.Prelude.{◌≡◌, ◌↔◌, ◌≤◌, IsTrue, IsUtf8};
 ghost use Rattle.std.proofs.Props.{props};
 ghost use Rattle.dumpdates.specs.Entry.{IsName, last_second};
 
-/// The greatest date: the last second of the year 9999, in seconds since 1970 began.
+/// The latest date: the last second of the year 9999, in seconds since 1970 began.
 pub const LAST_SECOND: u64 = 253_402_300_799;
 
-/// The greatest level of a dump.
+/// The highest level of a dump.
 pub(crate) const LAST_LEVEL: u8 = 9;
 
-/// The most bytes of a name.
+/// The largest size of a name in bytes.
 const NAME_LIMIT: usize = 255;
 
-/// An entry of dumpdates: a file system was dumped at a level, at a date.
+/// An entry of dumpdates: the date of a dump of a file system at a level.
 #[derive(Clone, Copy, Debug)]
 pub struct Entry<'a> {
-    /// The file system: 1 to 255 bytes, each of them printed ASCII and no space.
+    /// The file system: 1 to 255 bytes of printable ASCII without a space.
     pub name: &'a str,
     /// The level of the dump, 0 to 9.
     pub level: u8,
@@ -32,8 +32,8 @@ impl<'a> Entry<'a> {
     ghost use Rattle.dumpdates.specs.Entry.{IsEntry};
     ghost use Rattle.dumpdates.specs.Stored.{plain_entry};
 
-    /// The entry with this name, level and date. None where the name is none that `is_name` takes, the level is above 9,
-    /// or the date above `LAST_SECOND`.
+    /// Returns the entry with this name, level and date. Returns None if `is_name` rejects the
+    /// name, the level is above 9, or the date is above `LAST_SECOND`.
     pub fn new(name: &'a str, level: u8, date: u64) -> Option<Entry<'a>>
         ensures given { IsSome result ↔ IsEntry (record { name = name.now; level = level; date = date }) }
         ensures value { IfSome result (λ e. plain_entry e ≡ record { name = name.now; level = level; date = date }) }
@@ -45,7 +45,8 @@ impl<'a> Entry<'a> {
     }
 }
 
-/// Whether the bytes are a name of a file system: 1 to 255 bytes of printed ASCII without a space. Such bytes are text.
+/// Whether the bytes are a name of a file system: 1 to 255 bytes of printable ASCII without a
+/// space. Such bytes are UTF-8.
 #[tactic(auto, using(crate::proofs::Shapes::name_is_text))]
 pub fn is_name(name: &[u8]) -> bool
     ensures name { IsTrue result ↔ IsName name.now }

@@ -1,21 +1,23 @@
-//! Why a file is not read, or a list not written or not changed.
+//! Reasons why a file was not read, or a list was not written or not changed.
 
 use std::alloc::AllocError;
 use thiserror::Error;
 
-/// Why a file was not read, or a list not written or not changed.
+/// Why a file was not read, or a list was not written or not changed.
 ///
-/// Lines are counted from 1, blank ones too.
+/// Lines are counted from 1, blank ones included.
 #[derive(Clone, Copy, Debug, PartialEq, Eq, Error)]
 pub enum DatesFault {
-    /// The line of this number is the first bad one: it neither is blank nor has the shape of an entry.
+    /// The line with this number is the first bad one: it is not blank and does not have the shape
+    /// of an entry.
     #[error("line {0}: bad line")]
     BadLine(usize),
-    /// The line of this number is the first bad one: it has the shape of an entry, and its date is no day of the
-    /// calendar from 1970 to 9999, or its hour is above 23, or its minute or second above 59.
+    /// The line with this number is the first bad one. It has the shape of an entry, but its date
+    /// is not a day from 1970 to 9999, or its time is not valid. A valid time has an hour up to 23,
+    /// and a minute and a second up to 59.
     #[error("line {0}: bad date")]
     BadDate(usize),
-    /// A growth in memory was refused. Nothing was changed.
+    /// An allocation failed. Nothing was changed.
     #[error("out of memory")]
     OutOfMemory,
 }

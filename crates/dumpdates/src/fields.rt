@@ -1,4 +1,4 @@
-//! What the words of a line say.
+//! Reads the values of a line's words.
 
 ghost use Rattle.std.specs.Prelude.{ℕ, ◌^◌, ◌<◌, ◌≤◌, MatchOption, IfSome};
 ghost use Rattle.dumpdates.specs.FoundEntry.{SpellsMoment, plain_words, plain_fields};
@@ -9,7 +9,7 @@ use crate::moment::Moment;
 use crate::names::{is_weekday, month_named};
 use crate::words::LineWords;
 
-/// What the words of a line say, whether its date is one or not.
+/// The values of a line's words. The date need not be valid.
 #[derive(Clone, Copy)]
 pub(crate) struct LineFields<'a> {
     pub(crate) name: &'a [u8],
@@ -17,7 +17,7 @@ pub(crate) struct LineFields<'a> {
     pub(crate) moment: Moment,
 }
 
-/// What the words say. None where one of them has not its shape.
+/// Returns the values of the words, or None if one of them has the wrong shape.
 pub(crate) fn fields_of(words: LineWords<'_>) -> Option<LineFields<'_>>
     ensures { MatchOption result ((f : PlainFields) → ¬ SpellsWords (plain_words words.entry) f)
         (λ f. SpellsWords (plain_words words.entry) (plain_fields f)) }
@@ -34,7 +34,8 @@ pub(crate) fn fields_of(words: LineWords<'_>) -> Option<LineFields<'_>>
     })
 }
 
-/// The moment that the words say, whether it is one or not.
+/// Returns the moment that the words spell, or None if one of them has the wrong shape. The moment
+/// need not be valid.
 fn moment_in(words: LineWords<'_>) -> Option<Moment>
     ensures { MatchOption result ((f : PlainFields) → ¬ SpellsWords (plain_words words.entry) f)
         (λ m. SpellsMoment (plain_words words.entry) m) }
@@ -53,7 +54,7 @@ fn moment_in(words: LineWords<'_>) -> Option<Moment>
     })
 }
 
-/// A time of day, whether a clock shows it or not.
+/// A time of day, which need not be valid.
 #[derive(Clone, Copy)]
 struct Time {
     hour: u8,
@@ -61,7 +62,7 @@ struct Time {
     second: u8,
 }
 
-/// The time that a word of the shape hh:mm:ss says.
+/// Returns the time that a word of the shape hh:mm:ss spells, or None for any other word.
 fn time_of(word: &[u8]) -> Option<Time>
     ensures { MatchOption result ((h m s : ℕ) → ¬ SpellsTime word.now h m s) (λ t. SpellsTime word.now t.hour t.minute t.second) }
 {
@@ -78,7 +79,8 @@ fn time_of(word: &[u8]) -> Option<Time>
     })
 }
 
-/// The number that a word of so many digits writes, of which there are 4 at most.
+/// Returns the number that a word of `least` to `most` digits spells, or None for any other word.
+/// `most` is at most 4.
 fn number(text: &[u8], least: usize, most: usize) -> Option<u16>
     requires { most ≤ 4 }
     ensures value { MatchOption result ((n : ℕ) → ¬ SpellsDigits least most text.now n) (λ n. SpellsDigits least most text.now n) }

@@ -1,4 +1,4 @@
-//! The lines of a file, one after the other.
+//! Reads a file line by line.
 
 ghost use Rattle.std.specs.Prelude.{◌≡◌, ◌==◌, ◌≤◌, length, OnOk, IfErr};
 ghost use Rattle.std.specs.List.{position_or_len};
@@ -12,7 +12,7 @@ use crate::list::push;
 use crate::stored::Stored;
 use std::alloc::Global;
 
-/// How many bytes stand before the first line feed.
+/// Returns how many bytes come before the first line feed, or the number of all bytes without one.
 pub(crate) fn line_len(bytes: &[u8]) -> usize
     ensures value { result ≡ position_or_len (λ b. b == line_feed) bytes.now }
     ensures within { result ≤ length bytes.now }
@@ -25,7 +25,8 @@ pub(crate) fn line_len(bytes: &[u8]) -> usize
     bytes.len()
 }
 
-/// Adds the entry of the line of that number at the end, where the line is not blank.
+/// Appends the entry on a line, unless the line is blank. Fails with `number`, which is the line's,
+/// if the line is bad, and with `OutOfMemory` if an allocation fails.
 pub(crate) fn read_line(
     alloc: Global,
     entries: &mut Vec<Stored>,

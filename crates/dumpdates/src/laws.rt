@@ -1,4 +1,4 @@
-//! Laws of the file's definitions, each the contract of a call that does nothing.
+//! Laws of the file's definitions. Each is the contract of a function that does nothing.
 
 ghost use Rattle.std.specs.Prelude.{◌≡◌, ◌⊎◌, ℕ, ◌≤◌, List, [], ◌∷◌, filter};
 ghost use Rattle.dumpdates.specs.Dates.{is_same, others, entered};
@@ -9,10 +9,11 @@ ghost use Rattle.dumpdates.specs.Text.{written};
 ghost use Rattle.dumpdates.specs.declared.fault.DatesFault.{DatesFault};
 ghost use Rattle.dumpdates.specs.declared.fault.DatesFault.TheVariants.{BadLine, BadDate, OutOfMemory};
 
-/// A text spells a list of entries or has a first bad line, and not both: it spells one list at most, of entries within
-/// their limits, and then has no bad line; and it has one first bad line at most, of one kind.
+/// A text either spells a list of entries or has a first bad line, but not both. It spells one list
+/// at most, and the entries are within their limits. It has one first bad line at most, of one
+/// kind.
 ///
-/// It does nothing: its contract is a law of the definitions.
+/// The function does nothing: its contract is a law of the definitions.
 pub fn one_reading()
     ensures some { (bytes : List ℕ) → ((entries : List DatesEntry) × SpellsDates bytes entries)
         ⊎ ((n : ℕ) × (HasDatesFault bytes (BadLine n) ⊎ HasDatesFault bytes (BadDate n))) }
@@ -26,19 +27,20 @@ pub fn one_reading()
         (fault ≡ other) ⊎ ((fault ≡ OutOfMemory) ⊎ (other ≡ OutOfMemory)) }
 {}
 
-/// What is written of entries spells just these entries: reading it gives the same list. The date that is written is the
-/// date that is read.
+/// The text that is written for a list of entries spells just these entries, so reading it returns
+/// the same list. The date that is read is the date that was written.
 ///
-/// It does nothing: its contract is a law of the definitions.
+/// The function does nothing: its contract is a law of the definitions.
 pub fn written_and_read()
     ensures spelled { (entries : List DatesEntry) → AreEntries entries → SpellsDates (written entries) entries }
     ensures moment { (date : ℕ) → date ≤ last_second → IsMoment (moment_of date) × (seconds_at (moment_of date) ≡ date) }
 {}
 
-/// An entering leaves one entry of that name and level, the new one (dump(8)), and those of other names and levels as
-/// they were. To enter it a second time changes nothing. Entries within their limits stay so.
+/// Entering a dump leaves one entry of its name and level, the new one (dump(8)). Entries of other
+/// names and levels are unchanged. Entering it a second time changes nothing. Entries within their
+/// limits stay so.
 ///
-/// It does nothing: its contract is a law of the definitions.
+/// The function does nothing: its contract is a law of the definitions.
 pub fn one_entry()
     ensures one { (entries : List DatesEntry) (e : DatesEntry) → filter (is_same e) (entered entries e) ≡ e ∷ [] }
     ensures stay { (entries : List DatesEntry) (e : DatesEntry) → others e (entered entries e) ≡ others e entries }

@@ -1,7 +1,7 @@
 //! The file dumpdates of dump(8): which file systems were dumped at which levels, and when.
 //!
-//! `Dates` is its list of entries. It is read exactly, written exactly, asked for the base date of a dump, and takes
-//! new entries while those of other names and levels stay.
+//! `Dates` is the list of its entries. It reads and writes the file exactly, and returns the base
+//! date of a dump. Entering a dump changes no entry of another name or level.
 #![tactic(auto)]
 
 mod dates;

@@ -1,4 +1,4 @@
-//! A line of the file, as what it is.
+//! Reads a line of the file.
 
 ghost use Rattle.dumpdates.specs.FoundEntry.{IsLineFound};
 
@@ -6,7 +6,7 @@ use crate::fields::fields_of;
 use crate::moment::seconds_of;
 use crate::words::{is_blank, words_of};
 
-/// An entry in a line.
+/// The entry on a line.
 #[derive(Clone, Copy)]
 pub(crate) struct FoundEntry<'a> {
     pub(crate) name: &'a [u8],
@@ -17,13 +17,13 @@ pub(crate) struct FoundEntry<'a> {
 /// Why a line is neither blank nor an entry.
 #[derive(Clone, Copy)]
 pub(crate) enum EntryFault {
-    /// It has not the shape of an entry.
+    /// It does not have the shape of an entry.
     BadShape,
-    /// It has the shape, and its date or time is none.
+    /// It has the shape of an entry, but its date or time is not valid.
     NoDate,
 }
 
-/// The entry that a line is. None for a blank one.
+/// Returns the entry on a line, or None if the line is blank. Fails if the line is neither.
 pub(crate) fn line_of(line: &[u8]) -> Result<Option<FoundEntry<'_>>, EntryFault>
     ensures { IsLineFound line.now result }
 {

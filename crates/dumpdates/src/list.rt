@@ -1,4 +1,4 @@
-//! A list of stored entries, and how one is entered.
+//! A list of stored entries, and how an entry is added or replaced.
 
 ghost use Rattle.std.specs.Prelude.{◌≡◌, ◌+◌, ◌≤◌, ◌∷◌, ◌++◌, [], Some, length, take, drop, filter, position, OnOk, OnErr};
 ghost use Rattle.dumpdates.specs.Dates as spec;
@@ -11,14 +11,14 @@ use crate::line::FoundEntry;
 use crate::stored::Stored;
 use std::alloc::{AllocError, Global};
 
-/// The place of the first entry of the same name and level.
+/// Returns the index of the first entry with the same name and level, or None if there is none.
 pub(crate) fn position_of(entries: &[Stored], entry: Entry<'_>) -> Option<usize>
     ensures { result ≡ position (λ e. spec.is_same (plain_entry entry.entry) (plain_stored e)) entries.now }
 {
     entries.iter().position(|other| other.is_same(entry))
 }
 
-/// Adds the entry at the end. Where a growth is refused nothing changed.
+/// Appends an entry. If an allocation fails, the list is unchanged.
 pub(crate) fn append(
     alloc: Global,
     entries: &mut Vec<Stored>,
@@ -35,7 +35,7 @@ pub(crate) fn append(
     push(alloc, entries, found)
 }
 
-/// Adds what was found at the end. Where a growth is refused nothing changed.
+/// Appends the entry that was found on a line. If an allocation fails, the list is unchanged.
 pub(crate) fn push(
     alloc: Global,
     entries: &mut Vec<Stored>,
@@ -51,7 +51,8 @@ pub(crate) fn push(
     Ok(())
 }
 
-/// Gives the entry at that place, of the same name and level, the new one's date, and takes out later ones of them.
+/// Sets the date of the entry at `at`, the first with the name and level of `entry`, and removes
+/// any later ones with them.
 pub(crate) fn replace(entries: &mut Vec<Stored>, at: usize, entry: Entry<'_>)
     requires { position (λ e. spec.is_same (plain_entry entry) (plain_stored e)) entries.old.items ≡ Some at }
     ensures { plain_all entries.new.items ≡ spec.entered (plain_all entries.old.items) (plain_entry entry.entry) }
@@ -60,7 +61,7 @@ pub(crate) fn replace(entries: &mut Vec<Stored>, at: usize, entry: Entry<'_>)
     drop_same(entries, at + 1, entry);
 }
 
-/// Takes out the entries of the same name and level from that place on.
+/// Removes the entries with the same name and level from index `from` on.
 fn drop_same(entries: &mut Vec<Stored>, from: usize, entry: Entry<'_>)
     requires { from ≤ length entries.old.items }
     ensures { entries.new.items ≡ take from entries.old.items
@@ -71,7 +72,8 @@ fn drop_same(entries: &mut Vec<Stored>, from: usize, entry: Entry<'_>)
     entries.truncate(from + kept);
 }
 
-/// Moves the entries of other names or levels to the front, in their order, and answers how many.
+/// Moves the entries of other names or levels to the front, in their order, and returns how many
+/// there are.
 fn keep_others(entries: &mut [Stored], entry: Entry<'_>) -> usize
     ensures kept { take result entries.new ≡ filter (is_other (plain_entry entry.entry)) entries.old }
     ensures within { result ≤ length entries.new }

@@ -1,4 +1,4 @@
-//! A moment: what a calendar and a clock of UTC show, and the seconds that it stands for.
+//! Converts between a date and time in UTC and seconds since 1970 began.
 
 ghost use Rattle.std.specs.Prelude.{◌≡◌, ◌↔◌, ◌≤◌, ◌/◌, IsSome, IfSome};
 ghost use Rattle.dumpdates.specs.Moment as spec;
@@ -8,10 +8,10 @@ ghost use Rattle.dumpdates.specs.Clock.{plain_moment};
 use crate::LAST_SECOND;
 use jiff::civil::{Date, date};
 
-/// The seconds of a day.
+/// The number of seconds in a day.
 pub(crate) const DAY: u64 = 86_400;
 
-/// What a calendar and a clock of UTC show.
+/// A date and a time of day in UTC, which need not be valid.
 #[derive(Clone, Copy)]
 pub(crate) struct Moment {
     pub(crate) year: u16,
@@ -22,7 +22,7 @@ pub(crate) struct Moment {
     pub(crate) second: u8,
 }
 
-/// The year, the month and the day of a day number, where 0 is 1 January 1970.
+/// Returns the year, the month and the day of a day number. Day 0 is 1 January 1970.
 fn day_numbered(number: u64) -> (u16, u8, u8)
     requires { number ≤ 2932896 }
     ensures year { result.0 ≡ (spec.day_numbered number).year }
@@ -34,7 +34,7 @@ fn day_numbered(number: u64) -> (u16, u8, u8)
     (day.year as u16, day.month, day.day)
 }
 
-/// The date and the time that a calendar and a clock of UTC show so many seconds after 1970 began.
+/// Returns the date and the time in UTC that are `seconds` after 1970 began.
 pub(crate) fn moment_of(seconds: u64) -> Moment
     requires { seconds ≤ LAST_SECOND }
     ensures value { plain_moment result ≡ spec.moment_of seconds }
@@ -52,7 +52,8 @@ pub(crate) fn moment_of(seconds: u64) -> Moment
     }
 }
 
-/// The seconds since 1970 began, where the calendar has the day and a clock shows the time.
+/// Returns the seconds since 1970 began. Returns None if the calendar has no such day from 1970 to
+/// 9999, or the time is not valid.
 pub(crate) fn seconds_of(moment: Moment) -> Option<u64>
     ensures given { IsSome result ↔ IsMoment (plain_moment moment) }
     ensures value { IfSome result (λ n. n ≡ spec.seconds_at (plain_moment moment)) }

@@ -17,14 +17,14 @@ const MONTHS: [[u8; 3]; 12] = [
     *b"Nov", *b"Dec",
 ];
 
-/// The weekday of a day number, where day 0 was a Thursday.
+/// Returns the name of the weekday of a day number. Day 0 was a Thursday.
 pub(crate) fn weekday_name(day: u64) -> [u8; 3]
     ensures { result ≡ spec.weekday_name day }
 {
     WEEKDAYS[((day % 7 + 3) % 7) as usize]
 }
 
-/// The name of a month, of which the first is 1.
+/// Returns the name of a month. The first month is 1.
 pub(crate) fn month_name(month: u8) -> [u8; 3]
     requires { IsInRange 1 12 month }
     ensures { result ≡ spec.month_name month }
@@ -39,7 +39,7 @@ pub(crate) fn is_weekday(word: &[u8]) -> bool
     WEEKDAYS.iter().any(|name| name.as_slice() == word)
 }
 
-/// The month of that name.
+/// Returns the month with this name, or None if there is none. The first month is 1.
 pub(crate) fn month_named(word: &[u8]) -> Option<u8>
     ensures { MatchOption result ((m : ℕ) → ¬ SpellsMonth word.now m) (λ m. SpellsMonth word.now m) }
 {
@@ -47,7 +47,7 @@ pub(crate) fn month_named(word: &[u8]) -> Option<u8>
     Some(at as u8 + 1)
 }
 
-/// The place of a name among those of the months, from 0.
+/// Returns the index of a name among those of the months, counted from 0, or None if it is not one.
 fn month_place(word: &[u8]) -> Option<usize>
     ensures place { result ≡ position (λ name. bytes_eq name word.now) spec.month_names }
     ensures bound { IfSome result (λ at. at < 12) }

@@ -24,7 +24,7 @@ impl Stored {
     ghost use Rattle.dumpdates.specs.Entry.{IsEntry};
     ghost use Rattle.dumpdates.specs.Stored.{plain_entry, plain_stored};
 
-    /// A copy of an entry.
+    /// Copies an entry. Fails if an allocation fails.
     pub(crate) fn new(
         alloc: Global,
         name: &[u8],
@@ -41,7 +41,7 @@ impl Stored {
         })
     }
 
-    /// The entry, which lends its name.
+    /// Returns the entry, and lends its name.
     pub(crate) fn entry(&self) -> Entry<'_>
         ensures { plain_entry result ≡ plain_stored self.now }
     {
@@ -52,14 +52,14 @@ impl Stored {
         }
     }
 
-    /// Whether this is an entry of the same name and level.
+    /// Whether this entry has the same name and level.
     pub(crate) fn is_same(&self, entry: Entry<'_>) -> bool
         ensures { result ≡ spec.is_same (plain_entry entry.entry) (plain_stored self.now) }
     {
         self.name.as_slice() == entry.name.as_bytes() && self.level == entry.level
     }
 
-    /// Whether this is an entry of that name with a lower level.
+    /// Whether this entry has this name and a lower level.
     pub(crate) fn is_below(&self, name: &str, level: u8) -> bool
         ensures { result ≡ spec.is_below name.now level (plain_stored self.now) }
     {

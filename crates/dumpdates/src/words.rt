@@ -1,4 +1,4 @@
-//! The words of a line.
+//! Splits a line into its words.
 
 ghost use Rattle.std.specs.Prelude.{◌≡◌, ◌≤◌, length, option_map};
 ghost use Rattle.std.specs.List.{prefix_len, position_or_len, list_all};
@@ -6,7 +6,7 @@ ghost use Rattle.dumpdates.specs.FoundEntry.{plain_words};
 ghost use Rattle.dumpdates.specs.Front as spec;
 ghost use Rattle.dumpdates.specs.Line as line_spec;
 
-/// The seven words of an entry's line. Where a line has fewer, the last ones are empty.
+/// The seven words of an entry's line. If a line has fewer, the last ones are empty.
 #[derive(Clone, Copy)]
 pub(crate) struct LineWords<'a> {
     pub(crate) name: &'a [u8],
@@ -18,7 +18,7 @@ pub(crate) struct LineWords<'a> {
     pub(crate) year: &'a [u8],
 }
 
-/// The words of a line that has seven at most.
+/// Returns the words of a line, or None if it has more than seven.
 #[tactic(auto, unfolding(crate::specs::Front::words_of))]
 pub(crate) fn words_of(line: &[u8]) -> Option<LineWords<'_>>
     ensures { option_map plain_words result ≡ spec.words_of line.now }
@@ -44,7 +44,7 @@ pub(crate) fn words_of(line: &[u8]) -> Option<LineWords<'_>>
     })
 }
 
-/// Whether the bytes are spaces and tabs alone, or none.
+/// Whether the bytes are only spaces and tabs, or there are none.
 pub(crate) fn is_blank(bytes: &[u8]) -> bool
     ensures { result ≡ list_all line_spec.is_space bytes.now }
 {
@@ -57,7 +57,7 @@ fn is_space(byte: u8) -> bool
     byte == b' ' || byte == b'\t'
 }
 
-/// The first word, and what stands after it. The word is empty where there is none.
+/// Returns the first word, and the bytes after it. The word is empty if there is none.
 #[tactic(auto, unfolding(crate::specs::Front::first_word, crate::specs::Front::after_word, crate::specs::Front::after_spaces))]
 fn first_word(bytes: &[u8]) -> (&[u8], &[u8])
     ensures word { result.0.now ≡ spec.first_word bytes.now }
@@ -67,7 +67,7 @@ fn first_word(bytes: &[u8]) -> (&[u8], &[u8])
     text.split_at(word_len(text))
 }
 
-/// How many spaces and tabs stand at the front.
+/// Returns how many spaces and tabs the bytes begin with.
 fn space_len(bytes: &[u8]) -> usize
     ensures value { result ≡ prefix_len line_spec.is_space bytes.now }
     ensures within { result ≤ length bytes.now }
@@ -80,7 +80,8 @@ fn space_len(bytes: &[u8]) -> usize
     bytes.len()
 }
 
-/// How many bytes stand before the first space or tab.
+/// Returns how many bytes come before the first space or tab, or the number of all bytes without
+/// one.
 fn word_len(bytes: &[u8]) -> usize
     ensures value { result ≡ position_or_len line_spec.is_space bytes.now }
     ensures within { result ≤ length bytes.now }

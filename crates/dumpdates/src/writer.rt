@@ -1,4 +1,4 @@
-//! The line of an entry, as it is written.
+//! Writes the line of an entry.
 
 ghost use Rattle.std.specs.Prelude.{◌≡◌, ◌-◌, ◌<◌, ◌≤◌, [], ◌∷◌, ◌++◌, IsOk, OnOk};
 ghost use Rattle.dumpdates.specs.Clock.{plain_moment};
@@ -13,7 +13,7 @@ use crate::stored::Stored;
 use itoa::Buffer;
 use std::alloc::AllocError;
 
-/// How many places a name takes at least.
+/// The number of bytes to which a name is padded.
 const NAME_PLACES: usize = 32;
 
 const SPACES: [u8; NAME_PLACES] = [b' '; NAME_PLACES];
@@ -39,7 +39,7 @@ fn push_line(out: &mut Vec<u8>, entry: &Stored) -> Result<(), AllocError>
     out.extend_from_slice(b"\n")
 }
 
-/// Appends a name, and spaces up to its places.
+/// Appends a name, padded with spaces to 32 bytes if it is shorter.
 fn push_padded(out: &mut Vec<u8>, name: &[u8]) -> Result<(), AllocError>
     ensures { OnOk result (out.new.items ≡ out.old.items ++ spec.padded_name name.now) }
 {
@@ -47,7 +47,7 @@ fn push_padded(out: &mut Vec<u8>, name: &[u8]) -> Result<(), AllocError>
     out.extend_from_slice(&SPACES[name.len().min(NAME_PLACES)..])
 }
 
-/// Appends a date as ctime(3) has it, in UTC.
+/// Appends a date as ctime(3) prints it, in UTC, without the line feed.
 fn push_ctime(out: &mut Vec<u8>, date: u64) -> Result<(), AllocError>
     requires { date ≤ LAST_SECOND }
     ensures { OnOk result (out.new.items ≡ out.old.items ++ spec.ctime_text date) }
@@ -59,7 +59,7 @@ fn push_ctime(out: &mut Vec<u8>, date: u64) -> Result<(), AllocError>
     out.extend_from_slice(year.format(moment.year).as_bytes())
 }
 
-/// Appends the weekday of a date, the month and the day.
+/// Appends the weekday of a date, the month and the day, each with a space after it.
 fn push_day(out: &mut Vec<u8>, date: u64, moment: Moment) -> Result<(), AllocError>
     requires { IsMoment (plain_moment moment) }
     ensures { OnOk result (out.new.items ≡ out.old.items ++ spec.day_words date (plain_moment moment)) }
@@ -77,7 +77,7 @@ fn push_word(out: &mut Vec<u8>, word: &[u8]) -> Result<(), AllocError>
     out.extend_from_slice(b" ")
 }
 
-/// A number as two digits.
+/// Returns a number below 100 as two digits.
 fn two_digits(n: u8) -> [u8; 2]
     requires { n < 100 }
     ensures { result ≡ spec.two_digits n }
@@ -85,7 +85,7 @@ fn two_digits(n: u8) -> [u8; 2]
     [b'0' + n / 10, b'0' + n % 10]
 }
 
-/// A day of a month in two places, with a space in place of a leading 0.
+/// Returns a day of a month in two bytes, with a space in place of a leading 0.
 fn day_text(day: u8) -> [u8; 2]
     requires { day < 100 }
     ensures { result ≡ spec.day_text day }
@@ -97,7 +97,7 @@ fn day_text(day: u8) -> [u8; 2]
     }
 }
 
-/// The time of day, as hh:mm:ss.
+/// Returns the time of day as hh:mm:ss.
 fn time_text(moment: Moment) -> [u8; 8]
     requires { IsMoment (plain_moment moment) }
     ensures { result ≡ spec.time_text (plain_moment moment) }

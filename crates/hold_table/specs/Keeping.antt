@@ -1,4 +1,5 @@
--- Why each step keeps the hold rule, and what each step tells its seat. No public contract needs it.
+-- Why each step keeps the hold rule, and what a seat learns from each step. No public contract
+-- needs it.
 use Rattle.std.specs.Prelude.{◌≡◌, ◌≢◌, ◌⊎◌, ◌↔◌, ℕ, ◌+◌, ◌-◌, ◌^◌, ◌<◌, ◌≤◌, min, IsTrue, true, false, ◌==◌, cond, List, [], ◌∷◌, map, length, slice_index, slice_index_or, Some}
 use mathlib.Core.Option.{some}
 use lib.ListN.{get_elem?}
@@ -13,46 +14,50 @@ use Rattle.hold_table.specs.declared.rule.Seated.{Seated}
 use Rattle.hold_table.specs.Rule.{seated, HoldRule, IsRuledStep}
 use Rattle.hold_table.specs.Seats.{TableSeat, table_seat, FoundHolder}
 
--- No seat: it stands where a list has none.
+-- no seat: the value at an index where a list has none
 abbrev pub nobody : Seated
 nobody = seated (newcomer 0) 0 0
 
--- What a seat of the kit's table knows: the seats that it stands for. It is one, but in `HoldTable::apart` and `HoldTable::close`.
+-- The seats that one seat of `atomic_table` represents. That is one seat, except inside
+-- `HoldTable::apart` and `HoldTable::close`.
 abbrev pub Company : Type 0
 Company = List Seated
 
+-- the first seat of a company
 abbrev pub first_of : Company → Seated
 first_of c = slice_index_or c 0 nobody
 
+-- the second seat of a company
 abbrev pub second_of : Company → Seated
 second_of c = slice_index_or c 1 nobody
 
--- a seat of the kit's table, which has no slots
+-- a seat of `atomic_table`, which has no slots
 abbrev pub Sat : Type 0
 Sat = Me (Unit {0}) Company
 
--- it stands for one seat
+-- it represents one seat
 abbrev pub IsAlone : Sat → Type 0
 IsAlone me = me ≡ (first_of me.0 ∷ [], [])
 
--- it stands for two
+-- it represents two seats
 abbrev pub IsPair : Sat → Type 0
 IsPair me = me ≡ (first_of me.0 ∷ second_of me.0 ∷ [], [])
 
--- a seat once its numbers are handed on
+-- a seat after it has passed its spare numbers on
 abbrev pub settled : Seated → Seated
 settled x = seated x.view x.made 0
 
--- the seat that they are handed on to
+-- the new seat to which they are passed on
 abbrev pub following : Seated → Seated
 following x = seated (newcomer (x.view.number + 1)) 0 (x.spare - 1)
 
--- a seat after one step more
+-- a seat after one more step, when it knows v
 abbrev pub stepped : Seated → View → Seated
 stepped x v = seated v (x.made + 1) x.spare
 
--- The seat at the place k has the number k + 1 and a mark for each drive that there can be, and it shows its steps. Only the newest
--- seat has numbers left to hand on. A seat that has made no step holds no drive.
+-- The seat at index k has the number k + 1 and a mark for each drive that a table can have. It
+-- shows how many steps it has made. Only the newest seat has numbers left to pass on. A seat that
+-- has made no step holds no drive.
 pub record IsNumbered (count k : ℕ) (x : Seated) : Type 0 where
   pub number : x.view.number ≡ k + 1
   pub most : x.view.number + x.spare ≤ SEAT_LIMIT
@@ -65,7 +70,8 @@ pub record IsNumbered (count k : ℕ) (x : Seated) : Type 0 where
 abbrev pub WasHeld : List Seated → ℕ → ℕ → Type 0
 WasHeld seats d n = (n ≡ 0) ⊎ ((k : ℕ) × (x : Seated) × (get_elem? seats k ≡ some x) × (x.view.number ≡ n) × (IsTrue (has x.view d) ⊎ (2 ≤ x.made)))
 
--- A seat holds a drive exactly where the drive's word is its number. What a seat's last step found was so.
+-- A seat holds a drive if and only if the drive's word is its number. The number that a seat's last
+-- step found was that of a holder, or 0.
 pub record IsTableKept (drives : ℕ) (words : List ℕ) (seats : List Seated) : Type 0 where
   pub size : length words ≡ drives
   pub small : drives ≤ DRIVE_LIMIT
@@ -76,24 +82,25 @@ pub record IsTableKept (drives : ℕ) (words : List ℕ) (seats : List Seated) :
       → has x.view d ≡ (slice_index words d == x.view.number)
   pub found : (k : ℕ) (x : Seated) (step : LastStep) → get_elem? seats k ≡ some x → x.view.last ≡ Some step → WasHeld seats step.drive step.found
 
--- the k-th company has the seat x at the place j
+-- the company at index k has the seat x at index j
 abbrev pub Lies : List Company → ℕ → ℕ → Seated → Type 0
 Lies companies k j x = (c : Company) × (get_elem? companies k ≡ some c) × (get_elem? c j ≡ some x)
 
--- each seat of a company is one of the seats, by its number, and no number lies at two places
+-- each seat of a company is the one in `seats` with its number, and no number is at two places
 pub record IsSpread (seats : List Seated) (companies : List Company) : Type 0 where
   pub known : (k j : ℕ) (x : Seated) → Lies companies k j x → get_elem? seats (x.view.number - 1) ≡ some x
   pub once : (k j : ℕ) (x : Seated) (m i : ℕ) (y : Seated) → Lies companies k j x → Lies companies m i y
       → x.view.number ≡ y.view.number → (k ≡ m) × (j ≡ i)
 
--- the rule as it is kept, the hold rule in its own words, and where the seats lie
+-- what the table keeps between steps: the rule for its words and seats, the hold rule, and which
+-- company has which seat
 pub record KeepsRule (drives : ℕ) (words : List ℕ) (companies : List Company) : Type 0 where
   pub seats : List Seated
   pub kept : IsTableKept drives words seats
   pub rule : HoldRule words seats
   pub spread : IsSpread seats companies
 
--- a step by one seat, after which it is this one
+-- after a step by one seat, that seat is x
 abbrev pub StepsTo : Sat → Seated → Type 0
 StepsTo me' x = IsAlone me' × (first_of me'.0 ≡ x)
 
@@ -120,11 +127,12 @@ LooksAt s me found me' =
     × ((found == (first_of me.0).view.number) ≡ has (first_of me.0).view s.word)
     × IsRuledStep s.word (first_of me.0).view (first_of me.0).made found found (first_of me'.0).view
 
--- the number found is that of a seat exactly where the seat holds the drive
+-- the number found is that of the seat if and only if the seat holds the drive
 abbrev pub FindsAs : ℕ → ℕ → Seated → Type 0
 FindsAs found d x = found ≡ x.view.number ↔ IsTrue (has x.view d)
 
--- Two seats are apart, also by what their last steps found.
+-- The two seats have different numbers and hold no drive in common. What the last step of each
+-- found agrees with the other.
 abbrev pub AreApart : Seated → Seated → Type 0
 AreApart x y =
     (x.view.number ≢ y.view.number)
@@ -132,7 +140,8 @@ AreApart x y =
     × FoundHolder x.view y.view y.made
     × FoundHolder y.view x.view x.made
 
--- A load that found `found` while it stands for two seats changes neither, and tells that they are apart.
+-- A look by a company of two seats that found `found`. It changes neither seat, and shows that they
+-- are apart.
 abbrev pub ComparesAt : Step (Unit {0}) → Sat → ℕ → Sat → Type 0
 ComparesAt s me found me' =
     (me' ≡ me)
@@ -141,7 +150,7 @@ ComparesAt s me found me' =
     × FindsAs found s.word (second_of me.0)
     × AreApart (first_of me.0) (second_of me.0)
 
--- a newcomer stands for no seat
+-- a new company represents no seat
 abbrev pub EntersAt : Step (Unit {0}) → Sat → ℕ → Sat → Type 0
 EntersAt s me found me' = me'.0 ≡ []
 

@@ -1,4 +1,5 @@
--- In reading order: Seats (what contracts see); Rule (what each step may do); Keeping (why the steps keep to it); Closing (what is left at the end).
+-- In reading order: Seats (what contracts see); Rule and Moves (what each step may do); Keeping
+-- (why the steps keep the rule); Closing (what is left at the end).
 pub mod Rule
 pub mod Moves
 pub mod Keeping

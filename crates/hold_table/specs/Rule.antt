@@ -1,4 +1,5 @@
--- The rule that holds between any two atomic steps at the table, and one step under it. Public contracts cite it.
+-- The rule that holds between any two atomic steps on the table, and one step under it. Public
+-- contracts cite it.
 use Rattle.std.specs.Prelude.{◌≡◌, ◌⊎◌, ℕ, ◌+◌, ◌-◌, ◌^◌, ◌<◌, ◌≤◌, min, true, false, IsTrue, List, length, slice_index, slice_set}
 use mathlib.Core.Option.{some}
 use lib.ListN.{get_elem?}
@@ -7,7 +8,8 @@ use Rattle.drives.specs.declared.view.View.{View}
 use Rattle.drives.specs.Holding.{has}
 use Rattle.hold_table.specs.declared.rule.Seated.{Seated}
 
--- what the table knows of a seat: what the seat knows, how many steps it made, and how many numbers it may hand on
+-- what the table knows about a seat: what the seat knows, how many steps it has made, and how many
+-- numbers it may pass on
 abbrev pub seated : View → ℕ → ℕ → Seated
 seated v made spare = record { view = v; made = made; spare = spare }
 
@@ -19,7 +21,7 @@ HasNoHolder seats d = (k : ℕ) (x : Seated) → get_elem? seats k ≡ some x �
 abbrev pub IsSeated : List Seated → ℕ → Type 0
 IsSeated seats n = (k : ℕ) × (x : Seated) × (get_elem? seats k ≡ some x) × (x.view.number ≡ n)
 
--- the seat holds drive d exactly where its number is n
+-- the seat holds drive d if and only if its number is n
 abbrev pub HoldsAs : ℕ → ℕ → Seated → Type 0
 HoldsAs n d x = (x.view.number ≡ n → has x.view d ≡ true) × (has x.view d ≡ true → x.view.number ≡ n)
 
@@ -31,23 +33,24 @@ HasOneHolder seats n d = IsSeated seats n × ((k : ℕ) (x : Seated) → get_ele
 abbrev pub IsHolder : List Seated → ℕ → ℕ → Type 0
 IsHolder seats d n = ((n ≡ 0) × HasNoHolder seats d) ⊎ HasOneHolder seats n d
 
--- the seat at the place k holds drive d
+-- the seat at index k holds drive d
 abbrev pub IsHeldAt : List Seated → ℕ → ℕ → Type 0
 IsHeldAt seats k d = (x : Seated) × (get_elem? seats k ≡ some x) × IsTrue (has x.view d)
 
--- The hold rule, of the drives' words and of all seats.
+-- The hold rule, for the words of the drives and all seats.
 pub record HoldRule (words : List ℕ) (seats : List Seated) : Type 0 where
   -- the numbers of the seats are from 1 to SEAT_LIMIT and distinct
   pub ranged : (k : ℕ) (x : Seated) → get_elem? seats k ≡ some x → (1 ≤ x.view.number) × (x.view.number ≤ SEAT_LIMIT)
   pub distinct : (j k : ℕ) (x y : Seated) → get_elem? seats j ≡ some x → get_elem? seats k ≡ some y
       → x.view.number ≡ y.view.number → j ≡ k
-  -- each word tells who holds that drive
+  -- each word is the number of the seat that holds the drive, or 0 if none does
   pub held : (d : ℕ) → d < length words → IsHolder seats d (slice_index words d)
-  -- a seat shows the number of steps that it made, up to the greatest u64
+  -- a seat shows how many steps it has made, up to the greatest u64
   pub shown : (k : ℕ) (x : Seated) → get_elem? seats k ≡ some x → x.view.steps ≡ min x.made (2 ^ 64 - 1)
 
--- One atomic step at the word of drive d, by a seat that knew `old` after `made` steps: it finds `found` there, leaves
--- `left` there, and knows `new` then. It changes no other word and no other seat, and the hold rule holds before and after it.
+-- One atomic step on the word of drive d, by a seat that knew `old` after `made` steps. It finds
+-- `found` there and leaves `left` there, and the seat then knows `new`. It changes no other word
+-- and no other seat. The hold rule holds before and after it.
 pub record IsRuledStep (d : ℕ) (old : View) (made found left : ℕ) (new : View) : Type 0 where
   pub words : List ℕ
   pub seats : List Seated

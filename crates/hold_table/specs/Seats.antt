@@ -6,16 +6,17 @@ use Rattle.drives.specs.declared.view.LastStep.{LastStep}
 use Rattle.drives.specs.declared.view.View.{View}
 use Rattle.drives.specs.Holding.{has, newcomer}
 
--- a seat: its table, what it knows, and how many steps it made
+-- a seat: its table, what it knows, and how many steps it has made
 pub record TableSeat : Type 0 where
   pub table : TableId
   pub view : View
   pub made : ℕ
 
+-- the seat with these parts
 abbrev pub table_seat : TableId → View → ℕ → TableSeat
 table_seat table view made = record { table = table; view = view; made = made }
 
--- the seat after one step more, which knows v then
+-- the seat after one more step, when it knows v
 abbrev pub next : TableSeat → View → TableSeat
 next s v = table_seat s.table v (s.made + 1)
 
@@ -30,7 +31,8 @@ pub record IsSeatAt (t : TableId) (s : TableSeat) : Type 0 where
   pub numbered : 1 ≤ s.view.number
   pub dealt : s.view.number ≤ SEAT_LIMIT
 
--- If the last step of a seat that knows `v` found the number of a seat that knows `other`, that seat holds the drive of the step, or
--- it has made two steps or more, as who took a drive and gave it back has.
+-- `v` and `other` are what two seats know. Suppose that the last step of the first found the number
+-- of the other. Then the other holds the drive of that step, or has made two steps or more. A seat
+-- that took a drive and gave it back has made two.
 abbrev pub FoundHolder : View → View → ℕ → Type 0
 FoundHolder v other made = (step : LastStep) → v.last ≡ Some step → step.found ≡ other.number → IsTrue (has other step.drive) ⊎ (2 ≤ made)

@@ -1,11 +1,12 @@
-//! A table as one of the threads that share it has it.
+//! A shared reference to a table, for each of the threads that share it.
 
 use crate::seat::HoldSeat;
 use crate::table::HoldTable;
 use drives::{Holds, Taken};
 
-/// A shared reference to a table. Each thread has its own, and each call is one atomic step, which does not wait. It tells
-/// nothing of who holds a drive: other threads step at any time.
+/// A shared reference to a table. Each thread has its own. Each call is one atomic step and does
+/// not wait. The contracts do not say who holds a drive, because other threads may make steps at
+/// any time.
 #[derive(Clone, Copy, Drop)]
 pub struct TableHand<'a> {
     /// The table.

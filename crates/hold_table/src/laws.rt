@@ -1,4 +1,4 @@
-//! Laws of the definitions, each the contract of a call that does nothing.
+//! Laws of the definitions. Each is the contract of a function that does nothing.
 ghost use Rattle.std.specs.Prelude.{◌≡◌, ℕ, ◌<◌, ◌≤◌, ◌==◌, cond, List, length, slice_index};
 ghost use Rattle.drives.specs.declared.view.StepKind.TheVariants.{Take, Give, Look};
 ghost use Rattle.drives.specs.declared.view.View.{View};
@@ -7,20 +7,20 @@ ghost use Rattle.hold_table.specs.declared.table.TheConstants.{SEAT_LIMIT};
 ghost use Rattle.hold_table.specs.Moves.{StepMoves};
 ghost use Rattle.hold_table.specs.Rule.{IsHeldAt, IsHolder, HoldRule};
 
-/// Where the hold rule holds, no drive is held by two seats.
+/// If the hold rule holds, no drive is held by two seats.
 ///
-/// It does nothing: its contract is a law of the definitions.
+/// The function does nothing: its contract is a law of the definitions.
 pub fn one_holder()
     ensures { (words : List ℕ) (seats : List Seated) (d j k : ℕ) → HoldRule words seats → d < length words →
         IsHeldAt seats j d → IsHeldAt seats k d → j ≡ k }
 {}
 
-/// Each atomic step moves the drives between seats as its kind says. A take moves its drive from nobody to the seat, a
-/// give from the seat that makes it to nobody, and a look leaves it. A held drive stays where a seat takes it, and so
-/// does each other drive. Where the hold rule holds, a drive's word is the number of its holder, which is at most
-/// `SEAT_LIMIT`, or 0 where nobody holds it.
+/// Each atomic step moves drives between seats as its kind says. A take moves its drive from nobody
+/// to the seat, a give moves it from the seat to nobody, and a look leaves it. A take leaves a
+/// drive that is held, and each step leaves all other drives. If the hold rule holds, a drive's
+/// word is the number of its holder, which is at most `SEAT_LIMIT`, or 0 if nobody holds it.
 ///
-/// It does nothing: its contract is a law of the definitions.
+/// The function does nothing: its contract is a law of the definitions.
 pub fn holders_move()
     ensures known { (words : List ℕ) (seats : List Seated) (d n : ℕ) → HoldRule words seats → d < length words → IsHolder seats d n →
         (n ≤ SEAT_LIMIT) × (slice_index words d ≡ n) }

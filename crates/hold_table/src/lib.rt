@@ -1,7 +1,9 @@
-//! Who holds which drive, kept between threads: a table with one word for each drive, and `SEAT_LIMIT` seats.
+//! Records which seat holds which drive, for several threads: a table with one word for each drive,
+//! and `SEAT_LIMIT` seats.
 //!
-//! A word is 0, or the number of the seat that holds the drive. Each call is one atomic step on one drive's word, and
-//! none waits. `TableHand` is a shared reference to the table that is a `Holds`.
+//! A word is 0, or the number of the seat that holds the drive. A take, a give and a look are each
+//! one atomic step on one drive's word, and do not wait. `TableHand` is a shared reference to the
+//! table that implements `Holds`.
 #![tactic(auto)]
 
 mod hand;

@@ -1,22 +1,25 @@
-//! What holds between any two atomic steps at the table, and what each kind of step tells its seat.
+//! The rule that holds between any two atomic steps on the table, and what a seat learns from each
+//! kind of step.
 use atomic_table::{Join, Play, Split, TableRule};
 use drives::View;
 use std::collections::LinkedList;
 
-/// What the table knows of a seat. No value of it is made: it stands in proofs alone, where its counts have no limit.
+/// What the table knows about a seat. It is used only in proofs, where its counts have no limit: no
+/// value of it is made.
 pub struct Seated {
     /// What the seat knows.
     pub view: View,
-    /// How many steps it made.
+    /// How many steps it has made.
     pub made: u64,
-    /// How many numbers it may still hand on to new seats.
+    /// How many numbers it may still pass on to new seats.
     pub spare: u64,
 }
 
-/// What one of the kit's seats knows: the seats that it stands for. It is one, but in `HoldTable::apart` and `HoldTable::close`.
+/// The seats that one seat of `atomic_table` represents. That is one seat, except inside
+/// `HoldTable::apart` and `HoldTable::close`.
 pub(crate) type Company = LinkedList<Seated>;
 
-/// The rule of the table. It is told the number of drives.
+/// The rule of the table. Its key is the number of drives.
 pub struct HoldLaw;
 
 impl TableRule<(), Company, usize> for HoldLaw {
@@ -31,7 +34,7 @@ impl TableRule<(), Company, usize> for HoldLaw {
     ghost first = { λ _. seated (newcomer 1) 0 (SEAT_LIMIT - 1) ∷ [] };
 }
 
-/// A seat hands its numbers on to a new seat.
+/// A seat passes its spare numbers on to a new seat.
 pub(crate) struct Deal;
 
 impl Split<Company> for Deal {
@@ -70,7 +73,7 @@ impl Play<(), Company> for Looks {
     ghost then = { LooksAt };
 }
 
-/// A company takes in another, before its own seats.
+/// A company adds the seats of another before its own.
 pub(crate) struct Gather;
 
 impl Join<Company> for Gather {
@@ -81,7 +84,7 @@ impl Join<Company> for Gather {
     ghost spent = { [] };
 }
 
-/// Two seats part.
+/// A company of two seats splits into two of one seat each.
 pub(crate) struct Part;
 
 impl Split<Company> for Part {
@@ -93,7 +96,7 @@ impl Split<Company> for Part {
     ghost right = { λ c. second_of c ∷ [] };
 }
 
-/// One look at two seats.
+/// One look by a company of two seats.
 pub(crate) struct Compares;
 
 impl Play<(), Company> for Compares {
@@ -102,7 +105,7 @@ impl Play<(), Company> for Compares {
     ghost then = { ComparesAt };
 }
 
-/// A company of no seat comes.
+/// A company of no seats is made.
 pub(crate) struct Enters;
 
 impl Play<(), Company> for Enters {

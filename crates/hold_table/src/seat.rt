@@ -6,9 +6,9 @@ use crate::rule::Company;
 use atomic_table::Seat;
 use std::marker::Model;
 
-/// A seat at a table, which `HoldTable::new` alone makes. One thread has it at a time.
+/// A seat at a table. Only `HoldTable::new` makes seats. One thread has a seat at a time.
 ///
-/// Contracts see the table that it is of, what it knows, and how many steps it made.
+/// Contracts see which table it belongs to, what it knows, and how many steps it has made.
 #[derive(Drop)]
 pub struct HoldSeat {
     pub(crate) seat: Seat<(), Company>,

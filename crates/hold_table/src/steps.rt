@@ -1,4 +1,5 @@
-//! The atomic steps at a table: each is one at the word of a drive, and the seat that makes it knows of it.
+//! The atomic steps on a table. Each is on the word of one drive, and changes what the seat that
+//! makes it knows.
 ghost use Rattle.std.specs.Prelude.{◌≡◌, ◌<◌, ◌≤◌, ◌↔◌, ◌==◌, true, false, cond, IsTrue};
 ghost use Rattle.drives.specs.Holding.{has, taken, given, looked};
 ghost use Rattle.hold_table.specs.Rule.{IsRuledStep};
@@ -10,7 +11,7 @@ use crate::seat::HoldSeat;
 use crate::table::HoldTable;
 
 impl HoldTable {
-    // Where the word is 0 it becomes the seat's number. It gives the number that it found.
+    // Sets the drive's word to the seat's number if the word is 0. Returns the word that it found.
     pub(crate) fn claim(&self, seat: &mut HoldSeat, drive: usize) -> u64
         requires seat { IsSeatAt self.now seat.old }
         requires drive { drive < self.now.words }
@@ -25,7 +26,7 @@ impl HoldTable {
             .compare_exchange::<Takes>(&mut seat.seat, drive, 0, seat.number)
     }
 
-    // The word, which is the seat's number, becomes 0.
+    // Sets the drive's word, which is the seat's number, to 0.
     pub(crate) fn clear(&self, seat: &mut HoldSeat, drive: usize)
         requires seat { IsSeatAt self.now seat.old }
         requires drive { drive < self.now.words }
@@ -36,7 +37,7 @@ impl HoldTable {
         self.table.shared.store::<Gives>(&mut seat.seat, drive, 0);
     }
 
-    // It gives the number that it found.
+    // Returns the drive's word.
     pub(crate) fn read(&self, seat: &mut HoldSeat, drive: usize) -> u64
         requires seat { IsSeatAt self.now seat.old }
         requires drive { drive < self.now.words }

@@ -12,14 +12,15 @@ use drives::Taken;
 use std::alloc::{AllocError, Global};
 use std::marker::Model;
 
-/// How many seats a table has.
+/// The number of seats that a table has.
 pub const SEAT_LIMIT: usize = 32;
 
-/// Drives, from 1 to `DRIVE_LIMIT`, that `SEAT_LIMIT` seats share between threads. Each drive has one word: 0, or the
-/// number of the seat that holds it.
+/// A table of 1 to `DRIVE_LIMIT` drives, which `SEAT_LIMIT` seats share between threads. Each drive
+/// has one word: 0, or the number of the seat that holds it.
 ///
-/// Between any two steps the seats' numbers are distinct and from 1 to `SEAT_LIMIT`, and each word is 0 while no seat
-/// holds that drive, or n while the seat numbered n holds it and no other does. Contracts see which table it is.
+/// Between any two steps the seats' numbers are distinct and from 1 to `SEAT_LIMIT`. Each word is 0
+/// while no seat holds that drive, or n while seat n holds it and no other does. Contracts see
+/// which table it is.
 #[derive(Drop)]
 pub struct HoldTable {
     pub(crate) table: Table<(), Company, usize, HoldLaw, Global>,
@@ -39,8 +40,9 @@ impl Model for HoldTable {
 }
 
 impl HoldTable {
-    /// A table of that many drives, from 1 to `DRIVE_LIMIT`, which no seat holds, and its `SEAT_LIMIT` seats in the order
-    /// of their numbers, from 1. It fails only where memory is refused.
+    /// Makes a table of that many drives, from 1 to `DRIVE_LIMIT`, none of them held. Returns it
+    /// with its `SEAT_LIMIT` seats in the order of their numbers, from 1. Fails only if an
+    /// allocation fails.
     pub fn new(alloc: Global, drives: usize) -> Result<(HoldTable, Vec<HoldSeat>), AllocError>
         requires some { 1 ≤ drives }
         requires few { drives ≤ DRIVE_LIMIT }
@@ -54,7 +56,8 @@ impl HoldTable {
         Ok((table, seats))
     }
 
-    // A table of that many drives, which no seat holds, and its first seat, which has all numbers to hand on.
+    // Makes a table of that many drives, none of them held. Returns it with its first seat, which
+    // has all further numbers to pass on.
     fn laid(alloc: Global, drives: usize) -> Result<(HoldTable, Seat<(), Company>), AllocError>
         requires some { 1 ≤ drives }
         requires few { drives ≤ DRIVE_LIMIT }
@@ -67,7 +70,8 @@ impl HoldTable {
         Ok((HoldTable { table }, first))
     }
 
-    // The seats of a new table, in the order of their numbers: each hands the numbers that are left on to the next.
+    // Returns the seats of a new table in the order of their numbers. Each passes the numbers that
+    // are left on to the next.
     fn deal(&self, alloc: Global, first: Seat<(), Company>) -> Result<Vec<HoldSeat>, AllocError>
         requires same { first.table_id ≡ self.now }
         requires first { first.me ≡ (seated (newcomer 1) 0 (SEAT_LIMIT - 1) ∷ [], []) }
@@ -93,9 +97,10 @@ impl HoldTable {
         Ok(seats)
     }
 
-    /// Takes the drive, counted from 0, if no seat holds it, by one atomic step: where the word is 0 it becomes the seat's number.
-    /// The seat is one of this table. Answers `Held`, or `Busy` with the number of the seat that holds it, which may be this one. It
-    /// does not wait.
+    /// Takes drive `drive`, counted from 0, if no seat holds it. This is one atomic step: if the
+    /// drive's word is 0, it becomes the seat's number. The seat must be one of this table. Returns
+    /// `Held`, or `Busy` with the number of the seat that holds the drive, which may be this one.
+    /// It does not wait.
     pub fn take(&self, seat: &mut HoldSeat, drive: usize) -> Taken
         requires seat { IsSeatAt self.now seat.old }
         requires drive { drive < self.now.words }
@@ -113,8 +118,8 @@ impl HoldTable {
         }
     }
 
-    /// Gives back a drive, counted from 0, that the seat holds, by one atomic step: the word becomes 0. The seat is one of this
-    /// table. It does not wait.
+    /// Gives back drive `drive`, counted from 0, which the seat must hold. This is one atomic step,
+    /// which sets the drive's word to 0. The seat must be one of this table. It does not wait.
     pub fn give(&self, seat: &mut HoldSeat, drive: usize)
         requires seat { IsSeatAt self.now seat.old }
         requires drive { drive < self.now.words }
@@ -125,7 +130,8 @@ impl HoldTable {
         self.clear(seat, drive);
     }
 
-    /// The number of the seat that holds the drive, counted from 0, or 0, by one atomic step that reads the word. The seat is one
+    /// Returns the number of the seat that holds drive `drive`, or 0 if none does. Drives are
+    /// counted from 0. This is one atomic step, which reads the drive's word. The seat must be one
     /// of this table. It does not wait.
     pub fn holder(&self, seat: &mut HoldSeat, drive: usize) -> u64
         requires seat { IsSeatAt self.now seat.old }

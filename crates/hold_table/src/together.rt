@@ -1,4 +1,4 @@
-//! Calls that have several seats at once, and tell that the table keeps them apart.
+//! Calls with several seats at once, which show that the table keeps the seats apart.
 ghost use Rattle.std.specs.Prelude.{◌≡◌, ◌≢◌, ℕ, ◌<◌, ◌≤◌, ◌↔◌, ◌∷◌, All, IsTrue, false, slice_index, slice_index_or};
 ghost use Rattle.drives.specs.Holding.{has};
 ghost use Rattle.hold_table.specs.Closing.{IsClosing};
@@ -14,14 +14,19 @@ use drives::DRIVE_LIMIT;
 use std::alloc::Global;
 
 impl HoldTable {
-    /// Shows that two seats of this table are apart, and returns both as they were, with the number of the seat that holds the
-    /// drive, counted from 0, or 0. Their numbers differ, and no drive is held by both, whatever other threads do meanwhile. The
-    /// number returned is that of one of them exactly if that seat holds the drive.
+    /// Shows that two seats of this table are apart. Their numbers differ, and no drive is held by
+    /// both, whatever other threads do meanwhile.
     ///
-    /// If the last step of one of them found the number of the other, that other seat holds the drive of that step, or has made
-    /// two steps or more. So the first take at a table is never answered `Busy`.
+    /// Returns both seats unchanged, with the number of the seat that holds drive `drive`, or 0 if
+    /// none does. Drives are counted from 0. The number is that of one of the two if and only if
+    /// that seat holds the drive.
     ///
-    /// It makes three atomic steps, which change no word and which the seats do not count. It does not wait.
+    /// Suppose that the last step of one of them found the number of the other. Then that other
+    /// seat holds the drive of that step, or has made two steps or more. Therefore the first take
+    /// at a table never returns `Busy`.
+    ///
+    /// It makes three atomic steps, which change no word and which the seats do not count. It does
+    /// not wait.
     pub fn apart(&self, one: HoldSeat, other: HoldSeat, drive: usize) -> (HoldSeat, HoldSeat, u64)
         requires one { IsSeatAt self.now one }
         requires other { IsSeatAt self.now other }
@@ -53,7 +58,7 @@ impl HoldTable {
         (one, other, found)
     }
 
-    // The company takes in the seat, before its own ones.
+    // Adds the seat to the company, before the company's own seats.
     fn gather(&self, company: &mut Seat<(), Company>, next: HoldSeat)
         requires company { company.old.table_id ≡ self.now }
         requires next { IsSeatAt self.now next }
@@ -64,7 +69,7 @@ impl HoldTable {
         self.table.shared.join_seat::<Gather>(company, seat);
     }
 
-    // One company of all these seats, in their order.
+    // Returns one company of all these seats, in their order.
     fn gathered(&self, mut seats: Vec<HoldSeat>) -> Seat<(), Company>
         requires seats { All (λ s. IsSeatAt self.now s) seats.items }
         ensures same { result.table_id ≡ self.now }
@@ -77,8 +82,9 @@ impl HoldTable {
         company
     }
 
-    /// Ends the table, and gives its words: of each drive that there can be, the number of the seat that holds it, or 0. They agree with
-    /// what the seats know that are given back, which are seats of this table. It takes no memory.
+    /// Ends the table and returns its words. For each drive that a table can have, the word is the
+    /// number of the seat that holds it, or 0. The `seats` must be seats of this table, and the
+    /// words agree with what they know. Allocates nothing.
     pub fn close(self, seats: Vec<HoldSeat>) -> [u64; DRIVE_LIMIT]
         requires seats { All (λ s. IsSeatAt self s) seats.items }
         ensures { IsClosing result seats.items }
@@ -92,7 +98,7 @@ impl HoldTable {
     }
 }
 
-// The words of a closed table, and 0 for each drive that it does not have.
+// Returns the words of a closed table, and 0 for each drive that it does not have.
 fn words_of(closed: &Closed<(), Global>) -> [u64; DRIVE_LIMIT]
     requires full { (d : ℕ) → 0 ≤ d → d < closed.now.words.len → IsTrue (slice_index_or closed.now.words.filled d false) }
     requires few { closed.now.words.len ≤ DRIVE_LIMIT }

@@ -8,7 +8,7 @@ pub record Counting (T : Type 0) : Type 0 where
   pub failures : ℕ
   pub left : ℕ
 
--- it is stored as the tuple of its fields
+-- how a `Counting` is stored: as the tuple of its fields
 abbrev pub counting_code : {T : Type 0} → Coded T → Coded (Counting T)
 counting_code {T} code =
     code_by
@@ -22,10 +22,10 @@ counting_code {T} code =
 abbrev pub counted : ℕ → ℕ
 counted n = min (n + 1) (2 ^ 64 - 1)
 
--- the count after one failure more, which is no less
+-- the count after one more failure, which is never less than before
 abbrev pub raised : ℕ → ℕ
 raised n = max n (counted n)
 
--- the count has risen, or stands at its greatest value
+-- the count has risen by one or more, or is at its greatest value
 abbrev pub HasRisen : ℕ → ℕ → Type 0
 HasRisen before now = raised before ≤ now

@@ -1,4 +1,4 @@
--- A request or a reply that lends bytes, as the value that it is. Public contracts cite it.
+-- The plain values of requests and replies that lend bytes. Public contracts cite it.
 use Rattle.std.specs.Prelude.{ℕ, Option, Some, None, Result, Ok, Err}
 use Rattle.rmt_wire.specs.Request.{PlainRequest}
 use Rattle.rmt_wire.specs.Request.PlainRequest.{Open, Close, Write, WriteDropped, Read, Op}
@@ -13,6 +13,7 @@ use Rattle.rmt_wire.specs.declared.reply.Reply.TheVariants as reply
 use Rattle.rmt_wire.specs.declared.reply.wanted.Wanted.{Wanted}
 use Rattle.rmt_wire.specs.declared.reply.wanted.Wanted.TheVariants as wanted
 
+-- the plain value of a request
 abbrev pub plain_request : Request → PlainRequest
 plain_request (lent.Open device mode) = Open device.now mode
 plain_request lent.Close = Close
@@ -21,27 +22,29 @@ plain_request (lent.WriteDropped count) = WriteDropped count
 plain_request (lent.Read count) = Read count
 plain_request (lent.Op op count) = Op op count
 
+-- the plain value of a reply
 abbrev pub plain_reply : Reply → PlainReply
 plain_reply (reply.Done number) = Done number
 plain_reply (reply.Data bytes) = Data bytes.now
 plain_reply (reply.Error number text) = Error number text.now
 
--- a lent request and its length
+-- the result of reading a request and its length, with the plain value of the request
 abbrev pub lent_front : Result (Option (Request × ℕ)) WireFault → Result (Option (PlainRequest × ℕ)) WireFault
 lent_front (Ok None) = Ok None
 lent_front (Ok (Some found)) = Ok (Some (plain_request found.0, found.1))
 lent_front (Err fault) = Err fault
 
--- what is waited for, as the value that it is
+-- the plain value of what is waited for
 abbrev pub plain_wanted : Wanted → kinds.Wanted
 plain_wanted wanted.Number = kinds.Wanted.Number
 plain_wanted (wanted.Data most) = kinds.Wanted.DataUpTo most
 
+-- the same, if anything is waited for
 abbrev pub plain_wanted_if_some : Option Wanted → Option kinds.Wanted
 plain_wanted_if_some None = None
 plain_wanted_if_some (Some wanted) = Some (plain_wanted wanted)
 
--- a lent reply and its length
+-- the result of reading a reply and its length, with the plain value of the reply
 abbrev pub lent_reply : Result (Option (Reply × ℕ)) WireFault → Result (Option (PlainReply × ℕ)) WireFault
 lent_reply (Ok None) = Ok None
 lent_reply (Ok (Some found)) = Ok (Some (plain_reply found.0, found.1))

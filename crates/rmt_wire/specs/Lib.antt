@@ -1,5 +1,7 @@
--- In reading order: Number, Request, Reply, RequestParts, ReplyParts (the grammar); Counted, Lent, Seen, RequestReader,
--- RequestFill, RequestStream, ReplyFront, ReplyReader, ReplyWriter (what reads and writes it); RequestFront, RequestKept (in code); Print, Argument (for programs over it).
+-- In reading order. The grammar: Number, Request, Reply, RequestParts, ReplyParts. Reading and
+-- writing it: Counted, Lent, Seen, RequestReader, RequestFill, RequestStream, ReplyFront,
+-- ReplyReader, ReplyWriter. Inside the code: RequestFront, RequestKept. For programs: Print,
+-- Argument.
 pub mod Number
 pub mod Seen
 pub mod Request

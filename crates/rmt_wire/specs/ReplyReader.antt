@@ -1,4 +1,4 @@
--- What a reader of replies holds of a stream. Public contracts cite it.
+-- The state of a reader of replies. Public contracts cite it.
 use Rattle.std.specs.Prelude.{◌≡◌, ◌≤◌, ℕ, ◌<◌, List, ◌∷◌, ◌++◌, length, drop, Option, Some, None, Result, Ok, Err}
 use Rattle.rmt_wire.specs.Number.{SpellsNumber, line_feed}
 use Rattle.rmt_wire.specs.declared.limits.TheConstants.{READER_LIMIT}
@@ -11,58 +11,62 @@ use Rattle.rmt_wire.specs.Lent.{plain_reply}
 use Rattle.rmt_wire.specs.declared.reply.Reply.{Reply}
 use Rattle.rmt_wire.specs.declared.fault.WireFault.{WireFault}
 
--- what a reader waits for, if it waits for a reply, and the bytes that it keeps
+-- the state of a reader: the kind of reply that it waits for, if any, and the bytes that it keeps
 pub record ReplyHeld : Type 0 where
   pub wanted : Option Wanted
   pub kept : List ℕ
 
+-- the state of a reader that waits for this and keeps these bytes
 abbrev pub reply_held : Option Wanted → List ℕ → ReplyHeld
 reply_held wanted kept = record { wanted = wanted; kept = kept }
 
--- no more data are waited for than a record has
+-- at most `RECORD_LIMIT` bytes of data are waited for
 abbrev pub IsWithin : Wanted → Type 0
 IsWithin Number = Unit {0}
 IsWithin (DataUpTo most) = most ≤ RECORD_LIMIT
 
+-- the same, if anything is waited for
 abbrev pub IsWithinIfSome : Option Wanted → Type 0
 IsWithinIfSome None = Unit {0}
 IsWithinIfSome (Some wanted) = IsWithin wanted
 
--- of a reply that is waited for, the text of an error is kept up to its first 255 bytes; all other bytes are kept
+-- The bytes that are kept of those pushed. If a reply is waited for, the text of an error is kept
+-- only up to its first 255 bytes. All other bytes are kept.
 abbrev pub kept_while : Option Wanted → List ℕ → List ℕ
 kept_while None bytes = bytes
 kept_while (Some wanted) bytes = kept_of bytes
 
--- this is waited for, and these bytes were pushed since and not yet given
+-- the reader waits for this, and these bytes were pushed since then and not yet returned
 pub record ReplyUnread (h : ReplyHeld) (wanted : Option Wanted) (bytes : List ℕ) : Type 0 where
   pub waits : h.wanted ≡ wanted
   pub keeps : h.kept ≡ kept_while wanted bytes
 
--- how many bytes these take: the text of an error past its first 255 bytes counts nothing
+-- how many bytes of room these take: the text of an error takes none after its first 255 bytes
 abbrev pub reply_taken_of : Option Wanted → List ℕ → ℕ
 reply_taken_of wanted bytes = length (kept_while wanted bytes)
 
--- what `next` answers, with its reply as a value
+-- the result of `next`, with the plain value of its reply
 abbrev pub reply_told : Result (Option Reply) WireFault → Result (Option PlainReply) WireFault
 reply_told (Ok None) = Ok None
 reply_told (Ok (Some reply)) = Ok (Some (plain_reply reply))
 reply_told (Err fault) = Err fault
 
--- From old, the reader answers and stands at new: whatever bytes were pushed and not given, it gives of them what is waited for,
--- and holds the rest; after a reply it waits for none
+-- From `old` the reader returns `answer`, and then it is `new`. From the bytes that were pushed and
+-- not yet returned, it returns what is waited for and holds the rest. After a reply it waits for
+-- none.
 abbrev pub ReplyContinues : ReplyHeld → Result (Option PlainReply) WireFault → ReplyHeld → Type 0
 ReplyContinues old answer new =
     (wanted : Option Wanted) (bytes : List ℕ) → ReplyUnread old wanted bytes
     → (rest : List ℕ) × ReplyUnread new (wanted_after wanted answer) rest × ReplyGives wanted bytes answer rest
 
--- after none was given, there is room for one byte or more
+-- after None there is room for one byte or more
 abbrev pub ReplyLeavesRoom : Result (Option PlainReply) WireFault → ReplyHeld → Type 0
 ReplyLeavesRoom (Ok None) new =
     (wanted : Option Wanted) (bytes : List ℕ) → ReplyUnread new wanted bytes → reply_taken_of wanted bytes < READER_LIMIT
 ReplyLeavesRoom (Ok (Some reply)) new = Unit {0}
 ReplyLeavesRoom (Err fault) new = Unit {0}
 
--- where no reply was given, the reader is exactly as it was
+-- if no reply was returned, the reader is unchanged
 abbrev pub ReplyStaysUnlessGiven : ReplyHeld → Result (Option PlainReply) WireFault → ReplyHeld → Type 0
 ReplyStaysUnlessGiven old (Ok (Some reply)) new = Unit {0}
 ReplyStaysUnlessGiven old (Ok None) new = new ≡ old
@@ -74,30 +78,30 @@ pub record ReplyIsNext (old : ReplyHeld) (answer : Result (Option PlainReply) Wi
   pub room : ReplyLeavesRoom answer new
   pub unchanged : ReplyStaysUnlessGiven old answer new
 
--- a fault is answered for good, whatever is pushed later
+-- once a fault was returned, it is returned at each later call, whatever is pushed
 abbrev pub ReplyStaysFaulty : ReplyHeld → Result (Option PlainReply) WireFault → Type 0
 ReplyStaysFaulty old (Err fault) =
     (wanted : Option Wanted) (bytes more : List ℕ) → ReplyUnread old wanted bytes
     → ReplyGives wanted (bytes ++ more) (Err fault) (bytes ++ more)
 ReplyStaysFaulty old (Ok answer) = Unit {0}
 
--- the same of what was found at the front, and of its length
+-- the same for a reply that was found at the front with its length
 abbrev pub reply_told_front : Result (Option (Reply × ℕ)) WireFault → Result (Option PlainReply) WireFault
 reply_told_front (Ok None) = Ok None
 reply_told_front (Ok (Some found)) = Ok (Some (plain_reply found.0))
 reply_told_front (Err fault) = Err fault
 
--- what is held once so much of what is kept was given
+-- the state of the reader once the reply that was found, if any, was returned
 abbrev pub reply_held_after : Result (Option (Reply × ℕ)) WireFault → ReplyHeld → ReplyHeld
 reply_held_after (Ok None) h = h
 reply_held_after (Ok (Some found)) h = reply_held None (drop found.1 h.kept)
 reply_held_after (Err fault) h = h
 
--- an error with this number, and this text so far
+-- the bytes of an error with this number, and this text so far
 abbrev pub error_bytes : List ℕ → List ℕ → List ℕ
 error_bytes number text = 69 ∷ (number ++ line_feed ∷ text)
 
--- the bytes are those of an error, as far as its text at least
+-- the bytes are those of an error, complete at least up to its text
 pub record IsErrorText (bytes number text : List ℕ) : Type 0 where
   pub value : ℕ
   pub spelled : SpellsNumber number value

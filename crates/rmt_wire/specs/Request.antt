@@ -12,14 +12,15 @@ pub data PlainRequest : Type 0 where
   Read : (count : ℕ) → PlainRequest
   Op : (op : ℕ) → (count : ℕ) → PlainRequest
 
--- a mode line is a number, or a number, a space and any text
+-- the line is a mode: a number, or a number, a space and any text
 abbrev pub SpellsMode : List ℕ → ℕ → Type 0
 SpellsMode line mode =
     IsLine line
     × (SpellsNumber line mode ⊎ ((number text : List ℕ) × SpellsNumber number mode × (line ≡ number ++ space ∷ text)))
 
--- `O`, device, LF, mode line, LF · `C`, any line, LF · `W`, count, LF, that many bytes · `R`, count, LF ·
--- `I`, operation, LF, count, LF
+-- The bytes spell the request. Open: `O`, device, LF, mode line, LF. Close: `C`, any line, LF.
+-- Write, kept or dropped: `W`, count, LF, that many bytes. Read: `R`, count, LF. Operation: `I`,
+-- operation, LF, count, LF.
 abbrev pub SpellsRequest : List ℕ → PlainRequest → Type 0
 SpellsRequest bytes (Open device mode) =
     (line : List ℕ) × IsLine device × SpellsMode line mode × (bytes ≡ 79 ∷ (device ++ line_feed ∷ (line ++ line_feed ∷ [])))
@@ -35,8 +36,8 @@ SpellsRequest bytes (Op op count) =
     (first : List ℕ) × (second : List ℕ) × SpellsNumber first op × SpellsNumber second count
     × (bytes ≡ 73 ∷ (first ++ line_feed ∷ (second ++ line_feed ∷ [])))
 
--- a request that a writer can spell: its device is one line of at most 255 bytes, its numbers are at most 2147483647, and it
--- writes or drops as many bytes as its kind has
+-- A writer can spell the request. Its device is one line of at most 255 bytes, and its numbers are
+-- at most 2147483647. A write has at most `RECORD_LIMIT` bytes, and a dropped write has more.
 abbrev pub HasSpelling : PlainRequest → Type 0
 HasSpelling (Open device mode) = IsLine device × (mode ≤ 2147483647)
 HasSpelling Close = Unit {0}
@@ -45,8 +46,8 @@ HasSpelling (WriteDropped count) = (RECORD_LIMIT < count) × (count ≤ 21474836
 HasSpelling (Read count) = count ≤ 2147483647
 HasSpelling (Op op count) = (op ≤ 2147483647) × (count ≤ 2147483647)
 
--- what a writer writes: numbers without leading zeros, a mode as its number alone, a close without a text; of a dropped write
--- the line alone
+-- The bytes that a writer writes for a request. Numbers have no leading zeros, a mode is its number
+-- alone, and a close has no text. A dropped write is its line alone.
 abbrev pub request_text : PlainRequest → List ℕ
 request_text (Open device mode) = 79 ∷ (device ++ line_feed ∷ (decimal mode ++ line_feed ∷ []))
 request_text Close = 67 ∷ (line_feed ∷ [])
@@ -55,7 +56,7 @@ request_text (WriteDropped count) = 87 ∷ (decimal count ++ line_feed ∷ [])
 request_text (Read count) = 82 ∷ (decimal count ++ line_feed ∷ [])
 request_text (Op op count) = 73 ∷ (decimal op ++ line_feed ∷ (decimal count ++ line_feed ∷ []))
 
--- how many bytes are still to follow what a writer writes
+-- how many bytes must still follow those that a writer writes
 abbrev pub unsent : PlainRequest → ℕ
 unsent (Open device mode) = 0
 unsent Close = 0
@@ -64,6 +65,6 @@ unsent (WriteDropped count) = count
 unsent (Read count) = 0
 unsent (Op op count) = 0
 
--- the text spells the request, once as many bytes of any kind follow as are still to follow
+-- the text spells the request once as many bytes follow, of any value, as must still follow
 abbrev pub IsTextOf : List ℕ → PlainRequest → Type 0
 IsTextOf text request = (more : List ℕ) → length more ≡ unsent request → SpellsRequest (text ++ more) request

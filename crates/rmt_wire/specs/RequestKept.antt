@@ -1,4 +1,4 @@
--- What a reader of requests keeps in its buffer. No public contract needs it.
+-- The buffer of a reader of requests. No public contract needs it.
 use Rattle.std.specs.Prelude.{◌≡◌, ◌<◌, ◌+◌, ◌==◌, if◌then◌else◌, nat_lt, ℕ, List, [], ◌∷◌, length, Option, Some, None, Ok, Err}
 use Rattle.rmt_wire.specs.declared.limits.TheConstants.{READER_LIMIT}
 use Rattle.rmt_wire.specs.declared.limits.TheConstants.{RECORD_LIMIT}
@@ -6,13 +6,14 @@ use Rattle.rmt_wire.specs.declared.number.Place.TheVariants as places
 use Rattle.rmt_wire.specs.Seen.{Seen, number_front}
 use Rattle.rmt_wire.specs.RequestReader.{RequestHeld, dropped_line, IsDropped, gone_at, Unread, taken_of}
 
--- the length of a write's line with its letter, and its count
+-- the length of a write's line with its letter and line feed, and its count, if the line is
+-- complete
 abbrev pub line_if_seen : Seen (ℕ × ℕ) → Option (ℕ × ℕ)
 line_if_seen (Ok (Some count)) = Some (count.1 + 2, count.0)
 line_if_seen (Ok None) = None
 line_if_seen (Err fault) = None
 
--- those of the write that the bytes begin with, if they have its line whole
+-- the same, for the write that the bytes begin with
 unfoldable pub write_line : List ℕ → Option (ℕ × ℕ)
 write_line [] = None
 write_line (letter ∷ bytes) = if letter == 87 then line_if_seen (number_front places.Line bytes) else None
@@ -22,20 +23,20 @@ abbrev pub if_dropped : Option (ℕ × ℕ) → Option (ℕ × ℕ)
 if_dropped None = None
 if_dropped (Some line) = if nat_lt RECORD_LIMIT line.1 then Some line else None
 
--- where a line is known, the bytes begin with it
+-- if a line is known, the bytes begin with it
 abbrev pub IsKnown : Option (ℕ × ℕ) → List ℕ → Type 0
 IsKnown None bytes = Unit {0}
 IsKnown (Some line) bytes = write_line bytes ≡ Some line
 
--- how many of the bytes kept are data of a dropped write that can be let go
+-- how many of the bytes kept are data of a dropped write that can be discarded
 abbrev pub idle : RequestHeld → ℕ
 idle h = gone_at (dropped_line h.kept) (length h.kept) h.dropped
 
--- bytes that could be let go do not fill the reader, so that there is room before they are let go
+-- if bytes can be discarded, the reader is not full, so that there is room before they are
 abbrev pub HasRoom : RequestHeld → Type 0
 HasRoom h = 0 < idle h → length h.kept < READER_LIMIT
 
--- what could be let go was, and nothing else has changed
+-- all bytes that could be discarded were, and the unread bytes are the same
 pub record HasLetGo (old new : RequestHeld) : Type 0 where
   pub at_line : IsDropped (dropped_line new.kept) new.dropped
   pub none_idle : idle new ≡ 0

@@ -1,4 +1,5 @@
--- How a stream falls into requests: whole texts, told by the grammar alone. Public contracts cite it.
+-- How a stream divides into requests, defined on whole texts by the grammar alone. Public contracts
+-- cite it.
 use Rattle.std.specs.Prelude.{◌≡◌, ◌≢◌, ◌⊎◌, ℕ, ◌+◌, ◌<◌, ◌≤◌, List, [], ◌∷◌, ◌++◌, length, Option, Some, None, Result, Ok, Err}
 use Rattle.std.specs.Str.Parse.{AllDigits}
 use Rattle.rmt_wire.specs.Number.{SpellsNumber, HasNoLineFeed, IsLine, line_feed}
@@ -7,11 +8,11 @@ use Rattle.rmt_wire.specs.declared.limits.TheConstants.{RECORD_LIMIT}
 use Rattle.rmt_wire.specs.declared.fault.WireFault.{WireFault}
 use Rattle.rmt_wire.specs.declared.fault.WireFault.TheVariants.{UnknownCommand, BadNumber, LineTooLong, NotAReply, TooMuchData}
 
--- some bytes can follow that make a spelling
+-- more bytes can follow that make a request
 abbrev pub IsOpen : List ℕ → Type 0
 IsOpen bytes = (more : List ℕ) × (request : PlainRequest) × SpellsRequest (bytes ++ more) request
 
--- no beginning of the bytes is a spelling
+-- no beginning of the bytes spells a request
 abbrev pub HasNoSpelling : List ℕ → Type 0
 HasNoSpelling bytes = (text rest : List ℕ) (request : PlainRequest) → bytes ≡ text ++ rest → SpellsRequest text request → ⊥
 
@@ -21,12 +22,12 @@ Spelled bytes [] rest = bytes ≡ rest
 Spelled bytes (request ∷ requests) rest =
     (text later : List ℕ) × SpellsRequest text request × (bytes ≡ text ++ later) × Spelled later requests rest
 
--- the requests of a stream, and what follows the last whole one
+-- the requests of a stream, and the rest after the last complete one
 abbrev pub Parts : List ℕ → List PlainRequest → List ℕ → Type 0
 Parts bytes requests rest = Spelled bytes requests rest × HasNoSpelling rest
 
--- a number of ten digits at most stands at the end, with no byte yet that ends it: after `W`, `R` or `I`, after the first line of `I`,
--- or after the device line of `O`
+-- The bytes end in a number of at most ten digits, with no end of it yet. It comes after `W`, `R`
+-- or `I`, after the first line of `I`, or after the device line of `O`.
 abbrev pub EndsInNumber : List ℕ → Type 0
 EndsInNumber seen =
     (digits : List ℕ) × AllDigits 10 digits × (length digits ≤ 10)
@@ -34,14 +35,15 @@ EndsInNumber seen =
     ⊎ ((number : List ℕ) × (op : ℕ) × SpellsNumber number op × (seen ≡ 73 ∷ (number ++ line_feed ∷ digits)))
     ⊎ ((device : List ℕ) × IsLine device × (seen ≡ 79 ∷ (device ++ line_feed ∷ digits))))
 
--- a line of 255 bytes stands at the end, with no line feed yet: after `O` or `C`, or after the device line of `O`
+-- The bytes end in a line of 255 bytes, with no line feed yet. It comes after `O` or `C`, or after
+-- the device line of `O`.
 abbrev pub EndsInFullLine : List ℕ → Type 0
 EndsInFullLine seen =
     (line : List ℕ) × (length line ≡ 255) × HasNoLineFeed line
     × ((seen ≡ 79 ∷ line) ⊎ (seen ≡ 67 ∷ line)
     ⊎ ((device : List ℕ) × IsLine device × (seen ≡ 79 ∷ (device ++ line_feed ∷ line))))
 
--- why a byte that makes the bytes hopeless does so, after what was seen before it
+-- the fault says why this byte, after what was seen before it, rules out every request
 abbrev pub IsCause : List ℕ → ℕ → WireFault → Type 0
 IsCause seen byte UnknownCommand = seen ≡ []
 IsCause seen byte BadNumber = EndsInNumber seen
@@ -49,7 +51,7 @@ IsCause seen byte LineTooLong = EndsInFullLine seen × (byte ≢ line_feed)
 IsCause seen byte NotAReply = ⊥
 IsCause seen byte TooMuchData = ⊥
 
--- the first byte that leaves no spelling possible is this fault
+-- the first byte that rules out every request is this fault
 pub record HasFault (bytes : List ℕ) (fault : WireFault) : Type 0 where
   pub seen : List ℕ
   pub byte : ℕ
@@ -59,14 +61,16 @@ pub record HasFault (bytes : List ℕ) (fault : WireFault) : Type 0 where
   pub hopeless : ¬ IsOpen (seen ++ byte ∷ [])
   pub cause : IsCause seen byte fault
 
--- What a reader gives at these bytes, and what it leaves of them: the first request; none, where they are a
--- beginning of one; or the fault of the first byte that rules each request out
+-- What a reader returns for these bytes, and the bytes that it leaves. It returns the first
+-- request, or None if the bytes are a beginning of one. Otherwise it fails with the fault of the
+-- first byte that rules out every request.
 abbrev pub Gives : List ℕ → Result (Option PlainRequest) WireFault → List ℕ → Type 0
 Gives bytes (Ok (Some request)) rest = (text : List ℕ) × SpellsRequest text request × (bytes ≡ text ++ rest)
 Gives bytes (Ok None) rest = IsOpen bytes × HasNoSpelling bytes × (rest ≡ bytes)
 Gives bytes (Err fault) rest = HasFault bytes fault × HasNoSpelling bytes × (rest ≡ bytes)
 
--- the bytes begin with a line of `len` bytes, with its line feed: that of a write of `count` bytes, too many to keep
+-- the bytes begin with a line of `len` bytes, line feed included; it is that of a write of `count`
+-- bytes, too many to keep
 pub record IsDroppedLine (bytes : List ℕ) (len count : ℕ) : Type 0 where
   pub number : List ℕ
   pub rest : List ℕ

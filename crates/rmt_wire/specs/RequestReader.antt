@@ -1,4 +1,4 @@
--- What a reader of requests holds of a stream. Public contracts cite it.
+-- The state of a reader of requests. Public contracts cite it.
 use Rattle.std.specs.Prelude.{◌≡◌, ◌≤◌, ℕ, ◌+◌, ◌-◌, ◌==◌, ◌<◌, if◌then◌else◌, nat_lt, min, List, [], ◌∷◌, ◌++◌, length, take, drop, Option, Some, None, Result, Ok, Err}
 use Rattle.rmt_wire.specs.Request.{PlainRequest}
 use Rattle.rmt_wire.specs.declared.limits.TheConstants.{READER_LIMIT}
@@ -10,88 +10,93 @@ use Rattle.rmt_wire.specs.declared.request.Request.{Request}
 use Rattle.rmt_wire.specs.declared.fault.WireFault.{WireFault}
 use Rattle.rmt_wire.specs.declared.number.Place.TheVariants as places
 
--- a write of so many bytes after a line of so many, if it is to be dropped
+-- the length of a write's line and its count, if the write is to be dropped
 abbrev pub dropped_if_long : Seen (ℕ × ℕ) → Option (ℕ × ℕ)
 dropped_if_long (Ok (Some count)) = if nat_lt RECORD_LIMIT count.0 then Some (count.1 + 2, count.0) else None
 dropped_if_long (Ok None) = None
 dropped_if_long (Err fault) = None
 
--- the length of the line and the count of a write above the limit that the bytes begin with, if they do
+-- the same, for the write that the bytes begin with, if they do
 unfoldable pub dropped_line : List ℕ → Option (ℕ × ℕ)
 dropped_line [] = None
 dropped_line (letter ∷ bytes) = if letter == 87 then dropped_if_long (number_front places.Line bytes) else None
 
--- the bytes that a reader keeps, and how many data of a dropped write it let go from after the write's line
+-- the state of a reader: the bytes that it keeps, and how many data of a dropped write it discarded
+-- after that write's line
 pub record RequestHeld : Type 0 where
   pub kept : List ℕ
   pub dropped : ℕ
 
+-- the state of a reader that keeps these bytes and discarded so many
 abbrev pub held : List ℕ → ℕ → RequestHeld
 held kept dropped = record { kept = kept; dropped = dropped }
 
--- no more data were let go than the dropped write has
+-- no more data were discarded than the dropped write has, and none if there is no such write
 abbrev pub IsDropped : Option (ℕ × ℕ) → ℕ → Type 0
 IsDropped None dropped = dropped ≡ 0
 IsDropped (Some line) dropped = dropped ≤ line.1
 
--- at the line of a dropped write, the bytes are the line, data that were let go, and what is kept after them
+-- These bytes are unread. If a dropped write is first, they are its line, the data that were
+-- discarded, and what is kept after the line.
 abbrev pub UnreadAt : Option (ℕ × ℕ) → RequestHeld → List ℕ → Type 0
 UnreadAt None h bytes = (h.dropped ≡ 0) × (bytes ≡ h.kept)
 UnreadAt (Some line) h bytes =
     (gone : List ℕ) × (length gone ≡ h.dropped) × (h.dropped ≤ line.1)
     × (bytes ≡ take line.0 h.kept ++ (gone ++ drop line.0 h.kept))
 
--- how many of the bytes kept are data that can be let go
+-- how many of the bytes kept are data that can be discarded
 abbrev pub gone_at : Option (ℕ × ℕ) → ℕ → ℕ → ℕ
 gone_at None len dropped = 0
 gone_at (Some line) len dropped = min (len - line.0) (line.1 - dropped)
 
--- these bytes were pushed and not yet given
+-- these bytes were pushed and not yet returned
 abbrev pub Unread : RequestHeld → List ℕ → Type 0
 Unread h bytes = UnreadAt (dropped_line h.kept) h bytes
 
--- how many bytes the first value not given takes, and those after it: the data of a dropped write count nothing
+-- how many bytes of room these take: the data of a dropped write at the front take none
 abbrev pub taken_at : Option (ℕ × ℕ) → List ℕ → ℕ
 taken_at None bytes = length bytes
 taken_at (Some line) bytes = line.0 + (length bytes - (line.0 + line.1))
 
+-- the same, for the line of a dropped write that the bytes begin with, if they do
 abbrev pub taken_of : List ℕ → ℕ
 taken_of bytes = taken_at (dropped_line bytes) bytes
 
--- what `next` answers, with its request as a value
+-- the result of `next`, with the plain value of its request
 abbrev pub told : Result (Option Request) WireFault → Result (Option PlainRequest) WireFault
 told (Ok None) = Ok None
 told (Ok (Some request)) = Ok (Some (plain_request request))
 told (Err fault) = Err fault
 
--- From old, the reader answers and stands at new: whatever bytes were pushed and not given, it gives of them what
--- they begin with, and holds the rest
+-- From `old` the reader returns `answer`, and then it is `new`. From the bytes that were pushed and
+-- not yet returned, it returns what they begin with and holds the rest.
 abbrev pub Continues : RequestHeld → Result (Option PlainRequest) WireFault → RequestHeld → Type 0
 Continues old answer new = (bytes : List ℕ) → Unread old bytes → (rest : List ℕ) × Unread new rest × Gives bytes answer rest
 
--- after none was given, there is room for one byte or more
+-- after None there is room for one byte or more
 abbrev pub LeavesRoom : Result (Option PlainRequest) WireFault → RequestHeld → Type 0
 LeavesRoom (Ok None) new = (bytes : List ℕ) → Unread new bytes → taken_of bytes < READER_LIMIT
 LeavesRoom (Ok (Some request)) new = Unit {0}
 LeavesRoom (Err fault) new = Unit {0}
 
--- a request that was given is let go
+-- once a request was returned, the reader keeps fewer bytes
 abbrev pub Shrinks : RequestHeld → Result (Option PlainRequest) WireFault → RequestHeld → Type 0
 Shrinks old (Ok (Some request)) new = length new.kept < length old.kept
 Shrinks old (Ok None) new = Unit {0}
 Shrinks old (Err fault) new = Unit {0}
 
--- where no request was given, the reader is exactly as it was
+-- if no request was returned, the reader is unchanged
 abbrev pub StaysUnlessGiven : RequestHeld → Result (Option PlainRequest) WireFault → RequestHeld → Type 0
 StaysUnlessGiven old (Ok (Some request)) new = Unit {0}
 StaysUnlessGiven old (Ok None) new = new ≡ old
 StaysUnlessGiven old (Err fault) new = new ≡ old
 
--- of all bytes pushed to it, a reader has given these requests, one a call, and holds the rest
+-- of all bytes pushed to it, a reader has returned these requests, one a call, and holds the rest
 abbrev pub IsGiven : RequestHeld → List ℕ → List PlainRequest → Type 0
 IsGiven held pushed requests = (rest : List ℕ) × Unread held rest × Spelled pushed requests rest
 
--- so does it after one call more, whose request is the next one; where there is none, the rest begins one, or has the fault
+-- The same after one more call. The request that it returned is the next one. If it returned none,
+-- the rest is a beginning of one, or has the fault.
 abbrev pub GivesMore : Result (Option PlainRequest) WireFault → RequestHeld → List ℕ → List PlainRequest → Type 0
 GivesMore (Ok (Some request)) new pushed requests = IsGiven new pushed (requests ++ request ∷ [])
 GivesMore (Ok None) new pushed requests =
@@ -99,7 +104,7 @@ GivesMore (Ok None) new pushed requests =
 GivesMore (Err fault) new pushed requests =
     (rest : List ℕ) × Unread new rest × Spelled pushed requests rest × HasFault rest fault × HasNoSpelling rest
 
--- call after call, the requests given are the list that the bytes pushed spell
+-- call after call, the requests returned are those that the pushed bytes spell
 abbrev pub GivesOn : RequestHeld → Result (Option PlainRequest) WireFault → RequestHeld → Type 0
 GivesOn old answer new =
     (pushed : List ℕ) (requests : List PlainRequest) → IsGiven old pushed requests → GivesMore answer new pushed requests
@@ -112,18 +117,18 @@ pub record IsNext (old : RequestHeld) (answer : Result (Option PlainRequest) Wir
   pub unchanged : StaysUnlessGiven old answer new
   pub gives_on : GivesOn old answer new
 
--- a fault is answered for good, whatever is pushed later
+-- once a fault was returned, it is returned at each later call, whatever is pushed
 abbrev pub StaysFaulty : RequestHeld → Result (Option PlainRequest) WireFault → Type 0
 StaysFaulty old (Err fault) = (bytes more : List ℕ) → Unread old bytes → Gives (bytes ++ more) (Err fault) (bytes ++ more)
 StaysFaulty old (Ok answer) = Unit {0}
 
--- the same of what was found at the front, and of its length
+-- the same for a request that was found at the front with its length
 abbrev pub told_front : Result (Option (Request × ℕ)) WireFault → Result (Option PlainRequest) WireFault
 told_front (Ok None) = Ok None
 told_front (Ok (Some found)) = Ok (Some (plain_request found.0))
 told_front (Err fault) = Err fault
 
--- what is held once so much of what is kept was given
+-- the state of the reader once the request that was found, if any, was returned
 abbrev pub held_after : Result (Option (Request × ℕ)) WireFault → RequestHeld → RequestHeld
 held_after (Ok None) h = h
 held_after (Ok (Some found)) h = held (drop found.1 h.kept) 0

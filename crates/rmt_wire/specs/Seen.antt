@@ -1,5 +1,5 @@
--- What is seen of the beginning of some bytes, computed from the front, and the numbers there.
--- Public contracts stand on it (through RequestReader).
+-- The result of reading the front of some bytes, and the numbers there. Public contracts depend on
+-- it through RequestReader.
 use Rattle.std.specs.Prelude.{ℕ, ◌+◌, ◌-◌, ◌*◌, ◌==◌, ◌&&◌, ◌||◌, Bool, false, if◌then◌else◌, nat_lt, nat_le, List, [], ◌∷◌, Option, Some, None, Result, Ok, Err}
 use Rattle.rmt_wire.specs.Number.{line_feed, space}
 use Rattle.rmt_wire.specs.declared.fault.WireFault.{WireFault}
@@ -7,33 +7,35 @@ use Rattle.rmt_wire.specs.declared.fault.WireFault.TheVariants.{BadNumber, TooMu
 use Rattle.rmt_wire.specs.declared.number.Place.{Place}
 use Rattle.rmt_wire.specs.declared.number.Place.TheVariants as places
 
--- what was seen of an A: all of it, less than it, or a byte that rules it out
+-- the result of reading an A: the A, None if it is not complete, or the fault of a byte that rules
+-- it out
 abbrev pub Seen : Type 0 → Type 0
 Seen A = Result (Option A) WireFault
 
--- what is seen after an A
+-- reads on with `next` after an A that is complete
 abbrev pub after : {A B : Type 0} → Seen A → (A → Seen B) → Seen B
 after (Err fault) next = Err fault
 after (Ok None) next = Ok None
 after (Ok (Some a)) next = next a
 
+-- the byte is a decimal digit
 abbrev pub is_digit : ℕ → Bool
 is_digit b = nat_le 48 b && nat_le b 57
 
--- the byte ends a number that stands here: a line feed, and in a mode line a space
+-- the byte ends a number at this place: a line feed, or in a mode line a space
 abbrev pub ends_number : Place → ℕ → Bool
 ends_number places.Line b = b == line_feed
 ends_number places.Mode b = b == line_feed || b == space
 ends_number (places.Data most) b = b == line_feed
 
--- the value is more than the bytes of data that are wanted here
+-- the value is more bytes of data than are wanted at this place
 abbrev pub is_too_much : Place → ℕ → Bool
 is_too_much places.Line value = false
 is_too_much places.Mode value = false
 is_too_much (places.Data most) value = nat_lt most value
 
--- the number that the bytes go on with after `count` digits of this value, and how many digits it has; data that are too many come
--- before a bad number
+-- The number that the bytes continue after `count` digits with this value, and how many digits it
+-- has. Too much data is checked before a bad number.
 abbrev pub number_from : Place → ℕ → ℕ → List ℕ → Seen (ℕ × ℕ)
 number_from place value count [] = Ok None
 number_from place value count (b ∷ bytes) =
@@ -43,5 +45,6 @@ number_from place value count (b ∷ bytes) =
     else number_from place (value * 10 + (b - 48)) (count + 1) bytes)
     else (if nat_lt 0 count && ends_number place b then Ok (Some (value, count)) else Err BadNumber)
 
+-- the number that the bytes begin with, and how many digits it has
 abbrev pub number_front : Place → List ℕ → Seen (ℕ × ℕ)
 number_front place bytes = number_from place 0 0 bytes

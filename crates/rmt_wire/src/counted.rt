@@ -8,12 +8,13 @@ ghost use Rattle.rmt_wire.specs.Counted.{raised};
 use std::io::{self, ErrorKind, Read, Write};
 use std::marker::Model;
 
-/// A reader or writer whose failures are counted.
+/// A reader or writer that counts its failures.
 ///
-/// A read that failed, a write that failed and a write of some bytes that took none each count as one failure.
-/// The count stays at `u64::MAX`. A flush is passed on and never counted.
+/// Each failed read, each failed write, and each write of one byte or more that accepts none counts
+/// as one failure. The count stays at `u64::MAX`. A flush is passed on and never counted.
 ///
-/// It passes on `u64::MAX` reads: each read after these fails, and is counted, with no call of the reader.
+/// `u64::MAX` reads are passed on. Each later read fails without calling the inner reader, and is
+/// counted.
 #[derive(Drop)]
 pub struct Counted<T> {
     inner: T,
@@ -33,7 +34,7 @@ impl<T> Model for Counted<T> {
 }
 
 impl<T> Counted<T> {
-    /// Counts the failures of `inner` from 0.
+    /// Wraps `inner`, with a count of 0 failures and `u64::MAX` reads left.
     pub fn new(inner: T) -> Self
         ensures inner { result.inner ≡ inner }
         ensures failures { result.failures ≡ 0 }
@@ -46,7 +47,8 @@ impl<T> Counted<T> {
         }
     }
 
-    /// How many reads and writes failed, or took none of some bytes. It stays at `u64::MAX`.
+    /// Returns how many reads and writes failed, or accepted none of some bytes. The count stays at
+    /// `u64::MAX`.
     pub fn failures(&self) -> u64
         ensures { result ≡ self.now.failures }
     {
@@ -118,7 +120,7 @@ impl<W: Write> Write for Counted<W> {
     }
 }
 
-// The count after one failure more.
+// Returns the count after one more failure. It stays at `u64::MAX`.
 fn raise(failures: u64) -> u64
     ensures { result ≡ raised failures }
 {

@@ -1,13 +1,15 @@
-//! The access that an open asks for, by fcntl's numbers: the number of its mode modulo `ACCESS_MODES`. Each crate takes them from here.
+//! The access modes of an open, by fcntl's numbers. The access is the number of the open's mode
+//! modulo `ACCESS_MODES`. Every crate imports them from here.
 
-/// To read only (fcntl).
+/// Read only (fcntl).
 pub const O_RDONLY: u32 = 0;
 
-/// To write only (fcntl).
+/// Write only (fcntl).
 pub const O_WRONLY: u32 = 1;
 
-/// To read and to write (fcntl).
+/// Read and write (fcntl).
 pub const O_RDWR: u32 = 2;
 
-/// How many numbers of an access there are, of which the last, 3, is none. Higher bits of a mode say nothing.
+/// A mode modulo this number is its access. The last remainder, 3, is not a valid access. Higher
+/// bits of a mode are ignored.
 pub const ACCESS_MODES: u32 = 4;

@@ -1,7 +1,8 @@
-//! A byte's first place.
+//! Finds a byte.
 ghost use Rattle.std.specs.Prelude.{◌≡◌, ◌==◌, ◌<◌, length, position, IfSome};
 
-/// The first place of a byte in a slice. None where it is not there.
+/// Returns the index of the first byte in a slice that equals `byte`. Returns None if there is
+/// none.
 pub fn find_byte(bytes: &[u8], byte: u8) -> Option<usize>
     ensures place { result ≡ position (λ b. b == byte) bytes.now }
     ensures within { IfSome result (λ at. at < length bytes.now) }

@@ -1,5 +1,6 @@
-//! The bytes that a reader keeps, in a buffer that is reserved once. What is pushed is copied there, and what a stream has
-//! is read straight into it. They are moved to the front only where room is wanted, or before a read.
+//! The buffer of a reader, which is reserved once. Pushed bytes are copied into it, and a stream is
+//! read straight into it. Its bytes are moved to the front only if room is needed, or before a
+//! read.
 ghost use Rattle.std.specs.Prelude.{◌≡◌, ◌+◌, ◌-◌, ◌<◌, ◌≤◌, ℕ, List, ◌++◌, length, take, drop, IfOk, OnOk, OnErr};
 ghost use Rattle.std.specs.Io.KnownBytes.{Consumes, Keeps, IsAtEnd};
 ghost use Rattle.rmt_wire.specs.Counted.{raised};
@@ -9,7 +10,8 @@ use crate::limits::READER_LIMIT;
 use bytes::BytesMut;
 use std::io::{self, Read};
 
-/// Takes `count` bytes out of a buffer, from `at` on, and keeps the room. Where there are none to take, no byte moves.
+/// Removes `count` bytes from index `at` on, and keeps the capacity. If `count` is 0, no byte
+/// moves.
 pub fn remove(buffer: &mut BytesMut, at: usize, count: usize)
     requires { at + count ≤ length buffer.old.items }
     ensures items { buffer.new.items ≡ take at buffer.old.items ++ drop (at + count) buffer.old.items }
@@ -23,7 +25,8 @@ pub fn remove(buffer: &mut BytesMut, at: usize, count: usize)
     buffer.truncate(len - count);
 }
 
-/// Appends a piece after the bytes kept from `start` on, which may be moved to the front. Answers where they start.
+/// Appends a piece after the bytes kept, which begin at index `start`. If the buffer lacks room at
+/// its end, the bytes kept are moved to the front first. Returns the index at which they begin now.
 pub fn append(buffer: &mut BytesMut, start: usize, piece: &[u8]) -> usize
     requires start { start ≤ length buffer.old.items }
     requires room { length buffer.old.items - start + length piece.now ≤ READER_LIMIT }
@@ -41,8 +44,9 @@ pub fn append(buffer: &mut BytesMut, start: usize, piece: &[u8]) -> usize
     0
 }
 
-/// Reads a stream once, up to `most` bytes, straight into the buffer, after the bytes kept. Answers how many came. Where the
-/// read failed the bytes kept are what they were.
+/// Reads a stream once, up to `most` bytes, straight into the buffer, after the bytes kept. Returns
+/// how many bytes came. If the read fails, the bytes kept are unchanged, and `stream` counts the
+/// failure.
 pub fn append_read<R: Read>(
     buffer: &mut BytesMut,
     most: usize,

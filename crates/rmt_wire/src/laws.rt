@@ -1,4 +1,4 @@
-//! Laws of the grammar, each the contract of a call that does nothing.
+//! Laws of the grammar. Each is the contract of a function that does nothing.
 
 ghost use Rattle.std.specs.Prelude.{◌≡◌, ◌⊎◌, ◌↔◌, ◌≤◌, ℕ, List, [], ◌∷◌, ◌++◌, length, take, Option, Some, Result};
 ghost use Rattle.rmt_wire.specs.Number.{HasNoLineFeed, line_feed};
@@ -13,10 +13,10 @@ ghost use Rattle.rmt_wire.specs.declared.fault.WireFault.{WireFault};
 
 use crate::limits::{READER_LIMIT, RECORD_LIMIT};
 
-/// A stream falls into requests and a rest, and in one way only: the rest is a beginning of a request, or has a
-/// fault. At each place a reader can give one thing only.
+/// A stream divides into requests and a rest in exactly one way. The rest is a beginning of a
+/// request, or has a fault. At each place a reader can return one result only.
 ///
-/// It does nothing: its contract is a law of the definitions.
+/// The function does nothing: its contract is a law of the definitions.
 pub fn one_reading()
     ensures parts { (bytes rest other : List ℕ) (requests others : List PlainRequest) →
         Parts bytes requests rest → Parts bytes others other → (requests ≡ others) × (rest ≡ other) }
@@ -26,36 +26,38 @@ pub fn one_reading()
         Gives bytes answer rest → Gives bytes another other → (answer ≡ another) × (rest ≡ other) }
 {}
 
-/// A write is to be dropped exactly where the grammar says so: the bytes begin with `W`, a number above `RECORD_LIMIT`
-/// and a line feed. It is found with the length of that line in bytes and with that number, whatever follows.
+/// `dropped_line` finds a write to be dropped if and only if the bytes begin with `W`, a number
+/// above `RECORD_LIMIT` and a line feed. It returns the length of that line in bytes and the
+/// number, whatever follows.
 ///
-/// It does nothing: its contract is a law of the definitions.
+/// The function does nothing: its contract is a law of the definitions.
 pub fn dropped_writes()
     ensures { (bytes : List ℕ) (len count : ℕ) → (dropped_line bytes ≡ Some (len, count)) ↔ IsDroppedLine bytes len count }
 {}
 
-/// Where a client knows what it waits for, no spelling of a reply begins another, and each is of one reply.
+/// For a client that knows what it waits for, no spelling of a reply begins another, and each
+/// spells one reply only.
 ///
-/// It does nothing: its contract is a law of the definitions.
+/// The function does nothing: its contract is a law of the definitions.
 pub fn one_reply()
     ensures { (wanted : Wanted) (text more : List ℕ) (reply other : PlainReply) →
         SpellsReply text reply wanted → SpellsReply (text ++ more) other wanted → (more ≡ []) × (reply ≡ other) }
 {}
 
-/// Of the bytes since a reply was waited for, a reader can give one thing, and one only: the reply, none yet, or a
-/// fault.
+/// For any bytes pushed since a reply was waited for, a reader has exactly one possible result: the
+/// reply, none yet, or a fault.
 ///
-/// It does nothing: its contract is a law of the definitions.
+/// The function does nothing: its contract is a law of the definitions.
 pub fn one_reply_reading()
     ensures answers { (wanted : Option Wanted) (bytes : List ℕ) → ReplyIsDecided wanted bytes }
     ensures some_answer { (wanted : Option Wanted) (bytes : List ℕ) →
         (answer : Result (Option PlainReply) WireFault) × (rest : List ℕ) × ReplyGives wanted bytes answer rest }
 {}
 
-/// What a writer writes of a reply is at most `READER_LIMIT` bytes, where its data, if it has any, are at most
-/// `RECORD_LIMIT`. They are where the reply answers one who waits for no more.
+/// A reply is written as at most `READER_LIMIT` bytes if its data, if any, are at most
+/// `RECORD_LIMIT` bytes. They are if the reply answers a client that waits for no more than that.
 ///
-/// It does nothing: its contract is a law of the definitions.
+/// The function does nothing: its contract is a law of the definitions.
 pub fn short_replies()
     ensures short { (reply : PlainReply) →
         ReplyHasSpelling reply → data_length reply ≤ RECORD_LIMIT → length (reply_text reply) ≤ READER_LIMIT }
@@ -63,10 +65,10 @@ pub fn short_replies()
         AnswersTo reply wanted → IsWithin wanted → data_length reply ≤ RECORD_LIMIT }
 {}
 
-/// What is kept of a reply that is waited for: of the text of an error the first 255 bytes, and what stands from its
-/// line feed on; of any other reply all bytes.
+/// A reader that waits for a reply keeps, of an error, the first 255 bytes of its text and
+/// everything from its line feed on. It keeps all bytes of any other reply.
 ///
-/// It does nothing: its contract is a law of the definitions.
+/// The function does nothing: its contract is a law of the definitions.
 pub fn long_texts()
     ensures begun { (bytes number line : List ℕ) → IsErrorText bytes number line → HasNoLineFeed line →
         kept_of bytes ≡ error_bytes number (take 255 line) }

@@ -1,15 +1,16 @@
-//! The wire of the remote magtape protocol (rmt(8)): requests and replies, their grammar, readers that lend both from a
-//! fixed buffer, and writers of both.
+//! The wire format of the remote magtape protocol (rmt(8)): requests and replies, their grammar,
+//! their writers, and readers that lend them from a fixed buffer.
 //!
-//! The server's half: `RequestReader` splits a stream into requests, however it is cut, and its `read_next` reads a
-//! stream up to the next request; `write_reply` writes a reply; `Counted` counts the failures of the streams of both. The
-//! client's half: `push_request` appends a request, and `ReplyReader` gives the reply that is waited for. `push_reply`
-//! appends a reply.
+//! For a server: `RequestReader` splits a stream into requests, whatever pieces it comes in, and
+//! its `read_next` reads a stream up to the next request. `write_reply` writes a reply, and
+//! `Counted` counts the failures of both streams. For a client: `push_request` appends a request,
+//! and `ReplyReader` returns the reply that the client waits for. `push_reply` appends a reply.
 //!
-//! For the programs over it: `print_text` prints a text whole, `find_byte` finds a byte, and `argument` reads the devices
-//! and numbers of their words.
+//! For programs: `print_text` prints a whole text, `find_byte` finds a byte, and `argument` reads
+//! device names and numbers from their arguments.
 //!
-//! Numbers that more than one crate writes have their one home here: the limits, and the modules `mtio`, `fcntl` and `errno`.
+//! Numbers that more than one crate uses are defined here: the limits, and the modules `mtio`,
+//! `fcntl` and `errno`.
 #![tactic(auto)]
 
 mod append;

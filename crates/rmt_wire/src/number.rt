@@ -1,4 +1,4 @@
-//! The number that bytes begin with.
+//! Reads the number that bytes begin with.
 
 ghost use Rattle.std.specs.Prelude.{◌≡◌, ◌<◌, length, IfOk, IfSome};
 ghost use Rattle.rmt_wire.specs.Seen as spec;
@@ -6,17 +6,18 @@ ghost use Rattle.rmt_wire.specs.Seen as spec;
 use crate::fault::WireFault;
 use crate::limits::NUMBER_LIMIT;
 
-/// The most digits that a number has.
+/// The most digits that a number may have.
 const MOST_DIGITS: usize = 10;
 
-/// Where a number stands: that says which bytes end it, and which values are too much there.
+/// The line that a number is on. It decides which bytes end the number, and which values are too
+/// large.
 #[derive(Clone, Copy)]
 pub enum Place {
-    /// On a line of its own.
+    /// A line with the number alone.
     Line,
-    /// At the front of a mode line, where a space ends it too.
+    /// The front of a mode line, where a space ends the number too.
     Mode,
-    /// On the line of a reply with data, of which at most so many bytes are wanted.
+    /// The line of a reply with data. It holds how many bytes are wanted at most.
     Data(u32),
 }
 
@@ -40,8 +41,8 @@ impl Place {
     }
 }
 
-/// The number that the bytes begin with, and how many digits it has. The byte that ends it comes next. None where the
-/// bytes are digits and nothing ends them.
+/// Returns the number that the bytes begin with, and how many digits it has. The byte that ends it
+/// is the next one. Returns None if the bytes are digits with no end yet.
 pub fn number_front(bytes: &[u8], place: Place) -> Result<Option<(u32, usize)>, WireFault>
     ensures value { result ≡ spec.number_front place bytes.now }
     ensures within { IfOk result (λ o. IfSome o (λ n. n.1 < length bytes.now)) }

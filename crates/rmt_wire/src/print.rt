@@ -1,11 +1,12 @@
-//! Printing a text whole.
+//! Prints a whole text.
 ghost use Rattle.rmt_wire.specs.Print.{IsPrinted};
 
 use crate::counted::Counted;
 use std::io::Write;
 
-/// Prints a text whole to a stream whose failures are counted. Answers whether it was: where a write failed, or took none
-/// of some bytes, a beginning of the text was printed, and that is counted as a failure.
+/// Prints a whole text to a stream that counts its failures, and returns true. If a write fails or
+/// accepts no byte, it returns false: a beginning of the text was printed, and the failure is
+/// counted.
 pub fn print_text<W: Write>(out: &mut Counted<W>, text: &[u8]) -> bool
     ensures { IsPrinted W.contents text.now out.old out.new result }
 {

@@ -1,4 +1,4 @@
-//! A short text on the stack: the head of a request or a reply, or an error whole.
+//! A short text on the stack: the head of a request or a reply, or a whole error.
 
 ghost use Rattle.std.specs.Prelude.{◌≡◌, ◌+◌, ◌<◌, ◌≤◌, [], ◌∷◌, ◌++◌, length, decimal};
 ghost use Rattle.rmt_wire.specs.Number.{line_feed};
@@ -7,7 +7,7 @@ use crate::limits::{LINE_LIMIT, NUMBER_LIMIT};
 use itoa::Buffer;
 use std::marker::Model;
 
-// A letter, ten digits, a line feed, the text of an error, a line feed.
+// The size of a letter, ten digits, a line feed, the text of an error, and a line feed.
 const TEXT_ROOM: usize = LINE_LIMIT + 13;
 
 // A short text on the stack.
@@ -62,7 +62,7 @@ impl ShortText {
     }
 }
 
-// A letter, a number, a line feed.
+// Returns a letter, a number and a line feed.
 #[tactic(auto, using(crate::proofs::Spelling::short_heads))]
 pub(crate) fn numbered(letter: u8, number: usize) -> ShortText
     requires { number ≤ NUMBER_LIMIT }

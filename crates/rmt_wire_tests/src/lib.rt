@@ -1,4 +1,5 @@
-//! Tests of `rmt_wire`, by its public calls alone. They stand here so that `rmt_wire` is proved once.
+//! Tests of `rmt_wire` through its public functions. They are in a crate of their own so that
+//! `rmt_wire` is proved once.
 #![tactic(auto)]
 
 #[cfg(test)]

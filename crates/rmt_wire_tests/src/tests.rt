@@ -1,5 +1,5 @@
-//! Streams of requests and of replies, in two pieces, beside what was written by hand; writers; and counted streams, which
-//! take or give a few bytes a call and fail.
+//! Tests of streams of requests and of replies that come in two pieces, against values written by
+//! hand. Tests of writers, and of counted streams that take or give a few bytes a call and fail.
 
 mod calls;
 mod counted;

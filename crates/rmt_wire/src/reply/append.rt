@@ -1,4 +1,4 @@
-//! A reply at the end of a vector, as it is sent.
+//! Appends a reply to a vector, as it is sent.
 
 ghost use Rattle.std.specs.Prelude.{◌≡◌, ◌+◌, ◌<◌, ◌++◌, length, OnOk, OnErr};
 ghost use Rattle.std.specs.Vec.{vec_capacity, vec_len};
@@ -12,11 +12,11 @@ use std::alloc::AllocError;
 
 /// Appends a reply as it is sent, with no leading zeros in its numbers.
 ///
-/// The reply has a spelling: its number, or the count of its data, is at most `NUMBER_LIMIT`, and its text one line of
-/// at most `LINE_LIMIT` bytes.
+/// The reply must have a spelling. Its number, or the count of its data, is at most `NUMBER_LIMIT`,
+/// and its text is one line of at most `LINE_LIMIT` bytes.
 ///
-/// It fails only where `out` has less spare room than the text has bytes and the memory for more is refused. Then `out`
-/// is as it was.
+/// Fails only if `out` has less spare capacity than the reply takes and an allocation fails. Then
+/// `out` and its capacity are unchanged.
 pub fn push_reply(out: &mut Vec<u8>, reply: &Reply<'_>) -> Result<(), AllocError>
     requires { ReplyHasSpelling (plain_reply reply.now) }
     ensures appended { OnOk result (out.new.items ≡ out.old.items ++ reply_text (plain_reply reply.now)) }

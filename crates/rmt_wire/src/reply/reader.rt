@@ -16,8 +16,8 @@ use bytes::BytesMut;
 use std::alloc::{AllocError, Global};
 use std::marker::Model;
 
-/// The reply that stands first where this is waited for, and how many of the bytes kept it takes. None where there is
-/// less than one. Where none is waited for, each byte is too much.
+/// Returns the reply of the wanted kind that `unread` begins with, and how many of the bytes kept
+/// it takes. Returns None if it is not complete. If no reply is wanted, any byte is `TooMuchData`.
 fn front(unread: &[u8], wanted: Option<Wanted>) -> Result<Option<(Reply<'_>, usize)>, WireFault>
     requires { IsWithinIfSome (plain_wanted_if_some wanted) }
     ensures next { let held = spec.reply_held (plain_wanted_if_some wanted) unread.now in
@@ -32,11 +32,13 @@ fn front(unread: &[u8], wanted: Option<Wanted>) -> Result<Option<(Reply<'_>, usi
     }
 }
 
-/// Splits a stream of bytes into replies (rmt(8)), each of a kind that is waited for, however it is cut. It reserves
-/// `READER_LIMIT` bytes once, and lends the data and the text of a reply from there.
+/// Splits a stream of bytes into replies (rmt(8)), each of the kind that is waited for, whatever
+/// pieces the stream comes in. It reserves `READER_LIMIT` bytes once, and lends the data and the
+/// text of a reply from there.
 ///
-/// A client says what it waits for by `expect`, sends its request, pushes what comes, and calls `next` until that gives
-/// the reply. Contracts see what the reader waits for, and what it holds of the stream.
+/// A client calls `expect` with what it waits for, sends its request, and pushes the bytes that
+/// come. It calls `next` until that returns the reply. Contracts see what the reader waits for, and
+/// the bytes that it keeps.
 #[derive(Drop)]
 pub struct ReplyReader {
     buffer: BytesMut,
@@ -64,8 +66,8 @@ impl ReplyReader {
     ghost use Rattle.std.specs.Io.BufRead.{Rests};
     ghost use Rattle.rmt_wire.specs.contracts.reply.reader.ReplyReader.{the_row};
 
-    /// A reader to which nothing was pushed, and which waits for nothing. It reserves `READER_LIMIT` bytes (262,156)
-    /// once, and fails only where these are refused.
+    /// Returns a reader that holds no bytes and waits for nothing. It reserves `READER_LIMIT` bytes
+    /// (262,156) once. Fails only if this allocation fails.
     pub fn new(alloc: Global) -> Result<ReplyReader, AllocError>
         ensures { IfOk result (λ r. ReplyUnread r None []) }
     {
@@ -76,7 +78,7 @@ impl ReplyReader {
         })
     }
 
-    /// Whether every byte that was pushed was given.
+    /// Whether `next` has returned every byte that was pushed.
     pub fn is_empty(&self) -> bool
         ensures value { (wanted : Option kinds.Wanted) (bytes : List ℕ) →
             ReplyUnread self.now wanted bytes → (IsTrue result ↔ (bytes ≡ [])) }
@@ -85,8 +87,8 @@ impl ReplyReader {
         self.buffer.len() == self.start
     }
 
-    /// How many bytes `push` takes now. Of the text of an error that is waited for, what stands past its first 255
-    /// bytes takes no room.
+    /// Returns how many bytes `push` takes now. The text of an error that is waited for takes no
+    /// room after its first 255 bytes.
     pub fn room(&self) -> usize
         ensures { (wanted : Option kinds.Wanted) (bytes : List ℕ) →
             ReplyUnread self.now wanted bytes → result + reply_taken_of wanted bytes ≡ READER_LIMIT }
@@ -94,13 +96,13 @@ impl ReplyReader {
         READER_LIMIT - (self.buffer.len() - self.start)
     }
 
-    /// Waits for a reply of this kind, which is to begin with the next byte that is pushed.
+    /// Waits for a reply of this kind. It is to begin with the next byte that is pushed.
     ///
-    /// Nothing may be waited for yet: the reply that was, if any, was given by `next`. Data are at most `RECORD_LIMIT`
-    /// bytes.
+    /// Nothing may be waited for yet: `next` has returned the last reply that was, if any. At most
+    /// `RECORD_LIMIT` bytes of data may be waited for.
     ///
-    /// No fault is cleared: where bytes were pushed while nothing was waited for, nothing is waited for after the call
-    /// either, and `next` answers `TooMuchData` until `clear`.
+    /// This clears no fault. If bytes were pushed while nothing was waited for, still nothing is
+    /// waited for after the call, and `next` returns `TooMuchData` until `clear`.
     pub fn expect(&mut self, wanted: Wanted)
         requires given { self.old.wanted ≡ None }
         requires within { IsWithin (plain_wanted wanted) }
@@ -112,8 +114,8 @@ impl ReplyReader {
         }
     }
 
-    /// Forgets every byte that was pushed and not given, and what is waited for, as a new connection asks. It keeps its
-    /// room, and takes no memory.
+    /// Forgets every byte that `next` has not returned, and what is waited for, as a new connection
+    /// requires. It keeps its buffer and allocates nothing.
     pub fn clear(&mut self)
         ensures { ReplyUnread self.new None [] }
     {
@@ -122,8 +124,8 @@ impl ReplyReader {
         self.wanted = None;
     }
 
-    /// Takes as many bytes of a piece of the stream as there is room for, and answers how many. The text of an error
-    /// that is waited for is kept up to its first 255 bytes.
+    /// Takes as many bytes of `piece` as there is room for, and returns how many. If an error is
+    /// waited for and comes, only the first 255 bytes of its text are kept.
     pub fn push(&mut self, piece: &[u8]) -> usize
         ensures count { (wanted : Option kinds.Wanted) (bytes : List ℕ) →
             ReplyUnread self.old wanted bytes → result ≡ min (length piece.now) (READER_LIMIT - reply_taken_of wanted bytes) }
@@ -143,13 +145,15 @@ impl ReplyReader {
         count
     }
 
-    /// Gives the reply that is waited for, and lends its data or the first 255 bytes of its text; then nothing is
-    /// waited for any more. None means that the bytes pushed so far are a beginning of it; then there is room for more.
-    /// None is also the answer where nothing is waited for and no byte was pushed.
+    /// Returns the reply that is waited for, and lends its data or the first 255 bytes of its text.
+    /// After that, nothing is waited for. Returns None if the bytes pushed so far are only a
+    /// beginning of the reply; then there is room for more. Also returns None if nothing is waited
+    /// for and no byte was pushed.
     ///
-    /// A fault is known at the first byte that rules every reply out, and is answered for good, until `clear`:
-    /// `NotAReply`, `BadNumber`, or `TooMuchData` for a number of data bytes that is more than was wanted. Where nothing
-    /// is waited for, any byte is `TooMuchData`. Where no reply is given the reader stays exactly as it was.
+    /// Fails at the first byte that rules out every reply, and returns the same fault until
+    /// `clear`. The fault is `NotAReply`, `BadNumber`, or `TooMuchData` for a count of data that is
+    /// more than was wanted. If nothing is waited for, any byte is `TooMuchData`. If no reply is
+    /// returned, the reader is unchanged.
     pub fn next(&mut self) -> Result<Option<Reply<'_>>, WireFault>
         ensures* rests { sem 𝓛 (Rests the_row self.entry (λ new. ReplyIsNext self.old (reply_told result) new)) }
         ensures for_good { ReplyStaysFaulty self.old (reply_told result) }

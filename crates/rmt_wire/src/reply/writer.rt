@@ -13,17 +13,19 @@ use crate::reply::parts::parts;
 use std::io::Write;
 use thiserror::Error;
 
-/// The stream of replies failed, or took none of some bytes. A beginning of the reply went out.
+/// A write of a reply failed, or accepted no byte. A beginning of the reply was written.
 #[derive(Clone, Copy, Debug, PartialEq, Eq, Error)]
 #[error("Output")]
 pub struct OutputFault;
 
-/// Writes a reply, with no leading zeros in its numbers, and takes no memory.
+/// Writes a reply, with no leading zeros in its numbers. Allocates nothing.
 ///
-/// The reply has a spelling: its number, or the count of its data, is at most `NUMBER_LIMIT`, and its text one line of
-/// at most `LINE_LIMIT` bytes. The head of a reply is one write, as far as the stream takes it, and so are the data.
+/// The reply must have a spelling. Its number, or the count of its data, is at most `NUMBER_LIMIT`,
+/// and its text is one line of at most `LINE_LIMIT` bytes. The head is passed to the stream in one
+/// write if the stream accepts all of it, and so are the data.
 ///
-/// It gives `OutputFault` at the first write of the stream that fails, or takes none of its bytes, and writes no more.
+/// Fails with `OutputFault` at the first write that fails or accepts no byte, and writes no more.
+/// Then `out` counts the failure.
 pub fn write_reply<W: Write>(out: &mut Counted<W>, reply: &Reply<'_>) -> Result<(), OutputFault>
     requires { ReplyHasSpelling (plain_reply reply.now) }
     ensures written { OnOk result (Appends (W.contents out.old.inner) (W.contents out.new.inner) (reply_text (plain_reply reply.now))) }
@@ -41,7 +43,7 @@ pub fn write_reply<W: Write>(out: &mut Counted<W>, reply: &Reply<'_>) -> Result<
     output(out, data)
 }
 
-// Writes all of a text.
+// Writes a whole text. Fails at the first write that fails or accepts no byte.
 fn output<W: Write>(out: &mut Counted<W>, text: &[u8]) -> Result<(), OutputFault>
     ensures written { OnOk result (Appends (W.contents out.old.inner) (W.contents out.new.inner) text.now) }
     ensures beginning { OnErr result (AppendsBeginning (W.contents out.old.inner) (W.contents out.new.inner) text.now) }

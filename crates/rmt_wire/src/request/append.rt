@@ -1,4 +1,4 @@
-//! A request at the end of a vector, as it is sent.
+//! Appends a request to a vector, as it is sent.
 
 ghost use Rattle.std.specs.Prelude.{◌≡◌, ℕ, ◌+◌, ◌<◌, ◌≤◌, List, ◌++◌, length, OnOk, OnErr};
 ghost use Rattle.std.specs.Vec.{vec_capacity, vec_len};
@@ -11,14 +11,15 @@ use crate::request::Request;
 use crate::short_text::{ShortText, numbered, push_number};
 use std::alloc::AllocError;
 
-/// Appends a request as it is sent, with no leading zeros in its numbers, a mode as its number alone, and a close with
-/// no text. Of a dropped write it appends the line alone.
+/// Appends a request as it is sent. Its numbers have no leading zeros, a mode is its number alone,
+/// and a close has no text. A dropped write is appended as its line alone.
 ///
-/// The request has a spelling: its device is one line of at most `LINE_LIMIT` bytes, its numbers are at most
-/// `NUMBER_LIMIT`, a write has at most `RECORD_LIMIT` bytes, and a dropped write is of more.
+/// The request must have a spelling. Its device is one line of at most `LINE_LIMIT` bytes, and its
+/// numbers are at most `NUMBER_LIMIT`. A write has at most `RECORD_LIMIT` bytes, and a dropped
+/// write has more.
 ///
-/// It fails only where `out` has less spare room than the text has bytes and the memory for more is refused. Then `out`
-/// is as it was.
+/// Fails only if `out` has less spare capacity than the text takes and an allocation fails. Then
+/// `out` and its capacity are unchanged.
 pub fn push_request(out: &mut Vec<u8>, request: &Request<'_>) -> Result<(), AllocError>
     requires { HasSpelling (plain_request request.now) }
     ensures appended { OnOk result (out.new.items ≡ out.old.items ++ request_text (plain_request request.now)) }
@@ -30,11 +31,11 @@ pub fn push_request(out: &mut Vec<u8>, request: &Request<'_>) -> Result<(), Allo
     push_text(out, lines.as_slice(), data)
 }
 
-/// Appends the line that the write of a record of `count` bytes begins with, at most `RECORD_LIMIT`, and makes room for the
-/// bytes, which are to be appended next (rmt(8)).
+/// Appends the line that begins the write of a record of `count` bytes, at most `RECORD_LIMIT`
+/// (rmt(8)). Reserves room for the bytes of the record, which the caller appends next.
 ///
-/// It fails only where `out` has less spare room than the line and the bytes take and the memory for more is refused. Then
-/// `out` is as it was.
+/// Fails only if `out` has less spare capacity than the line and the bytes take and an allocation
+/// fails. Then `out` and its capacity are unchanged.
 pub fn push_write_line(out: &mut Vec<u8>, count: usize) -> Result<(), AllocError>
     requires { count ≤ RECORD_LIMIT }
     ensures begun { OnOk result ((bytes : List ℕ) → length bytes ≡ count →
@@ -51,7 +52,7 @@ pub fn push_write_line(out: &mut Vec<u8>, count: usize) -> Result<(), AllocError
     out.extend_from_slice(line.as_slice())
 }
 
-/// The lines of a request, and the data after them.
+/// Returns the lines of a request, and the data after them.
 fn parts<'a>(request: &Request<'a>) -> (ShortText, &'a [u8])
     requires { HasSpelling (plain_request request.now) }
     ensures text { result.0 ++ result.1.now ≡ request_text (plain_request request.now) }
@@ -67,7 +68,7 @@ fn parts<'a>(request: &Request<'a>) -> (ShortText, &'a [u8])
     }
 }
 
-/// The lines of an open.
+/// Returns the lines of an open.
 fn open_lines(device: &[u8], mode: u32) -> ShortText
     requires device { length device.now ≤ LINE_LIMIT }
     requires mode { mode ≤ NUMBER_LIMIT }
@@ -82,7 +83,7 @@ fn open_lines(device: &[u8], mode: u32) -> ShortText
     lines
 }
 
-/// The lines of an operation.
+/// Returns the lines of an operation.
 fn op_lines(op: u32, count: u32) -> ShortText
     requires op { op ≤ NUMBER_LIMIT }
     requires count { count ≤ NUMBER_LIMIT }

@@ -1,4 +1,4 @@
-//! The request that bytes begin with.
+//! Reads the request that bytes begin with.
 
 ghost use Rattle.std.specs.Prelude.{◌≡◌, ◌≤◌, length, IfOk, IfSome};
 ghost use Rattle.rmt_wire.specs.RequestFront as spec;
@@ -9,7 +9,8 @@ use crate::limits::RECORD_LIMIT;
 use crate::request::Request;
 use crate::request::head::{Head, head_of};
 
-/// The request of a write whose line has this length, and how long it is, once all of its bytes are there.
+/// Returns the write whose line has `len` bytes, and its whole length. It is a `WriteDropped` if
+/// `count` is above `RECORD_LIMIT`. Returns None if its data are not complete.
 pub fn write_at(bytes: &[u8], count: u32, len: usize) -> Option<(Request<'_>, usize)>
     requires { len ≤ length bytes.now }
     ensures value { lent_front (Ok result) ≡ spec.written_at count len bytes.now }
@@ -27,7 +28,8 @@ pub fn write_at(bytes: &[u8], count: u32, len: usize) -> Option<(Request<'_>, us
     Some((Request::Write { bytes }, len + size))
 }
 
-/// The request that these lines begin, and how long it is, once all of its bytes are there.
+/// Returns the request that begins with the lines `head`, and its whole length. Returns None if its
+/// data are not complete.
 fn request_at(bytes: &[u8], head: Head) -> Option<(Request<'_>, usize)>
     requires { spec.LiesIn (length bytes.now) head }
     ensures value { lent_front (Ok result) ≡ spec.request_at bytes.now head }
@@ -45,7 +47,8 @@ fn request_at(bytes: &[u8], head: Head) -> Option<(Request<'_>, usize)>
     }
 }
 
-/// The request that the bytes begin with, and how long it is. None where the bytes are a beginning of one.
+/// Returns the request that the bytes begin with, and its length. Returns None if the bytes are
+/// only a beginning of one. Fails at the first byte that rules out every request.
 #[tactic(auto, unfolding(crate::specs::RequestFront::front_of))]
 pub fn request_front(bytes: &[u8]) -> Result<Option<(Request<'_>, usize)>, WireFault>
     ensures value { lent_front result ≡ spec.front_of bytes.now }

@@ -1,4 +1,4 @@
-//! The lines that a request begins with.
+//! Reads the lines that a request begins with.
 
 ghost use Rattle.std.specs.Prelude.{◌≡◌, ◌+◌, ◌^◌, ◌<◌, length, IfOk, IfSome};
 ghost use Rattle.rmt_wire.specs.RequestFront as spec;
@@ -7,7 +7,8 @@ use crate::fault::WireFault;
 use crate::number::{Place, number_front};
 use crate::request::line::line_front;
 
-/// The lines of a request, and how many bytes they are with its letter.
+/// The lines of a request. `len` is how many bytes they have, with the letter, and `device` how
+/// many bytes the name of the device has.
 #[derive(Clone, Copy)]
 pub enum Head {
     Open {
@@ -44,7 +45,8 @@ fn open_head(bytes: &[u8]) -> Result<Option<Head>, WireFault>
     mode_head(device, &bytes[device + 1..])
 }
 
-/// The lines of an open whose device has so many bytes, and whose mode line begins these bytes.
+/// Reads the mode line of an open from the bytes after the device line. The name of the device has
+/// `device` bytes.
 #[tactic(auto, unfolding(crate::specs::RequestFront::mode_head))]
 fn mode_head(device: usize, line: &[u8]) -> Result<Option<Head>, WireFault>
     requires { device + length line.now + 2 < 2 ^ 64 }
@@ -107,7 +109,8 @@ fn op_head(bytes: &[u8]) -> Result<Option<Head>, WireFault>
     count_head(op, first, &bytes[first + 1..])
 }
 
-/// The lines of an operation whose number has so many digits, and whose count begins these bytes.
+/// Reads the count of an operation from the bytes after the operation's number, which has `first`
+/// digits.
 #[tactic(auto, unfolding(crate::specs::RequestFront::count_head))]
 fn count_head(op: u32, first: usize, line: &[u8]) -> Result<Option<Head>, WireFault>
     requires { first + length line.now + 2 < 2 ^ 64 }
@@ -121,7 +124,8 @@ fn count_head(op: u32, first: usize, line: &[u8]) -> Result<Option<Head>, WireFa
     Ok(Some(Head::Op { op, count, len }))
 }
 
-/// The lines of the request that the bytes begin with. None where the bytes are a beginning of such lines.
+/// Returns the lines of the request that the bytes begin with. Returns None if the lines are not
+/// complete. Fails at the first byte that rules out every request.
 #[tactic(auto, unfolding(crate::specs::RequestFront::head_of, crate::specs::RequestFront::letter_head))]
 pub fn head_of(bytes: &[u8]) -> Result<Option<Head>, WireFault>
     ensures value { result ≡ spec.head_of bytes.now }

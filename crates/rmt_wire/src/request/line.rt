@@ -1,4 +1,4 @@
-//! The line that bytes begin with.
+//! Reads the line that bytes begin with.
 
 ghost use Rattle.std.specs.Prelude.{◌≡◌, ◌<◌, length, IfOk, IfSome};
 ghost use Rattle.rmt_wire.specs.RequestFront as spec;
@@ -6,7 +6,8 @@ ghost use Rattle.rmt_wire.specs.RequestFront as spec;
 use crate::fault::WireFault;
 use crate::limits::LINE_LIMIT;
 
-/// How many bytes the line has that the bytes begin with. The line feed comes next. None where there is none yet.
+/// Returns how many bytes the line has that the bytes begin with. Its line feed is the next byte.
+/// Returns None if there is no line feed yet. Fails if the line has more than `LINE_LIMIT` bytes.
 pub fn line_front(bytes: &[u8]) -> Result<Option<usize>, WireFault>
     ensures value { result ≡ spec.line_front bytes.now }
     ensures within { IfOk result (λ o. IfSome o (λ n. n < length bytes.now)) }

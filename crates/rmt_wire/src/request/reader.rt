@@ -22,7 +22,8 @@ mod stream;
 
 pub use stream::StreamFault;
 
-/// How many of so many bytes are data of a dropped write that stands first with this line, of which `dropped` were let go
+/// Returns how many of the `len` unread bytes can be discarded, because they are data of a dropped
+/// write at the front. That write has this line, and `dropped` bytes of its data were discarded
 /// before.
 fn gone(line: Option<(usize, u32)>, len: usize, dropped: u32) -> usize
     requires within { IfSome line (λ line. line.0 ≤ len) }
@@ -36,7 +37,8 @@ fn gone(line: Option<(usize, u32)>, len: usize, dropped: u32) -> usize
     }
 }
 
-/// Lets the data go of a dropped write that stands first. The line of a write is known then, and how many were let go.
+/// Discards the data of a dropped write at the front, as far as they came. Sets `line` if the
+/// write's line is complete, and adds to `dropped` how many bytes were discarded.
 fn let_go(buffer: &mut BytesMut, start: usize, line: &mut Option<(usize, u32)>, dropped: &mut u32)
     requires start { start ≤ length buffer.old.items }
     requires line { IsKnown line.old (drop start buffer.old.items) }
@@ -57,8 +59,9 @@ fn let_go(buffer: &mut BytesMut, start: usize, line: &mut Option<(usize, u32)>, 
     *dropped += gone as u32;
 }
 
-/// The request that stands first, and how many of the bytes kept it takes, where its line is known if it is a write, and
-/// `dropped` data of a write at the front were let go. None where there is less than one.
+/// Returns the request that `unread` begins with, and how many of the bytes kept it takes. Returns
+/// None if it is not complete. If the request is a write with a complete line, `line` is that line.
+/// `dropped` bytes of its data were discarded.
 fn front(
     unread: &[u8],
     line: Option<(usize, u32)>,
@@ -84,17 +87,17 @@ fn front(
     Ok(Some((Request::WriteDropped { count }, len + left)))
 }
 
-/// Splits a stream of bytes into requests, however it is cut. It reserves `READER_LIMIT` bytes once, takes what is pushed
-/// to it or read into it there, and lends the data of a request from there.
+/// Splits a stream of bytes into requests, whatever pieces it comes in. It reserves `READER_LIMIT`
+/// bytes once. It keeps there what is pushed or read, and lends the data of a request from there.
 ///
-/// Contracts see what it holds of the stream.
+/// Contracts see the bytes that it keeps, and how many data of a dropped write it has discarded.
 #[derive(Drop)]
 pub struct RequestReader {
     buffer: BytesMut,
     start: usize,
-    // The length of the line and the count of the write that stands first, once they were read.
+    // The length of the line and the count of the write at the front, once its line was read.
     line: Option<(usize, u32)>,
-    // How many data of that write were let go, where it is to be dropped.
+    // How many bytes of that write's data were discarded, if it is a dropped write.
     dropped: u32,
 }
 
@@ -119,8 +122,8 @@ impl RequestReader {
     ghost use Rattle.std.specs.Io.BufRead.{Rests};
     ghost use Rattle.rmt_wire.specs.contracts.request.reader.RequestReader.{the_row};
 
-    /// A reader to which nothing was pushed. It reserves `READER_LIMIT` bytes (262,156) once, and fails only where
-    /// these are refused.
+    /// Returns a reader that holds no bytes. It reserves `READER_LIMIT` bytes (262,156) once. Fails
+    /// only if this allocation fails.
     pub fn new(alloc: Global) -> Result<RequestReader, AllocError>
         ensures { IfOk result (λ r. Unread r []) }
     {
@@ -132,7 +135,8 @@ impl RequestReader {
         })
     }
 
-    /// Whether every byte that was pushed was given. Then the reader stands as a new one does.
+    /// Whether `next` has returned every byte that was pushed. If so, the reader is in the state of
+    /// a new one.
     pub fn is_empty(&self) -> bool
         ensures value { (bytes : List ℕ) → Unread self.now bytes → (IsTrue result ↔ (bytes ≡ [])) }
         ensures seen { IsTrue result → Unread self.now [] }
@@ -140,8 +144,8 @@ impl RequestReader {
         self.buffer.len() == self.start
     }
 
-    /// How many bytes `push` takes now. The data of a dropped write take no room once that write is the first
-    /// that was not given.
+    /// Returns how many bytes `push` takes now. The data of a dropped write take no room once
+    /// `next` has returned every request before it.
     pub fn room(&self) -> usize
         ensures { (bytes : List ℕ) → Unread self.now bytes → result + taken_of bytes ≡ READER_LIMIT }
     {
@@ -150,7 +154,7 @@ impl RequestReader {
         READER_LIMIT - (unread.len() - gone(line, unread.len(), self.dropped))
     }
 
-    /// Takes as many bytes of a piece of the stream as there is room for, and answers how many.
+    /// Takes as many bytes of `piece` as there is room for, and returns how many.
     pub fn push(&mut self, piece: &[u8]) -> usize
         ensures count { (bytes : List ℕ) → Unread self.old bytes → result ≡ min (length piece.now) (READER_LIMIT - taken_of bytes) }
         ensures unread { (bytes : List ℕ) → Unread self.old bytes → Unread self.new (bytes ++ take result piece.now) }
@@ -177,11 +181,11 @@ impl RequestReader {
         count
     }
 
-    /// Gives the next request of the stream, and lends its data. None means that the bytes pushed so far are a
-    /// beginning of one; then there is room for more.
+    /// Returns the next request of the stream, and lends its data. Returns None if the bytes pushed
+    /// so far are only a beginning of one; then there is room for more.
     ///
-    /// A fault is known at the first byte that rules every request out, and is answered for good. Where no request is
-    /// given the reader stays exactly as it was.
+    /// Fails at the first byte that rules out every request, and returns the same fault at each
+    /// later call. If no request is returned, the reader is unchanged.
     pub fn next(&mut self) -> Result<Option<Request<'_>>, WireFault>
         ensures* rests { sem 𝓛 (Rests the_row self.entry (λ new. IsNext self.old (told result) new)) }
         ensures for_good { StaysFaulty self.old (told result) }

@@ -1,4 +1,5 @@
-//! The calls of a stream that a reply is written to, and what was written where one of them fails.
+//! The calls that the writer of a reply makes to its stream, and what was written if one of them
+//! fails.
 
 ghost use Rattle.rmt_wire.specs.Lent.{plain_reply};
 ghost use Rattle.rmt_wire.specs.Reply.{ReplyHasSpelling};
@@ -8,12 +9,13 @@ use rmt_wire::{Counted, Reply, write_reply};
 use std::alloc::Global;
 use std::io::{ErrorKind, Write};
 
-/// Whether it took these bytes in so many calls.
+/// Whether the stream took these bytes in this many calls.
 fn has_taken(fake: &Fake, want: &[u8], calls: usize) -> bool {
     *fake.taken == *want && fake.calls == calls
 }
 
-/// Whether the whole text is written in so many calls of a stream that takes at most `piece` bytes a call.
+/// Whether the whole text is written in this many calls to a stream that takes at most `piece`
+/// bytes a call.
 fn is_written_by(alloc: Global, piece: usize, reply: &Reply<'_>, want: &[u8], calls: usize) -> bool
     requires { ReplyHasSpelling (plain_reply reply.now) }
 {
@@ -23,7 +25,8 @@ fn is_written_by(alloc: Global, piece: usize, reply: &Reply<'_>, want: &[u8], ca
     is_done && has_taken(&fake, want, calls)
 }
 
-/// Whether the whole text is written in so many calls, and byte by byte.
+/// Whether the whole text is written in this many calls to a stream that takes all bytes, and also
+/// byte by byte.
 pub(super) fn is_written(alloc: Global, reply: &Reply<'_>, want: &[u8], calls: usize) -> bool
     requires { ReplyHasSpelling (plain_reply reply.now) }
 {
@@ -31,7 +34,8 @@ pub(super) fn is_written(alloc: Global, reply: &Reply<'_>, want: &[u8], calls: u
         && is_written_by(alloc, 1, reply, want, want.len())
 }
 
-/// How many bytes a stream takes a call, how many calls come before the one that fails so, and what was taken then.
+/// How many bytes a stream takes a call, and how many calls come before the one that fails. Then
+/// how that one fails, or None if it takes no byte, and what was taken before it.
 type Failure = (usize, usize, Option<ErrorKind>, &'static [u8]);
 
 static FAILURES: [Failure; 10] = [
@@ -47,7 +51,8 @@ static FAILURES: [Failure; 10] = [
     (1000, 1, None, b"A3\n"),
 ];
 
-/// Whether it is the last call where one fails so, and the one failure that is counted. A flush is passed on.
+/// Whether the call that fails is the last one, and its failure is the only one counted. A flush is
+/// passed on.
 fn fails(alloc: Global, failure: &Failure) -> bool {
     let (piece, before, trouble, taken) = *failure;
     let mut out = Counted::new(Fake::new(alloc, piece, before, 1, trouble));

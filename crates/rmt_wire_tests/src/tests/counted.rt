@@ -1,13 +1,13 @@
-//! A stream whose failed reads are counted, a call at a time.
+//! Tests of the count of failed reads, call by call.
 
 use super::fake::Fake;
 use rmt_wire::Counted;
 use std::io::{ErrorKind, Read};
 
-/// What a read gave, and how many failures are counted then.
+/// The result of a read, and how many failures are counted after it.
 type Answer = (Result<usize, ErrorKind>, u64);
 
-/// Reads into so much room, of 3 bytes at most.
+/// Reads into a buffer of `room` bytes, at most 3.
 fn read(input: &mut Counted<Fake>, room: usize) -> Answer {
     let mut piece = [0; 3];
     let given = match input.read(&mut piece[..room.min(3)]) {
@@ -19,7 +19,7 @@ fn read(input: &mut Counted<Fake>, room: usize) -> Answer {
 
 const KIND: ErrorKind = ErrorKind::Interrupted;
 
-/// How much room there is, and what is answered then.
+/// The size of the buffer, and the expected result.
 static READS: [(usize, Answer); 5] = [
     (3, (Ok(2), 0)),
     (0, (Ok(0), 0)),
@@ -28,7 +28,7 @@ static READS: [(usize, Answer); 5] = [
     (3, (Ok(2), 2)),
 ];
 
-/// A failed read is given and not asked again, and nothing read into no room is no failure.
+/// A failed read is returned and not retried. A read into an empty buffer is not a failure.
 #[test]
 fn failed_reads_are_counted(rt: HostRuntime) {
     let mut input = Counted::new(Fake::new(rt.alloc(), 2, 2, 2, Some(KIND)));

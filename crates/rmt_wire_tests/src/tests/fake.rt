@@ -1,17 +1,19 @@
-//! A stream for tests, which takes or gives a few bytes a call and fails in mid-stream, for good or for some calls.
+//! A stream for tests. It takes or gives a few bytes a call, and fails for some calls or from some
+//! call on.
 ghost use Rattle.std.specs.Prelude.{◌≡◌, IfOk};
 
 use std::alloc::Global;
 use std::io::{self, ErrorKind, Read, Write};
 
-/// It takes or gives at most `piece` bytes a call. After `before` calls come `failing` ones that do not work; all others do.
+/// Takes or gives at most `piece` bytes a call. After `before` calls, `failing` calls fail; all
+/// others work.
 #[derive(Drop)]
 pub(crate) struct Fake {
     pub(crate) taken: Vec<u8>,
     piece: usize,
     before: usize,
     failing: usize,
-    /// How a call fails that does not work. None where it takes or gives none.
+    /// How a call fails. If None, it takes or gives no byte.
     trouble: Option<ErrorKind>,
     /// How often it was called.
     pub(crate) calls: usize,
@@ -35,7 +37,7 @@ impl Fake {
         }
     }
 
-    /// Counts a call, and answers whether it works.
+    /// Counts a call, and returns whether it works.
     fn works_now(&mut self) -> bool {
         let call = self.calls;
         self.calls = call.saturating_add(1);

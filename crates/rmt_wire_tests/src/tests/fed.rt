@@ -1,10 +1,11 @@
-//! A reader of requests, fed a stream in two pieces.
+//! A reader of requests to which a stream is pushed in two pieces.
 
 use super::listener::Next;
 use rmt_wire::{Request, RequestReader, WireFault};
 use std::alloc::{AllocError, Global};
 
-/// A stream, its requests, the rest, and the fault of that, with how many bytes of the stream show it.
+/// A stream, its requests, the rest after them, and the fault of the rest with how many bytes of
+/// the stream show it.
 pub(super) type Row<'a> = (
     &'a [u8],
     &'a [Request<'a>],
@@ -12,7 +13,8 @@ pub(super) type Row<'a> = (
     Option<(WireFault, usize)>,
 );
 
-/// A request as its letter (small where the data were dropped), its numbers and its bytes.
+/// Returns a request as its letter (lower case if its data were dropped), its numbers and its
+/// bytes.
 fn parts<'a>(request: &Request<'a>) -> (u8, u32, u32, &'a [u8]) {
     match *request {
         Request::Open { device, mode } => (b'O', mode, 0, device),
@@ -24,7 +26,7 @@ fn parts<'a>(request: &Request<'a>) -> (u8, u32, u32, &'a [u8]) {
     }
 }
 
-/// What this request is, where that one is wanted.
+/// Returns `Wanted` if the request is the wanted one, else `Other`.
 fn compared(wanted: Option<&Request<'_>>, request: &Request<'_>) -> Next {
     match wanted {
         Some(wanted) if parts(wanted) == parts(request) => Next::Wanted,
@@ -32,7 +34,7 @@ fn compared(wanted: Option<&Request<'_>>, request: &Request<'_>) -> Next {
     }
 }
 
-/// What a reader gives next, where this is wanted.
+/// Returns what a reader returns next, compared with the wanted request.
 fn next_of(reader: &mut RequestReader, wanted: Option<&Request<'_>>) -> Next {
     match reader.next() {
         Ok(Some(request)) => compared(wanted, &request),
@@ -41,18 +43,18 @@ fn next_of(reader: &mut RequestReader, wanted: Option<&Request<'_>>) -> Next {
     }
 }
 
-/// Whether a reader has so many bytes unread.
+/// Whether a reader has `count` bytes unread.
 fn holds(reader: &RequestReader, count: usize) -> bool {
     reader.room().saturating_add(count) == 262156 && reader.is_empty() == (count == 0)
 }
 
-/// A reader, and how much it was fed and gave.
+/// A reader, how many bytes were pushed to it, and how many requests it returned.
 #[derive(Drop)]
 struct Fed {
     reader: RequestReader,
     /// How many bytes were pushed.
     pushed: usize,
-    /// How many requests were given.
+    /// How many requests were returned.
     given: usize,
 }
 
@@ -65,7 +67,8 @@ impl Fed {
         })
     }
 
-    /// Takes all that is given now, as far as it is what is wanted. It answers what comes then.
+    /// Takes requests from the reader as long as they are the wanted ones. Returns the first result
+    /// that is not.
     fn next(&mut self, requests: &[Request<'_>]) -> Next {
         for _ in 0..=requests.len() {
             match next_of(&mut self.reader, requests.get(self.given)) {
@@ -76,7 +79,8 @@ impl Fed {
         Next::Other
     }
 
-    /// Whether it takes this piece whole, and then gives requests of the stream, and the fault that is shown.
+    /// Whether the reader takes this whole piece, then returns requests of the stream, and then the
+    /// fault, if the bytes pushed so far show it.
     fn takes(&mut self, piece: &[u8], row: &Row<'_>) -> bool {
         let (_, requests, _, fault) = *row;
         let count = self.reader.push(piece);
@@ -84,7 +88,8 @@ impl Fed {
         count == piece.len() && self.next(requests) == Next::None(shown(fault, self.pushed))
     }
 
-    /// Whether all was given then, the rest is unread, and a fault stays, whatever is pushed.
+    /// Whether all requests were returned, the rest is unread, and a fault stays, whatever is
+    /// pushed.
     fn ends(&mut self, row: &Row<'_>) -> bool {
         let (_, requests, rest, fault) = *row;
         self.given == requests.len()
@@ -93,7 +98,7 @@ impl Fed {
     }
 }
 
-/// The fault, where so many bytes show it.
+/// Returns the fault, if `len` bytes show it.
 fn shown(fault: Option<(WireFault, usize)>, len: usize) -> Option<WireFault> {
     match fault {
         Some((fault, end)) if end <= len => Some(fault),
@@ -101,7 +106,7 @@ fn shown(fault: Option<(WireFault, usize)>, len: usize) -> Option<WireFault> {
     }
 }
 
-/// Whether a reader gives what is in the row, where the stream comes in two pieces.
+/// Whether a reader returns what is in the row if the stream comes in two pieces.
 pub(super) fn is_split(alloc: Global, row: &Row<'_>) -> Result<bool, AllocError> {
     let mut fed = Fed::new(alloc)?;
     let (first, second) = row.0.split_at(row.0.len() / 2);

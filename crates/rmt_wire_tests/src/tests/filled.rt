@@ -1,4 +1,4 @@
-//! A reader of requests that is filled from a stream.
+//! Tests of a reader of requests that is filled from a stream.
 ghost use Rattle.std.specs.Prelude.{ℕ, List};
 ghost use Rattle.rmt_wire.specs.RequestReader.{Unread};
 
@@ -6,7 +6,7 @@ use rmt_wire::{Counted, READER_LIMIT, Request, RequestReader};
 use std::io::Read;
 use std::test::Fail;
 
-/// How many bytes come of the stream, where the reader has no request to give.
+/// Returns how many bytes came from the stream, if the reader had no request to return.
 fn filled<R: Read>(reader: &mut RequestReader, stream: &mut Counted<R>) -> Option<usize>
     requires { (bytes : List ℕ) × Unread reader.old bytes }
 {
@@ -26,7 +26,7 @@ fn a_stream_fills_a_reader(rt: HostRuntime) -> Result<(), Fail> {
     Ok(())
 }
 
-/// A block, and the beginning of a request after it, come by one read, and both are unread then.
+/// One read brings a block and the beginning of the next request, and both are unread then.
 #[test]
 fn one_read_fills_a_reader_with_a_block(rt: HostRuntime) -> Result<(), Fail> {
     let mut bytes = Vec::from_slice(rt.alloc(), b"W6000\n")?;
@@ -70,7 +70,7 @@ fn a_stream_is_read_request_by_request(rt: HostRuntime) -> Result<(), Fail> {
     Ok(())
 }
 
-/// The count of the next request of a stream, which is 0 for a close.
+/// Returns the count of the next request of a stream, which is 0 for a close.
 fn count_of<R: Read>(reader: &mut RequestReader, stream: &mut Counted<R>) -> Option<u32>
     requires { (bytes : List ℕ) × Unread reader.old bytes }
     ensures { (bytes : List ℕ) × Unread reader.new bytes }
@@ -83,7 +83,8 @@ fn count_of<R: Read>(reader: &mut RequestReader, stream: &mut Counted<R>) -> Opt
     }
 }
 
-/// The data of the dropped write fill the reader after the close, and take no room once that is given.
+/// The data of the dropped write fill the reader after the close. They take no room once the close
+/// was returned.
 #[test]
 fn a_dropped_write_is_read_through(rt: HostRuntime) -> Result<(), Fail> {
     let mut bytes = Vec::from_slice(rt.alloc(), b"C\nW600000\n")?;

@@ -1,4 +1,4 @@
-//! What programs over the wire call beside it.
+//! Tests of the functions for programs.
 
 use super::fake::Fake;
 use rmt_wire::argument::{is_device, number_of};
@@ -13,7 +13,7 @@ fn a_text_is_printed_whole(rt: HostRuntime) {
     assert!(rt; room == *b"retry?\n");
 }
 
-/// Two bytes go out, the next write fails, and no further one is made, though it would not fail.
+/// Two bytes are written, the next write fails, and no further one is made, though it would work.
 #[test]
 fn no_text_is_printed_after_a_failed_write(rt: HostRuntime) {
     let trouble = Some(ErrorKind::BrokenPipe);

@@ -1,4 +1,4 @@
-//! A reader of replies that knows whether one is waited for.
+//! A reader of replies that records whether it waits for one.
 
 ghost use Rattle.rmt_wire.specs.Lent.{plain_wanted};
 ghost use Rattle.rmt_wire.specs.ReplyReader.{IsWithin};
@@ -7,7 +7,7 @@ use rmt_wire::{Reply, ReplyReader, Wanted, WireFault};
 use std::alloc::{AllocError, Global};
 use std::marker::Model;
 
-/// What a reader gives: the request or the reply that is wanted, another one, or none, and then perhaps a fault.
+/// What a reader returns: the wanted request or reply, another one, or none, perhaps with a fault.
 #[derive(Clone, Copy, PartialEq, Eq)]
 pub(crate) enum Next {
     Wanted,
@@ -15,7 +15,7 @@ pub(crate) enum Next {
     None(Option<WireFault>),
 }
 
-/// A reply as its letter (small where there are data), its number and its bytes.
+/// Returns a reply as its letter (lower case if it has data), its number and its bytes.
 fn parts<'a>(reply: &Reply<'a>) -> (u8, u32, &'a [u8]) {
     match *reply {
         Reply::Done { number } => (b'A', number, b""),
@@ -24,7 +24,7 @@ fn parts<'a>(reply: &Reply<'a>) -> (u8, u32, &'a [u8]) {
     }
 }
 
-/// The same kind, of no more data than a reader waits for.
+/// Returns the same kind, with no more data than a reader may wait for.
 fn within(wanted: Wanted) -> Wanted
     ensures { IsWithin (plain_wanted result) }
 {
@@ -34,7 +34,7 @@ fn within(wanted: Wanted) -> Wanted
     }
 }
 
-/// What this reply is, where that one is wanted.
+/// Returns `Wanted` if the reply is the wanted one, else `Other`.
 fn compared(wanted: Option<Reply<'_>>, reply: &Reply<'_>) -> Next {
     match wanted {
         Some(wanted) if parts(&wanted) == parts(reply) => Next::Wanted,
@@ -42,7 +42,7 @@ fn compared(wanted: Option<Reply<'_>>, reply: &Reply<'_>) -> Next {
     }
 }
 
-/// A reader of replies. Contracts see of it whether a reply is waited for.
+/// A reader of replies. Contracts see whether it waits for a reply.
 #[derive(Drop)]
 pub(crate) struct Listener {
     reader: ReplyReader,
@@ -61,7 +61,7 @@ impl Model for Listener {
 }
 
 impl Listener {
-    /// A reader to which nothing was pushed, and which waits for nothing.
+    /// Returns a reader that holds no bytes and waits for nothing.
     pub(crate) fn new(alloc: Global) -> Result<Listener, AllocError> {
         Ok(Listener {
             reader: ReplyReader::new(alloc)?,
@@ -69,12 +69,12 @@ impl Listener {
         })
     }
 
-    /// Whether it has so many bytes unread.
+    /// Whether it has `count` bytes unread.
     pub(crate) fn holds(&self, count: usize) -> bool {
         self.reader.room().saturating_add(count) == 262156 && self.reader.is_empty() == (count == 0)
     }
 
-    /// Waits for a reply, where none is waited for. It tells whether none was.
+    /// Waits for a reply, unless it waits for one already. Returns whether it did not.
     pub(crate) fn wait(&mut self, wanted: Wanted) -> bool {
         if self.is_waiting {
             return false;
@@ -88,7 +88,7 @@ impl Listener {
         self.reader.push(piece)
     }
 
-    /// What it gives next, where this is wanted.
+    /// Returns what the reader returns next, compared with the wanted reply.
     pub(crate) fn next(&mut self, wanted: Option<Reply<'_>>) -> Next {
         match self.reader.next() {
             Ok(Some(reply)) => {

@@ -1,4 +1,4 @@
-//! Requests and replies as they are appended, by hand.
+//! Tests of requests and replies as they are appended, against texts written by hand.
 ghost use Rattle.rmt_wire.specs.Lent.{plain_reply, plain_request};
 ghost use Rattle.rmt_wire.specs.Reply.{ReplyHasSpelling};
 ghost use Rattle.rmt_wire.specs.Request.{HasSpelling};
@@ -7,14 +7,14 @@ use rmt_wire::{Reply, Request, push_reply, push_request};
 use std::alloc::AllocError;
 use std::test::Fail;
 
-/// Appends a request, of which no more is to be known.
+/// Appends a request that has a spelling.
 fn ask(out: &mut Vec<u8>, request: Request<'_>) -> Result<(), AllocError>
     requires { HasSpelling (plain_request request) }
 {
     push_request(out, &request)
 }
 
-/// The same of a reply.
+/// Appends a reply that has a spelling.
 fn say(out: &mut Vec<u8>, reply: Reply<'_>) -> Result<(), AllocError>
     requires { ReplyHasSpelling (plain_reply reply) }
 {
@@ -30,7 +30,7 @@ fn ask_first(out: &mut Vec<u8>) -> Result<(), AllocError> {
     ask(out, Request::Write { bytes: b"" })
 }
 
-/// Appends the other kinds, and the greatest count.
+/// Appends requests of the other kinds, and one with the largest count.
 fn ask_then(out: &mut Vec<u8>) -> Result<(), AllocError> {
     ask(out, Request::Read { count: 262144 })?;
     let count = 2147483647;
@@ -50,7 +50,7 @@ fn each_kind_of_request(rt: HostRuntime) -> Result<(), Fail> {
     Ok(())
 }
 
-/// Appends each kind.
+/// Appends a reply of each kind.
 fn say_each(out: &mut Vec<u8>) -> Result<(), AllocError> {
     say(out, Reply::Done { number: 0 })?;
     say(out, Reply::Data { bytes: b"ab\n" })?;

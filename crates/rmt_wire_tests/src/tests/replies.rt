@@ -1,10 +1,10 @@
-//! Replies whose texts are written by hand: those of a conversation, and single ones.
+//! Tests of replies with texts written by hand: those of a conversation, and single ones.
 
 use super::listener::{Listener, Next};
 use rmt_wire::{Reply, Wanted};
 use std::test::Fail;
 
-/// What is waited for, what comes then, and the reply that this is.
+/// The kind of reply that is waited for, the bytes that come then, and the reply that they are.
 type Exchange = (Wanted, &'static [u8], Reply<'static>);
 
 const NONE: Reply = Reply::Data { bytes: b"" };
@@ -116,19 +116,19 @@ static REPLIES: [Exchange; 24] = [
     ),
 ];
 
-/// Whether it takes the piece, and gives none then.
+/// Whether the reader takes the piece, and then returns no reply.
 fn takes(reader: &mut Listener, piece: &[u8]) -> bool {
     reader.push(piece) == piece.len() && reader.next(None) == Next::None(None)
 }
 
-/// Whether it gives this reply, and then none, with nothing unread.
+/// Whether the reader returns this reply, and then none, with nothing unread.
 fn gives(reader: &mut Listener, reply: Reply<'_>) -> bool {
     reader.next(Some(reply)) == Next::Wanted
         && reader.next(None) == Next::None(None)
         && reader.holds(0)
 }
 
-/// Whether it waits for the reply and gives it, where that comes in two pieces.
+/// Whether the reader waits for the reply and returns it if it comes in two pieces.
 fn is_given(reader: &mut Listener, exchange: &Exchange) -> bool {
     let (wanted, bytes, reply) = *exchange;
     let (first, second) = bytes.split_at(bytes.len() / 2);

@@ -1,10 +1,12 @@
-//! Bytes that leave no reply possible, by hand. The reader is cleared before each of them.
+//! Tests of bytes that rule out every reply, written by hand. The reader is cleared before each of
+//! them.
 
 use super::listener::{Listener, Next};
 use rmt_wire::{Reply, Wanted, WireFault};
 use std::test::Fail;
 
-/// What is waited for, if anything is, what comes then, the reply that it begins with, if it does, and its fault.
+/// The kind of reply that is waited for, if any, and the bytes that come then. Then the reply that
+/// they begin with, if any, and their fault.
 type Faulty = (
     Option<Wanted>,
     &'static [u8],
@@ -13,13 +15,13 @@ type Faulty = (
 );
 
 static FAULTY: [Faulty; 26] = [
-    // answers to a rewind
+    // replies to a rewind
     (NUMBER, b"A00000000001\n", None, WireFault::BadNumber),
     (NUMBER, b"A\n", None, WireFault::BadNumber),
     (NUMBER, b"B1\n", None, WireFault::NotAReply),
     // data of three bytes
     (Some(Wanted::Data(3)), b"A4\n", None, WireFault::TooMuchData),
-    // texts that begin no reply
+    // texts that are not the beginning of a reply
     (NUMBER, b"X\n", None, WireFault::NotAReply),
     (NUMBER, b"F5\nMedium error\n", None, WireFault::NotAReply),
     (LARGEST, b"\n", None, WireFault::NotAReply),
@@ -33,12 +35,12 @@ static FAULTY: [Faulty; 26] = [
     (LARGEST, b"A2147483648\n", None, WireFault::TooMuchData),
     (LARGEST, b"A00000262145\n", None, WireFault::TooMuchData),
     (LARGEST, b"A00000262144\n", None, WireFault::BadNumber),
-    // bytes that nobody waits for
+    // bytes while no reply is waited for
     (None, b"A", None, WireFault::TooMuchData),
     (None, b"E", None, WireFault::TooMuchData),
     (None, b"\n", None, WireFault::TooMuchData),
     (None, b"\0", None, WireFault::TooMuchData),
-    // what follows a reply
+    // bytes after a reply
     (
         NUMBER,
         b"A1\nA",
@@ -78,7 +80,8 @@ const NUMBER: Option<Wanted> = Some(Wanted::Number);
 
 const LARGEST: Option<Wanted> = Some(Wanted::Data(262144));
 
-/// Clears a reader, which waits for this then, if for anything. It tells whether it had nothing unread, and gave none.
+/// Clears the reader, which then waits for `wanted`, if it is not None. Returns whether it had
+/// nothing unread and returned no reply.
 fn starts(reader: &mut Listener, wanted: Option<Wanted>) -> bool {
     reader.clear();
     let is_empty = reader.holds(0) && reader.next(None) == Next::None(None);
@@ -88,14 +91,14 @@ fn starts(reader: &mut Listener, wanted: Option<Wanted>) -> bool {
     }
 }
 
-/// Whether it answers this fault, whatever is pushed then.
+/// Whether the reader returns this fault, also after more bytes are pushed.
 fn stays(reader: &mut Listener, fault: WireFault) -> bool {
     let is_at = reader.next(None) == Next::None(Some(fault));
     reader.push(b"A0\n");
     is_at && reader.next(None) == Next::None(Some(fault))
 }
 
-/// Whether it gives the reply, if there is one, and answers the fault then.
+/// Whether the reader returns the reply, if there is one, and then the fault.
 fn is_shown(reader: &mut Listener, row: &Faulty) -> bool {
     let (wanted, bytes, reply, fault) = *row;
     starts(reader, wanted)

@@ -1,4 +1,5 @@
-//! A whole conversation, requests that have only begun, and streams with a fault, by hand.
+//! Tests of streams written by hand: a whole conversation, incomplete requests, and streams with a
+//! fault.
 
 use super::fed::{Row, is_split};
 use rmt_wire::{Request, WireFault};
@@ -11,7 +12,7 @@ const OPEN: Request = Request::Open {
     mode: 2,
 };
 
-/// A close with 256 bytes after its letter, one more than a line has.
+/// A close with 256 bytes after its letter, one more than a line may have.
 const LONG_CLOSE: &[u8] = b"C0000000000000000000000000000000000000000000000000000000000000000\
 0000000000000000000000000000000000000000000000000000000000000000\
 0000000000000000000000000000000000000000000000000000000000000000\
@@ -35,14 +36,14 @@ static ROWS: [Row; 15] = [
     ),
     // a write that lacks data
     (b"O/dev/st0\n2\nW5\nhel", &[OPEN], b"W5\nhel", None),
-    // a letter that is left out
+    // a command that the grammar does not have
     (
         b"O/dev/st0\n2\nS\n",
         &[OPEN],
         b"S\n",
         Some((WireFault::UnknownCommand, 13)),
     ),
-    // a count with all its digits, and the greatest
+    // a count with ten digits, and the largest
     (b"R0000000007\n", &[Request::Read { count: 7 }], b"", None),
     (
         b"R2147483647\n",
@@ -66,12 +67,12 @@ static ROWS: [Row; 15] = [
         Some((WireFault::BadNumber, 11)),
     ),
     (b"I7\n\n", &[], b"I7\n\n", Some((WireFault::BadNumber, 4))),
-    // requests that have only begun
+    // incomplete requests
     (b"O/dev/st0\n2", &[], b"O/dev/st0\n2", None),
     (b"W262144", &[], b"W262144", None),
     (b"W5\nhell", &[], b"W5\nhell", None),
     (b"I5\n1", &[], b"I5\n1", None),
-    // a line of a byte more than one has
+    // a line that is one byte too long
     (
         LONG_CLOSE,
         &[],

@@ -1,4 +1,4 @@
-//! The printed names of faults, and the laws of the grammar.
+//! Tests of the printed names of faults, and calls of the laws of the grammar.
 
 use rmt_wire::{
     OutputFault, StreamFault, WireFault, dropped_writes, long_texts, one_reading, one_reply,
@@ -8,7 +8,7 @@ use std::alloc::{AllocError, Global};
 use std::fmt::Display;
 use std::test::Fail;
 
-/// Whether the fault prints this name.
+/// Whether the fault is printed as this name.
 fn prints<F: Display>(alloc: Global, fault: &F, name: &str) -> Result<bool, AllocError> {
     Ok(fault.to_string(alloc)?.as_str() == name)
 }

@@ -1,8 +1,8 @@
-//! What is written of replies: numbers, data, and an error of a server.
+//! Tests of what is written for replies: numbers, data, and an error of a server.
 use super::calls::is_written;
 use rmt_wire::{NUMBER_LIMIT, Reply};
 
-/// Numbers, and what is written of them.
+/// Numbers, and what is written for them.
 static NUMBERS: [(u32, &[u8]); 8] = [
     (0, b"A0\n"),
     (9, b"A9\n"),
@@ -23,7 +23,7 @@ fn numbers(rt: HostRuntime) {
     }
 }
 
-/// Data, what is written of them, and in how many calls at least.
+/// Data, what is written for them, and in how many calls if each call takes all bytes.
 static FEW_BYTES: [(&[u8], &[u8], usize); 9] = [
     (b"", b"A0\n", 1),
     (b"0\n", b"A2\n0\n", 2),

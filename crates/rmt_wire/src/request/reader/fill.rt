@@ -1,4 +1,4 @@
-//! Filling a reader of requests from a stream.
+//! Fills a reader of requests from a stream.
 
 ghost use Rattle.std.specs.Prelude.{◌≡◌, ◌+◌, ◌<◌, ◌≤◌, ℕ, List, length, IfOk, OnOk, OnErr};
 ghost use Rattle.std.specs.Io.KnownBytes.{IsAtEnd};
@@ -13,13 +13,16 @@ use crate::limits::READER_LIMIT;
 use std::io::{self, Read};
 
 impl RequestReader {
-    /// Reads a stream once, straight into the reader: up to `READER_LIMIT` bytes with those that it keeps. What came is
-    /// unread then, after what was. Answers how many bytes came: 0 at the end of the stream alone, since there is room, as
-    /// there is whenever `next` gave None.
+    /// Reads a stream once, straight into the reader, which then keeps at most `READER_LIMIT`
+    /// bytes. The bytes that came are unread, after those that were. Returns how many came, which
+    /// is 0 only at the end of the stream. The reader must have room, as it has whenever `next`
+    /// returned None.
     ///
-    /// What is unread is moved to the front before. What came is not copied, but for bytes after the data of a dropped
-    /// write, which are let go. It gives the error of a read that failed. Then, and at the end, the reader stays exactly as
-    /// it was.
+    /// The unread bytes are moved to the front first. The bytes that came are not copied, with one
+    /// exception. If data of a dropped write are discarded, the bytes after them are moved.
+    ///
+    /// Fails if the read fails, and `stream` counts that. Then, and at the end of the stream, the
+    /// reader is unchanged.
     pub fn fill<R: Read>(&mut self, stream: &mut Counted<R>) -> io::Result<usize>
         requires { (bytes : List ℕ) × Unread self.old bytes × (taken_of bytes < READER_LIMIT) }
         ensures came { IfOk result (IsFilled (R.remaining stream.old.inner) (R.remaining stream.new.inner) self.old self.new) }

@@ -1,4 +1,4 @@
-//! The line of the write that stands first in a reader.
+//! Reads the line of a write at the front of a reader.
 
 ghost use Rattle.std.specs.Prelude.{◌≡◌, ◌≤◌, length, IfSome};
 ghost use Rattle.rmt_wire.specs.RequestKept as spec;
@@ -6,7 +6,8 @@ ghost use Rattle.rmt_wire.specs.RequestKept as spec;
 use crate::limits::RECORD_LIMIT;
 use crate::number::{Place, number_front};
 
-/// The length of the line and the count of the write that the bytes begin with. None where that line is not whole.
+/// Returns the length of the line and the count of the write that the bytes begin with. Returns
+/// None if they begin with no complete line of a write.
 #[tactic(auto, unfolding(crate::specs::RequestKept::write_line))]
 fn write_line(bytes: &[u8]) -> Option<(usize, u32)>
     ensures value { result ≡ spec.write_line bytes.now }
@@ -21,7 +22,7 @@ fn write_line(bytes: &[u8]) -> Option<(usize, u32)>
     }
 }
 
-/// The same, where the line is perhaps known from before, and then is not read again.
+/// Returns the same for `unread`. If the line is known from before, it is not read again.
 pub fn line_of(known: Option<(usize, u32)>, unread: &[u8]) -> Option<(usize, u32)>
     requires { spec.IsKnown known unread.now }
     ensures value { result ≡ spec.write_line unread.now }
@@ -33,7 +34,7 @@ pub fn line_of(known: Option<(usize, u32)>, unread: &[u8]) -> Option<(usize, u32
     write_line(unread)
 }
 
-/// The line, if it is that of a write above `RECORD_LIMIT`.
+/// Returns the line if its count is above `RECORD_LIMIT`, else None.
 pub fn dropped_line(line: Option<(usize, u32)>) -> Option<(usize, u32)>
     ensures { result ≡ spec.if_dropped line }
 {

@@ -1,4 +1,4 @@
-//! Reading the requests of a stream one by one.
+//! Reads the requests of a stream one by one.
 
 ghost use Rattle.std.specs.Prelude.{◌≡◌, ℕ, ◌<◌, List, IsTrue, IsFalse};
 ghost use Rattle.rmt_wire.specs.RequestParts.{IsOpen, HasNoSpelling};
@@ -14,13 +14,13 @@ use crate::request::Request;
 use std::io::Read;
 use thiserror::Error;
 
-/// Why a stream of requests gives no further one.
+/// Why a stream has no further request.
 #[derive(Clone, Copy, Debug, PartialEq, Eq, Error)]
 pub enum StreamFault {
     /// The stream ended inside a request.
     #[error("Truncated")]
     Truncated,
-    /// The bytes are no request.
+    /// The bytes are not a request.
     #[error("Broken: {0}")]
     Broken(WireFault),
     /// A read failed.
@@ -33,7 +33,8 @@ impl RequestReader {
     ghost use Rattle.std.specs.Io.BufRead.{Rests};
     ghost use Rattle.rmt_wire.specs.contracts.request.reader.RequestReader.{the_row};
 
-    /// Whether the unread bytes are a beginning of a request, perhaps none of it, and no whole one. Then there is room.
+    /// Whether the unread bytes are a beginning of a request, perhaps an empty one, and no complete
+    /// request. Then there is room for more.
     fn is_waiting(&mut self) -> bool
         ensures more { IsTrue result → (bytes : List ℕ) → Unread self.new bytes →
             IsOpen bytes × HasNoSpelling bytes × (taken_of bytes < READER_LIMIT) }
@@ -48,12 +49,16 @@ impl RequestReader {
         }
     }
 
-    /// Gives the next request of a stream, of which it reads as much as that takes, and lends the request's data. None
-    /// means that the stream ended between two requests.
+    /// Returns the next request of a stream, and lends its data. It reads from the stream only
+    /// while the request is incomplete. Returns None if the stream ended between two requests.
     ///
-    /// What is unread is known, as it is of a new reader and after each call. It gives `Truncated` where the stream ended
-    /// inside a request, `Broken` at the first byte that rules every request out, and `Input` at the first read that
-    /// fails. It loses no byte that it read: after a read that failed the next call goes on where this one stopped.
+    /// Fails with `Truncated` if the stream ended inside a request. Fails with `Broken` at the
+    /// first byte that rules out every request, and with `Input` at the first read that fails. No
+    /// byte that was read is lost: after a failed read the next call continues where this one
+    /// stopped.
+    ///
+    /// The contract requires that the unread bytes are known, as they are for a new reader and
+    /// after each call.
     pub fn read_next<R: Read>(
         &mut self,
         stream: &mut Counted<R>,
