@@ -1,4 +1,5 @@
--- What a host has in memory, and what ties its drives to the sessions of its connections. No public contract needs it.
+-- The state of a host in memory, and its invariant, which ties the drives to the sessions of the
+-- connections. No public contract needs it.
 use Rattle.std.specs.Prelude.{◌≡◌, ◌⊎◌, ℕ, ◌+◌, ◌<◌, Bool, true, false, List, [], length, map, option_map, Option, Some, None, MatchOption}
 use Rattle.rmt_wire.specs.Request.{PlainRequest}
 use Rattle.rmt_wire.specs.Reply.{PlainReply, reply_text}
@@ -27,10 +28,11 @@ use Rattle.tape_host.specs.Servers.{side_at}
 use Rattle.tape_host.specs.Lying.{LieBut, IsOnlineAt}
 use Rattle.tape_host.specs.Turns.{carried_of, sent_back, GivesNothing, GivesFault, GivesRequest}
 
+-- the drives, with their reels in memory
 abbrev pub MemoryDrives : Type 0
 MemoryDrives = DriveTable Holders ListLibrary View TroubledTape
 
--- a seat and what it has open
+-- a seat, and what it has open
 abbrev pub MemorySessionState : Type 0
 MemorySessionState = SessionState View TroubledTape
 
@@ -38,35 +40,38 @@ MemorySessionState = SessionState View TroubledTape
 abbrev pub idle_session_state : View → MemorySessionState
 idle_session_state seat = record { seat = seat; opened = None }
 
--- what a side is seen as
+-- the server's side of a connection, as plain data
 abbrev pub seen_side : RealServerConnection → ServerConnection
 seen_side s = side s.reader (session_seen s.session.opened)
 
+-- the server, as plain data
 abbrev pub server_of : MemoryDrives → List (Option RealServerConnection) → ServerState
 server_of drives sides = server (library_of drives.stacks) drives.holds.numbers (map (option_map seen_side) sides)
 
+-- whether nothing of the next connection is made
 abbrev pub is_nothing : Next → Bool
 is_nothing Nothing = true
 is_nothing (Seat seat) = false
 is_nothing (Whole s) = false
 
+-- whether the server's side of the next connection is made
 abbrev pub is_whole_side : Next → Bool
 is_whole_side Nothing = false
 is_whole_side (Seat seat) = false
 is_whole_side (Whole s) = true
 
--- where there is a seat alone, it holds no drive
+-- if only a seat is reserved, it holds no drive
 abbrev pub IsIdle : Next → Type 0
 IsIdle Nothing = Unit {0}
 IsIdle (Seat seat) = HoldsJust seat None
 IsIdle (Whole s) = Unit {0}
 
--- a side of this seat, which has read nothing and has nothing open
+-- the server's side of a connection with this seat, which has read nothing and has nothing open
 pub record IsFresh (seat : View) (s : RealServerConnection) : Type 0 where
   pub session : s.session ≡ idle_session_state seat
   pub reader : Unread s.reader []
 
--- a seat became a side, and all else stays
+-- a seat became the server's side of a connection, or nothing changed
 abbrev pub IsMade : Next → Next → Type 0
 IsMade (Seat seat) next = (next ≡ Seat seat) ⊎ ((s : RealServerConnection) × (next ≡ Whole s) × IsFresh seat s)
 IsMade old next = next ≡ old
@@ -75,27 +80,29 @@ IsMade old next = next ≡ old
 abbrev pub IsUntroubled : Option (Opened TroubledTape) → Type 0
 IsUntroubled opened = MatchOption (reel_of opened) (Unit {0}) (λ r. r.trouble ≡ NoTrouble)
 
--- The drives are those of a side, whose seat has its connection's number. For its open reel no trouble is set.
+-- The seat of the server's side of connection `k` has that number and belongs to these drives. Its
+-- reader holds some unread bytes, perhaps none. No trouble is set for its open reel.
 pub record IsLive (drives : MemoryDrives) (k : ℕ) (s : RealServerConnection) : Type 0 where
   pub at : IsAt in_memory (state drives s.session)
   pub number : s.session.seat.number ≡ k
   pub readable : (bytes : List ℕ) × Unread s.reader bytes
   pub untroubled : IsUntroubled s.session.opened
 
--- the drives are those of a seat of this number, which has nothing open
+-- the seat has number `k`, belongs to these drives, and has nothing open
 pub record IsIdleAt (drives : MemoryDrives) (k : ℕ) (session_state : MemorySessionState) : Type 0 where
   pub at : IsAt in_memory (state drives session_state)
   pub number : session_state.seat.number ≡ k
   pub idle : session_state.opened ≡ None
 
--- after n connections there is nothing yet of the next one, or its seat, which has the next number, or all of it
+-- After `n` connections, nothing of the next one is made yet, or its seat, which has the next
+-- number, or all of it.
 abbrev pub IsNextWaiting : MemoryDrives → ℕ → Next → Type 0
 IsNextWaiting drives n Nothing = drives.holds.last ≡ n
 IsNextWaiting drives n (Seat seat) = (drives.holds.last ≡ n + 1) × IsIdleAt drives (n + 1) (idle_session_state seat)
 IsNextWaiting drives n (Whole s) = (drives.holds.last ≡ n + 1) × IsIdleAt drives (n + 1) s.session × Unread s.reader []
 
--- Each drive is held by a live side or by none. No trouble is set, for the stacks or for a reel. Each reel lies there but those
--- that a live side has open.
+-- Each drive that has a holder is held by a live server's side. No trouble is set, for the stacks
+-- or for a reel. Each reel is in its slot, except those that a live server's side has online.
 pub record IsHosting (drives : MemoryDrives) (sides : List (Option RealServerConnection)) (next : Next) : Type 0 where
   pub live : (k : ℕ) (s : RealServerConnection) → side_at sides k ≡ Some s → IsLive drives k s
   pub held : (d n : ℕ) → IsHeldBy drives.holds d n → 0 < n → (s : RealServerConnection) × (side_at sides n ≡ Some s)
@@ -106,13 +113,13 @@ pub record IsHosting (drives : MemoryDrives) (sides : List (Option RealServerCon
   pub lying : troubled_in drives.stacks.library ≡ 0
   pub tidy : LieBut (library_of drives.stacks) (IsOnlineAt (map (option_map seen_side) sides))
 
--- The drives are those of a session for which no trouble is set, and each reel stands once.
+-- The seat belongs to these drives, no trouble is set, and no two reels have the same name.
 pub record IsUntroubledAt (x : MemoryState) : Type 0 where
   pub at : IsAt in_memory x
   pub told : IsLibrary x.drives.stacks (library_of x.drives.stacks)
   pub untroubled : IsTroubled NoTrouble false x
 
--- One request was carried out. It leaves the drives those of other sessions.
+-- One request was carried out, and all other seats hold what they held.
 pub record IsCarried (trouble : Trouble) (old : MemoryState) (request : PlainRequest) (reply : PlainReply)
     (new : MemoryState) : Type 0 where
   pub served : TroubledServe trouble old.drives.holds.numbers old.seat.number (session_view_seen old) request reply
@@ -121,16 +128,17 @@ pub record IsCarried (trouble : Trouble) (old : MemoryState) (request : PlainReq
   pub kept : KeepsDrives in_memory old new
   pub same_seats : new.drives.holds.last ≡ old.drives.holds.last
 
--- a session with its drives, its reader, and what is on the way back
+-- a session with its drives, its reader, and the bytes in transit to the peer
 pub record SessionBack : Type 0 where
   pub reader : RequestHeld
   pub at : MemoryState
   pub back : List ℕ
 
+-- the `SessionBack` with these parts
 abbrev pub session_back : RequestHeld → MemoryState → List ℕ → SessionBack
 session_back reader at back = record { reader = reader; at = at; back = back }
 
--- A request of a session was carried out, and its reply sent back, unless that is lost.
+-- A request of a session was carried out, and its reply was sent unless it is lost.
 abbrev pub CarriesBack : Trouble → Bool → MemoryState → List ℕ → PlainRequest → Carried → MemoryState → List ℕ → Type 0
 CarriesBack trouble lost old back request carried new back' =
     (reply : PlainReply) × IsCarried trouble old request reply new × (carried ≡ carried_of request reply)

@@ -1,4 +1,5 @@
--- In reading order: Halls (sides of connections), Lying (reels), Turns (one request each); Hosting (in memory).
+-- In reading order: Servers (the server's side of each connection), Lying (reels), Turns (one
+-- request each); Hosting (in memory).
 pub mod Servers
 pub mod Lying
 pub mod Hosting

@@ -1,4 +1,5 @@
--- Which reels lie on the stacks and in the bin, and which are away. Public contracts cite it.
+-- Which reels are in their slots, on the stacks and in the bin, and which are away. Public
+-- contracts cite it.
 use Rattle.std.specs.Prelude.{◌≡◌, ℕ, drop, List, [], ◌∷◌, Option, Some, None, IsSome}
 use Rattle.drives.specs.TapeLibrary.{ReelSlot, Drive, LibraryOf, drive_at, latched_at}
 use Rattle.rmt_server.specs.Session.{PlainSession}
@@ -6,16 +7,17 @@ use Rattle.rmt_server.specs.Session.PlainSession.{Idle, Offline, Online}
 use Rattle.rmt_server.specs.ServerState.{ServerConnection}
 use Rattle.tape_host.specs.Servers.{side_at}
 
--- each of these reels lies there
+-- each of these slots has its reel
 abbrev pub Lie : {X : Type 0} → List (ReelSlot X) → Type 0
 Lie [] = Unit {0}
 Lie (x ∷ xs) = IsSome x.reel × Lie xs
 
+-- each slot of the stacks of these drives has its reel
 abbrev pub StacksLie : {X : Type 0} → List (Drive X) → Type 0
 StacksLie [] = Unit {0}
 StacksLie (r ∷ drives) = Lie r.stack × StacksLie drives
 
--- no reel is latched
+-- no reel is latched: each slot has its reel
 abbrev pub AllLie : {X : Type 0} → LibraryOf X → Type 0
 AllLie s = StacksLie s.drives × Lie s.bin
 
@@ -25,15 +27,17 @@ online_drive_in Idle = None
 online_drive_in (Offline drive access) = None
 online_drive_in (Online drive access reel) = Some drive
 
+-- the drive that the server's side of a connection, if it is live, has open with its reel
 abbrev pub online_by : Option ServerConnection → Option ℕ
 online_by None = None
 online_by (Some s) = online_drive_in s.session
 
--- a live side has that drive open with its reel
+-- a live server's side has drive `d` open with its reel
 abbrev pub IsOnlineAt : List (Option ServerConnection) → ℕ → Type 0
 IsOnlineAt sides d = (k : ℕ) × (online_by (side_at sides k) ≡ Some d)
 
--- All reels lie there, but for the first ones of stacks, which are away only where that is said of the drive.
+-- Every slot has its reel, except that the first of a stack can be away, and only if `away` holds
+-- of the drive.
 pub record LieBut {X : Type 0} (s : LibraryOf X) (away : ℕ → Type 0) : Type 0 where
   pub bin : Lie s.bin
   pub below : (d : ℕ) → Lie (drop 1 (drive_at s d).stack)

@@ -25,10 +25,11 @@ use std::marker::Model;
 use std::mem;
 use tape::{Trouble, TroubledReel};
 
-/// One server: its drives, whose reels are in memory, and the sides of all its connections.
+/// One server: its drives, whose reels are in memory, and its side of each connection.
 ///
-/// Contracts see the hall: drives and reels, the holder of each drive, and the server's side of each connection while it is
-/// live. They see whether the side of the next connection is made.
+/// Contracts see the drives and reels, the holder of each drive, and the server's side of each
+/// connection while it is live. They also see whether the server's side of the next connection is
+/// ready.
 #[derive(Drop)]
 pub struct Host {
     alloc: Global,
@@ -50,10 +51,11 @@ impl Model for Host {
 }
 
 impl Host {
-    /// A server with these drives and no connection. `drives` is how many there are, from 1 to `drives::DRIVE_LIMIT`: as many as the
-    /// stacks have. No trouble is set in them, and no reel is latched.
+    /// Makes a server with these drives and no connection. `drives` is how many drives `stacks`
+    /// has, from 1 to `drives::DRIVE_LIMIT`. No trouble may be set in `stacks`, and no reel may be
+    /// latched.
     ///
-    /// It fails only where memory is refused.
+    /// Fails only if an allocation fails.
     pub fn new(alloc: Global, drives: usize, stacks: ListStacks) -> Result<Host, AllocError>
         requires some { 1 ≤ drives }
         requires few { drives ≤ DRIVE_LIMIT }
@@ -73,8 +75,11 @@ impl Host {
         })
     }
 
-    /// Makes the server's side of the next connection, unless it is made, and keeps it until `admit`. Where memory is refused
-    /// nothing has changed that is seen.
+    /// Makes the server's side of the next connection, unless it is made already, and keeps it
+    /// until `admit`.
+    ///
+    /// Fails if an allocation fails, or if no number is left for its seat. Nothing that contracts
+    /// see has changed then.
     pub fn prepare(&mut self) -> Result<(), AllocError>
         ensures { MatchResult result (λ _. self.new ≡ hosted self.old.server true) (λ _. self.new ≡ self.old) }
     {
@@ -82,7 +87,7 @@ impl Host {
         self.build_session()
     }
 
-    /// Gives the next connection a seat, unless it has one or no number is left.
+    /// Reserves a seat for the next connection, unless it has one or no number is left.
     fn reserve_seat(&mut self)
         ensures { self.new ≡ self.old }
     {
@@ -94,7 +99,8 @@ impl Host {
         }
     }
 
-    /// Makes the next side out of its seat.
+    /// Makes the server's side of the next connection from its seat. Fails if an allocation fails,
+    /// or if there is no seat.
     fn build_session(&mut self) -> Result<(), AllocError>
         ensures { MatchResult result (λ _. self.new ≡ hosted self.old.server true) (λ _. self.new ≡ self.old) }
     {
@@ -104,7 +110,7 @@ impl Host {
         result
     }
 
-    /// The next connection is there: the server's side of it, which was prepared, is live.
+    /// Admits the next connection: the server's side of it, which `prepare` made, is now live.
     pub fn admit(&mut self)
         requires { self.old.ready ≡ true }
         ensures { self.new ≡ hosted (joined self.old.server) false }
@@ -114,7 +120,8 @@ impl Host {
         }
     }
 
-    /// The number of the connection that has this drive open, or 0. Drives are numbered from 0.
+    /// Returns the number of the connection that has this drive open, or 0 if none has. Drives are
+    /// numbered from 0.
     pub fn holder(&self, drive: usize) -> u64
         requires { drive < length self.now.server.holders }
         ensures holder { IsHolder self.now.server drive result }
@@ -123,7 +130,8 @@ impl Host {
         self.drives.holds.number_at(drive)
     }
 
-    /// How many bytes `push` takes now for this connection. None where the server's side is not live.
+    /// Returns how many bytes `push` can now take for this connection, or none if the server's side
+    /// is not live.
     pub fn room(&self, connection: usize) -> Option<usize>
         ensures { HasRoom (side_at self.now.server.sides connection) result }
     {
@@ -131,8 +139,8 @@ impl Host {
         Some(side.reader.room())
     }
 
-    /// Takes as many bytes of what a connection sends as its reader has room for, and answers how many: none where the server's
-    /// side is not live.
+    /// Takes bytes that a connection sent, as many as its reader has room for, and returns how
+    /// many. Returns 0 if the server's side is not live.
     pub fn push(&mut self, connection: usize, bytes: &[u8]) -> usize
         ensures { IsPiecePushed self.old connection bytes.now (side_at self.old.server.sides connection) result self.new }
     {
@@ -144,12 +152,16 @@ impl Host {
         count
     }
 
-    /// One turn of the server's side of a connection: it carries out one request of what was pushed. The device call that the
-    /// request makes, if it makes one, fails as the trouble says, and no other does. The reply goes to the end of `back`, which
-    /// has spare room for `READER_LIMIT` bytes; where it is lost `back` stays as it is. Bytes that are no request end the
-    /// side, as `end` does.
+    /// Takes one turn of the server's side of a connection: carries out one request of the bytes
+    /// that were pushed. If the request makes a device call, the call meets the trouble, and no
+    /// other call does.
     ///
-    /// Nothing is done where the side is not live, and where what was pushed is the beginning of a request.
+    /// The reply is appended to `back`, which must have room for `READER_LIMIT` more bytes. If
+    /// `lost` is true, `back` does not change. If the bytes are no request, the server's side ends,
+    /// as with `end`.
+    ///
+    /// Does nothing if the server's side is not live, or if the bytes are only the beginning of a
+    /// request.
     pub fn serve(
         &mut self,
         connection: usize,
@@ -167,7 +179,7 @@ impl Host {
         turn
     }
 
-    /// One turn of the server's side of a connection, as `serve` takes it; but a fault does not end the side.
+    /// Like `serve`, but a fault does not end the server's side.
     fn turn(&mut self, connection: usize, trouble: Trouble, back: &mut Vec<u8>, lost: bool) -> Turn
         requires room { vec_len back.old + READER_LIMIT ≤ vec_capacity back.old }
         ensures { TurnsAt self.old trouble lost (with_back self.old back.old.items) connection
@@ -189,8 +201,8 @@ impl Host {
         turn
     }
 
-    /// Ends the server's side of a connection: what it has open is closed, and the side is no longer live. Where it is not live
-    /// nothing is done. Connections are numbered from 1.
+    /// Ends the server's side of a connection: closes what it has open, and the side is no longer
+    /// live. Does nothing if it is not live. Connections are numbered from 1.
     pub fn end(&mut self, connection: usize)
         ensures { self.new ≡ hosted (ended self.old.server connection) self.old.ready }
     {
@@ -202,7 +214,7 @@ impl Host {
         }
     }
 
-    /// Ends the server's sides of all connections, as `end` does.
+    /// Ends the server's side of every connection, as with `end`.
     pub fn restart(&mut self)
         ensures { self.new ≡ hosted (all_ended self.old.server (length self.old.server.sides)) self.old.ready }
     {
@@ -211,14 +223,16 @@ impl Host {
         }
     }
 
-    /// The first drive of that name.
+    /// Returns the number of the first drive of that name, from 0, or none if there is no such
+    /// drive.
     pub fn drive(&self, name: &[u8]) -> Option<usize>
         ensures { IsDriveNamed name.now self.now.server.library result }
     {
         self.drives.stacks.drive(name)
     }
 
-    /// The session of a connection, while the server's side is live.
+    /// Returns the session of a connection, while the server's side is live. The number of its seat
+    /// is that of the connection.
     pub fn session(&self, connection: usize) -> Option<&Session<LocalHolds, ListStacks>>
         ensures seen { option_map (λ s. session_seen s.opened) (option_copied result)
             ≡ option_map (λ s. s.session) (side_at self.now.server.sides connection) }
@@ -228,7 +242,8 @@ impl Host {
         Some(&live.session)
     }
 
-    /// The reels of the stack of one of the drives, counted from 0, in order: first the one that is latched or would be latched next.
+    /// Returns the reels of a drive's stack, in order: the first is latched, or is the next to be.
+    /// Drives are numbered from 0.
     pub fn stack(&self, drive: usize) -> &[ListedReel]
         requires { drive < length self.now.server.library.drives }
         ensures { map rest_slot result.now ≡ (drive_at self.now.server.library drive).stack }
@@ -236,22 +251,24 @@ impl Host {
         self.drives.stacks.stack(drive)
     }
 
-    /// The reels of the bin, in the order in which they were moved there.
+    /// Returns the reels of the bin, in the order in which they were moved there.
     pub fn bin(&self) -> &[ListedReel]
         ensures { map rest_slot result.now ≡ self.now.server.library.bin }
     {
         self.drives.stacks.bin()
     }
 
-    /// The reel of that name, on a stack or in the bin. None while it is latched, and where there is none.
+    /// Returns the reel of that name, on a stack or in the bin, or none if it is latched or there
+    /// is no such reel.
     pub fn reel(&self, name: &[u8]) -> Option<&TroubledReel>
         ensures { option_map at_rest (option_copied result) ≡ reel_named name.now (slots_in self.now.server.library) }
     {
         self.drives.stacks.reel(name)
     }
 
-    /// Whether `arrange` can be asked for these names: no reel of the drive is latched, no name stands twice, and each is the
-    /// name of a reel of its stack or of the bin. No reel is latched at a drive that has no holder. Drives are counted from 0.
+    /// Whether `arrange` can be called with these names. No reel of the drive may be latched, which
+    /// none is if the drive has no holder. Each name must be that of a reel of its stack or of the
+    /// bin, and none may occur twice. Drives are numbered from 0.
     pub fn can_arrange(&self, drive: usize, names: &[&[u8]]) -> bool
         requires { drive < length self.now.server.library.drives }
         ensures may { result ≡ may_arrange self.now.server.library drive (map (λ n. n.now) names.now) }
@@ -260,11 +277,12 @@ impl Host {
         self.drives.stacks.can_arrange(drive, names)
     }
 
-    /// An operator's act at a drive that has no holder: its stack becomes the reels of these names, in that order. Reels of the
-    /// bin leave it, and the stack's others go to the bin's end, in their order. Each reel stays as it is. It is asked for only
-    /// where `can_arrange` says yes.
+    /// Arranges the reels of a drive that has no holder, as an operator does. The stack becomes the
+    /// reels of these names, in that order. They leave the bin if they were there. The other reels
+    /// of the stack are moved to the end of the bin, in their order. Each reel stays as it is.
+    /// `can_arrange` must be true of the names.
     ///
-    /// Answers `OutOfMemory`. Nothing has changed then.
+    /// Fails only with `OutOfMemory`, if an allocation fails. Nothing has changed then.
     pub fn arrange(&mut self, drive: usize, names: &[&[u8]]) -> Result<(), DriveFault>
         requires free { IsHolder self.old.server drive 0 }
         requires drive { drive < length self.old.server.library.drives }

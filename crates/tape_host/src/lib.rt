@@ -1,8 +1,9 @@
 //! One tape server with the sessions of all its connections.
 //!
-//! `Host` has the drives, with reels in memory, and of each connection a reader of requests and a session. Connections are
-//! numbered from 1 in the order in which they are admitted, and a session's seat has the number of its connection. A turn
-//! carries out one request of one connection.
+//! `Host` has the drives, with reels in memory, and a reader of requests and a session for each
+//! connection. Connections are numbered from 1 in the order in which they are admitted, and a
+//! session's seat has the number of its connection. A turn carries out one request of one
+//! connection.
 #![tactic(auto)]
 
 mod host;

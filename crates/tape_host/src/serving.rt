@@ -1,4 +1,4 @@
-//! One turn of a session: one request of what was pushed, under a trouble.
+//! One turn of a session: one request of the bytes that were pushed, with an injected fault.
 ghost use Rattle.std.specs.Prelude.{◌≡◌, ℕ, ◌+◌, ◌≤◌, List, length, vec_len, vec_capacity, false};
 ghost use Rattle.rmt_wire.specs.Lent.{plain_request, plain_reply};
 ghost use Rattle.rmt_wire.specs.Reply.{ReplyHasSpelling, reply_text};
@@ -19,8 +19,8 @@ use rmt_wire::mtio::MTOFFL;
 use rmt_wire::{Reply, Request, RequestReader, push_reply};
 use tape::Trouble;
 
-/// Where a request meets a trouble: what is set for the open reel, and whether one is set for the stacks. An open and MTOFFL
-/// meet it at the stacks, a close nowhere, and all others at the open reel.
+/// Returns the trouble to set for the open reel, and whether to set one for the stacks. An open and
+/// MTOFFL meet it at the stacks, a close nowhere, and every other request at the open reel.
 fn place(trouble: Trouble, request: &Request<'_>) -> (Trouble, bool)
     ensures { (x : MemoryState) → set_for trouble (plain_request request.now) x ≡ with_troubles result.0 result.1 x }
 {
@@ -36,7 +36,7 @@ fn place(trouble: Trouble, request: &Request<'_>) -> (Trouble, bool)
     }
 }
 
-/// Sets these troubles for the open reel, if there is one, and for the stacks.
+/// Sets these troubles: `reel` for the open reel, if there is one, and `stacks` for the stacks.
 fn set_troubles(
     session: &mut Session<LocalHolds, ListStacks>,
     drives: &mut DriveTable<LocalHolds, ListStacks>,
@@ -49,7 +49,7 @@ fn set_troubles(
     drives.stacks.trouble(stacks);
 }
 
-/// Takes both troubles back.
+/// Clears both troubles.
 fn clear_troubles(
     session: &mut Session<LocalHolds, ListStacks>,
     drives: &mut DriveTable<LocalHolds, ListStacks>,
@@ -59,7 +59,7 @@ fn clear_troubles(
     set_troubles(session, drives, Trouble::None, false);
 }
 
-/// Sends a reply back, unless it is lost. There is room for it.
+/// Appends a reply to `back`, which must have room for it, unless the reply is lost.
 fn send_back(back: &mut Vec<u8>, reply: &Reply<'_>, lost: bool)
     requires spelling { ReplyHasSpelling (plain_reply reply.now) }
     requires room { vec_len back.old + length (reply_text (plain_reply reply.now)) ≤ vec_capacity back.old }
@@ -71,8 +71,8 @@ fn send_back(back: &mut Vec<u8>, reply: &Reply<'_>, lost: bool)
     let _ = push_reply(back, reply);
 }
 
-/// Carries out a request, whose device call fails so, and sends its reply back, unless it is lost. No trouble is set before it
-/// and after it.
+/// Carries out a request, whose device call meets this trouble, and appends its reply to `back`,
+/// unless it is lost. No trouble is set before it, and none after it.
 fn carry(
     session: &mut Session<LocalHolds, ListStacks>,
     drives: &mut DriveTable<LocalHolds, ListStacks>,
@@ -99,7 +99,7 @@ fn carry(
     carried
 }
 
-/// Takes one turn of a session: it carries out the next request, if a whole one is there.
+/// Takes one turn of a session: carries out the next request if a whole one was pushed.
 pub(crate) fn take_turn(
     reader: &mut RequestReader,
     session: &mut Session<LocalHolds, ListStacks>,

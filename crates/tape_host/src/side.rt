@@ -10,26 +10,26 @@ use rmt_server::Session;
 use rmt_wire::RequestReader;
 use std::alloc::{AllocError, Global};
 
-/// The server's side of one connection: what it reads, and what it has open.
+/// The server's side of one connection: its reader of requests, and its session.
 #[derive(Drop)]
 pub(crate) struct ServerConnection {
     pub(crate) reader: RequestReader,
     pub(crate) session: Session<LocalHolds, ListStacks>,
 }
 
-/// What there is of the next connection's side.
+/// The server's side of the next connection, as far as it is made.
 #[derive(Drop)]
 pub(crate) enum Next {
-    /// Nothing.
+    /// Nothing is made.
     Nothing,
-    /// Its seat.
+    /// Its seat is reserved.
     Seat(LocalSeat),
-    /// All of it.
+    /// All of it is made.
     Whole(ServerConnection),
 }
 
 impl Next {
-    /// Whether nothing of it is there.
+    /// Whether nothing of it is made.
     pub(crate) fn is_nothing(&self) -> bool
         ensures { result ≡ is_nothing self.now }
     {
@@ -39,8 +39,8 @@ impl Next {
         }
     }
 
-    /// Makes the rest of the side where its seat is there. It stays as it is where memory is refused. Without a seat it is
-    /// refused.
+    /// Makes the rest of it from its seat. Fails if an allocation fails, or if there is no seat,
+    /// and it stays as it is.
     pub(crate) fn made(self, alloc: Global) -> (Next, Result<(), AllocError>)
         requires { IsIdle self }
         ensures made { IsMade self result.0 }
@@ -56,7 +56,7 @@ impl Next {
         }
     }
 
-    /// Whether all of it is there.
+    /// Whether all of it is made.
     pub(crate) fn is_whole(&self) -> bool
         ensures { result ≡ is_whole_side self.now }
     {
@@ -68,7 +68,8 @@ impl Next {
 }
 
 impl ServerConnection {
-    /// A side of this seat, which has read nothing and has nothing open. Hands the seat back where memory is refused.
+    /// Makes the server's side of a connection from this seat, which has read nothing and has
+    /// nothing open. Returns the seat if an allocation fails.
     pub(crate) fn new(
         alloc: Global,
         seat: LocalSeat,
@@ -87,7 +88,7 @@ impl ServerConnection {
     }
 }
 
-/// The side of a connection, if it is live. Connections are numbered from 1.
+/// Returns the server's side of a connection, if it is live. Connections are numbered from 1.
 pub(crate) fn find_side(
     sides: &[Option<ServerConnection>],
     connection: usize,
@@ -99,7 +100,7 @@ pub(crate) fn find_side(
     side.as_ref()
 }
 
-/// Takes the side of a connection out, if it is live.
+/// Removes and returns the server's side of a connection, if it is live.
 pub(crate) fn take_side(
     sides: &mut Vec<Option<ServerConnection>>,
     connection: usize,
@@ -115,7 +116,7 @@ pub(crate) fn take_side(
     side.take()
 }
 
-/// Puts the side of a connection in, whose place is there.
+/// Stores the server's side of a connection that exists.
 pub(crate) fn put_side(
     sides: &mut Vec<Option<ServerConnection>>,
     connection: usize,

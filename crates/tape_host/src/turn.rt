@@ -1,4 +1,4 @@
-//! What came of one turn of a connection.
+//! The outcome of one turn of a connection.
 ghost use Rattle.std.specs.Prelude.{◌≡◌};
 ghost use Rattle.rmt_wire.specs.Lent.{plain_request, plain_reply};
 ghost use Rattle.rmt_server.specs.Access.{access_of};
@@ -11,26 +11,27 @@ use rmt_wire::{Reply, Request, WireFault};
 /// The kind of a request that was carried out.
 #[derive(Clone, Copy, Debug, PartialEq, Eq)]
 pub enum RequestKind {
-    /// To open a device. Its mode says whether for writing: modulo `ACCESS_MODES` it is `O_WRONLY`, or `O_RDWR` for both.
+    /// An open of a device. `writes` says whether it is for writing: the mode modulo `ACCESS_MODES`
+    /// is `O_WRONLY`, or `O_RDWR` for both.
     Open { writes: bool },
-    /// To write a record.
+    /// A write of a record.
     Write,
-    /// To write more than a record has, whose data were dropped.
+    /// A write of more bytes than a record can have, which were dropped.
     WriteDropped,
-    /// To write marks, which is `MTWEOF`.
+    /// A write of marks, which is `MTWEOF`.
     Marks,
-    /// Anything else.
+    /// Any other request.
     Other,
 }
 
-/// What a request was answered.
+/// The reply to a request.
 #[derive(Clone, Copy, Debug, PartialEq, Eq)]
 pub enum Answered {
-    /// It was done, with this number.
+    /// The request was done. The reply has this number.
     Number(u32),
-    /// The bytes that a read gave.
+    /// The reply has the bytes that a read returned.
     Data,
-    /// It was refused, with this number of an error.
+    /// The request failed. The reply has the number of this error.
     Error(u32),
 }
 
@@ -41,18 +42,19 @@ pub struct Carried {
     pub answered: Answered,
 }
 
-/// What came of one turn of a connection.
+/// The outcome of one turn of a connection.
 #[derive(Clone, Copy, Debug, PartialEq, Eq)]
 pub enum Turn {
-    /// Nothing: the server's side is not live, or what it has read is the beginning of a request.
+    /// Nothing was done: the server's side is not live, or no whole request was pushed.
     Nothing,
     /// A request was carried out.
     Carried(Carried),
-    /// The bytes are no request, and the side is over.
+    /// The bytes are no request, and the server's side has ended.
     Broken(WireFault),
 }
 
-/// Whether a device that is opened with this mode may be written: modulo `ACCESS_MODES` it is `O_WRONLY`, or `O_RDWR` for both.
+/// Whether a device that is opened with this mode may be written: the mode modulo `ACCESS_MODES` is
+/// `O_WRONLY`, or `O_RDWR` for both.
 fn opens_to_write(mode: u32) -> bool
     ensures { result ≡ writes_for (access_of mode) }
 {
@@ -60,7 +62,7 @@ fn opens_to_write(mode: u32) -> bool
 }
 
 impl RequestKind {
-    /// What this request asks for.
+    /// Returns the kind of this request.
     fn of(request: &Request<'_>) -> RequestKind
         ensures { result ≡ asked_of (plain_request request.now) }
     {
@@ -77,7 +79,7 @@ impl RequestKind {
 }
 
 impl Answered {
-    /// What this reply answers.
+    /// Returns the kind of this reply.
     fn of(reply: &Reply<'_>) -> Answered
         ensures { result ≡ answered_of (plain_reply reply.now) }
     {
@@ -90,7 +92,7 @@ impl Answered {
 }
 
 impl Carried {
-    /// A request that was answered so.
+    /// Records that this request was carried out with this reply.
     pub(crate) fn new(request: &Request<'_>, reply: &Reply<'_>) -> Carried
         ensures { result ≡ carried_of (plain_request request.now) (plain_reply reply.now) }
     {

@@ -1,4 +1,4 @@
--- What calls of the client, if there is one, make of it. No public contract needs it.
+-- The effect of calls on the client, if there is one. No public contract needs it.
 use Rattle.std.specs.Prelude.{◌≡◌, ◌≤◌, ℕ, List, [], Option, Some, None, Result, Ok, Err}
 use Rattle.dump_run.specs.Run.{PlainRun}
 use Rattle.dump_run.specs.Blocks.{cut_blocks}
@@ -20,51 +20,51 @@ use Rattle.tape_world.specs.declared.stop.EventStop.TheVariants.{OutOfMemory}
 use Rattle.tape_world.specs.declared.caller.Begun.{Begun}
 use Rattle.tape_world.specs.declared.caller.Caller.{Caller}
 
--- the client of the same run, with the same payload
+-- `d` is a client of the same run as `c`, with the same payload
 pub record IsSameRun (c d : Caller) : Type 0 where
   pub number : d.number ≡ c.number
   pub source : d.client.source ≡ c.client.source
 
--- the other side of the client's own connection, if it has one, is over
+-- the connections after the client left its own, if it has one
 abbrev pub over_own : Option ℕ → List Connection → List Connection
 over_own None connections = connections
 over_own (Some k) connections = changed over_there connections k
 
--- its number is one of so many
+-- the number, if there is one, is from 1 to `n`
 abbrev pub IsPlaced : Option ℕ → ℕ → Type 0
 IsPlaced None n = Unit {0}
 IsPlaced (Some k) n = (1 ≤ k) × (k ≤ n)
 
--- the operator answers
+-- the client, if there is one, takes the operator's answer
 abbrev pub ClientAnswers : Option Caller → Answer → Option Caller → Type 0
 ClientAnswers None answer new = new ≡ None
 ClientAnswers (Some c) answer new =
     (d : Caller) × (result : Result Unit StartFault) × (new ≡ Some d) × IsSameRun c d
     × AnsweredAt c.client.at.stage c.client.at answer result d.client.at
 
--- what a call made fail: the volume, and why
+-- the volume and the cause, if a call made the attempt fail
 abbrev pub failure_of : Standing → Progress → Option (ℕ × AttemptFault)
 failure_of at (Failed fault) = Some ((checkpoint_of at.counts).0, fault)
 failure_of at progress = None
 
--- its connection ended
+-- the client, if there is one, sees the end of its connection, and `failure` is what that made fail
 abbrev pub ClientSeesEnd : Option Caller → Option (ℕ × AttemptFault) → Option Caller → Type 0
 ClientSeesEnd None failure new = new ≡ None
 ClientSeesEnd (Some c) failure new =
     (d : Caller) × (progress : Progress) × (new ≡ Some d) × IsSameRun c d × CutAt c.client.at.stage c.client.at progress d.client.at
     × HasFedAt d.client.at.stage d.client.reader [] × (failure ≡ failure_of d.client.at progress)
 
--- a run that is begun with this payload
+-- `b` is the run `r`, begun with this payload
 pub record IsBegunWith (r : PlainRun) (bytes : List ℕ) (b : Begun) : Type 0 where
   pub run : b.run ≡ r
   pub payload : b.payload.blocks ≡ cut_blocks r.blocks r.block_bytes bytes
   pub shaped : IsPayload b.run b.payload.blocks
 
--- an attempt can start
+-- there is a client, and it can start an attempt
 abbrev pub IsReady : Option Caller → Type 0
 IsReady o = (c : Caller) × (o ≡ Some c) × (c.client.at.stage ≡ Ready)
 
--- An attempt starts, of the volume that is next. Where memory is refused nothing has changed.
+-- The client starts an attempt at its next volume. If an allocation fails, nothing has changed.
 abbrev pub Starts : Option Caller → Result Dumping EventStop → Option Caller → Type 0
 Starts None result new = ⊥
 Starts (Some c) (Ok dump) new =

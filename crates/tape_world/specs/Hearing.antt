@@ -1,4 +1,5 @@
--- What bytes on the way back make of the client, and of its connection. No public contract needs it.
+-- The effect of bytes that reach the client, on it and on its connection. No public contract needs
+-- it.
 use Rattle.std.specs.Prelude.{◌≡◌, ℕ, Bool, true, false, IsTrue, List, ◌++◌, length, drop, option_to_list, Option, Some, None}
 use Rattle.dump_client.specs.Standing.{FedAt}
 use Rattle.dump_client.specs.Client.{HasFedAt, unanswered}
@@ -13,30 +14,31 @@ use Rattle.tape_world.specs.declared.history.Count.{Count}
 use Rattle.tape_world.specs.declared.caller.Caller.{Caller}
 use Rattle.tape_world.specs.declared.world_state.hearing.PieceHeard.{PieceHeard}
 
--- so many of the bytes on the way back arrived
+-- the connection after `n` bytes in transit to the peer arrived
 abbrev pub deliver_back : ℕ → Connection → Connection
 deliver_back n l = record l { back = drop n l.back }
 
--- the attempt is over
+-- whether the attempt is over
 abbrev pub is_over : Progress → Bool
 is_over (Failed fault) = true
 is_over Ended = true
 is_over progress = false
 
--- so many of the bytes on the way to the client arrived; where its attempt is over, so is the connection on its side
+-- the connection after `n` bytes reached the client, which leaves it if its attempt is over
 abbrev pub heard_on : Bool → ℕ → Connection → Connection
 heard_on true n l = over_there l
 heard_on false n l = deliver_back n l
 
+-- the client's own connection, which is none if its attempt is over
 abbrev pub own_after : Bool → Option ℕ → Option ℕ
 own_after true own = None
 own_after false own = own
 
--- the client is in an attempt
+-- there is a client, and it is in an attempt
 abbrev pub IsAttempting : Option Caller → Type 0
 IsAttempting o = (c : Caller) × (o ≡ Some c) × IsTrue (is_in_attempt c.client.at.stage)
 
--- the client heard these bytes: what came of them is told with the number of its run
+-- The client heard these bytes, and `heard` is the outcome, with the number of its run.
 pub record HasHeard (o : Option Caller) (piece : List ℕ) (heard : PieceHeard) (new : Option Caller) : Type 0 where
   pub before : Caller
   pub after : Caller
@@ -53,7 +55,7 @@ pub record HasHeard (o : Option Caller) (piece : List ℕ) (heard : PieceHeard) 
   pub over : heard.is_over ≡ is_over progress
   pub failure : heard.failure ≡ failure_of after.client.at progress
 
--- a volume that was counted, as it is kept
+-- a count of the client, as the history has it: `reel` is the place of the reel's name
 abbrev pub count_in : ℕ → ℕ → ℕ → VolumeCount → Count
 count_in run reel connection c =
     record { run = run; volume = c.volume; first = c.first; count = c.count; reel = reel; connection = connection }

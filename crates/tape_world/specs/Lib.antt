@@ -1,4 +1,5 @@
--- In reading order: Making, Running, Telling, Entries, Volumes; Seen, Parts, Holding, Linking, Calling, Talking, Hearing, Serving.
+-- In reading order: Making, Running, Telling, Entries, Volumes; Seen, Parts, Holding, Linking,
+-- Calling, Talking, Hearing, Saving, Serving.
 pub mod Parts
 pub mod Seen
 pub mod Linking

@@ -1,12 +1,13 @@
--- Parts of a world that need no part in memory. No public contract needs it.
+-- Parts of a world, as plain data. No public contract needs it.
 use Rattle.std.specs.Prelude.{ℕ, false, List}
 use Rattle.world_model.specs.World.{Dumping}
 
--- bytes on the way, and room for how many more there is
+-- the bytes in transit, and how many more there is room for
 pub record Piped : Type 0 where
   pub way : List ℕ
   pub spare : ℕ
 
+-- the `Piped` with these parts
 abbrev pub piped : List ℕ → ℕ → Piped
 piped way spare = record { way = way; spare = spare }
 

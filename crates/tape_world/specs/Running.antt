@@ -1,4 +1,4 @@
--- Events as values, and what a list of them makes of a world. Public contracts cite it.
+-- Events as plain data, and the effect of a list of events on a world. Public contracts cite it.
 use Rattle.std.specs.Prelude.{◌≡◌, ℕ, ◌<◌, List, [], ◌∷◌, length, map, take, slice_get, Some}
 use Rattle.world_model.specs.World.{World}
 use Rattle.world_model.specs.Events.{PlainEvent}
@@ -14,7 +14,7 @@ use Rattle.tape_world.specs.declared.stop.EventStop.TheVariants as stops
 use Rattle.tape_world.specs.declared.fault.WorldFault.{WorldFault}
 use Rattle.tape_world.specs.declared.fault.WorldFault.TheVariants.{NotPossible, OutOfMemory}
 
--- an event that lends what it tells, as the value that it is
+-- an event with references, as plain data
 abbrev pub plain_event : Event → PlainEvent
 plain_event (lent.StartRun run payload) = StartRun run.now payload.now
 plain_event lent.Connect = Connect
@@ -34,27 +34,27 @@ plain_event (lent.Says k bytes) = Says k bytes.now
 plain_event lent.Enter = Enter
 plain_event lent.Save = Save
 
--- the place of the event that was not made
+-- the index of the event that did not happen, from 0
 abbrev pub fault_place : WorldFault → ℕ
 fault_place (NotPossible i) = i
 fault_place (OutOfMemory i) = i
 
--- the fault that this stop is, at the event of this place
+-- the fault for this stop, at the event with index `i`
 abbrev pub fault_at : EventStop → ℕ → WorldFault
 fault_at stops.NotPossible i = NotPossible i
 fault_at stops.OutOfMemory i = OutOfMemory i
 
--- there is an event of that place, and all before it were made, and no other
+-- there is an event with index `i`, and exactly the events before it happened
 pub record IsStopped (old : World) (events : List PlainEvent) (i : ℕ) (new : World) : Type 0 where
   pub inside : i < length events
   pub made : Runs old (take i events) new
 
--- where the fault says so, the event of its place is not possible
+-- if the fault is `NotPossible`, the event with its index is not possible
 abbrev pub IsEventRefused : List PlainEvent → World → WorldFault → Type 0
 IsEventRefused events w (NotPossible i) = (event : PlainEvent) → slice_get events i ≡ Some event → Possible w event → ⊥
 IsEventRefused events w (OutOfMemory i) = Unit {0}
 
--- From the first world of one good drive on, events without a fault leave the volumes in order.
+-- From the first world of one good drive, events without a fault leave the volumes in order.
 abbrev pub LeavesInOrder : World → List PlainEvent → World → Type 0
 LeavesInOrder old events new =
     (drive : PlainDriveSpec) → AreGoodDrives (drive ∷ []) → old ≡ first_world (drive ∷ []) → AreFaultless events → VolumesInOrder drive new

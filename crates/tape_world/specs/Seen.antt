@@ -1,4 +1,4 @@
--- What the parts of a world in memory are seen as. No public contract needs it.
+-- The parts of a world in memory, as plain data. No public contract needs it.
 use Rattle.std.specs.Prelude.{ℕ, List, [], map, get_or, option_map, Option, Vec}
 use Rattle.std.specs.Global.{Global}
 use Rattle.dumpdates.specs.Entry.{DatesEntry}
@@ -15,50 +15,60 @@ use Rattle.tape_world.specs.declared.history.Writing.{Writing as RealWriting}
 use Rattle.tape_world.specs.declared.history.Entered.{Entered as RealEntered}
 use Rattle.tape_world.specs.declared.history.History.{History}
 
+-- a connection, as plain data
 abbrev pub seen_connection : RealConnection → Connection
 seen_connection l = record { toward = l.toward.way; back = l.back.way; cut = l.cut; other = l.other; dump = l.dump }
 
+-- a run that was begun, as plain data
 abbrev pub seen_begun : RealBegun → Begun
 seen_begun b = record { run = b.run; payload = b.payload.blocks }
 
+-- the client, as plain data
 abbrev pub seen_caller : RealCaller → Caller
 seen_caller c = record { number = c.number; at = c.client.at; reader = c.client.reader }
 
--- the reel whose name stands at this place
+-- the name at this place of the list, and the empty name past its end
 abbrev pub name_at : List (List ℕ) → ℕ → List ℕ
 name_at names place = get_or names place []
 
+-- a count, with its reel by name
 abbrev pub seen_count : List (List ℕ) → RealCount → Count
 seen_count names c =
     record { run = c.run; volume = c.volume; first = c.first; count = c.count; reel = name_at names c.reel; connection = c.connection }
 
+-- an opening, with its reel by name
 abbrev pub seen_opening : List (List ℕ) → RealOpening → Opening
 seen_opening names o = record { connection = o.connection; reel = name_at names o.reel }
 
--- openings, by these names of reels
+-- openings, with their reels by name
 abbrev pub seen_openings : List (Vec ℕ Global) → List RealOpening → List Opening
 seen_openings names opens = map (seen_opening (map (λ n. n.items) names)) opens
 
+-- a writing, with its reel by name
 abbrev pub seen_writing : List (List ℕ) → RealWriting → Writing
 seen_writing names x = record { connection = x.connection; reel = name_at names x.reel; after = x.after }
 
--- writings, by these names of reels
+-- writings, with their reels by name
 abbrev pub seen_writings : List (Vec ℕ Global) → List RealWriting → List Writing
 seen_writings names writings = map (seen_writing (map (λ n. n.items) names)) writings
 
--- the list that the client had at each opening
+-- for each opening, the list of counts that the client had then
 abbrev pub seen_lists : List (Vec VolumeCount Global) → List (List VolumeCount)
 seen_lists lists = map (λ l. l.items) lists
 
+-- a run that was entered, as plain data
 abbrev pub seen_entered : RealEntered → Entered
 seen_entered e = record { run = e.run; listed = e.counts.items }
 
+-- the saved run, as plain data
 abbrev pub seen_kept : KeptRun → Kept
 seen_kept k = record { run = k.run; listed = k.counts.items }
 
+-- the names of all reels
 abbrev pub book_names : History → List (List ℕ)
 book_names b = map (λ name. name.items) b.names.items
 
+-- the world that these parts are, as plain data
 abbrev pub world_of : ServerState → List RealConnection → List RealBegun → Option RealCaller → Option ℕ → Option KeptRun → History → List DatesEntry → World
 world_of h connections begun caller own kept history dates = record {
   server = h;

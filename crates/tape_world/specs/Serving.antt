@@ -1,4 +1,5 @@
--- What a turn of the server makes of a connection, and which reel it opened for writing or wrote on. No public contract needs it.
+-- The effect of a turn of the server on a connection, and the reel that it opened for writing or
+-- wrote on. No public contract needs it.
 use Rattle.std.specs.Prelude.{◌≡◌, ℕ, zero, suc, ◌<◌, ◌==◌, Bool, true, false, not, ◌||◌, if◌then◌else◌, List, ◌++◌, length, Contains, option_map, Option, Some, None, vec_len, vec_capacity}
 use Rattle.std.specs.Option.{option_to_list}
 use Rattle.rmt_wire.specs.Counted.{raised}
@@ -27,19 +28,20 @@ use Rattle.world_model.specs.Changes.{accepted, noted_error, answered, opening, 
 use Rattle.tape_world.specs.declared.history.History.{History}
 use Rattle.tape_world.specs.Seen.{seen_openings, seen_lists, seen_writings}
 
--- what an attempt came to once a write of it was answered so
+-- an attempt after the reply to a write of a record
 abbrev pub noted_record : Dumping → Answered → Dumping
 noted_record d (said.Number zero) = d
 noted_record d (said.Number (suc n)) = accepted d
 noted_record d said.Data = d
 noted_record d (said.Error n) = noted_error d n
 
--- the same of marks
+-- an attempt after the reply to a write of marks
 abbrev pub noted_mark : Dumping → Answered → Dumping
 noted_mark d (said.Number n) = record d { mark = true }
 noted_mark d said.Data = d
 noted_mark d (said.Error n) = noted_error d n
 
+-- the outcome of the attempt's writes after a request of this kind and its reply
 abbrev pub noted_asked : Dumping → RequestKind → Answered → Dumping
 noted_asked d (asked.Open writes) answer = d
 noted_asked d asked.Write answer = noted_record d answer
@@ -47,17 +49,18 @@ noted_asked d asked.WriteDropped answer = d
 noted_asked d asked.Marks answer = noted_mark d answer
 noted_asked d asked.Other answer = d
 
--- a request of it was carried out
+-- an attempt after one of its requests was carried out
 abbrev pub noted_carried : Carried → Dumping → Dumping
 noted_carried c d = let d' = noted_asked d c.asked c.answered in record d' { carried = raised d'.carried }
 
--- a turn of the server's side was taken
+-- the connection after a turn of the server's side, which a fault ends
 abbrev pub noted_turn : Turn → Connection → Connection
 noted_turn turns.Nothing l = l
 noted_turn (turns.Carried c) l = record l { dump = option_map (noted_carried c) l.dump }
 noted_turn (turns.Broken fault) l = over_here l
 
--- What a turn of connection k makes of the hall, and of the connection.
+-- The effect of a turn of connection `k`: on the server, and on the connection, which `becomes`
+-- describes.
 abbrev pub TurnServes : Trouble → Hosted → ℕ → Turn → Hosted → ((Connection → Connection) → Type 0) → Type 0
 TurnServes trouble old k turns.Nothing new becomes =
     ((s : ServerConnection) → side_at old.server.sides k ≡ Some s → GivesNothing s.reached) × (new ≡ old) × becomes (λ l. l)
@@ -68,21 +71,23 @@ TurnServes trouble old k (turns.Broken fault) new becomes =
     (s : ServerConnection) × (side_at old.server.sides k ≡ Some s) × GivesFault s.reached fault
     × (new ≡ hosted (ended old.server k) old.ready) × becomes over_here
 
--- the name of the reel that is online
+-- the name of the reel that the session has online, if it has one
 abbrev pub name_online : TapeLibrary → PlainSession → Option (List ℕ)
 name_online s (Online drive access reel) = Some (first_name (drive_at s drive).stack)
 name_online s session = None
 
+-- the name of the reel that the server's side has online, if it is live and has one
 abbrev pub name_online_at : TapeLibrary → Option ServerConnection → Option (List ℕ)
 name_online_at s None = None
 name_online_at s (Some x) = name_online s x.session
 
--- the drive that a connection has online is there
+-- if connection `k` has a reel online, its drive exists
 abbrev pub IsOnlineIn : ServerState → ℕ → Type 0
 IsOnlineIn h k =
     (s : ServerConnection) (drive : ℕ) (access : Access) (reel : PlainReel) → side_at h.sides k ≡ Some s → s.session ≡ Online drive access reel
     → drive < length h.library.drives
 
+-- the name of the reel that a request of this kind opened for writing, if it did
 abbrev pub name_opened_by : RequestKind → ServerState → ℕ → Option (List ℕ)
 name_opened_by (asked.Open true) h k = name_online_at h.library (side_at h.sides k)
 name_opened_by _ h k = None
@@ -92,22 +97,24 @@ abbrev pub opened_in : ServerState → ℕ → Turn → Option (List ℕ)
 opened_in h k (turns.Carried c) = name_opened_by c.asked h k
 opened_in h k turn = None
 
--- it is to write a record, or marks
+-- whether the request is to write a record or marks
 abbrev pub is_to_write : RequestKind → Bool
 is_to_write asked.Write = true
 is_to_write asked.WriteDropped = true
 is_to_write asked.Marks = true
 is_to_write kind = false
 
--- the answer to a write where the device is open to read alone: to a record, and to marks
+-- whether the reply is that to a write at a device that is open for reading only: EBADF to a
+-- record, EACCES to marks
 abbrev pub is_barred : Answered → Bool
 is_barred (said.Error n) = (n == EBADF) || (n == EACCES)
 is_barred answer = false
 
--- a session wrote that had its device open for writing
+-- whether this is a write by a session that had its device open for writing
 abbrev pub is_write : Carried → Bool
 is_write c = if is_to_write c.asked then not (is_barred c.answered) else false
 
+-- the name of the reel that the request wrote on, if it did
 abbrev pub name_written_by : Carried → ServerState → ℕ → Option (List ℕ)
 name_written_by c h k = if is_write c then name_online_at h.library (side_at h.sides k) else None
 
@@ -120,13 +127,13 @@ written_in h k turn = None
 abbrev pub IsLibraryKnown : List (List ℕ) → TapeLibrary → Type 0
 IsLibraryKnown names s = (name : List ℕ) → HasReel s name → Contains names name
 
--- there is room for what a turn may note
+-- there is room for everything that a turn may add
 pub record HasRoom (b : History) : Type 0 where
   pub opens : vec_len b.opens < vec_capacity b.opens
   pub lists : vec_len b.lists < vec_capacity b.lists
   pub writings : vec_len b.writings < vec_capacity b.writings
 
--- nothing more is noted
+-- nothing was added
 pub record IsSameHistory (old new : History) : Type 0 where
   pub names : new.names ≡ old.names
   pub counts : new.counts ≡ old.counts
@@ -136,7 +143,8 @@ pub record IsSameHistory (old new : History) : Type 0 where
   pub entered : new.entered ≡ old.entered
   pub failure : new.failure ≡ old.failure
 
--- A turn of connection k is noted, where the client has this list: what it opened for writing, with the list, and what it wrote on.
+-- The turn of connection `k` was noted, when the client had this list. If it opened a reel for
+-- writing, the opening and the list were added, and if it wrote on a reel, the writing was.
 pub record IsNoted (old : History) (list : List VolumeCount) (h : ServerState) (k : ℕ) (turn : Turn) (new : History) : Type 0 where
   pub names : new.names ≡ old.names
   pub counts : new.counts ≡ old.counts

@@ -1,4 +1,5 @@
--- What the client's next request makes of it, and of its connection. No public contract needs it.
+-- The effect of the client's next request, on it and on its connection. No public contract needs
+-- it.
 use Rattle.std.specs.Prelude.{◌≡◌, ◌≤◌, ℕ, Bool, true, false, List, [], length, Option, Some, None}
 use Rattle.rmt_wire.specs.declared.limits.TheConstants.{READER_LIMIT}
 use Rattle.rmt_wire.specs.Request.{request_text}
@@ -15,11 +16,12 @@ use Rattle.world_model.specs.Changes.{over_there}
 use Rattle.world_model.specs.Steps.{is_failing, sent_connection}
 use Rattle.tape_world.specs.declared.caller.Caller.{Caller}
 
--- a request is to be sent
+-- there is a client, and it is about to send a request
 abbrev pub IsToSend : Option Caller → Type 0
 IsToSend o = (c : Caller) × (step : Step) × (o ≡ Some c) × (c.client.at.stage ≡ ToSend step)
 
--- the attempt failed, where that is true; or this is the text of the request
+-- If the flag is set, the attempt failed. Otherwise `text` is that of the request, and the client
+-- waits for the reply.
 abbrev pub AskedOf : Bool → Caller → Step → List ℕ → Option (ℕ × AttemptFault) → Caller → Type 0
 AskedOf true c step text failure d =
     (failure ≡ Some ((checkpoint_of c.client.at.counts).0, SourceFault))
@@ -45,7 +47,7 @@ pub record Asks (o : Option Caller) (fails : Bool) (text : List ℕ) (failure : 
   pub short : length text ≤ READER_LIMIT
   pub asked : AskedOf (is_failing fails step) before step text failure after
 
--- the request is sent on its connection, or that is over there
+-- the connection after the client sent its request, or after it left because its attempt failed
 abbrev pub talked : List ℕ → Option (ℕ × AttemptFault) → Connection → Connection
 talked text None l = sent_connection text l
 talked text (Some failure) l = over_there l

@@ -1,4 +1,4 @@
--- What a world tells. Public contracts cite it.
+-- The values that functions of a world return. Public contracts cite it.
 use Rattle.std.specs.Prelude.{◌≡◌, ◌↔◌, ℕ, ◌≤◌, false, List, Option, Some, None}
 use Rattle.rmt_wire.specs.ReplyReader.{ReplyHeld}
 use Rattle.drives.specs.TapeLibrary.{KeptReel, ReelSlot, TapeLibrary, IsDriveNamed, drive_at}
@@ -11,6 +11,7 @@ use Rattle.world_model.specs.Changes.{connection_of}
 use Rattle.world_model.specs.Rows.{Possible}
 use Rattle.tape_world.specs.declared.counts.CountTold.{CountTold}
 
+-- a count, as plain data
 abbrev pub told_count : CountTold → Count
 told_count c = record {
   run = c.run;
@@ -21,30 +22,32 @@ told_count c = record {
   connection = c.connection;
 }
 
--- where a client stands, and its reader of replies
+-- the state of a client, and its reader of replies
 abbrev pub client_told : {S : Type 0} → ClientHeld S → Standing × ReplyHeld
 client_told c = (c.at, c.reader)
 
+-- the state of the world's client, and its reader of replies
 abbrev pub caller_told : Caller → Standing × ReplyHeld
 caller_told c = (c.at, c.reader)
 
--- the numbers from 1 up to this one are those
+-- `p` holds of the numbers from 1 to `most`, and of no others
 abbrev pub IsGreatest : (ℕ → Type 0) → ℕ → Type 0
 IsGreatest p most = (n : ℕ) → p n ↔ ((1 ≤ n) × (n ≤ most))
 
--- of a connection, if there is one, how many bytes can reach the server now, and how many the other side
+-- how many bytes can now reach the server, and how many the peer; none if there is no such
+-- connection
 abbrev pub TellsWay : World → ℕ → Option (ℕ × ℕ) → Type 0
 TellsWay w k None = connection_of w k ≡ None
 TellsWay w k (Some way) =
     (l : Connection) × (connection_of w k ≡ Some l) × IsGreatest (λ n. Possible w (ToServer k n)) way.0
     × IsGreatest (λ n. Possible w (ToClient k n)) way.1
 
--- the reels of the first drive of that name, if there is one
+-- the reels of the first drive of that name; none if there is no such drive
 abbrev pub TellsStack : List ℕ → TapeLibrary → Option (List (ReelSlot KeptReel)) → Type 0
 TellsStack name s None = IsDriveNamed name s None
 TellsStack name s (Some reels) = (d : ℕ) × IsDriveNamed name s (Some d) × (reels ≡ (drive_at s d).stack)
 
--- the blocks that the client's run was begun with, without trouble
+-- the blocks with which the client's run was begun, without an injected fault
 pub record TellsPayload (w : World) (source : ListedBlocks) : Type 0 where
   pub client : Caller
   pub run : Begun

@@ -1,11 +1,11 @@
--- What `entry` tells of reels that were counted. Public contracts cite it.
+-- The entries of reels that were counted, as `entry` returns them. Public contracts cite it.
 use Rattle.std.specs.Prelude.{◌≡◌, Contains, Some}
 use Rattle.world_model.specs.World.{World, Begun, Count, numbered}
 use Rattle.world_model.specs.Written.{whole_volume}
 use Rattle.world_model.specs.Headline.{IsNotReopened}
 use Rattle.tape_world.specs.Entries.{entries_on}
 
--- The entries of each reel that was counted, and that no foreign session opened for writing since, are told, and are its volume's: those
+-- Each reel that was counted and not reopened has exactly the entries of its volume. The volume is
 -- of the run that was begun under the count's number.
 abbrev pub TellsVolumes : World → Type 0
 TellsVolumes w =

@@ -1,4 +1,4 @@
-//! The client of a world, the runs that were begun, and what is kept of one outside of the client.
+//! The client of a world, the runs that were begun, and the run that is saved outside the client.
 
 use dump_client::{Client, ListBlocks, Run, VolumeCount};
 
@@ -16,12 +16,12 @@ pub(crate) struct Caller {
     pub(crate) client: Client<ListBlocks>,
 }
 
-/// What is kept of a run outside of the client, as a checkpoint file keeps it.
+/// A run that is saved outside the client, as in a checkpoint file.
 #[derive(Drop)]
 pub(crate) struct KeptRun {
     /// The number of the run.
     pub(crate) run: usize,
-    /// What the client had counted.
+    /// The counts that the client had then.
     pub(crate) counts: Vec<VolumeCount>,
     /// The text of the checkpoint.
     pub(crate) text: Vec<u8>,

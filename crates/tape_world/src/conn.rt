@@ -15,8 +15,9 @@ use rmt_wire::READER_LIMIT;
 use std::alloc::{AllocError, Global};
 use tape_host::Turn;
 
-/// A connection: what is on the way to the server and back, whether it was cut, whether the side that is not the server's is
-/// live, and what an attempt came to on it, where it is the client's.
+/// A connection between the server and a peer, which is the client or a stranger. It has the bytes
+/// in transit both ways, whether it was cut and whether the peer is still there. If the peer is the
+/// client, it also has the attempt.
 #[derive(Drop)]
 pub(crate) struct Connection {
     pub(crate) toward: Direction,
@@ -27,7 +28,7 @@ pub(crate) struct Connection {
 }
 
 impl Connection {
-    /// A new connection.
+    /// Makes a new connection.
     pub(crate) fn new(alloc: Global, dump: Option<Dumping>) -> Connection
         ensures { seen_connection result ≡ new_connection dump }
     {
@@ -40,7 +41,7 @@ impl Connection {
         }
     }
 
-    /// The server's side is over: the connection is cut, and what is on the way to the server is lost.
+    /// Ends the server's side: the connection is cut, and what is in transit to the server is lost.
     fn end_here(&mut self)
         ensures { seen_connection self.new ≡ over_here (seen_connection self.old) }
     {
@@ -48,7 +49,7 @@ impl Connection {
         self.cut = true;
     }
 
-    /// The other side is over.
+    /// Removes the peer: the connection is cut, and what is in transit to the peer is lost.
     pub(crate) fn end_there(&mut self)
         ensures { seen_connection self.new ≡ over_there (seen_connection self.old) }
     {
@@ -57,9 +58,9 @@ impl Connection {
         self.other = false;
     }
 
-    /// Bytes are sent to the server. After a cut they are lost.
+    /// Sends bytes to the server. After a cut they are lost.
     ///
-    /// Fails where memory is refused. Nothing has changed then.
+    /// Fails if an allocation fails. Nothing has changed then.
     fn send(&mut self, bytes: &[u8]) -> Result<(), AllocError>
         ensures sent { OnOk result (seen_connection self.new ≡ said bytes.now (seen_connection self.old)) }
         ensures refused { OnErr result (seen_connection self.new ≡ seen_connection self.old) }
@@ -72,9 +73,10 @@ impl Connection {
         Ok(())
     }
 
-    /// Makes room for a request of the client's. After a cut, where it is lost, it needs none.
+    /// Reserves room for a request of the client, unless the connection was cut and the request
+    /// will be lost.
     ///
-    /// Fails where memory is refused. Nothing has changed then.
+    /// Fails if an allocation fails. Nothing has changed then.
     pub(crate) fn reserve_request(&mut self) -> Result<(), AllocError>
         ensures same { seen_connection self.new ≡ seen_connection self.old }
         ensures room { OnOk result (self.new.cut ≡ false → READER_LIMIT ≤ self.new.toward.spare) }
@@ -85,7 +87,8 @@ impl Connection {
         Ok(())
     }
 
-    /// A request of the client's, for which there is room, is sent to the server. After a cut it is lost.
+    /// Sends a request of the client to the server. There must be room for it. After a cut it is
+    /// lost.
     pub(crate) fn send_request(&mut self, bytes: &[u8])
         requires { self.old.cut ≡ false → length bytes.now ≤ self.old.toward.spare }
         ensures { seen_connection self.new ≡ sent_connection bytes.now (seen_connection self.old) }
@@ -98,7 +101,7 @@ impl Connection {
         }
     }
 
-    /// The server's side took this turn.
+    /// Notes a turn of the server's side. A fault ends the server's side.
     pub(crate) fn note_turn(&mut self, turn: Turn)
         ensures { seen_connection self.new ≡ noted_turn turn (seen_connection self.old) }
     {
@@ -114,7 +117,7 @@ impl Connection {
     }
 }
 
-/// The connection of this number, if there is one.
+/// Returns the connection with this number, if there is one.
 pub(crate) fn find(connections: &[Connection], connection: usize) -> Option<&Connection>
     ensures { option_map seen_connection (option_copied result) ≡ numbered (map seen_connection connections.now) connection }
 {
@@ -122,14 +125,14 @@ pub(crate) fn find(connections: &[Connection], connection: usize) -> Option<&Con
     at(connections, place)
 }
 
-/// The connection at this place.
+/// Returns the connection at this place, from 0, if there is one.
 fn at(connections: &[Connection], place: usize) -> Option<&Connection>
     ensures { option_copied result ≡ slice_get connections.now place }
 {
     connections.get(place)
 }
 
-/// The connection of this number, which is there, is cut.
+/// Cuts the connection with this number, which must exist.
 pub(crate) fn cut(connections: &mut [Connection], connection: usize)
     requires first { 1 ≤ connection }
     requires last { connection ≤ length connections.old }
@@ -138,7 +141,7 @@ pub(crate) fn cut(connections: &mut [Connection], connection: usize)
     connections[connection - 1].cut = true;
 }
 
-/// The server's side of the connection of this number, which is there, is over.
+/// Ends the server's side of the connection with this number, which must exist.
 pub(crate) fn end_here(connections: &mut [Connection], connection: usize)
     requires first { 1 ≤ connection }
     requires last { connection ≤ length connections.old }
@@ -147,7 +150,7 @@ pub(crate) fn end_here(connections: &mut [Connection], connection: usize)
     connections[connection - 1].end_here();
 }
 
-/// The other side of the connection of this number, which is there, is over.
+/// Removes the peer from the connection with this number, which must exist.
 pub(crate) fn end_there(connections: &mut [Connection], connection: usize)
     requires first { 1 ≤ connection }
     requires last { connection ≤ length connections.old }
@@ -156,7 +159,7 @@ pub(crate) fn end_there(connections: &mut [Connection], connection: usize)
     connections[connection - 1].end_there();
 }
 
-/// The server's sides of all connections are over.
+/// Ends the server's sides of all connections.
 pub(crate) fn end_all_here(connections: &mut [Connection])
     ensures { map seen_connection connections.new ≡ map over_here (map seen_connection connections.old) }
 {
@@ -165,9 +168,10 @@ pub(crate) fn end_all_here(connections: &mut [Connection])
     }
 }
 
-/// Bytes are sent to the server on the connection of this number, which is there. After a cut they are lost.
+/// Sends bytes to the server on the connection with this number, which must exist. After a cut they
+/// are lost.
 ///
-/// Fails where memory is refused. Nothing has changed then.
+/// Fails if an allocation fails. Nothing has changed then.
 pub(crate) fn send(
     connections: &mut [Connection],
     connection: usize,
@@ -181,7 +185,8 @@ pub(crate) fn send(
     connections[connection - 1].send(bytes)
 }
 
-/// So many of the bytes on the way to the server, on the connection of this number, which is there, arrived.
+/// Removes the first `count` bytes in transit to the server, which arrived. The connection with
+/// this number must exist.
 pub(crate) fn arrive(connections: &mut [Connection], connection: usize, count: usize)
     requires first { 1 ≤ connection }
     requires last { connection ≤ length connections.old }
@@ -190,7 +195,8 @@ pub(crate) fn arrive(connections: &mut [Connection], connection: usize, count: u
     connections[connection - 1].toward.pass(count);
 }
 
-/// So many of the bytes on the way back, on the connection of this number, which is there, arrived.
+/// Removes the first `count` bytes in transit to the peer, which arrived. The connection with this
+/// number must exist.
 pub(crate) fn deliver_back(connections: &mut [Connection], connection: usize, count: usize)
     requires first { 1 ≤ connection }
     requires last { connection ≤ length connections.old }

@@ -1,4 +1,4 @@
-//! The volumes that were counted, as they are told.
+//! The volumes that were counted, as a world returns them.
 ghost use Rattle.std.specs.Prelude.{◌≡◌, ◌↔◌, true, [], length, map, slice_get};
 ghost use Rattle.std.specs.Option.{option_map};
 ghost use Rattle.tape_world.specs.Seen.{name_at, seen_count};
@@ -18,13 +18,13 @@ pub struct CountTold<'a> {
     pub first: u32,
     /// How many blocks it has.
     pub count: u32,
-    /// The name of the reel that the connection had opened first.
+    /// The name of the reel that the connection opened first for writing.
     pub reel: &'a [u8],
-    /// The connection that it was written on.
+    /// The connection on which it was written. Connections are numbered from 1.
     pub connection: usize,
 }
 
-/// All volumes that were counted, in the order in which they were.
+/// All volumes that were counted, in the order in which they were counted.
 #[derive(Drop)]
 pub struct Counts<'a> {
     pub(crate) names: &'a [Vec<u8>],
@@ -42,7 +42,7 @@ impl<'a> Model for Counts<'a> {
 }
 
 impl<'a> Counts<'a> {
-    /// How many there are.
+    /// Returns how many there are.
     pub fn len(&self) -> usize
         ensures { result ≡ length self.now }
     {
@@ -56,7 +56,7 @@ impl<'a> Counts<'a> {
         self.counts.is_empty()
     }
 
-    /// The one of this place, from 0. None past the last.
+    /// Returns the one at place `i`, from 0, or none past the last.
     pub fn get(&self, i: usize) -> Option<CountTold<'a>>
         ensures { option_map told_count result ≡ slice_get self.now i }
     {
@@ -65,7 +65,7 @@ impl<'a> Counts<'a> {
     }
 }
 
-/// This count, with the name of its reel.
+/// Returns this count, with the name of its reel.
 fn told<'a>(names: &'a [Vec<u8>], count: &Count) -> CountTold<'a>
     ensures { told_count result ≡ seen_count (map (λ name. name.items) names.now) count.now }
 {
@@ -79,7 +79,7 @@ fn told<'a>(names: &'a [Vec<u8>], count: &Count) -> CountTold<'a>
     }
 }
 
-/// The name of this place, or none past the last.
+/// Returns the name at this place, or the empty name past the last.
 fn name_at(names: &[Vec<u8>], place: usize) -> &[u8]
     ensures { result.now ≡ name_at (map (λ name. name.items) names.now) place }
 {

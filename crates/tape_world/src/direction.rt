@@ -1,4 +1,4 @@
-//! The bytes on the way to one side of a connection.
+//! The bytes in transit in one direction of a connection.
 
 ghost use Rattle.std.specs.Prelude.{◌≡◌, ◌≤◌, ◌++◌, [], length, drop, OnOk};
 ghost use Rattle.tape_host.specs.Turns.{ServesAt};
@@ -9,13 +9,14 @@ use std::marker::Model;
 use tape::Trouble;
 use tape_host::{Host, Turn};
 
-/// Bytes on the way to one side of a connection, in order.
+/// The bytes in transit in one direction of a connection, in order.
 ///
-/// Those that arrived are let go at the front; what is left is moved there only where that makes room enough, so that bytes
-/// that arrive one at a time cost no more than as a whole.
+/// Bytes that arrived are dropped from the front. The rest is moved there only if more than half
+/// have arrived. Thus bytes that arrive one at a time cost no more than all at once.
 ///
-/// The memory is freed as the bytes are lost, which they are once the side that they go to is over, and after a turn of the
-/// server that leaves nothing on the way back. Where all bytes arrived it is kept for those that follow.
+/// The memory is freed when the bytes are lost, as they are once their receiver has left. It is
+/// also freed after a turn of the server that leaves no bytes in transit to the peer. If all bytes
+/// arrived otherwise, the memory is kept for the next ones.
 #[derive(Drop)]
 pub(crate) struct Direction {
     bytes: Vec<u8>,
@@ -34,7 +35,7 @@ impl Model for Direction {
 }
 
 impl Direction {
-    /// No bytes, and no memory yet.
+    /// Makes a direction without bytes, which has allocated nothing.
     pub(crate) fn new(alloc: Global) -> Direction
         ensures { result.way ≡ [] }
     {
@@ -44,14 +45,15 @@ impl Direction {
         }
     }
 
-    /// The bytes on the way.
+    /// Returns the bytes in transit.
     pub(crate) fn bytes(&self) -> &[u8]
         ensures { result.now ≡ self.now.way }
     {
         &self.bytes[self.start..]
     }
 
-    /// Makes room for so many bytes more.
+    /// Reserves room for `count` more bytes. Fails if an allocation fails. The bytes in transit
+    /// stay.
     pub(crate) fn reserve(&mut self, count: usize) -> Result<(), AllocError>
         ensures same { self.new.way ≡ self.old.way }
         ensures room { OnOk result (count ≤ self.new.spare) }
@@ -62,7 +64,7 @@ impl Direction {
         self.bytes.reserve(count)
     }
 
-    /// Moves what is on the way to the front.
+    /// Moves the bytes in transit to the front of the memory.
     fn move_to_front(&mut self)
         ensures { self.new.way ≡ self.old.way }
     {
@@ -72,7 +74,7 @@ impl Direction {
         self.start = 0;
     }
 
-    /// Adds bytes for which there is room.
+    /// Adds bytes, for which there must be room.
     pub(crate) fn push(&mut self, bytes: &[u8])
         requires { length bytes.now ≤ self.old.spare }
         ensures { self.new.way ≡ self.old.way ++ bytes.now }
@@ -80,14 +82,14 @@ impl Direction {
         let _ = self.bytes.extend_from_slice(bytes);
     }
 
-    /// So many of the first bytes arrived, or all where there are fewer.
+    /// Removes the first `count` bytes, which arrived, or all if there are fewer.
     pub(crate) fn pass(&mut self, count: usize)
         ensures { self.new.way ≡ drop count self.old.way }
     {
         self.start += count.min(self.bytes.len() - self.start);
     }
 
-    /// The bytes are lost, and the memory is freed.
+    /// Removes all bytes, which are lost, and frees the memory.
     pub(crate) fn clear(&mut self)
         ensures { self.new.way ≡ [] }
     {
@@ -95,7 +97,7 @@ impl Direction {
         self.start = 0;
     }
 
-    /// Frees the memory where nothing is on the way.
+    /// Frees the memory if no bytes are in transit.
     pub(crate) fn trim(&mut self)
         ensures { self.new.way ≡ self.old.way }
     {
@@ -104,8 +106,8 @@ impl Direction {
         }
     }
 
-    /// The server's side of a connection takes a turn, and its reply goes to the end, for which there is room, unless it
-    /// is lost.
+    /// Takes a turn of the server's side of a connection, and adds the reply at the end, unless it
+    /// is lost. There must be room for `READER_LIMIT` bytes.
     pub(crate) fn take_reply(
         &mut self,
         host: &mut Host,

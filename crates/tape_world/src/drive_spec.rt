@@ -13,14 +13,14 @@ use drives::DRIVE_LIMIT;
 pub struct DriveSpec<'a> {
     /// The name that clients open.
     pub name: &'a [u8],
-    /// How many bytes each of its reels takes, counted as its record file has them.
+    /// The capacity of each of its reels in bytes, counted as in the reel's record file.
     pub capacity: u64,
-    /// The names of its reels, which are empty, in the order of its stack.
+    /// The names of its reels, which are blank, in the order of its stack.
     pub reels: &'a [&'a [u8]],
 }
 
-/// Whether a world can have these drives: there are 1 to `drives::DRIVE_LIMIT`, no two have one name, and no two of their
-/// reels have one.
+/// Whether a world can have these drives. There must be 1 to `drives::DRIVE_LIMIT`, no two with the
+/// same name. No two of all their reels can have the same name.
 pub fn good_drives(drives: &[DriveSpec<'_>]) -> bool
     ensures { (result ≡ true) ↔ AreGoodDrives (map plain_drive_spec drives.now) }
 {
@@ -30,7 +30,7 @@ pub fn good_drives(drives: &[DriveSpec<'_>]) -> bool
     names_differ(drives) && reels_differ(drives)
 }
 
-/// Whether no two drives have one name.
+/// Whether no two drives have the same name.
 fn names_differ(drives: &[DriveSpec<'_>]) -> bool
     ensures { result ≡ are_distinct (map (λ d. d.name.now) drives.now) }
 {
@@ -42,7 +42,7 @@ fn names_differ(drives: &[DriveSpec<'_>]) -> bool
     true
 }
 
-/// Whether the name of the first of the drives is that of another.
+/// Whether the name of the first drive is that of another.
 fn is_name_again(drives: &[DriveSpec<'_>]) -> bool
     ensures { result ≡ is_repeated (map (λ d. d.name.now) drives.now) }
 {
@@ -64,7 +64,7 @@ fn any_named(drives: &[DriveSpec<'_>], name: &[u8]) -> bool
     false
 }
 
-/// Whether no two reels of all the drives have one name.
+/// Whether no two reels of all the drives have the same name.
 fn reels_differ(drives: &[DriveSpec<'_>]) -> bool
     ensures { result ≡ are_distinct (flat_map reels_of drives.now) }
 {
@@ -76,7 +76,7 @@ fn reels_differ(drives: &[DriveSpec<'_>]) -> bool
     true
 }
 
-/// Whether a reel of the first of the drives has the name of another reel.
+/// Whether a reel of the first drive has the name of another reel.
 fn is_reel_again(drives: &[DriveSpec<'_>]) -> bool
     ensures { result ≡ reel_again drives.now }
 {
@@ -86,7 +86,7 @@ fn is_reel_again(drives: &[DriveSpec<'_>]) -> bool
     !all_differ(first.reels) || any_shared(first.reels, others)
 }
 
-/// Whether no two of the names are one.
+/// Whether no two of the names are the same.
 fn all_differ(names: &[&[u8]]) -> bool
     ensures { result ≡ are_distinct (map (λ n. n.now) names.now) }
 {
@@ -98,7 +98,7 @@ fn all_differ(names: &[&[u8]]) -> bool
     true
 }
 
-/// Whether the first of the names stands again.
+/// Whether the first of the names is among the others.
 fn stands_again(names: &[&[u8]]) -> bool
     ensures { result ≡ is_repeated (map (λ n. n.now) names.now) }
 {
@@ -108,7 +108,7 @@ fn stands_again(names: &[&[u8]]) -> bool
     any_is(others, name)
 }
 
-/// Whether one of the names is that one.
+/// Whether the name is among the names.
 fn any_is(names: &[&[u8]], name: &[u8]) -> bool
     ensures { result ≡ list_any (λ n. bytes_eq name.now n.now) names.now }
 {

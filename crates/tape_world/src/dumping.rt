@@ -1,4 +1,4 @@
-//! What is noted of an attempt of the client on its connection.
+//! The progress of an attempt of the client on its connection.
 
 ghost use Rattle.std.specs.Prelude.{◌≡◌};
 ghost use Rattle.world_model.specs.Changes.{noted_sent, accepted, noted_error};
@@ -9,8 +9,9 @@ use rmt_wire::errno::EIO;
 use std::marker::Model;
 use tape_host::{Answered, Carried, RequestKind};
 
-/// What an attempt of the client came to on its connection: its run's number, volume and first block, how many requests were
-/// sent and how many carried out, and which of its writes were accepted. Counts stay at the greatest `u64`.
+/// An attempt of the client, as far as it got on its connection. It has the number of its run, its
+/// volume and first block, how many requests were sent and how many carried out. It also has which
+/// of its writes were accepted. Numbers of requests and blocks stop at `u64::MAX`.
 #[derive(Drop)]
 pub(crate) struct Dumping {
     run: usize,
@@ -43,7 +44,8 @@ impl Model for Dumping {
 }
 
 impl Dumping {
-    /// An attempt of the run of this number, at this volume and first block, that has done nothing.
+    /// Makes an attempt that has done nothing, of the run with this number, at this volume and
+    /// first block.
     pub(crate) fn new(run: usize, volume: u32, first: u32) -> Dumping
         ensures { result ≡ new_dumping run volume first }
     {
@@ -60,14 +62,14 @@ impl Dumping {
         }
     }
 
-    /// A request of it was sent.
+    /// Notes that one more of its requests was sent.
     pub(crate) fn note_sent(&mut self)
         ensures { self.new ≡ noted_sent self.old }
     {
         self.sent = self.sent.saturating_add(1);
     }
 
-    /// A request of it was carried out.
+    /// Notes that this request of it was carried out.
     pub(crate) fn note_carried(&mut self, carried: Carried)
         ensures { self.new ≡ noted_carried carried self.old }
     {
@@ -79,7 +81,7 @@ impl Dumping {
         self.carried = self.carried.saturating_add(1);
     }
 
-    /// A write of it was answered so. Of no bytes nothing is noted.
+    /// Notes the reply to a write of a record. If no byte was written, there is nothing to note.
     fn note_write(&mut self, answered: Answered)
         ensures { self.new ≡ noted_record self.old answered }
     {
@@ -90,7 +92,8 @@ impl Dumping {
         }
     }
 
-    /// A write of it was accepted: the first is the label's, and others are blocks'.
+    /// Notes that a write of a record was accepted: the first is that of the label, the others are
+    /// those of blocks.
     fn note_accepted(&mut self)
         ensures { self.new ≡ accepted self.old }
     {
@@ -101,7 +104,7 @@ impl Dumping {
         }
     }
 
-    /// Its marks were answered so.
+    /// Notes the reply to a write of marks.
     fn note_marks(&mut self, answered: Answered)
         ensures { self.new ≡ noted_mark self.old answered }
     {
@@ -112,7 +115,7 @@ impl Dumping {
         }
     }
 
-    /// A write or marks of it were refused with this error. Of a device fault it is `EIO`.
+    /// Notes the error in reply to a write of a record or marks. `EIO` is a device fault.
     fn note_error(&mut self, number: u32)
         ensures { self.new ≡ noted_error self.old number }
     {

@@ -3,74 +3,81 @@
 use dump_client::{Answer, Run};
 use tape::Trouble;
 
-/// What can happen between a client and a server. `World::run` answers `NotPossible` where one can't happen.
+/// An event between a client and a server. `run` returns `NotPossible` if it can't happen.
 ///
-/// A connection is told by its number, which is counted from 1 in the order in which connections were made.
+/// Connections are identified by number, from 1, in the order in which they were made. The peer of
+/// a connection is the client or a stranger.
 #[derive(Clone, Copy)]
 pub enum Event<'a> {
-    /// A run of this payload is begun, and a client for it. There is no client, or its run is finished or abandoned, and the
-    /// payload has the bytes of the run's blocks.
+    /// A run with this payload begins, with a client for it. There must be no client, or its run
+    /// must be finished or abandoned. The payload must have as many bytes as the run's blocks.
     StartRun {
         run: &'a Run,
         payload: &'a [u8],
     },
-    /// The client starts an attempt, on a new connection.
+    /// The client, which must be ready, starts an attempt on a new connection.
     Connect,
-    /// The client sends its next request. Where `fails` is true, and the request is a block's write, the read of the block
-    /// fails.
+    /// The client, which must be about to send, sends its next request. If `fails` is true, and the
+    /// request is the write of a block, the read of that block fails instead.
     Send {
         fails: bool,
     },
-    /// So many of the bytes on the way reach the server: at least 1, and no more than its reader has room for.
+    /// `count` of the bytes in transit reach the server: at least 1, and at most as many as its
+    /// reader has room for. The server's side must be live.
     ToServer {
         connection: usize,
         count: usize,
     },
-    /// The server carries out one request that reached it, or finds that what reached it is none. The device call that the
-    /// request makes, if it makes one, meets this trouble.
+    /// The server carries out one request that reached it, or finds that the bytes that reached it
+    /// are no request. If the request makes a device call, the call meets this trouble.
     Serve {
         connection: usize,
         trouble: Trouble,
     },
-    /// So many of the bytes on the way reach the other side: at least 1.
+    /// `count` of the bytes in transit reach the peer, which must still be there: at least 1.
     ToClient {
         connection: usize,
         count: usize,
     },
-    /// From now on what is sent is lost.
+    /// From now on, what is sent on the connection is lost. The connection must not be cut already.
     Cut {
         connection: usize,
     },
-    /// The server sees that the connection ended.
+    /// The server sees that the connection ended. The connection must be cut, and the server's side
+    /// must be live.
     EndAtServer {
         connection: usize,
     },
-    /// The other side sees that it ended.
+    /// The peer, which must still be there, sees that the connection ended. The connection must be
+    /// cut.
     EndAtClient {
         connection: usize,
     },
-    /// The server's sides of all connections are over.
+    /// The server restarts, which ends the server's side of every connection.
     ServerRestart,
-    /// The client comes back with the run that is kept, or with none.
+    /// The client restarts. It resumes the saved run, or there is no client afterwards if none is
+    /// saved.
     ClientRestart,
     /// The operator answers the client, which asks after an attempt failed.
     Respond {
         answer: Answer,
     },
-    /// The operator lays these reels on the stack of a drive that nobody has open.
+    /// The operator puts these reels on the stack of a drive that nobody has open. Each must be in
+    /// the bin or on that stack, and none may occur twice.
     Arrange {
         drive: &'a [u8],
         reels: &'a [&'a [u8]],
     },
-    /// A connection of a stranger is made.
+    /// A stranger connects.
     Stranger,
-    /// A stranger sends these bytes.
+    /// A stranger, which must still be there, sends these bytes.
     Says {
         connection: usize,
         bytes: &'a [u8],
     },
-    /// The finished run is entered in dumpdates.
+    /// The run, which must be finished and not entered yet, is entered in dumpdates.
     Enter,
-    /// The client's run is kept outside of it, with what is counted, as a checkpoint file keeps it.
+    /// The client's run is saved outside the client, with its counts, as in a checkpoint file. The
+    /// run must not be abandoned, and not both finished and entered.
     Save,
 }

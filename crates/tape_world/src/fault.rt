@@ -1,11 +1,11 @@
 //! Why a list of events stops.
 
-/// Why `run` made no more events: which of them, counted from 0, was not made, and why. The world stands as after the
-/// events before it.
+/// Why `run` stopped, with the index of the event that did not happen, from 0. The world is as
+/// after the events before it.
 #[derive(Clone, Copy, Debug, PartialEq, Eq)]
 pub enum WorldFault {
-    /// It is not possible there.
+    /// The event is not possible there.
     NotPossible(usize),
-    /// A growth in memory was refused.
+    /// An allocation failed.
     OutOfMemory(usize),
 }

@@ -1,8 +1,9 @@
-//! What is kept of all that passed in a world.
+//! The history of a world: what is recorded of everything that happened.
 
 use dump_client::{AttemptFault, VolumeCount};
 
-/// A volume that was counted: of the run of this number, by this connection. The reel is told by its place among all names.
+/// A volume that was counted, of the run with this number, written on this connection. `reel` is
+/// the place of the reel's name among all names.
 #[derive(Clone, Copy)]
 pub(crate) struct Count {
     pub(crate) run: usize,
@@ -13,14 +14,16 @@ pub(crate) struct Count {
     pub(crate) connection: usize,
 }
 
-/// An open for writing that was accepted: of this reel, by this connection.
+/// An open for writing that was accepted, on this connection. `reel` is the place of the reel's
+/// name.
 #[derive(Clone, Copy)]
 pub(crate) struct Opening {
     pub(crate) connection: usize,
     pub(crate) reel: usize,
 }
 
-/// A write of a session that had this reel open for writing. So many opens were listed before it.
+/// A write by a session that had this reel open for writing. `after` is how many opens were listed
+/// before it.
 #[derive(Clone, Copy)]
 pub(crate) struct Writing {
     pub(crate) connection: usize,
@@ -33,22 +36,22 @@ pub(crate) struct Writing {
 pub(crate) struct Entered {
     /// The number of the run.
     pub(crate) run: usize,
-    /// What the client had counted then.
+    /// The counts that the client had then.
     pub(crate) counts: Vec<VolumeCount>,
 }
 
-/// What is kept of all that passed, in the order in which it came.
+/// The record of everything that happened, in order of time.
 #[derive(Drop)]
 pub(crate) struct History {
     /// The names of all reels.
     pub(crate) names: Vec<Vec<u8>>,
     pub(crate) counts: Vec<Count>,
     pub(crate) opens: Vec<Opening>,
-    /// For each open the list of counts that the client had then.
-    /// It is empty where there was no client.
+    /// For each open, the counts that the client had then. The list is empty if there was no
+    /// client.
     pub(crate) lists: Vec<Vec<VolumeCount>>,
     pub(crate) writings: Vec<Writing>,
     pub(crate) entered: Vec<Entered>,
-    /// What the last event made fail: the volume, and why.
+    /// The volume and the cause, if the last event made an attempt fail.
     pub(crate) failure: Option<(u32, AttemptFault)>,
 }

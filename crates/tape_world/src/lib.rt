@@ -1,8 +1,9 @@
-//! Both ends of the tape protocol under events: a dump client, a tape server, strangers, and an operator.
+//! A dump client, a tape server, strangers and an operator, and the events that happen to them.
 //!
-//! `World` has a client and a server, drives with reels in memory, and all connections that were ever made, with what is on the
-//! way. `run` makes a list of events, each a variant of `Event`, and says which one was not possible, if one was not. A world
-//! tells what came of them: counted volumes, dumpdates, what stands on its reels, and the real ends.
+//! `World` has a client and a server, drives with reels in memory, and all connections that were
+//! ever made, with the bytes in transit. `run` makes a list of events happen, each a variant of
+//! `Event`, and returns which one could not. A world's functions return the outcome: counted
+//! volumes, dumpdates, the entries on its reels, its client and its sessions.
 #![tactic(auto)]
 
 mod caller;

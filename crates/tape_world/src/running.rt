@@ -1,4 +1,4 @@
-//! Events, one after the other.
+//! A list of events, which happen one after the other.
 ghost use Rattle.std.specs.Prelude.{◌≡◌, OnOk, IfErr, map};
 ghost use Rattle.world_model.specs.Steps.{Runs};
 ghost use Rattle.tape_world.specs.Running.{plain_event, fault_place, fault_at, IsStopped, IsEventRefused, LeavesInOrder};
@@ -9,16 +9,20 @@ use crate::stop::EventStop;
 use crate::world::World;
 use world_model::faultless;
 
-/// Makes these events, one after the other. Each makes its growths in memory first.
+/// Makes these events happen, one after the other. Each event first allocates what it needs.
 ///
-/// Stops at the first event that is not possible where it comes, or for which memory is refused. The world stands then as
-/// after the events before it.
+/// Stops at the first event that is not possible there (`NotPossible`), or for which an allocation
+/// fails (`OutOfMemory`). The world is then as after the events before it.
 ///
-/// A link without faults leaves the volumes in order (`in_order`): where the world is a new one of one drive, and the events are
-/// runs that begin, attempts that start, requests that are sent, bytes that arrive and requests that are carried out without a
-/// trouble, an attempt fails only for want of the drive, of a reel or of memory, or where label and one block do not fit; each
-/// counted reel is that of its place on the drive's first stack, and holds its volume; and between attempts the bin is these
-/// reels, in order.
+/// Without faults, the volumes are left in order (`in_order`). This requires a new world of one
+/// drive. Only these events may happen: runs begin, attempts start, requests are sent, bytes
+/// arrive, and requests are carried out without a trouble. Then:
+///
+/// - An attempt fails only for lack of the drive, of a reel, of memory, or of room for a label and
+///   one block.
+/// - The reel of each count is the one at the count's place on the drive's first stack, and holds
+///   its volume.
+/// - Between attempts, the bin has these reels, in order.
 pub fn run(world: &mut World, events: &[Event<'_>]) -> Result<(), WorldFault>
     ensures made { OnOk result (Runs world.old (map plain_event events.now) world.new) }
     ensures stopped { IfErr result (λ fault. IsStopped world.old (map plain_event events.now) (fault_place fault) world.new) }
@@ -34,7 +38,7 @@ pub fn run(world: &mut World, events: &[Event<'_>]) -> Result<(), WorldFault>
     Ok(())
 }
 
-/// The fault that this stop is, at the event of this place.
+/// Returns the fault for this stop, at the event with this index.
 fn fault_of(stop: EventStop, place: usize) -> WorldFault
     ensures { result ≡ fault_at stop place }
 {

@@ -1,13 +1,13 @@
-//! Why one event is not made.
+//! Why one event did not happen.
 
 use std::alloc::AllocError;
 
-/// Why an event was not made. The world is as it was.
+/// Why an event did not happen. The world has not changed.
 #[derive(Clone, Copy)]
 pub(crate) enum EventStop {
-    /// It is not possible.
+    /// The event is not possible.
     NotPossible,
-    /// A growth in memory was refused.
+    /// An allocation failed.
     OutOfMemory,
 }
 

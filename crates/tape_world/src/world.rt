@@ -24,8 +24,8 @@ use world_model::kept;
 
 /// A server with its drives, all connections that were ever made, and a client.
 ///
-/// Contracts see all of it as plain data. It is what some events made of the first world of some drives, so that each law of
-/// what stays so whatever happens speaks of it.
+/// Contracts see all of it as plain data. Some events lead to each world from the first world of
+/// some drives, so each law about such worlds holds of it.
 #[derive(Drop)]
 pub struct World {
     world_state: WorldState,
@@ -43,10 +43,10 @@ impl Model for World {
 }
 
 impl World {
-    /// A world where nothing has happened: a server with these drives, whose reels are empty, no connection and no client.
-    /// `good_drives` tells whether a world can have them.
+    /// Makes a world in which nothing has happened: a server with these drives, whose reels are
+    /// blank, no connection and no client. `good_drives` must be true of the drives.
     ///
-    /// Fails only where memory is refused.
+    /// Fails only if an allocation fails.
     pub fn new(alloc: Global, drives: &[DriveSpec<'_>]) -> Result<World, AllocError>
         requires { AreGoodDrives (map plain_drive_spec drives.now) }
         ensures { IfOk result (λ w. w ≡ first_world (map plain_drive_spec drives.now)) }
@@ -55,24 +55,38 @@ impl World {
         Ok(World { world_state })
     }
 
-    /// What holds of each world, whatever happened: the headline. Each reel that was counted, and that no foreign session
-    /// opened for writing since, holds exactly its volume's records and one file mark; no drive has two holders; and dumpdates
-    /// gained only dumps whose counted volumes are all their blocks in order. What `entry` tells of such a reel are the entries
-    /// of its volume.
+    /// The headline, which holds of each world, whatever happened:
     ///
-    /// Beside it: the holder of a drive is the connection whose live side has it open. Of a connection of the client's as many
-    /// requests were carried out as were sent, or one fewer. A latched reel is one session's, and first on the stack of the drive
-    /// that this holds. From the accepted label of an attempt on its reel holds what its accepted writes wrote, until one of them
-    /// meets a device fault or another session writes on the reel; until MTOFFL the place of its session is the reel's end. Each
-    /// volume that the client has was counted under its number. As long as no foreign session opened the reel of a count since,
-    /// no session but the count's own wrote on it since its open (`reels_not_reopened`). What the client opens for writing in an
-    /// attempt is foreign to no count of its run whose volume and first block its list has (`own_opens`).
+    /// - Each reel that was counted and not reopened holds exactly its volume's records and one
+    ///   file mark. `entry` returns just these for such a reel.
+    /// - No drive has two holders.
+    /// - Dumpdates has only dumps whose counted volumes have all their blocks, in order.
     ///
-    /// Some events made it of the first world of some drives (`reached`), and all of it follows from what stays so (`kept`):
-    /// who holds the drives, where reels lie, whose openings are last, who wrote on which reel, what each attempt wrote, which
-    /// counts are the client's own, and what dumpdates gained.
+    /// A reel is reopened if, after the count's connection opened it, it was opened for writing by
+    /// an open that is not the dump's own. An open is the dump's own for a count if its connection
+    /// is the client's, in the count's run. Also, the list that the client had at that open must
+    /// have a count of that volume and first block.
     ///
-    /// It does nothing: its contract is what is told.
+    /// These facts hold beside the headline:
+    ///
+    /// - The holder of a drive is the connection whose live server's side has it open.
+    /// - On each of the client's connections, as many requests were carried out as were sent, or
+    ///   one fewer.
+    /// - A latched reel belongs to one session, and is the first on the stack of the drive that
+    ///   this session holds.
+    /// - From an attempt's accepted label on, its reel holds just what its accepted writes wrote.
+    ///   This ends if a write meets a device fault, or if another session writes on the reel. Until
+    ///   MTOFFL, the attempt's session has the reel positioned at its end.
+    /// - Each volume in the client's list was counted under the number of its run.
+    /// - While the reel of a count is not reopened, only the count's own session has written on it
+    ///   since its open (`reels_not_reopened`).
+    /// - The opens for writing of the client's current attempt are the dump's own. This is so for
+    ///   each count of its run whose volume and first block its list has (`own_opens`).
+    ///
+    /// Some events lead to the world from the first world of some drives (`reached`). All of it
+    /// follows from what every event preserves (`kept`).
+    ///
+    /// Does nothing: its contract is what holds of the world.
     pub fn kept(&self)
         ensures headline { Headline self.now }
         ensures reached { IsReached self.now }
@@ -93,7 +107,7 @@ impl World {
         kept();
     }
 
-    /// Makes one event.
+    /// Makes one event happen. If it fails, nothing has changed.
     pub(crate) fn make(&mut self, event: &Event<'_>) -> Result<(), EventStop>
         ensures { IsEvent self.old (plain_event event.now) result self.new }
     {

@@ -1,4 +1,4 @@
-//! Both ends of all connections: what events change.
+//! The state of a world, which events change.
 
 mod client;
 mod connection;
@@ -20,7 +20,8 @@ use std::alloc::Global;
 use std::marker::Model;
 use tape_host::Host;
 
-/// A server with its drives, all connections that were ever made, and a client: what events change.
+/// A server with its drives, all connections that were ever made, and a client: the state that
+/// events change.
 #[derive(Drop)]
 pub(crate) struct WorldState {
     alloc: Global,

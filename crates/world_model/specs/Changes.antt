@@ -1,4 +1,4 @@
--- Parts of the world, and how an event changes one. Public contracts cite it.
+-- The parts of a world, and how an event changes one of them. Public contracts cite it.
 use Rattle.std.specs.Prelude.{◌≡◌, ℕ, zero, suc, ◌==◌, Bool, true, false, if◌then◌else◌, List, [], ◌∷◌, ◌++◌, length, map, option_and_then, option_map, Option, Some, None}
 use Rattle.rmt_wire.specs.Counted.{raised}
 use Rattle.rmt_wire.specs.Request.{PlainRequest}
@@ -20,85 +20,93 @@ use Rattle.dump_client.specs.declared.stage.Progress.{Progress}
 use Rattle.dump_client.specs.declared.stage.Progress.TheVariants.{Failed, Ended}
 use Rattle.world_model.specs.World.{World, Connection, Dumping, Caller, Count, Opening, Writing, numbered, with_numbered}
 
--- the list with the member of this number changed, if there is one
+-- the list with `f x` in place of the member of this number, which is `x`
 abbrev pub changed_from : {X : Type 0} → (X → X) → List X → ℕ → Option X → List X
 changed_from f xs n None = xs
 changed_from f xs n (Some x) = with_numbered xs n (f x)
 
+-- the list with the member of this number changed by `f`, if there is one
 abbrev pub changed : {X : Type 0} → (X → X) → List X → ℕ → List X
 changed f xs n = changed_from f xs n (numbered xs n)
 
--- the server's side of a connection, while it is live
+-- the server's side of connection `k`, while it is live
 abbrev pub side_of : ServerState → ℕ → Option ServerConnection
 side_of h k = option_and_then (λ s. s) (numbered h.sides k)
 
+-- connection `k`, if there is one
 abbrev pub connection_of : World → ℕ → Option Connection
 connection_of w k = numbered w.connections k
 
--- connection k is one of the client's, and its attempt came to this
+-- connection `k` is one of the client's, and `d` is the attempt on it
 abbrev pub HasDump : World → ℕ → Dumping → Type 0
 HasDump w k d = (l : Connection) × (connection_of w k ≡ Some l) × (l.dump ≡ Some d)
 
--- the last event made nothing fail
+-- the world after an event that made nothing fail
 abbrev pub with_no_failure : World → World
 with_no_failure w = record w { failure = None }
 
--- a new connection: its server's side reads from the start, and has nothing open
+-- a connection on which nothing was sent
 abbrev pub new_connection : Option Dumping → Connection
 new_connection dump = record { toward = []; back = []; cut = false; other = true; dump = dump }
 
+-- the server with one more side, which has read nothing and has nothing open
 abbrev pub with_side : ServerState → ServerState
 with_side h = server h.library h.holders (h.sides ++ Some (side (held [] 0) Idle) ∷ [])
 
+-- the world with a new connection, of this attempt or of a stranger
 abbrev pub joined : World → Option Dumping → World
 joined w dump = record w { server = with_side w.server; connections = w.connections ++ new_connection dump ∷ [] }
 
--- bytes are sent: after a cut they are lost
+-- the bytes in transit after more were sent, which are lost after a cut
 abbrev pub sent_on : Bool → List ℕ → List ℕ → List ℕ
 sent_on true way bytes = way
 sent_on false way bytes = way ++ bytes
 
--- One side is over: the connection is cut, and what is on the way to that side is lost.
+-- The peer left: the connection is cut, and what was in transit to the peer is lost.
 abbrev pub over_there : Connection → Connection
 over_there l = record l { back = []; cut = true; other = false }
 
+-- The server's side ended: the connection is cut, and what was in transit to the server is lost.
 abbrev pub over_here : Connection → Connection
 over_here l = record l { toward = []; cut = true }
 
--- the side that is not the server's is over
+-- the peer of connection `k` left
 abbrev pub other_left : World → ℕ → World
 other_left w k = record w { connections = changed over_there w.connections k }
 
--- the client's own connection is over on its side, and with it the attempt
+-- the client left its own connection, which ends the attempt
 abbrev pub given_up : World → ℕ → World
 given_up w k = record (other_left w k) { own = None }
 
--- the server's side is over: what was open is closed, and its drive has no holder
+-- the server's side ended: what it had open is closed, and its drive has no holder
 abbrev pub ended_from : ServerState → ℕ → Option ServerConnection → ServerState
 ended_from h k None = h
 ended_from h k (Some s) =
     server (closed_library h.library s.session) (with_holder (drive_in s.session) 0 h.holders) (with_numbered h.sides k None)
 
+-- the server after its side of connection `k` ended
 abbrev pub ended : ServerState → ℕ → ServerState
 ended h k = ended_from h k (side_of h k)
 
--- the sides of the first so many connections are over
+-- the server after its sides of connections 1 to `k` ended
 abbrev pub all_ended : ServerState → ℕ → ServerState
 all_ended h zero = h
 all_ended h (suc k) = ended (all_ended h k) (suc k)
 
+-- the world after the server's side of connection `k` ended
 abbrev pub ended_at : World → ℕ → World
 ended_at w k = record w { server = ended w.server k; connections = changed over_here w.connections k }
 
+-- the world after the server restarted: each server's side ended
 abbrev pub restarted : World → World
 restarted w = record w { server = all_ended w.server (length w.server.sides); connections = map over_here w.connections }
 
--- the name of the first reel of a stack
+-- the name of the first reel of a stack, and the empty name if it has none
 abbrev pub first_name : {X : Type 0} → List (ReelSlot X) → List ℕ
 first_name [] = []
 first_name (first ∷ rest) = first.name
 
--- the reel that is open for writing
+-- the reel that the session has open for writing
 abbrev pub written_reel : TapeLibrary → PlainSession → Option (List ℕ)
 written_reel s (Online drive access reel) = if writes access then Some (first_name (drive_at s drive).stack) else None
 written_reel s session = None
@@ -108,15 +116,16 @@ abbrev pub opened_reel : PlainRequest → TapeLibrary → PlainSession → Optio
 opened_reel (Open device mode) s session = written_reel s session
 opened_reel request s session = None
 
+-- the opening of this reel by connection `k`
 abbrev pub opening : ℕ → List ℕ → Opening
 opening k reel = record { connection = k; reel = reel }
 
--- the list of counts that the client has, if there is one
+-- the client's list of counts, which is empty if there is no client
 abbrev pub list_in : Option Caller → List VolumeCount
 list_in None = []
 list_in (Some c) = c.at.counts
 
--- the request writes: a record, or marks
+-- whether the request writes a record or marks
 abbrev pub is_writing : PlainRequest → Bool
 is_writing (Write bytes) = true
 is_writing (WriteDropped count) = true
@@ -127,60 +136,67 @@ is_writing request = false
 abbrev pub reel_written : PlainRequest → TapeLibrary → PlainSession → Option (List ℕ)
 reel_written request s session = if is_writing request then written_reel s session else None
 
+-- the writing on this reel by connection `k`, after that many openings
 abbrev pub writing : ℕ → ℕ → List ℕ → Writing
 writing k after reel = record { connection = k; reel = reel; after = after }
 
--- A write of an attempt was answered: the first that is accepted is the label's, and others are blocks'; the answer of a device
--- fault is noted.
+-- an attempt after a write was accepted: the first is that of the label, the others are those of
+-- blocks
 abbrev pub accepted : Dumping → Dumping
 accepted d = if d.label then record d { blocks = raised d.blocks } else record d { label = true }
 
+-- an attempt after a write was answered by error `n`, which is a device fault if it is EIO
 abbrev pub noted_error : Dumping → ℕ → Dumping
 noted_error d n = if n == EIO then record d { fault = true } else d
 
+-- an attempt after the reply to a write of a record
 abbrev pub noted_write : Dumping → PlainReply → Dumping
 noted_write d (Done zero) = d
 noted_write d (Done (suc n)) = accepted d
 noted_write d (Data bytes) = d
 noted_write d (Error n text) = noted_error d n
 
+-- an attempt after the reply to MTWEOF
 abbrev pub noted_marks : Dumping → PlainReply → Dumping
 noted_marks d (Done n) = record d { mark = true }
 noted_marks d (Data bytes) = d
 noted_marks d (Error n text) = noted_error d n
 
--- MTWEOF writes marks
+-- the outcome of the attempt's writes after this request and its reply; MTWEOF writes marks
 abbrev pub noted_by : Dumping → PlainRequest → PlainReply → Dumping
 noted_by d (Write bytes) reply = noted_write d reply
 noted_by d (Op op count) reply = if op == MTWEOF then noted_marks d reply else d
 noted_by d request reply = d
 
--- a request of it was carried out
+-- an attempt after one of its requests was carried out
 abbrev pub noted : PlainRequest → PlainReply → Dumping → Dumping
 noted request reply d = let d' = noted_by d request reply in record d' { carried = raised d'.carried }
 
+-- the connection after a request was carried out, with the reply in transit to the peer
 abbrev pub answered : PlainRequest → PlainReply → Connection → Connection
 answered request reply l =
     record l { back = sent_on l.cut l.back (reply_text reply); dump = option_map (noted request reply) l.dump }
 
--- a request of it was sent
+-- an attempt after one more of its requests was sent
 abbrev pub noted_sent : Dumping → Dumping
 noted_sent d = record d { sent = raised d.sent }
 
--- the reel of a connection's first opening
+-- the reel of the connection's first opening, and the empty name if it has none
 abbrev pub reel_opened_by : ℕ → List Opening → List ℕ
 reel_opened_by k [] = []
 reel_opened_by k (o ∷ opens) = if o.connection == k then o.reel else reel_opened_by k opens
 
--- a count of the client, told with its run, its connection and the reel of that
+-- a count of the client, with its run, its connection and the reel of that connection
 abbrev pub counts_of : World → ℕ → ℕ → VolumeCount → Count
 counts_of w number k c =
     record { run = number; volume = c.volume; first = c.first; count = c.count; reel = reel_opened_by k w.opens; connection = k }
 
+-- the world with these counts of the client added
 abbrev pub counted_from : World → ℕ → ℕ → List VolumeCount → World
 counted_from w number k counts = record w { counts = w.counts ++ map (counts_of w number k) counts }
 
--- what came of the client's call, on its connection
+-- The world after a call of the client. If its attempt failed or ended, it left its connection. A
+-- failure is recorded with its volume.
 abbrev pub came_to : World → ℕ → Standing → Progress → World
 came_to w k at (Failed fault) = record (given_up w k) { failure = Some ((checkpoint_of at.counts).0, fault) }
 came_to w k at Ended = given_up w k

@@ -1,41 +1,44 @@
--- What can happen in the world. Public contracts cite it.
+-- The events of a world. Public contracts cite it.
 use Rattle.std.specs.Prelude.{ℕ, Bool, List}
 use Rattle.tape.specs.declared.trouble.Trouble.{Trouble}
 use Rattle.dump_run.specs.Run.{PlainRun}
 use Rattle.dump_client.specs.declared.stage.Answer.{Answer}
 
--- A connection is told by its number, a drive and reels by their names.
+-- An event. Connections are identified by number, drives and reels by name.
 pub data PlainEvent : Type 0 where
-  -- a run of this payload is begun
+  -- a run with this payload begins
   StartRun : (run : PlainRun) → (payload : List ℕ) → PlainEvent
   -- the client starts an attempt, on a new connection
   Connect : PlainEvent
-  -- the client sends its next request; a read of the payload fails in it, or does not
+  -- the client sends its next request; if `fails`, and the request has a block, the read of that
+  -- block fails instead
   Send : (fails : Bool) → PlainEvent
-  -- so many bytes reach the server
+  -- `n` bytes reach the server on connection `k`
   ToServer : (k : ℕ) → (n : ℕ) → PlainEvent
-  -- the server carries one request out, whose device call fails in this manner, or finds a fault
+  -- the server carries out one request of connection `k`, with this trouble injected, or finds a
+  -- protocol fault
   Serve : (k : ℕ) → (trouble : Trouble) → PlainEvent
-  -- so many bytes reach the other side
+  -- `n` bytes reach the peer of connection `k`
   ToClient : (k : ℕ) → (n : ℕ) → PlainEvent
-  -- from now on what is sent is lost
+  -- from now on, what is sent on connection `k` is lost
   Cut : (k : ℕ) → PlainEvent
-  -- the server sees that the connection ended
+  -- the server sees that connection `k` ended
   EndAtServer : (k : ℕ) → PlainEvent
-  -- the other side sees it
+  -- the peer sees that connection `k` ended
   EndAtClient : (k : ℕ) → PlainEvent
+  -- the server restarts, which ends all its sessions
   ServerRestart : PlainEvent
-  -- the client comes back with the run that is kept, or with none
+  -- the client restarts: it resumes the saved run, or has no run if none is saved
   ClientRestart : PlainEvent
   -- the operator answers the client
   Respond : (answer : Answer) → PlainEvent
-  -- the operator lays these reels on the stack of a drive
+  -- the operator puts these reels on the stack of a drive
   Arrange : (drive : List ℕ) → (reels : List (List ℕ)) → PlainEvent
-  -- a connection of a stranger is made
+  -- a stranger connects
   Stranger : PlainEvent
-  -- a stranger sends these bytes
+  -- a stranger sends these bytes on connection `k`
   Says : (k : ℕ) → (bytes : List ℕ) → PlainEvent
   -- a finished run is entered in dumpdates
   Enter : PlainEvent
-  -- the run and the client's counts are kept outside of the client
+  -- the run and the client's counts are saved outside the client
   Save : PlainEvent

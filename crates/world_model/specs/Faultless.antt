@@ -1,4 +1,5 @@
--- A link without faults, at a server of one drive, and what it leaves on the volumes. Public contracts cite it.
+-- A world without faults, with a server of one drive: what every event preserves there, and how the
+-- volumes are left. Public contracts cite it.
 use Rattle.std.specs.Prelude.{◌≡◌, ◌≢◌, ◌⊎◌, ℕ, ◌+◌, ◌<◌, ◌≤◌, Bool, true, false, List, [], ◌∷◌, ◌++◌, length, map, take, drop, slice_get, Contains, Option, Some, None}
 use Rattle.tape.specs.Tape.{PlainEntry, tape, offset_of}
 use Rattle.tape.specs.declared.trouble.Trouble.TheVariants.{None as NoTrouble}
@@ -35,8 +36,8 @@ use Rattle.world_model.specs.Standing.{StandsOn}
 use Rattle.world_model.specs.Written.{attempt_written}
 use Rattle.world_model.specs.Written.{whole_volume}
 
--- An event without a fault: a run begins, the client connects and sends, bytes reach either end, and the server carries a request
--- out whose device call does not fail.
+-- An event without a fault: a run begins, the client connects or sends, or bytes reach the server
+-- or the client. Or the server carries out a request, and no device call fails.
 abbrev pub IsFaultless : PlainEvent → Type 0
 IsFaultless (StartRun run payload) = Unit {0}
 IsFaultless Connect = Unit {0}
@@ -46,28 +47,29 @@ IsFaultless (Serve k trouble) = trouble ≡ NoTrouble
 IsFaultless (ToClient k n) = Unit {0}
 IsFaultless event = ⊥
 
+-- all events of the list are without a fault
 abbrev pub AreFaultless : List PlainEvent → Type 0
 AreFaultless [] = Unit {0}
 AreFaultless (event ∷ events) = IsFaultless event × AreFaultless events
 
--- what a label and one block take of a reel, with the mark after them
+-- how many bytes a label and one block take on a reel, with the mark after them
 abbrev pub room_for_one : PlainRun → ℕ
 room_for_one run = (label_bytes + 8) + (run.block_bytes + 8) + 4
 
--- Why an attempt fails there: the server has no such drive, no reel in it or no memory; or the reel is too small, and then label
--- and one block do not fit.
+-- Why an attempt can fail without a fault. The server has no such drive, no reel in it or no
+-- memory. Or the reel is too small: a label and one block do not fit.
 abbrev pub IsFaultlessFailure : ℕ → PlainRun → AttemptFault → Type 0
 IsFaultlessFailure capacity run (Refused n) = (n ≡ ENOENT) ⊎ (n ≡ ENXIO) ⊎ (n ≡ ENOMEM)
 IsFaultlessFailure capacity run ReelTooSmall = capacity < room_for_one run
 IsFaultlessFailure capacity run fault = ⊥
 
--- whatever the last event made fail, it failed for that
+-- if the last event made an attempt fail, this was for one of those causes
 abbrev pub FailsFaultless : PlainDriveSpec → World → Type 0
 FailsFaultless drive w =
     (volume : ℕ) (fault : AttemptFault) → w.failure ≡ Some (volume, fault)
     → (c : Caller) × (w.caller ≡ Some c) × IsFaultlessFailure drive.capacity c.at.run fault
 
--- its volume, and nothing else, stands on the reel of a count
+-- the reel of the count holds the count's volume, and nothing else
 pub record HoldsVolume (w : World) (x : Count) : Type 0 where
   pub begun : Begun
   pub begun_as : numbered w.begun x.run ≡ Some begun
@@ -75,19 +77,21 @@ pub record HoldsVolume (w : World) (x : Count) : Type 0 where
   pub alone : (entries : List PlainEntry) → StandsOn w.server x.reel entries
       → entries ≡ whole_volume begun.run begun.payload x.volume x.first x.count
 
+-- whether the client is between attempts: ready or finished
 abbrev pub is_between : Stage → Bool
 is_between Ready = true
 is_between Finished = true
 is_between stage = false
 
--- The volumes are in order: an attempt failed for one of those causes alone; the reel of each count is that of its place on the
--- stack of the first world, and holds its volume; and between attempts these reels are the bin, in order.
+-- The volumes are in order. An attempt failed only for one of those causes. Count number `i` is on
+-- reel number `i` of the first world's stack, which holds its volume. Between attempts, the bin has
+-- these reels, in order.
 pub record VolumesInOrder (drive : PlainDriveSpec) (w : World) : Type 0 where
   pub failure : FailsFaultless drive w
   pub reels : (i : ℕ) (x : Count) → slice_get w.counts i ≡ Some x → (slice_get drive.reels i ≡ Some x.reel) × HoldsVolume w x
   pub bin : StandsIn w (λ stage. is_between stage ≡ true) → names_of w.server.library.bin ≡ map (λ x. x.reel) w.counts
 
--- as much of a world as tells where its reels are
+-- the part of a world that determines the places of its reels
 pub record Stock : Type 0 where
   pub library : TapeLibrary
   pub holders : List ℕ
@@ -95,22 +99,24 @@ pub record Stock : Type 0 where
   pub begun : List Begun
   pub opens : List Opening
 
+-- the stock of a world
 abbrev pub stock_of : World → Stock
 stock_of w = record { library = w.server.library; holders = w.server.holders; counts = w.counts; begun = w.begun; opens = w.opens }
 
--- reels of these names, on which nothing was written
+-- blank reels with these names
 abbrev pub blanks : PlainDriveSpec → List (List ℕ) → List (ReelSlot KeptReel)
 blanks drive names = map (λ name. slot name (Some (kept_reel [] drive.capacity))) names
 
--- the one drive with this stack, and this bin
+-- the library of one drive, with this stack and this bin
 abbrev pub one_drive : PlainDriveSpec → List (ReelSlot KeptReel) → List (ReelSlot KeptReel) → TapeLibrary
 one_drive drive stack bin = library (drive_with drive.name stack ∷ []) bin
 
--- the volume of a count, where its run was begun
+-- the volume of a count, if its run was begun
 abbrev pub volume_by : Option Begun → Count → List PlainEntry
 volume_by None x = []
 volume_by (Some b) x = whole_volume b.run b.payload x.volume x.first x.count
 
+-- the reel of a count, with its volume
 abbrev pub volume_slot : ℕ → List Begun → Count → ReelSlot KeptReel
 volume_slot capacity begun x = slot x.reel (Some (kept_reel (volume_by (numbered begun x.run) x) capacity))
 
@@ -122,13 +128,14 @@ volume_slots drive t = map (volume_slot drive.capacity t.begun) t.counts
 abbrev pub names_left : PlainDriveSpec → Stock → List (List ℕ)
 names_left drive t = drop (length t.counts) drive.reels
 
--- No session has the drive: it has the reels that were not counted, blank, and the bin those that were.
+-- No session has the drive open. The drive has the reels that were not counted, all blank, and the
+-- bin has those that were.
 pub record IsFree (drive : PlainDriveSpec) (t : Stock) : Type 0 where
   pub library : t.library ≡ one_drive drive (blanks drive (names_left drive t)) (volume_slots drive t)
   pub holders : t.holders ≡ 0 ∷ []
 
--- Connection k has the next reel in the drive. What the attempt wrote stands on it, its place is the end, and from the label up to
--- the mark there is room for the mark.
+-- Connection `k` has the next reel in the drive. The reel holds what the attempt wrote and is
+-- positioned at its end. From the label up to the mark, the reel has room for the mark.
 pub record IsLatched (drive : PlainDriveSpec) (t : Stock) (k : ℕ) (b : Begun) (d : Dumping) (session : PlainSession) : Type 0 where
   pub name : List ℕ
   pub others : List (List ℕ)
@@ -139,7 +146,7 @@ pub record IsLatched (drive : PlainDriveSpec) (t : Stock) (k : ℕ) (b : Begun) 
   pub opened : Contains t.opens (opening k name)
   pub room : d.label ≡ true → d.mark ≡ false → offset_of (attempt_written b.run b.payload d) + 4 ≤ drive.capacity
 
--- The next reel lies last in the bin with the attempt's volume, which is not counted yet.
+-- The next reel is the last in the bin, and holds the attempt's volume, which is not counted yet.
 pub record IsMoved (drive : PlainDriveSpec) (t : Stock) (k : ℕ) (b : Begun) (d : Dumping) (session : PlainSession) : Type 0 where
   pub name : List ℕ
   pub others : List (List ℕ)
@@ -150,20 +157,22 @@ pub record IsMoved (drive : PlainDriveSpec) (t : Stock) (k : ℕ) (b : Begun) (d
   pub offline : session ≡ Offline 0 Both
   pub opened : Contains t.opens (opening k name)
 
--- The attempt's volume is counted, and its session has the drive still open.
+-- The attempt's volume is counted, and its session still has the drive open.
 pub record IsOffline (drive : PlainDriveSpec) (t : Stock) (k : ℕ) (session : PlainSession) : Type 0 where
   pub library : t.library ≡ one_drive drive (blanks drive (names_left drive t)) (volume_slots drive t)
   pub holders : t.holders ≡ k ∷ []
   pub offline : session ≡ Offline 0 Both
 
--- how all stands before a step of the attempt of connection k
+-- the reels, holders and session before a step of the attempt of connection `k`
 abbrev pub StandsBefore : Step → PlainDriveSpec → Stock → ℕ → Begun → Dumping → PlainSession → Type 0
 StandsBefore Open drive t k b d session = IsFree drive t × (session ≡ Idle)
 StandsBefore Close drive t k b d session = IsOffline drive t k session
 StandsBefore step drive t k b d session = IsLatched drive t k b d session
 
--- How all stands once a reply is heard: before the step that it leads to, or, before the close, with a volume that is counted then;
--- where the attempt failed only the bin is told, and where it ended none has the drive.
+-- The reels, holders and session once a reply is heard. They are as before the step that the reply
+-- leads to. If that is the close, the volume in the bin is not counted yet. If the attempt failed,
+-- the cause is one of those above, and the bin has the counted reels. If the attempt ended, no
+-- session has the drive open.
 abbrev pub StandsThen : Progress → Stage → PlainDriveSpec → Stock → ℕ → Begun → Dumping → PlainSession → Type 0
 StandsThen moved.Send (ToSend Close) drive t k b d session = IsMoved drive t k b d session
 StandsThen moved.Send (ToSend step) drive t k b d session = StandsBefore step drive t k b d session
@@ -173,28 +182,30 @@ StandsThen moved.Ended Ready drive t k b d session = IsFree drive t
 StandsThen moved.Ended Finished drive t k b d session = IsFree drive t
 StandsThen progress stage drive t k b d session = ⊥
 
--- the counts that a client has then
+-- the counts that the client has once a reply is heard
 abbrev pub CountsThen : Stage → List VolumeCount → Dumping → List VolumeCount → Type 0
 CountsThen (ToSend next) counts d new = AreCounted next counts d new
 CountsThen stage counts d new = new ≡ counts
 
--- an attempt: its connection, its run, what it came to there, and the session
+-- an attempt: its connection, its run, how far it got, and its session
 pub record Attempt : Type 0 where
   pub connection : ℕ
   pub begun : Begun
   pub dump : Dumping
   pub session : PlainSession
 
+-- the attempt of run `b` on connection `k`, with this session
 abbrev pub attempt_on : ℕ → Begun → Dumping → PlainSession → Attempt
 attempt_on k b d session = record { connection = k; begun = b; dump = d; session = session }
 
--- where the reply to a step leads, and how all stands then
+-- Whatever the reply to this step leads to, the reels, holders, session and counts are then as
+-- `StandsThen` and `CountsThen` say.
 abbrev pub Leads : PlainDriveSpec → Stock → Attempt → Standing → Step → PlainReply → Type 0
 Leads drive t a old step reply =
     (progress : Progress) (new : Standing) → HearsAt old step (Reply reply) false progress new
     → StandsThen progress new.stage drive t a.connection a.begun a.dump a.session × CountsThen new.stage old.counts a.dump new.counts
 
--- the connection of the client's attempt, which no fault met
+-- the connection of the client's attempt, on which no fault occurred
 pub record IsOwnConnection (w : World) (k : ℕ) (l : Connection) (d : Dumping) (b : Begun) (s : ServerConnection) : Type 0 where
   pub own : w.own ≡ Some k
   pub there : connection_of w k ≡ Some l
@@ -203,13 +214,13 @@ pub record IsOwnConnection (w : World) (k : ℕ) (l : Connection) (d : Dumping) 
   pub begun : numbered w.begun d.run ≡ Some b
   pub live : side_of w.server k ≡ Some s
 
--- the request was sent, and nothing is on the way back
+-- the request was sent, and nothing is in transit to the client
 pub record IsStepUnanswered (drive : PlainDriveSpec) (w : World) (a : Attempt) (l : Connection) (step : Step) : Type 0 where
   pub back : l.back ≡ []
   pub stands : StandsBefore step drive (stock_of w) a.connection a.begun a.dump a.session
 
--- The request was carried out: what the client heard and what is on the way to it are the reply. The reels of the counts come first
--- in the bin.
+-- The request was carried out. The reply is what the client heard, together with what is in transit
+-- to it. The reels of the counts come first in the bin.
 pub record IsStepAnswered (drive : PlainDriveSpec) (w : World) (a : Attempt) (l : Connection) (c : Caller) (step : Step) : Type 0 where
   pub served : AreUnserved (side_of w.server a.connection) l.toward []
   pub fed : List ℕ
@@ -220,7 +231,7 @@ pub record IsStepAnswered (drive : PlainDriveSpec) (w : World) (a : Attempt) (l 
   pub bin : (more : List (ReelSlot KeptReel)) × (w.server.library.bin ≡ volume_slots drive (stock_of w) ++ more)
   pub leads : Leads drive (stock_of w) a c.at step reply
 
--- how all stands, by the stage of the client
+-- the places of the reels, by the stage of the client
 abbrev pub ReelsStandAt : Stage → PlainDriveSpec → World → Caller → Type 0
 ReelsStandAt (ToSend step) drive w c =
     (k : ℕ) × (l : Connection) × (d : Dumping) × (b : Begun) × (s : ServerConnection) × IsOwnConnection w k l d b s
@@ -232,12 +243,14 @@ ReelsStandAt Asking drive w c = w.server.library.bin ≡ volume_slots drive (sto
 ReelsStandAt Abandoned drive w c = ⊥
 ReelsStandAt stage drive w c = IsFree drive (stock_of w)
 
+-- the places of the reels, with this client or with none
 abbrev pub StandsWith : Option Caller → PlainDriveSpec → World → Type 0
 StandsWith None drive w = IsFree drive (stock_of w)
 StandsWith (Some c) drive w = ReelsStandAt c.at.stage drive w c
 
--- What stays so while no fault comes: each connection is the client's, and on all but its own nothing is unserved; the reels of
--- the counts are the first of the opening stack, in order.
+-- Every event without a fault preserves this. Each connection is one of the client's, and nothing
+-- is unserved on any but its own. The reels of the counts are the first of the first world's stack,
+-- in order.
 pub record IsFaultlessWorld (drive : PlainDriveSpec) (w : World) : Type 0 where
   pub clients : (j : ℕ) (l : Connection) → connection_of w j ≡ Some l → (d : Dumping) × (l.dump ≡ Some d)
   pub still : (j : ℕ) (l : Connection) → connection_of w j ≡ Some l → w.own ≢ Some j → AreUnserved (side_of w.server j) l.toward []

@@ -1,5 +1,5 @@
--- How the headline is proved: all that stays so, whatever happens. No sentence of the headline names these points. Public contracts
--- cite it.
+-- How the headline is proved: everything that each event preserves. No statement of the headline
+-- uses these definitions. Public contracts cite it.
 use Rattle.std.specs.Prelude.{◌≡◌, ◌≢◌, ℕ, ◌<◌, true, false, [], length, Contains, Option, Some, None}
 use Rattle.rmt_server.specs.ServerState.{ServerState, ServerConnection}
 use Rattle.drives.specs.TapeLibrary.{drive_at}
@@ -20,25 +20,27 @@ use Rattle.world_model.specs.Naming.{AreNamed, AreOpened, AreWritersLast}
 use Rattle.world_model.specs.Sparing.{AreNotReopened}
 use Rattle.world_model.specs.First.{IsReadable}
 
--- A connection of which either side is over is cut, and where the server's is, nothing is on the way to that.
+-- If the server's side has ended or the peer has left, the connection is cut. If the server's side
+-- has ended, nothing is in transit to it.
 pub record IsTidy (s : Option ServerConnection) (l : Connection) : Type 0 where
   pub here : s ≡ None → l.cut ≡ true
   pub there : l.other ≡ false → l.cut ≡ true
   pub nothing : s ≡ None → l.toward ≡ []
 
--- each connection is so, and has a server's side, live or over
+-- each connection is tidy, and has an entry for the server's side, live or ended
 pub record AreTidy (w : World) : Type 0 where
   pub paired : length w.server.sides ≡ length w.connections
   pub each : (k : ℕ) (l : Connection) → connection_of w k ≡ Some l → IsTidy (side_of w.server k) l
 
--- A reel is away from its slot only as the first of its stack, and exactly while a session is online at the drive.
+-- While a session is online at a drive, the first reel of its stack is away from its slot, and no
+-- other. Every other reel, on a stack or in the bin, is in its slot.
 pub record AreLaid (h : ServerState) : Type 0 where
   pub latched : (d : ℕ) → IsOnlineAt h d → IsFirstAway (drive_at h.library d).stack
   pub lying : (d : ℕ) → (IsOnlineAt h d → ⊥) → AreThere (drive_at h.library d).stack
   pub bin : AreThere h.library.bin
 
--- The run that is kept outside of the client is the last that was begun, and is not entered. Its list begins it, in order, and was
--- counted.
+-- The saved run is within its limits, is the last that was begun, and is not entered. The saved
+-- counts are its first volumes, in order, and each of them was counted.
 pub record IsKeptRun (w : World) (k : Kept) : Type 0 where
   pub begun : Begun
   pub begun_as : numbered w.begun k.run ≡ Some begun
@@ -48,10 +50,12 @@ pub record IsKeptRun (w : World) (k : Kept) : Type 0 where
   pub counted : AreCountedIn w k.run k.listed
   pub unentered : (e : Entered) → Contains w.entered e → e.run ≢ k.run
 
--- What is kept of runs, counts and dumpdates. The client's run is the last that was begun (a new one drops what is kept of an older),
--- and each volume that the client has was counted under its number. Each run that was entered is covered by the list that the client
--- had then, and was entered once; the client's own is only once it is finished. Dumpdates has those entries, and no other, in the
--- order in which they were made.
+-- Every event preserves this of runs, counts and dumpdates. The client's run is the last that was
+-- begun: a new run drops the saved one. Each volume of the client's list was counted under the
+-- number of its run. Numbers above those of the runs begun have no counts. Each run that was
+-- entered is covered by the list that the client had then, and was entered once. The client's own
+-- run is entered only if it is finished. Dumpdates has those entries and no others, in the order in
+-- which they were made.
 pub record AreBooked (w : World) : Type 0 where
   pub last : (c : Caller) → w.caller ≡ Some c → c.number ≡ length w.begun
   pub begun : (c : Caller) → w.caller ≡ Some c → (b : Begun) × (numbered w.begun c.number ≡ Some b) × (b.run ≡ c.at.run)
@@ -63,11 +67,11 @@ pub record AreBooked (w : World) : Type 0 where
   pub finished : (c : Caller) (e : Entered) → w.caller ≡ Some c → Contains w.entered e → e.run ≡ c.number → c.at.stage ≡ Finished
   pub dates : w.dates ≡ dates_after w.begun [] w.entered
 
--- the client, if there is one, is lawful
+-- The client, if there is one, is lawful.
 abbrev pub HasLawful : World → Type 0
 HasLawful w = (c : Caller) → w.caller ≡ Some c → IsLawful c.at
 
--- all that stays so
+-- everything that each event preserves
 pub record IsWorldKept (w : World) : Type 0 where
   pub lawful : HasLawful w
   pub owned : IsOwned w

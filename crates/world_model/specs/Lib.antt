@@ -1,5 +1,6 @@
--- In reading order: World, Events, Changes, Rows, Steps, First; Books, Standing, Written, Headline; Further; Serving, Talk, Smooth. How it is
--- proved: Owning, Naming, Sending, Attempts, Sparing, Kept.
+-- In reading order: World, Events, Changes, Rows, Steps, First; History, Standing, Written,
+-- Headline; Further; Serving, Talk, Faultless. How it is proved: Owning, Naming, Sending, Attempts,
+-- Sparing, Kept.
 pub mod World
 pub mod Events
 pub mod Changes

@@ -1,23 +1,24 @@
--- How the headline is proved: whose connection is the client's own, and which run is its. No sentence of it names these points.
--- Public contracts stand on it (through Kept).
+-- How the headline is proved: which connection is the client's own, and which run is the client's.
+-- No statement of the headline uses these definitions. Public contracts depend on it (through
+-- Kept).
 use Rattle.std.specs.Prelude.{◌≡◌, ℕ, IsTrue, Bool, true, false, Some}
 use Rattle.dump_client.specs.declared.stage.Stage.{Stage}
 use Rattle.dump_client.specs.declared.stage.Stage.TheVariants.{ToSend, Waiting}
 use Rattle.world_model.specs.World.{World, Connection, Dumping, Begun, Caller, numbered}
 use Rattle.world_model.specs.Changes.{connection_of}
 
--- the client is in an attempt
+-- whether a client at this stage is in an attempt
 abbrev pub is_in_attempt : Stage → Bool
 is_in_attempt (ToSend step) = true
 is_in_attempt (Waiting step) = true
 is_in_attempt stage = false
 
--- that connection is one of the client's, and its side there is live
+-- connection `k` is one of the client's, and the client has not left it
 abbrev pub IsClients : World → ℕ → Type 0
 IsClients w k = (l : Connection) × (d : Dumping) × (connection_of w k ≡ Some l) × IsTrue l.other × (l.dump ≡ Some d)
 
--- The client's own connection is there exactly while it is in an attempt, and it is the only one of the client's whose other
--- side is live.
+-- The client has a connection of its own exactly while it is in an attempt. The client has left all
+-- its other connections.
 pub record IsOwned (w : World) : Type 0 where
   pub own : (k : ℕ) → w.own ≡ Some k → IsClients w k × ((c : Caller) × (w.caller ≡ Some c) × IsTrue (is_in_attempt c.at.stage))
   pub attempt : (c : Caller) → w.caller ≡ Some c → IsTrue (is_in_attempt c.at.stage) → (k : ℕ) × (w.own ≡ Some k)

@@ -1,4 +1,4 @@
--- Which events are possible, and what each does. Public contracts stand on it (through Steps).
+-- Which events are possible. Public contracts depend on it (through Steps).
 use Rattle.std.specs.Prelude.{◌≡◌, ◌⊎◌, ◌≢◌, ℕ, ◌+◌, ◌*◌, ◌≤◌, Bool, true, false, IsTrue, List, length, slice_index_or, Contains, Option, Some, None, Result, Ok}
 use Rattle.rmt_wire.specs.Request.{PlainRequest}
 use Rattle.rmt_wire.specs.RequestParts.{Gives}
@@ -18,53 +18,56 @@ use Rattle.world_model.specs.Events.{PlainEvent}
 use Rattle.world_model.specs.Events.PlainEvent.{StartRun, Connect, Send, ToServer, Serve, ToClient, Cut, EndAtServer, EndAtClient, ServerRestart, ClientRestart, Respond, Arrange, Stranger, Says, Enter, Save}
 use Rattle.world_model.specs.Changes.{side_of, connection_of}
 
--- the client stands so
+-- There is a client, and `p` holds of its stage.
 abbrev pub StandsIn : World → (Stage → Type 0) → Type 0
 StandsIn w p = (c : Caller) × (w.caller ≡ Some c) × p c.at.stage
 
+-- whether the run is finished or abandoned
 abbrev pub is_run_done : Stage → Bool
 is_run_done Finished = true
 is_run_done Abandoned = true
 is_run_done stage = false
 
--- there is no run, or it is finished or abandoned
+-- there is no client, or its run is finished or abandoned
 abbrev pub NoRun : World → Type 0
 NoRun w = (w.caller ≡ None) ⊎ StandsIn w (λ stage. IsTrue (is_run_done stage))
 
--- the run's number is among those entered
+-- the run with this number was entered in dumpdates
 abbrev pub IsRunEntered : World → ℕ → Type 0
 IsRunEntered w number = (e : Entered) × Contains w.entered e × (e.run ≡ number)
 
--- the server's side is live, and there it has reached this
+-- the server's side of connection `k` is live, and `s` is its state
 abbrev pub IsLiveHere : World → ℕ → ServerConnection → Type 0
 IsLiveHere w k s = side_of w.server k ≡ Some s
 
--- the other side is live
+-- `l` is connection `k`, and its peer is still there
 abbrev pub IsLiveThere : World → ℕ → Connection → Type 0
 IsLiveThere w k l = (connection_of w k ≡ Some l) × IsTrue l.other
 
--- that many bytes are on the way
+-- at least 1 byte, and at most all that are in transit
 abbrev pub IsPart : ℕ → List ℕ → Type 0
 IsPart n way = (1 ≤ n) × (n ≤ length way)
 
--- the reader has room for so many bytes
+-- the reader has room for `n` more bytes
 abbrev pub HasRoomFor : RequestHeld → ℕ → Type 0
 HasRoomFor h n = (bytes : List ℕ) → Unread h bytes → n + taken_of bytes ≤ READER_LIMIT
 
--- what is unread begins with a request, or with a fault
+-- the unread bytes begin with a whole request, or with a fault
 abbrev pub IsRequestFound : RequestHeld → Result (Option PlainRequest) WireFault → Type 0
 IsRequestFound h found = (bytes : List ℕ) × (rest : List ℕ) × Unread h bytes × Gives bytes found rest × (found ≢ Ok None)
 
--- the drive is there and free, and these reels may lie on its stack
+-- The drive exists and has no holder. The reels are distinct, and each is in the bin or on the
+-- stack of the drive.
 abbrev pub MayArrange : ServerState → List ℕ → List (List ℕ) → Type 0
 MayArrange h drive reels =
     (d : ℕ) × IsDriveNamed drive h.library (Some d) × (slice_index_or h.holders d 0 ≡ 0)
     × IsTrue (are_distinct reels) × IsTrue (list_all (is_piled h.library d) reels)
 
--- its run is not abandoned, nor finished and entered
+-- the client's run is not abandoned, and not both finished and entered
 abbrev pub MayBeKept : World → Caller → Type 0
 MayBeKept w c = (c.at.stage ≢ Abandoned) × (c.at.stage ≡ Finished → IsRunEntered w c.number → ⊥)
 
+-- the event is possible in this world
 abbrev pub Possible : World → PlainEvent → Type 0
 Possible w (StartRun run payload) = NoRun w × IsRun run × (length payload ≡ run.blocks * run.block_bytes)
 Possible w Connect = StandsIn w (λ stage. stage ≡ Ready)

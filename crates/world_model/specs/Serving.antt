@@ -1,4 +1,5 @@
--- What one request comes to that the server carries out. Public contracts cite it.
+-- The server carries out one request: which drive that meets, and what changes. Public contracts
+-- cite it.
 use Rattle.std.specs.Prelude.{◌≡◌, ◌≢◌, ℕ, ◌+◌, ◌≤◌, Bool, true, false, List, [], ◌∷◌, ◌++◌, length, slice_get, Contains, Some, None, MatchOption, Ok}
 use Rattle.rmt_wire.specs.Request.{PlainRequest}
 use Rattle.rmt_wire.specs.Request.PlainRequest.{Open, Op}
@@ -21,7 +22,8 @@ use Rattle.world_model.specs.Steps.{carried}
 use Rattle.world_model.specs.Sending.{is_labelled, is_marked, VolumeHasBlocks, request_in}
 use Rattle.world_model.specs.Written.{whole_volume}
 
--- The server carries out a request that reached it on connection k, and this is the world after it.
+-- The server carries out a request that reached it on connection `k`, and `u` is the world after
+-- it.
 pub record ServerTurn (w : World) (k : ℕ) (trouble : Trouble) (u : World) : Type 0 where
   pub s : ServerConnection
   pub request : PlainRequest
@@ -39,8 +41,9 @@ pub record ServerTurn (w : World) (k : ℕ) (trouble : Trouble) (u : World) : Ty
   pub served : TroubledServe trouble w.server.holders k (session_view w.server.library s.session) request reply (session_view library session) holders
   pub is : u ≡ carried w k request reply reached library session holders
 
--- It is the one request of the attempt that was sent and not carried out: that of the step after those that were. Of the attempt's
--- writes those were accepted that come before that step.
+-- `request` is the one request of the attempt that was sent and not carried out. It is that of the
+-- step after those that were carried out. Exactly the writes that come before that step were
+-- accepted.
 pub record IsNextSent (w : World) (d : Dumping) (request : PlainRequest) : Type 0 where
   pub begun : Begun
   pub step : Step
@@ -52,42 +55,51 @@ pub record IsNextSent (w : World) (d : Dumping) (request : PlainRequest) : Type 
   pub mark : d.mark ≡ is_marked step
   pub asks : request ≡ request_in begun d step
 
+-- whether the request is an open
 abbrev pub is_open : PlainRequest → Bool
 is_open (Open device mode) = true
 is_open request = false
 
--- What stands if nothing of the request is done: all as before it. An open closes what the session had open in every case, so all
--- is as after that close.
+-- The drives, reels and session if nothing of the request is done: the same as before. An open
+-- first closes what the session had open, so it leaves them as that close does.
 abbrev pub undone : PlainRequest → SessionView → SessionView
 undone (Open device mode) before = closed before
 undone request before = before
 
--- who holds the drives then
+-- the holders of the drives if nothing of the request is done
 abbrev pub undone_holders : PlainRequest → PlainSession → List ℕ → List ℕ
 undone_holders (Open device mode) session holders = with_holder (drive_in session) 0 holders
 undone_holders request session holders = holders
 
--- A reply that refuses the request: any error of an open; of any other request what the first check answers that refuses it. An
--- error of the open reel, or of its move, is no refusal.
+-- The reply refuses the request. A refusal of an open is any error. A refusal of another request is
+-- the error of the first check that fails, not an error of the open reel or of its move.
 abbrev pub Refuses : PlainSession → PlainRequest → PlainReply → Type 0
 Refuses session (Open device mode) reply = (n : ℕ) × (text : List ℕ) × (reply ≡ Error n text)
 Refuses session request reply = MatchOption (check (status_of session) request) ⊥ (λ why. reply ≡ refused why)
 
--- The request is refused, and nothing of it is done: drives, stacks, bin, reels, the session and the holders stand as `undone` says.
+-- The request is refused, and nothing of it is done. Drives, stacks, bin, reels, session and
+-- holders are as `undone` and `undone_holders` say.
 pub record IsRefused (w : World) (session : PlainSession) (request : PlainRequest) (reply : PlainReply) (u : World)
     (after : PlainSession) : Type 0 where
   pub answer : Refuses session request reply
   pub same : session_view u.server.library after ≡ undone request (session_view w.server.library session)
   pub held : u.server.holders ≡ undone_holders request session w.server.holders
 
--- Only drive d changes: the stacks of all other drives stay, and so does the bin, but that reels can be added at its end.
+-- Only drive `d` changes. The stacks of all other drives stay the same, and so does the bin, except
+-- that reels can be added at its end.
 pub record ChangesAt (d : ℕ) (s t : TapeLibrary) : Type 0 where
   pub stacks : (e : ℕ) → e ≢ d → drive_at t e ≡ drive_at s e
   pub added : List (ReelSlot KeptReel)
   pub bin : t.bin ≡ s.bin ++ added
 
--- What a request of session k meets: a refusal; or, if it is no open and no check refuses it, the drive that the session has open
--- and still holds; or it opened a drive that none holds once what the session had open is closed. Only that drive changes then.
+-- A request of session `k` meets one of these:
+-- - `refusal`: it is refused.
+-- - `own`: it is no open and no check refuses it. It meets the drive `d` that the session has open
+--   and still holds. Afterwards the session has no other drive open.
+-- - `free`: it is an open that succeeds at drive `d`, which nobody holds once what the session had
+--   open is closed.
+--
+-- In the last two cases only drive `d` changes, except that an open first closes what was open.
 pub data Meets (w : World) (k : ℕ) (session : PlainSession) (request : PlainRequest) (reply : PlainReply) (u : World)
     (after : PlainSession) : Type 0 where
   refusal : IsRefused w session request reply u after → Meets w k session request reply u after
@@ -98,13 +110,15 @@ pub data Meets (w : World) (k : ℕ) (session : PlainSession) (request : PlainRe
       → holder_of (with_holder (drive_in session) 0 w.server.holders) (Some d) ≡ 0
       → ChangesAt d (closed_library w.server.library session) u.server.library → Meets w k session request reply u after
 
--- of a drive that another has open the holder stays, and the stack, and so does that other's session
+-- If another session has a drive open, the drive keeps its holder and its stack, and that session
+-- stays the same.
 abbrev pub OthersStay : World → ℕ → World → Type 0
 OthersStay w k u =
     (j d : ℕ) (y : ServerConnection) → j ≢ k → side_of w.server j ≡ Some y → drive_in y.session ≡ Some d
     → (side_of u.server j ≡ Some y) × (slice_get u.server.holders d ≡ Some j) × (drive_at u.server.library d ≡ drive_at w.server.library d)
 
--- The reel that the session had in its drive, which it opened, lies last in the bin, and holds the whole volume of the attempt.
+-- The reel that the session opened and had in its drive is now the last in the bin. It holds the
+-- whole volume of the attempt.
 pub record IsWholeInBin (w : World) (k : ℕ) (d : Dumping) (u : World) : Type 0 where
   pub begun : Begun
   pub begun_as : numbered w.begun d.run ≡ Some begun
@@ -115,6 +129,6 @@ pub record IsWholeInBin (w : World) (k : ℕ) (d : Dumping) (u : World) : Type 0
   pub bin : u.server.library.bin
       ≡ w.server.library.bin ++ slot name (Some (kept_reel (whole_volume begun.run begun.payload d.volume d.first d.blocks) capacity)) ∷ []
 
--- an MTOFFL that was done
+-- the request is an MTOFFL, and it was done
 abbrev pub IsMoveDone : PlainRequest → PlainReply → Type 0
 IsMoveDone request reply = ((count : ℕ) × (request ≡ Op MTOFFL count)) × ((n : ℕ) × (reply ≡ Done n))

@@ -1,5 +1,6 @@
--- How the headline is proved: what keeps the reel of a count from other attempts of its run. No sentence of it names these points.
--- Public contracts stand on it (through Kept).
+-- How the headline is proved: why no other attempt of the same run writes on the reel of a count.
+-- No statement of the headline uses these definitions. Public contracts depend on it (through
+-- Kept).
 use Rattle.std.specs.Prelude.{◌≡◌, ◌≢◌, ℕ, ◌<◌, ◌≤◌, List, length, Contains, Some}
 use Rattle.dump_client.specs.Standing.{Standing, FedAt, IsAtStep}
 use Rattle.dump_client.specs.Client.{HasFedAt}
@@ -13,40 +14,44 @@ use Rattle.world_model.specs.World.{World, Connection, Dumping, Caller, Count, O
 use Rattle.world_model.specs.Changes.{HasDump, connection_of, opening}
 use Rattle.world_model.specs.Headline.{IsNotReopened}
 
--- connection k opened the count's reel for writing after the count's own
+-- connection `k` opened the count's reel for writing after the count's own connection did
 abbrev pub HasOpenedSince : World → Count → ℕ → Type 0
 HasOpenedSince w x k =
     (i m : ℕ) × (numbered w.opens i ≡ Some (opening x.connection x.reel)) × (i < m) × (numbered w.opens m ≡ Some (opening k x.reel))
 
--- so many requests an attempt has up to the look
+-- how many requests an attempt sends up to the look, with the look
 abbrev pub looked_requests : ℕ
 looked_requests = 3
 
--- A session of the client's that wrote carried out more than those.
+-- On each of the client's connections that wrote, more than those requests were carried out.
 abbrev pub AreLateWriters : World → Type 0
 AreLateWriters w = (y : Writing) (d : Dumping) → Contains w.writings y → HasDump w y.connection d → looked_requests < d.carried
 
--- While no foreign session opened the reel of a count since, whoever did was sent no more than those.
+-- Suppose that the reel of a count was not reopened. Then each of the client's connections that
+-- opened it after the count's own sent at most those requests.
 abbrev pub AreStopped : World → Type 0
 AreStopped w =
     (x : Count) (k : ℕ) (d : Dumping) → Contains w.counts x → IsNotReopened w x → HasOpenedSince w x k → HasDump w k d
     → d.sent ≤ looked_requests
 
--- From the open of the client's own connection up to its count each open for writing found the client's list as it is.
+-- While the client is in an attempt, before its close, its list stays the same. Each open for
+-- writing, from that of the attempt's connection on, has that list.
 abbrev pub AreListedNow : World → Type 0
 AreListedNow w =
     (k i m : ℕ) (c : Caller) (step : Step) (o : Opening) (list : List VolumeCount) → w.own ≡ Some k → w.caller ≡ Some c
     → IsAtStep c.at.stage step → step ≢ Close → numbered w.opens i ≡ Some o → o.connection ≡ k → i ≤ m
     → numbered w.lists m ≡ Some list → list ≡ c.at.counts
 
--- The client goes on past the look, whatever of its reply it has heard already, only where the reel is that of no such count.
+-- The client does not continue past the look if it has opened the reel of a count that was not
+-- reopened. This holds however much of the look's reply it has heard.
 abbrev pub HasLooked : World → Type 0
 HasLooked w =
     (k : ℕ) (l : Connection) (c : Caller) (fed : List ℕ) (progress : Progress) (new : Standing) (x : Count) → w.own ≡ Some k
     → connection_of w k ≡ Some l → w.caller ≡ Some c → HasFedAt c.at.stage c.reader fed → FedAt c.at.stage c.at fed l.back progress new
     → new.stage ≡ ToSend (Operation RewindAgain) → Contains w.counts x → IsNotReopened w x → HasOpenedSince w x k → ⊥
 
--- what keeps reels of counts spared; each opening has its list
+-- These facts keep other attempts of the run from writing on the reel of a count. Each opening has
+-- its list.
 pub record AreNotReopened (w : World) : Type 0 where
   pub paired : length w.lists ≡ length w.opens
   pub late : AreLateWriters w

@@ -1,4 +1,4 @@
--- What each event does. Public contracts cite it.
+-- The effect of each event. Public contracts cite it.
 use Rattle.std.specs.Prelude.{◌≡◌, ℕ, ◌+◌, Bool, true, false, List, [], ◌∷◌, ◌++◌, length, take, drop, option_map, option_to_list, Option, Some, None, Result, Ok, Err}
 use Rattle.rmt_wire.specs.Request.{PlainRequest, request_text}
 use Rattle.rmt_wire.specs.Reply.{PlainReply}
@@ -32,10 +32,11 @@ use Rattle.world_model.specs.Events.PlainEvent.{StartRun, Connect, Send, ToServe
 use Rattle.world_model.specs.Rows.{Possible}
 use Rattle.world_model.specs.Changes.{changed, side_of, connection_of, with_no_failure, joined, sent_on, other_left, given_up, ended_at, restarted, opened_reel, opening, list_in, reel_written, writing, answered, noted_sent, counted_from, came_to}
 
+-- the client of run `number`, in this state and with this reader
 abbrev pub caller : ℕ → Standing → ReplyHeld → Caller
 caller number at reader = record { number = number; at = at; reader = reader }
 
--- A new run, the next number, and a client that is ready. What was kept of another is dropped.
+-- A run with the next number was begun, and its client is ready. A saved run is dropped.
 abbrev pub begun : World → PlainRun → List ℕ → ReplyHeld → World
 begun w run payload reader = record w {
   begun = w.begun ++ record { run = run; payload = cut_blocks run.blocks run.block_bytes payload } ∷ [];
@@ -44,7 +45,7 @@ begun w run payload reader = record w {
   failure = None;
 }
 
--- an attempt that has done nothing
+-- the attempt of the client's next volume, which has done nothing
 abbrev pub fresh : Caller → Dumping
 fresh c = record {
   run = c.number;
@@ -58,7 +59,7 @@ fresh c = record {
   fault = false;
 }
 
--- the client starts an attempt, on a connection of its own
+-- the world after the client started an attempt, on a new connection of its own
 abbrev pub client_connected : World → Caller → World
 client_connected w c = record (joined w (Some (fresh c))) {
   caller = Some (caller c.number (standing c.at.run c.at.counts (ToSend Open)) (reply_held None []));
@@ -66,25 +67,28 @@ client_connected w c = record (joined w (Some (fresh c))) {
   failure = None;
 }
 
--- a read of the payload fails in this request
+-- whether a read of the payload fails in this request, which only the write of a block can
 abbrev pub is_failing : Bool → Step → Bool
 is_failing true (Block n) = true
 is_failing fails step = false
 
--- the attempt fails
+-- the world after the attempt failed at a read of the payload
 abbrev pub failed_read : World → ℕ → Caller → ReplyHeld → World
 failed_read w k c reader = record (given_up w k) {
   caller = Some (caller c.number (standing c.at.run c.at.counts Asking) reader);
   failure = Some ((checkpoint_of c.at.counts).0, SourceFault);
 }
 
+-- the connection after the client sent this text on it
 abbrev pub sent_connection : List ℕ → Connection → Connection
 sent_connection text l = record l { toward = sent_on l.cut l.toward text; dump = option_map noted_sent l.dump }
 
+-- the text of the client's request at this step
 abbrev pub next_text : Caller → List (List ℕ) → Step → List ℕ
 next_text c payload step =
     request_text (request_of c.at.run payload (checkpoint_of c.at.counts).0 (checkpoint_of c.at.counts).1 step)
 
+-- the world after the client sent its request and waits for the reply
 abbrev pub asked : World → ℕ → Caller → List (List ℕ) → Step → ReplyHeld → World
 asked w k c payload step reader = record w {
   connections = changed (sent_connection (next_text c payload step)) w.connections k;
@@ -92,25 +96,27 @@ asked w k c payload step reader = record w {
   failure = None;
 }
 
--- The client sends its next request on its own connection, which is k; or, where that is true, a read of the payload fails.
+-- The client sends its next request on its own connection `k`. If the flag is set, a read of the
+-- payload fails instead.
 abbrev pub Sends : Bool → World → ℕ → Caller → List (List ℕ) → Step → World → Type 0
 Sends true w k c payload step u = (reader : ReplyHeld) × (u ≡ failed_read w k c reader)
 Sends false w k c payload step u =
     (reader : ReplyHeld) × HasFedAt (Waiting step) reader [] × (u ≡ asked w k c payload step reader)
 
--- Something was unread by a reader, if only no bytes; and whatever it was, that piece follows it.
+-- Some bytes were unread by the reader, perhaps none. Whatever they were, the piece now follows
+-- them.
 abbrev pub IsPushed : RequestHeld → List ℕ → RequestHeld → Type 0
 IsPushed before piece after =
     ((bytes : List ℕ) × Unread before bytes) × ((bytes : List ℕ) → Unread before bytes → Unread after (bytes ++ piece))
 
--- so many bytes are pushed
+-- the world after `n` bytes in transit to the server reached its reader
 abbrev pub reached_by : World → ℕ → ℕ → ServerConnection → RequestHeld → World
 reached_by w k n s reached = record (with_no_failure w) {
   server = server w.server.library w.server.holders (with_numbered w.server.sides k (Some (side reached s.session)));
   connections = changed (λ l. record l { toward = drop n l.toward }) w.connections k;
 }
 
--- one request is carried out, and its reply is on the way back
+-- the world after one request was carried out, with its reply in transit to the peer
 abbrev pub carried : World → ℕ → PlainRequest → PlainReply → RequestHeld → TapeLibrary → PlainSession → List ℕ → World
 carried w k request reply reached library session holders = record (with_no_failure w) {
   server = server library holders (with_numbered w.server.sides k (Some (side reached session)));
@@ -120,7 +126,7 @@ carried w k request reply reached library session holders = record (with_no_fail
   writings = w.writings ++ option_to_list (option_map (writing k (length w.opens)) (reel_written request library session));
 }
 
--- the server's side finds a request, or a fault, which ends it
+-- The server's side found a request, which it carries out, or a fault, which ends it.
 abbrev pub Finds : World → ℕ → Trouble → ServerConnection → Result (Option PlainRequest) WireFault → List ℕ → World → Type 0
 Finds w k trouble s (Ok None) rest u = ⊥
 Finds w k trouble s (Ok (Some request)) rest u =
@@ -129,7 +135,8 @@ Finds w k trouble s (Ok (Some request)) rest u =
     × (u ≡ carried w k request reply reached library session holders)
 Finds w k trouble s (Err fault) rest u = u ≡ ended_at (with_no_failure w) k
 
--- so many bytes are fed to the client, and what comes of that is told of its connection
+-- The world after the client was fed `n` bytes. Its new counts are recorded, and if its attempt is
+-- over, it left the connection.
 abbrev pub heard : World → ℕ → ℕ → Caller → Standing → ReplyHeld → Progress → World
 heard w k n c at reader progress =
     came_to (counted_from (record (with_no_failure w) {
@@ -138,7 +145,7 @@ heard w k n c at reader progress =
     })
     c.number k (drop (length c.at.counts) at.counts)) k at progress
 
--- a stranger drops what reaches it
+-- `n` bytes reach the peer: a stranger drops them, and the client is fed them
 abbrev pub Hears : Option Dumping → World → ℕ → ℕ → List ℕ → World → Type 0
 Hears None w k n piece u = u ≡ record (with_no_failure w) { connections = changed (λ l. record l { back = drop n l.back }) w.connections k }
 Hears (Some dump) w k n piece u =
@@ -146,7 +153,7 @@ Hears (Some dump) w k n piece u =
     × HasFedAt c.at.stage c.reader fed × FedAt c.at.stage c.at fed piece progress at
     × HasFedAt at.stage reader (unanswered at.stage (fed ++ piece)) × (u ≡ heard w k n c at reader progress)
 
--- the side that is not the server's sees the end
+-- the peer sees the end of the connection, and leaves it
 abbrev pub SeesEnd : Option Dumping → World → ℕ → World → Type 0
 SeesEnd None w k u = u ≡ other_left (with_no_failure w) k
 SeesEnd (Some dump) w k u =
@@ -154,27 +161,29 @@ SeesEnd (Some dump) w k u =
     × CutAt c.at.stage c.at progress at × HasFedAt at.stage reader []
     × (u ≡ came_to (record (given_up (with_no_failure w) k) { caller = Some (caller c.number at reader) }) k at progress)
 
--- the client's own connection, if it has one, is over on its side
+-- the client left its own connection, if it has one
 abbrev pub forgotten_from : World → Option ℕ → World
 forgotten_from w None = w
 forgotten_from w (Some k) = given_up w k
 
--- The client forgets its run; or, where a run is kept, it comes back with that and with the list that is kept, finished where this
--- covers the run.
+-- The client restarts. If no run is saved, it forgets its run. Otherwise it resumes the saved run
+-- with the saved list, and is finished if this covers the run.
 abbrev pub ResumesRun : Option Kept → World → World → Type 0
 ResumesRun None w u = u ≡ record (forgotten_from (with_no_failure w) w.own) { caller = None }
 ResumesRun (Some kept) w u =
     (b : Begun) × (at : Standing) × (reader : ReplyHeld) × (numbered w.begun kept.run ≡ Some b) × IsOver b.run kept.listed at
     × (u ≡ record (forgotten_from (with_no_failure w) w.own) { caller = Some (caller kept.run at reader) })
 
--- an answer by which the run is given up drops what is kept
+-- the saved run after the operator's answer, which drops it if it abandons the run
 abbrev pub kept_after : Answer → Option Kept → Option Kept
 kept_after Retry kept = kept
 kept_after Abandon kept = None
 
+-- the entry of a run in dumpdates
 abbrev pub entry_of : PlainRun → DatesEntry
 entry_of run = record { name = run.name; level = run.level; date = run.date }
 
+-- the world after the client's run was entered in dumpdates, which drops the saved run
 abbrev pub recorded : World → Caller → World
 recorded w c = record (with_no_failure w) {
   entered = w.entered ++ record { run = c.number; listed = c.at.counts } ∷ [];
@@ -182,7 +191,7 @@ recorded w c = record (with_no_failure w) {
   dates = entered w.dates (entry_of c.at.run);
 }
 
--- One event, and the world after it. Whether it is possible is said by `Possible`.
+-- One event, and the world after it. `Possible` says whether the event is possible.
 abbrev pub WorldStep : World → PlainEvent → World → Type 0
 WorldStep w (StartRun run payload) u = (reader : ReplyHeld) × (u ≡ begun w run payload reader)
 WorldStep w Connect u = (c : Caller) × (w.caller ≡ Some c) × (c.at.stage ≡ Ready) × (u ≡ client_connected w c)
@@ -221,7 +230,7 @@ WorldStep w Save u =
 abbrev pub Happens : World → PlainEvent → World → Type 0
 Happens w event u = Possible w event × WorldStep w event u
 
--- events one after the other
+-- the world after a list of events, one after the other, from the world `first`
 pub data Runs (first : World) : List PlainEvent → World → Type 0 where
   none : Runs first [] first
   one_more : {events : List PlainEvent} {before after : World} (event : PlainEvent)

@@ -1,4 +1,5 @@
--- What the client sent on a connection, and what the server carried out of it, over a list of events. Public contracts cite it.
+-- The requests that the client sent on a connection, and those that the server carried out, over a
+-- list of events. Public contracts cite it.
 use Rattle.std.specs.Prelude.{◌≡◌, ◌⊎◌, ℕ, ◌==◌, Bool, true, false, List, [], ◌∷◌, ◌++◌, Option, Some, Result, Ok}
 use Rattle.rmt_wire.specs.Request.{PlainRequest}
 use Rattle.rmt_wire.specs.RequestParts.{Gives}
@@ -16,16 +17,17 @@ use Rattle.world_model.specs.Changes.{side_of, HasDump}
 use Rattle.world_model.specs.Steps.{Happens, Finds, is_failing}
 use Rattle.world_model.specs.Serving.{IsNextSent}
 
+-- the request, if the flag is set
 abbrev pub one_if_here : Bool → PlainRequest → List PlainRequest
 one_if_here true request = request ∷ []
 one_if_here false request = []
 
--- the request that is sent on that connection, unless a read of the payload fails
+-- the request, if it is sent on that connection and no read of the payload fails
 abbrev pub sent_here : Bool → Bool → PlainRequest → List PlainRequest
 sent_here true here request = []
 sent_here false here request = one_if_here here request
 
--- what the client sends on connection k in this event
+-- the requests that the client sends on connection `k` in this event, which is one at most
 abbrev pub Sent : ℕ → World → PlainEvent → List PlainRequest → Type 0
 Sent k w (Send fails) requests =
     (c : Caller) × (step : Step) × (j : ℕ) × (b : Begun) × (w.caller ≡ Some c) × (c.at.stage ≡ ToSend step) × (w.own ≡ Some j)
@@ -35,28 +37,28 @@ Sent k w (Send fails) requests =
     (request_of c.at.run b.payload (checkpoint_of c.at.counts).0 (checkpoint_of c.at.counts).1 step))
 Sent k w event requests = requests ≡ []
 
--- a request that was found is carried out; a fault is not
+-- the request that was found, which is carried out, or none if a fault was found
 abbrev pub carried_here : Bool → Result (Option PlainRequest) WireFault → List PlainRequest
 carried_here here (Ok (Some request)) = one_if_here here request
 carried_here here found = []
 
--- what the server carries out of connection k in this event
+-- the requests of connection `k` that the server carries out in this event, which is one at most
 abbrev pub CarriedOut : ℕ → World → PlainEvent → World → List PlainRequest → Type 0
 CarriedOut k w (Serve j trouble) u requests =
     (s : ServerConnection) × (found : Result (Option PlainRequest) WireFault) × (bytes : List ℕ) × (rest : List ℕ) × (side_of w.server j ≡ Some s)
     × Unread s.reached bytes × Gives bytes found rest × Finds w j trouble s found rest u × (requests ≡ carried_here (j == k) found)
 CarriedOut k w event u requests = requests ≡ []
 
--- Events one after the other, as `Runs` has them, with all requests that the client sent on connection k, and all that the server
--- carried out of it, each in order.
+-- Events one after the other, as in `Runs`. With them are all requests that the client sent on
+-- connection `k`, in order, and all that the server carried out there, in order.
 pub data Talks (k : ℕ) (first : World) : List PlainEvent → World → List PlainRequest → List PlainRequest → Type 0 where
   none : Talks k first [] first [] []
   one_more : {events : List PlainEvent} {before after : World} {sent carried : List PlainRequest} (event : PlainEvent) (more done : List PlainRequest)
       → Talks k first events before sent carried → Happens before event after → Sent k before event more
       → CarriedOut k before event after done → Talks k first (events ++ event ∷ []) after (sent ++ more) (carried ++ done)
 
--- Of a connection of the client's all that was sent was carried out; or all but the last request, which is the one that the attempt
--- comes to next.
+-- If the connection is one of the client's, either all requests that were sent were carried out, or
+-- all but the last. The last is then the next request of the attempt.
 abbrev pub IsBeginning : World → ℕ → List PlainRequest → List PlainRequest → Type 0
 IsBeginning w k sent carried =
     (d : Dumping) → HasDump w k d

@@ -1,4 +1,5 @@
--- A client, a server, and all that ever passed between them: what the headline speaks of. Public contracts cite it.
+-- A client, a server, and everything that has passed between them: the state that the headline is
+-- about. Public contracts cite it.
 use Rattle.std.specs.Prelude.{ℕ, zero, suc, Bool, List, slice_get, slice_set, Option, None}
 use Rattle.rmt_wire.specs.ReplyReader.{ReplyHeld}
 use Rattle.dumpdates.specs.Entry.{DatesEntry}
@@ -8,9 +9,10 @@ use Rattle.dump_run.specs.declared.count.VolumeCount.{VolumeCount}
 use Rattle.dump_client.specs.declared.fault.AttemptFault.{AttemptFault}
 use Rattle.rmt_server.specs.ServerState.{ServerState}
 
--- What an attempt of the client came to on its connection: the number of its run, its volume and first block, how many requests
--- were sent and how many carried out; of its writes whether the label was accepted, how many blocks were, whether the mark was,
--- and whether one met a device fault.
+-- A client's attempt, as far as it got on its connection. First the number of its run, its volume
+-- and first block, and how many requests were sent and how many carried out. Then its writes:
+-- whether the label was accepted, how many blocks were, whether the mark was, and whether a write
+-- met a device fault.
 pub record Dumping : Type 0 where
   pub run : ℕ
   pub volume : ℕ
@@ -22,8 +24,10 @@ pub record Dumping : Type 0 where
   pub mark : Bool
   pub fault : Bool
 
--- A connection: what is on the way to the server and back, whether it was cut, whether the side that is not the server's is
--- live, and what an attempt came to on it, where it is the client's and no stranger's.
+-- A connection between the server and a peer, which is the client or a stranger. `toward` are the
+-- bytes in transit to the server, `back` those to the peer. `cut` says whether it was cut, and
+-- `other` whether the peer is still there. `dump` is the client's attempt, and none if the peer is
+-- a stranger.
 pub record Connection : Type 0 where
   pub toward : List ℕ
   pub back : List ℕ
@@ -31,18 +35,19 @@ pub record Connection : Type 0 where
   pub other : Bool
   pub dump : Option Dumping
 
--- a run that was begun, and its payload
+-- a run that was begun, and its payload in blocks
 pub record Begun : Type 0 where
   pub run : PlainRun
   pub payload : List (List ℕ)
 
--- the client: the number of its run, where it stands, and its reader of replies
+-- the client: the number of its run, its state (run, counts and stage), and its reader of replies
 pub record Caller : Type 0 where
   pub number : ℕ
   pub at : Standing
   pub reader : ReplyHeld
 
--- a volume that was counted: of the run of this number, on this reel, by this connection
+-- a volume that the client counted: `run` is the number of its run, and `connection` wrote it on
+-- `reel`
 pub record Count : Type 0 where
   pub run : ℕ
   pub volume : ℕ
@@ -51,32 +56,33 @@ pub record Count : Type 0 where
   pub reel : List ℕ
   pub connection : ℕ
 
--- an open for writing that was accepted: of this reel, by this connection
+-- an open for writing that the server accepted: the connection, and the name of the reel
 pub record Opening : Type 0 where
   pub connection : ℕ
   pub reel : List ℕ
 
--- A session that had this reel open for writing carried out a write on it, of a record or of marks, and whatever it answered. So many
--- opens for writing had been accepted by then.
+-- A request to write a record or marks, carried out by a session that had this reel open for
+-- writing, whatever the reply was. `after` is how many opens for writing had been accepted by then.
 pub record Writing : Type 0 where
   pub connection : ℕ
   pub reel : List ℕ
   pub after : ℕ
 
--- a run of this number was entered in dumpdates, when the client had this list of counts
+-- a run that was entered in dumpdates, by its number, and the counts that the client had then
 pub record Entered : Type 0 where
   pub run : ℕ
   pub listed : List VolumeCount
 
--- A run of this number is kept outside of the client, with the list of counts that the client had then: what a checkpoint file has.
+-- A run that is saved outside the client, by its number, and the counts that the client had then:
+-- the content of a checkpoint file.
 pub record Kept : Type 0 where
   pub run : ℕ
   pub listed : List VolumeCount
 
--- Runs, connections, counts, openings, writings and entered runs stand in the order in which they came. `lists` has for each opening
--- the list of counts that the client had then; none, where there was no client. `own` is the connection of the client's attempt,
--- while that is under way, `kept` what is kept of a run outside of the client, and `failure` what the last event made fail: the
--- volume, and why.
+-- Each list is in order of time. `lists` has for each opening the counts that the client had then,
+-- and an empty list if there was no client. `own` is the connection of the client's attempt, while
+-- one is under way. `kept` is the run that is saved outside the client. `failure` is the volume and
+-- the cause, if the last event made an attempt fail.
 pub record World : Type 0 where
   pub server : ServerState
   pub connections : List Connection
@@ -92,12 +98,12 @@ pub record World : Type 0 where
   pub failure : Option (ℕ × AttemptFault)
   pub dates : List DatesEntry
 
--- the member of this number, counted from 1
+-- the member with this number, counted from 1
 abbrev pub numbered : {X : Type 0} → List X → ℕ → Option X
 numbered xs zero = None
 numbered xs (suc n) = slice_get xs n
 
--- the list with this one in its place
+-- the list with `x` in place of the member with this number
 abbrev pub with_numbered : {X : Type 0} → List X → ℕ → X → List X
 with_numbered xs zero x = xs
 with_numbered xs (suc n) x = slice_set xs n x

@@ -1,4 +1,5 @@
--- What a volume is on a reel, and what an attempt of the client wrote, as far as it was accepted. Public contracts cite it.
+-- The entries of a whole volume on a reel, and of what an attempt wrote, as far as it was accepted.
+-- Public contracts cite it.
 use Rattle.std.specs.Prelude.{◌≡◌, ℕ, zero, suc, ◌+◌, ◌≤◌, Bool, true, false, List, [], ◌∷◌, ◌++◌, length, get_or, Contains, Some}
 use Rattle.tape.specs.Tape.{PlainEntry}
 use Rattle.tape.specs.Tape.PlainEntry.{Record, Mark}
@@ -10,37 +11,40 @@ use Rattle.dump_client.specs.declared.step.TapeOp.TheVariants.{Unload}
 use Rattle.world_model.specs.World.{World, Dumping, Writing, numbered}
 use Rattle.world_model.specs.Changes.{opening}
 
--- so many blocks from this one on, a record each
+-- `count` blocks from `first` on, one record each
 abbrev pub block_records : List (List ℕ) → ℕ → ℕ → List PlainEntry
 block_records payload first zero = []
 block_records payload first (suc count) = Record (get_or payload first []) ∷ block_records payload (suc first) count
 
--- a volume, whole: its label, so many blocks from its first on, and one mark
+-- a whole volume: its label, `count` blocks from its first on, and one mark
 abbrev pub whole_volume : PlainRun → List (List ℕ) → ℕ → ℕ → ℕ → List PlainEntry
 whole_volume run payload volume first count = Record (label run volume first) ∷ (block_records payload first count ++ Mark ∷ [])
 
+-- the label's record, if the flag is set
 abbrev pub label_if : Bool → PlainRun → ℕ → ℕ → List PlainEntry
 label_if true run volume first = Record (label run volume first) ∷ []
 label_if false run volume first = []
 
+-- a mark, if the flag is set
 abbrev pub mark_if : Bool → List PlainEntry
 mark_if true = Mark ∷ []
 mark_if false = []
 
--- what an attempt wrote, as far as it was accepted: the label, blocks from its first on, and the mark
+-- the accepted writes of an attempt: the label, its blocks from its first on, and the mark
 abbrev pub attempt_written : PlainRun → List (List ℕ) → Dumping → List PlainEntry
 attempt_written run payload d = label_if d.label run d.volume d.first ++ (block_records payload d.first d.blocks ++ mark_if d.mark)
 
--- connection k opened the reel for writing, and no session but its own wrote on it since
+-- Connection `k` opened the reel for writing, and no other session has written on it since.
 abbrev pub IsAlone : World → ℕ → List ℕ → Type 0
 IsAlone w k reel = (i : ℕ) × (numbered w.opens i ≡ Some (opening k reel))
     × ((x : Writing) → Contains w.writings x → x.reel ≡ reel → i ≤ x.after → x.connection ≡ k)
 
--- no write of the attempt met a device fault, and no session but its own wrote on the reel since its connection opened it
+-- No write of the attempt met a device fault, and no other session has written on the reel since
+-- the attempt's connection opened it.
 abbrev pub IsQuiet : World → ℕ → Dumping → List ℕ → Type 0
 IsQuiet w k d reel = (d.fault ≡ false) × IsAlone w k reel
 
--- no more was carried out than up to the mark
+-- If the mark was accepted, no request after it was carried out, so MTOFFL was not.
 abbrev pub IsBeforeOffline : PlainRun → Dumping → Type 0
 IsBeforeOffline run d =
     d.mark ≡ true → d.carried ≤ length (steps_before run d.first (d.first + d.blocks) (Operation (Unload (d.first + d.blocks))))

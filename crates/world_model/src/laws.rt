@@ -1,4 +1,5 @@
-//! What stays so whatever happens, and what one request comes to: laws, each the contract of a call that does nothing.
+//! Laws: everything that each event preserves, and the effect of one request. Each law is the
+//! contract of a function that does nothing.
 
 ghost use Rattle.std.specs.Prelude.{◌≡◌, ◌⊎◌, ℕ, List, ◌++◌};
 ghost use Rattle.rmt_wire.specs.Request.{PlainRequest};
@@ -22,37 +23,52 @@ ghost use Rattle.world_model.specs.Serving.{ServerTurn, IsNextSent, Meets, Other
 use dump_client::same_run;
 use rmt_wire::{dropped_writes, one_reading, one_reply, one_reply_reading};
 
-/// Two lists of events that follow each other are one list of events.
+/// Two lists of events, one after the other, are one list of events.
 ///
-/// It does nothing: its contract is a law of the definitions.
+/// Does nothing: its contract is a law of the definitions.
 #[tactic(auto, using(crate::proofs::Runs::run_on))]
 pub fn one_run()
     ensures { (first before after : World) (events more : List PlainEvent) →
         Runs first events before → Runs before more after → Runs first (events ++ more) after }
 {}
 
-/// What stays so whatever happens: the first world of good drives has it, each event leaves it, and so it holds after every
-/// list of events. Each event that is possible has a world after it (`steps`). No event takes a reel away, or brings one. So
-/// the holder of a drive is the connection whose live side has it open, and no drive has two; each reel that was counted, and
-/// that no foreign session opened for writing since, holds exactly its volume; and dumpdates gained only dumps whose counted
-/// volumes are all their blocks in order.
+/// Everything that holds of a world after every list of events. The first world of good drives
+/// satisfies `IsWorldKept`, and each event preserves it. Each possible event has a world after it
+/// (`steps`). No event adds or removes the name of a reel.
 ///
-/// A session is foreign to a count unless its connection is the client's, of the count's run, and the list that the client had as
-/// the open was accepted has a count of that volume and first block. So none is that opens in an attempt of the client, of which
-/// the list has them (`own_opens`). As long as no foreign session opened the reel of a count since, no session but the count's
-/// own wrote on it since its open. A reel that nobody opened since is spared (`unopened`), and nobody wrote on it (`unwritten`).
+/// The headline follows:
 ///
-/// Where the label of an attempt was accepted and no write of it met a device fault, what it wrote stands on its reel, and
-/// nothing else, while no other session wrote on that reel since. While its session has the reel in its drive and was not
-/// asked for MTOFFL, the place is the reel's end.
+/// - The holder of a drive is the connection whose live server's side has it open, and no drive has
+///   two.
+/// - Each reel that was counted and not reopened holds exactly its volume.
+/// - Dumpdates has only dumps whose counted volumes have all their blocks, in order.
 ///
-/// As many requests were carried out of a client's connection as were sent there, or one fewer: of all that its client sent,
-/// in order, those that its session carried out are a beginning, and at most the last is not among them. A latched reel is one
-/// session's, and first on the stack of the drive that this holds; and each volume that the client has was counted under its number.
-/// Counts are made only as a reply reaches the client, by just what its own list grows by (`counts_grow`), also where it came back with
-/// a list that was kept.
+/// A reel is reopened if, after the count's connection opened it, an open for writing was not the
+/// dump's own. An open is the dump's own for a count if its connection is the client's, in the
+/// count's run. Also, the list that the client had at that open must have a count of that volume
+/// and first block. Thus each open by the client's current attempt is its own for the counts that
+/// the list has (`own_opens`).
 ///
-/// It does nothing: its contract is a law of the definitions.
+/// While the reel of a count is not reopened, only the count's own session has written on it since
+/// its open (`reels_not_reopened`). A reel that nobody opened for writing since is not reopened
+/// (`unopened`), and nobody else has written on it (`unwritten`).
+///
+/// An attempt's reel holds what the attempt wrote, and nothing else (`labelled_reels`). This holds
+/// if the attempt's label was accepted, no write of it met a device fault, and no other session
+/// wrote on the reel since. While the attempt's session has the reel online and MTOFFL was not
+/// carried out, the reel is positioned at its end.
+///
+/// On each of the client's connections, as many requests were carried out as were sent, or one
+/// fewer. The requests that were carried out are the first of those that were sent, in order, and
+/// at most the last is missing (`requests`). Each run of events has such lists of requests
+/// (`talks`).
+///
+/// A latched reel belongs to one session, and is the first on the stack of the drive that this
+/// session holds. Each volume in the client's list was counted under the number of its run. Counts
+/// grow only as a reply reaches the client, by exactly what its own list grows by (`counts_grow`).
+/// This also holds for a client that resumed with a saved list.
+///
+/// Does nothing: its contract is a law of the definitions.
 pub fn kept()
     ensures first { (drives : List PlainDriveSpec) → AreGoodDrives drives → IsWorldKept (first_world drives) }
     ensures after { (w u : World) (event : PlainEvent) → IsWorldKept w → Happens w event u → IsWorldKept u }
@@ -87,15 +103,21 @@ pub fn kept()
     one_reply_reading();
 }
 
-/// What one request comes to that the server carries out, in a world where all is kept.
+/// The effect of one request that the server carries out, in a world that satisfies `IsWorldKept`.
+/// The server either carries out a request, or finds a fault and ends the session (`carries`).
 ///
-/// Of a client's connection it is the one request that was sent and not carried out. A request of any session, stale or not,
-/// is refused, or meets the drive that this session still holds, or opens a drive that is free; and it touches no drive that
-/// another has open. A refused request leaves drives, stacks, bin, reels, holders and session as they were; an open leaves
-/// them as after the close that comes first. Any other request changes its own drive alone. Where an MTOFFL of a client's
-/// session is done, the reel lies in the bin with its whole volume, whether or not the reply arrives.
+/// On one of the client's connections, it is the one request that was sent and not carried out. A
+/// request of any session, stale or not, meets one of these:
 ///
-/// It does nothing: its contract is a law of the definitions.
+/// - It is refused. Drives, stacks, bin, reels, holders and session stay the same. A refused open
+///   leaves them as after the close that comes first.
+/// - It meets the drive that this session still holds, and changes only that drive.
+/// - It opens a drive that is free.
+///
+/// It changes no drive that another session has open. When an MTOFFL of a client's session is done,
+/// the reel is in the bin with its whole volume, whether or not the reply arrives.
+///
+/// Does nothing: its contract is a law of the definitions.
 pub fn one_request()
     ensures carries { (w u : World) (k : ℕ) (trouble : Trouble) → Happens w (Serve k trouble) u →
         ServerTurn w k trouble u ⊎ (u ≡ ended_at (with_no_failure w) k) }

@@ -1,6 +1,8 @@
-//! What can happen between a dump client and a tape server, as plain data: the world, its events, and what each of them does.
+//! Everything that can happen between a dump client and a tape server, as plain data: the world,
+//! its events, and the effect of each event.
 //!
-//! No call of this crate does anything: it has definitions that contracts of other crates cite, and laws of them.
+//! No function of this crate does anything at run time. The crate has definitions that the
+//! contracts of other crates cite, and laws about them.
 #![tactic(auto)]
 
 mod laws;

@@ -1,4 +1,4 @@
-//! The law of a link without faults.
+//! The law of a world without faults.
 
 ghost use Rattle.std.specs.Prelude.{List, [], ◌∷◌};
 ghost use Rattle.world_model.specs.World.{World};
@@ -11,13 +11,17 @@ ghost use Rattle.world_model.specs.Faultless.{IsFaultless, AreFaultless, IsFault
 use dump_client::same_run;
 use rmt_wire::{dropped_writes, one_reading, one_reply};
 
-/// A link without faults leaves the volumes in order. At the first world of one good drive and after every list of runs that
-/// begin, attempts that start, requests that are sent, bytes that reach either end, and requests that are carried out, where no
-/// device call fails: an attempt fails only for want of the drive, of a reel or of memory, or where label and one block do not
-/// fit; the reel of each count is that of its place on the drive's first stack, and holds its volume; and between attempts the
-/// bin has these reels, in order.
+/// Without faults, the volumes are left in order. Start from the first world of one good drive. Let
+/// runs begin, attempts start, requests be sent, bytes arrive, and requests be carried out without
+/// a device failure. After each list of such events:
 ///
-/// It does nothing: its contract is a law of the definitions.
+/// - An attempt has failed only for lack of the drive, of a reel, of memory, or of room for a label
+///   and one block.
+/// - The reel of each count is the one at the count's place on the drive's first stack, and holds
+///   its volume.
+/// - Between attempts, the bin has these reels, in order.
+///
+/// Does nothing: its contract is a law of the definitions.
 pub fn faultless()
     ensures first { (drive : PlainDriveSpec) → IsFaultlessWorld drive (first_world (drive ∷ [])) }
     ensures after { (drive : PlainDriveSpec) (w u : World) (event : PlainEvent) → IsWorldKept w → IsFaultlessWorld drive w →

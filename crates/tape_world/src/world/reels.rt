@@ -1,4 +1,4 @@
-//! What stands on the reels of a world.
+//! The entries on the reels of a world.
 ghost use Rattle.std.specs.Prelude.{◌≡◌, length, map};
 ghost use Rattle.std.specs.Option.{option_copied, option_map};
 ghost use Rattle.std.specs.Str.{bytes_eq};
@@ -14,7 +14,7 @@ use tape::TroubledReel;
 use tape_host::Host;
 use world_model::kept;
 
-/// Whether the first reel of a stack has that name. No reel has the name of none.
+/// Whether the first reel of a stack has that name, or, if the stack is empty, whether the name is.
 fn is_first(stack: &[ListedReel], name: &[u8]) -> bool
     ensures { result ≡ bytes_eq name.now (first_name (map rest_slot stack.now)) }
 {
@@ -24,7 +24,7 @@ fn is_first(stack: &[ListedReel], name: &[u8]) -> bool
     }
 }
 
-/// The reel that a connection has online, if it is of that name.
+/// Returns the reel that a connection has online, if it has that name.
 fn find_online_at<'a>(host: &'a Host, connection: usize, name: &[u8]) -> Option<&'a TroubledReel>
     requires { AreOpenThere host.now.server }
     ensures { option_map (λ r. r.tape) (option_copied result)
@@ -38,7 +38,7 @@ fn find_online_at<'a>(host: &'a Host, connection: usize, name: &[u8]) -> Option<
     None
 }
 
-/// The reel of that name that one of `count` connections has online: the first of them.
+/// Returns the first reel of that name that one of `count` connections has online.
 fn find_online<'a>(host: &'a Host, count: usize, name: &[u8]) -> Option<&'a TroubledReel>
     requires there { AreOpenThere host.now.server }
     requires all { length host.now.server.sides ≡ count }
@@ -54,10 +54,12 @@ fn find_online<'a>(host: &'a Host, count: usize, name: &[u8]) -> Option<&'a Trou
 }
 
 impl World {
-    /// The length of the entry of this place, from 0, on the reel of that name: of a record how many bytes it has, and 0 of
-    /// a mark, since a record has one byte at least. None past the last entry, and where there is no such reel.
+    /// Returns the length of entry `i`, from 0, on the reel of that name. For a record, this is its
+    /// number of bytes, at least 1, and for a mark it is 0. Returns none past the last entry, and
+    /// if there is no such reel.
     ///
-    /// Copies the first bytes of the record, as many as `into` takes, to its front, and changes no more of it.
+    /// Copies the first bytes of the record, as many as fit, to the front of `into`, and changes no
+    /// more of it.
     pub fn entry(&self, reel: &[u8], i: usize, into: &mut [u8]) -> Option<usize>
         ensures told { result ≡ told_length (entry_on self.now reel.now i) }
         ensures copied { into.new ≡ with_front (told_bytes (entry_on self.now reel.now i)) into.old }

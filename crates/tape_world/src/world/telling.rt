@@ -1,4 +1,4 @@
-//! What a world tells.
+//! The functions that return the state of a world.
 ghost use Rattle.std.specs.Prelude.{◌≡◌, Option, Some, map, IfSome};
 ghost use Rattle.std.specs.Option.{option_copied, option_map};
 ghost use Rattle.drives.specs.ListLibrary.{rest_slot};
@@ -15,7 +15,7 @@ use dumpdates::Dates;
 use rmt_server::Session;
 
 impl World {
-    /// All volumes that were counted, in order.
+    /// Returns all volumes that were counted, in order.
     pub fn counts(&self) -> Counts<'_>
         ensures { result ≡ self.now.counts }
     {
@@ -25,28 +25,28 @@ impl World {
         }
     }
 
-    /// The entries of dumpdates.
+    /// Returns the entries of dumpdates.
     pub fn dates(&self) -> &Dates
         ensures { result.now ≡ self.now.dates }
     {
         &self.world_state.dates
     }
 
-    /// The volume that the last event made fail, and why. None where it made none fail.
+    /// Returns the volume and the cause, if the last event made an attempt fail.
     pub fn failure(&self) -> Option<(u32, AttemptFault)>
         ensures { result ≡ self.now.failure }
     {
         self.world_state.history.failure
     }
 
-    /// The connection of the client's attempt, while that is under way.
+    /// Returns the number of the connection of the client's attempt, while one is under way.
     pub fn own(&self) -> Option<usize>
         ensures { result ≡ self.now.own }
     {
         self.world_state.own
     }
 
-    /// The client, while there is one.
+    /// Returns the client, while there is one.
     pub fn client(&self) -> Option<&Client<ListBlocks>>
         ensures told { option_map client_told (option_copied result) ≡ option_map caller_told self.now.caller }
         ensures payload { IfSome (option_copied result) (λ client. TellsPayload self.now client.source) }
@@ -56,7 +56,8 @@ impl World {
         Some(&caller.client)
     }
 
-    /// The session of a connection, while the server's side is live.
+    /// Returns the session of a connection, while the server's side is live. The number of its seat
+    /// is that of the connection.
     pub fn session(&self, connection: usize) -> Option<&Session<LocalHolds, ListStacks>>
         ensures seen { option_map (λ s. session_seen s.opened) (option_copied result)
             ≡ option_map (λ s. s.session) (side_of self.now.server connection) }
@@ -65,8 +66,9 @@ impl World {
         self.world_state.host.session(connection)
     }
 
-    /// How many of the bytes on the way can reach the server now, and how many the other side. None where there is no such
-    /// connection.
+    /// Returns how many of the bytes in transit can now reach the server, and how many the peer,
+    /// which is the client or a stranger. The server's reader can have room for fewer than are in
+    /// transit. Returns none if there is no such connection.
     pub fn on_way(&self, connection: usize) -> Option<(usize, usize)>
         ensures { TellsWay self.now connection result }
     {
@@ -80,8 +82,8 @@ impl World {
         Some((toward, conn.back.bytes().len()))
     }
 
-    /// The reels of the first drive of that name, in their order on its stack: the first is latched, or would be next. None
-    /// where there is no such drive.
+    /// Returns the reels of the first drive of that name, in the order of its stack. The first is
+    /// latched, or is the next to be. Returns none if there is no such drive.
     pub fn stack(&self, drive: &[u8]) -> Option<&[ListedReel]>
         ensures { TellsStack drive.now self.now.server.library (option_map (map rest_slot) (option_copied result)) }
     {
@@ -89,7 +91,7 @@ impl World {
         Some(self.world_state.host.stack(drive))
     }
 
-    /// The reels of the bin, in the order in which they were moved there.
+    /// Returns the reels of the bin, in the order in which they were moved there.
     pub fn bin(&self) -> &[ListedReel]
         ensures { map rest_slot result.now ≡ self.now.server.library.bin }
     {

@@ -1,4 +1,4 @@
-//! What happens at the client's side.
+//! Events at the client's side.
 ghost use Rattle.std.specs.Prelude.{◌≡◌, ◌*◌, ◌↔◌, ◌++◌, ◌∷◌, true, false, IfOk, OnOk, OnErr, [], length, map};
 ghost use Rattle.dump_run.specs.Blocks.{cut_blocks, listed};
 ghost use Rattle.dump_run.specs.Run.{IsRun};
@@ -21,7 +21,7 @@ use crate::stop::EventStop;
 use dump_client::{Answer, AttemptFault, Client, ListBlocks, Progress, Run, State};
 use std::alloc::{AllocError, Global};
 
-/// A copy of the payload as blocks of the run.
+/// Copies the payload, as blocks of the run. Fails if an allocation fails.
 fn blocks_of(alloc: Global, run: &Run, payload: &[u8]) -> Result<ListBlocks, AllocError>
     requires { length payload.now ≡ run.now.blocks * run.now.block_bytes }
     ensures listed { IfOk result (λ b. b ≡ listed (cut_blocks run.now.blocks run.now.block_bytes payload.now) false 0) }
@@ -31,7 +31,7 @@ fn blocks_of(alloc: Global, run: &Run, payload: &[u8]) -> Result<ListBlocks, All
     Ok(ListBlocks::new(copy, run.block_bytes(), run.blocks()))
 }
 
-/// A run of this payload that is begun.
+/// Makes the record of a run that begins with this payload. Fails if an allocation fails.
 fn begun_of(alloc: Global, run: &Run, payload: &[u8]) -> Result<Begun, AllocError>
     requires { length payload.now ≡ run.now.blocks * run.now.block_bytes }
     ensures { IfOk result (λ b. IsBegunWith run.now payload.now b) }
@@ -42,9 +42,9 @@ fn begun_of(alloc: Global, run: &Run, payload: &[u8]) -> Result<Begun, AllocErro
     })
 }
 
-/// A run of this payload is begun, the last of these.
+/// Adds a run that begins with this payload, as the last of `begun`.
 ///
-/// Fails where memory is refused. Nothing has changed then.
+/// Fails if an allocation fails. Nothing has changed then.
 fn add_begun(
     alloc: Global,
     begun: &mut Vec<Begun>,
@@ -60,7 +60,7 @@ fn add_begun(
     Ok(())
 }
 
-/// A client of the run, with its payload.
+/// Makes a client of the run, with its payload. Fails if an allocation fails.
 fn client_of(alloc: Global, run: &Run, payload: &[u8]) -> Result<Client<ListBlocks>, AllocError>
     requires { length payload.now ≡ run.now.blocks * run.now.block_bytes }
     ensures made { IfOk result (λ c. c.at ≡ standing run.now [] Ready) }
@@ -74,9 +74,9 @@ fn client_of(alloc: Global, run: &Run, payload: &[u8]) -> Result<Client<ListBloc
     Ok(client)
 }
 
-/// A run of this payload is begun, the last of these. Answers a client of it.
+/// Adds a run that begins with this payload, as the last of `begun`, and returns a client of it.
 ///
-/// Fails where memory is refused. Nothing has changed then.
+/// Fails if an allocation fails. Nothing has changed then.
 fn begin(
     alloc: Global,
     begun: &mut Vec<Begun>,
@@ -95,16 +95,16 @@ fn begin(
     Ok(client)
 }
 
-/// The client is this one now, or there is none.
+/// Replaces the client by this one, or by none.
 pub(super) fn change_caller(caller: &mut Option<Caller>, new: Option<Caller>)
     ensures { caller.new ≡ new }
 {
     *caller = new;
 }
 
-/// The client, which is ready, starts an attempt. Answers what that has come to.
+/// Starts an attempt of the client, which must be ready, and returns the attempt.
 ///
-/// Fails where memory is refused. Nothing has changed then.
+/// Fails if an allocation fails. Nothing has changed then.
 fn start_attempt(caller: &mut Option<Caller>) -> Result<Dumping, EventStop>
     requires { IsReady caller.old }
     ensures { Starts caller.old result caller.new }
@@ -119,7 +119,7 @@ fn start_attempt(caller: &mut Option<Caller>) -> Result<Dumping, EventStop>
     Ok(Dumping::new(caller.number, volume, first))
 }
 
-/// The client, if there is one, takes the operator's answer.
+/// Gives the operator's answer to the client, if there is one.
 fn give_answer(caller: &mut Option<Caller>, answer: Answer)
     ensures { ClientAnswers caller.old answer caller.new }
 {
@@ -128,7 +128,8 @@ fn give_answer(caller: &mut Option<Caller>, answer: Answer)
     }
 }
 
-/// The client, if there is one, sees that its connection ended. Answers what that made fail.
+/// Reports the end of its connection to the client, if there is one. Returns the volume and the
+/// cause if that makes the attempt fail.
 fn end_attempt(caller: &mut Option<Caller>) -> Option<(u32, AttemptFault)>
     ensures { ClientSeesEnd caller.old result caller.new }
 {
@@ -142,7 +143,7 @@ fn end_attempt(caller: &mut Option<Caller>) -> Option<(u32, AttemptFault)>
 }
 
 impl WorldState {
-    /// Whether there is a client that stands so.
+    /// Whether there is a client, and it is in this state.
     pub(super) fn stands_in(&self, state: State) -> bool
         ensures { (result ≡ true) ↔ StandsIn self.now (λ stage. state_of stage ≡ state) }
     {
@@ -152,7 +153,7 @@ impl WorldState {
         }
     }
 
-    /// Whether there is no run, or it is finished or abandoned.
+    /// Whether there is no client, or its run is finished or abandoned.
     fn has_no_run(&self) -> bool
         ensures { (result ≡ true) ↔ NoRun self.now }
     {
@@ -162,7 +163,10 @@ impl WorldState {
         }
     }
 
-    /// A run of this payload is begun, and a client for it.
+    /// Begins a run with this payload, and makes a client for it.
+    ///
+    /// Not possible while the client's run is neither finished nor abandoned, or if the payload
+    /// does not have the bytes of the run's blocks.
     pub(crate) fn start_run(&mut self, run: &Run, payload: &[u8]) -> Result<(), EventStop>
         ensures { IsEvent self.old (StartRun run.now payload.now) result self.new }
     {
@@ -181,7 +185,8 @@ impl WorldState {
         Ok(())
     }
 
-    /// The client starts an attempt, on a new connection.
+    /// Starts an attempt of the client, on a new connection. Not possible unless the client is
+    /// ready.
     pub(crate) fn connect(&mut self) -> Result<(), EventStop>
         ensures { IsEvent self.old Connect result self.new }
     {
@@ -199,7 +204,8 @@ impl WorldState {
         Ok(())
     }
 
-    /// The operator answers the client, which asks after an attempt failed.
+    /// Gives the operator's answer to the client. Not possible unless the client asks, as it does
+    /// after an attempt failed.
     pub(crate) fn respond(&mut self, answer: Answer) -> Result<(), EventStop>
         ensures { IsEvent self.old (Respond answer) result self.new }
     {
@@ -212,7 +218,8 @@ impl WorldState {
         Ok(())
     }
 
-    /// The side that is not the server's sees that the connection ended.
+    /// Reports the end of the connection to the peer, which leaves it. Not possible unless the
+    /// connection was cut and the peer is still there.
     pub(crate) fn end_at_client(&mut self, connection: usize) -> Result<(), EventStop>
         requires { IsWorldKept self.old }
         ensures { IsEvent self.old (EndAtClient connection) result self.new }

@@ -1,4 +1,4 @@
-//! What happens to connections themselves.
+//! Events of connections themselves.
 ghost use Rattle.world_model.specs.Events.PlainEvent.{Cut, Stranger, Says};
 ghost use Rattle.tape_world.specs.Holding.{IsEvent};
 
@@ -7,7 +7,8 @@ use crate::conn::{self, Connection, find};
 use crate::stop::EventStop;
 
 impl WorldState {
-    /// From now on what is sent on the connection is lost.
+    /// Cuts the connection: from now on, what is sent on it is lost. Not possible if it was cut
+    /// already.
     pub(crate) fn cut(&mut self, connection: usize) -> Result<(), EventStop>
         ensures { IsEvent self.old (Cut connection) result self.new }
     {
@@ -22,7 +23,7 @@ impl WorldState {
         Ok(())
     }
 
-    /// A connection of a stranger is made.
+    /// Makes a new connection of a stranger.
     pub(crate) fn stranger(&mut self) -> Result<(), EventStop>
         ensures { IsEvent self.old Stranger result self.new }
     {
@@ -35,7 +36,8 @@ impl WorldState {
         Ok(())
     }
 
-    /// A stranger sends these bytes.
+    /// Sends these bytes from a stranger. Not possible unless the connection is a stranger's that
+    /// is still there.
     pub(crate) fn says(&mut self, connection: usize, bytes: &[u8]) -> Result<(), EventStop>
         ensures { IsEvent self.old (Says connection bytes.now) result self.new }
     {

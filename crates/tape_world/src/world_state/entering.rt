@@ -1,4 +1,4 @@
-//! The finished run is entered in dumpdates.
+//! The event that enters the finished run in dumpdates.
 ghost use Rattle.std.specs.Prelude.{◌≡◌, ◌==◌, IfOk};
 ghost use Rattle.std.specs.List.{list_any};
 ghost use Rattle.world_model.specs.Events.PlainEvent.{Enter};
@@ -12,16 +12,16 @@ use crate::history::Entered;
 use crate::stop::EventStop;
 use std::alloc::{AllocError, Global};
 
-/// Whether the run of this number was entered.
+/// Whether the run with this number was entered.
 pub(super) fn has_entered(entered: &[Entered], run: usize) -> bool
     ensures { result ≡ list_any (λ e. e.run == run) entered.now }
 {
     entered.iter().any(|e| e.run == run)
 }
 
-/// The run of this client, with what it has counted.
+/// Returns the run of this client, with its counts.
 ///
-/// Fails only where memory is refused.
+/// Fails only if an allocation fails.
 fn entered_of(alloc: Global, caller: &Caller) -> Result<Entered, AllocError>
     ensures { IfOk result (IsEntryOf caller.now) }
 {
@@ -32,7 +32,8 @@ fn entered_of(alloc: Global, caller: &Caller) -> Result<Entered, AllocError>
 }
 
 impl WorldState {
-    /// The finished run is entered in dumpdates.
+    /// Enters the client's run in dumpdates, and drops the saved run. Not possible unless the run
+    /// is finished and was not entered yet.
     pub(crate) fn enter(&mut self) -> Result<(), EventStop>
         ensures { IsEvent self.old Enter result self.new }
     {

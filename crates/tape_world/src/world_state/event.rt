@@ -1,4 +1,4 @@
-//! One event, of whatever kind.
+//! One event, of any kind.
 ghost use Rattle.world_model.specs.Kept.{IsWorldKept};
 ghost use Rattle.tape_world.specs.Holding.{IsEvent};
 ghost use Rattle.tape_world.specs.Running.{plain_event};
@@ -8,7 +8,7 @@ use crate::event::Event;
 use crate::stop::EventStop;
 
 impl WorldState {
-    /// Makes one event.
+    /// Makes one event happen. If it fails, nothing has changed.
     pub(crate) fn make(&mut self, event: &Event<'_>) -> Result<(), EventStop>
         requires { IsWorldKept self.old }
         ensures { IsEvent self.old (plain_event event.now) result self.new }

@@ -1,4 +1,4 @@
-//! What the client hears of its server.
+//! The event in which bytes reach the client or a stranger.
 ghost use Rattle.std.specs.Prelude.{◌≡◌, ◌==◌, ◌<◌, ◌≤◌, ◌++◌, length, map, option_to_list, slice_get};
 ghost use Rattle.std.specs.Vec.{vec_capacity, vec_len};
 ghost use Rattle.world_model.specs.Changes.{changed, reel_opened_by};
@@ -16,16 +16,16 @@ use crate::history::{Count, History, Opening};
 use crate::stop::EventStop;
 use dump_client::{AttemptFault, Client, ListBlocks, Progress, State, VolumeCount};
 
-/// What came of bytes that the client heard.
+/// The outcome of bytes that the client heard.
 #[derive(Clone, Copy)]
 struct PieceHeard {
-    /// The number of its run.
+    /// The number of the client's run.
     run: usize,
     /// The volume that was counted, if one was.
     count: Option<VolumeCount>,
     /// Whether the attempt is over.
     is_over: bool,
-    /// What failed: the volume, and why.
+    /// The volume and the cause, if the attempt failed.
     failure: Option<(u32, AttemptFault)>,
 }
 
@@ -36,7 +36,7 @@ fn is_over(progress: Progress) -> bool
     matches!(progress, Progress::Failed(_) | Progress::Ended)
 }
 
-/// What made the attempt fail: the volume, and why.
+/// Returns the volume and the cause, if the attempt failed.
 fn failure_of(client: &Client<ListBlocks>, progress: Progress) -> Option<(u32, AttemptFault)>
     ensures { result ≡ failure_of client.now.at progress }
 {
@@ -46,14 +46,14 @@ fn failure_of(client: &Client<ListBlocks>, progress: Progress) -> Option<(u32, A
     }
 }
 
-/// The count at this place.
+/// Returns the count at this place, from 0, if there is one.
 fn count_at(counts: &[VolumeCount], place: usize) -> Option<VolumeCount>
     ensures { result ≡ slice_get counts.now place }
 {
     counts.get(place).copied()
 }
 
-/// The client, which is in an attempt, hears these bytes.
+/// Feeds these bytes to the client, which must be in an attempt.
 fn hear(caller: &mut Option<Caller>, piece: &[u8]) -> PieceHeard
     requires { IsAttempting caller.old }
     ensures { HasHeard caller.old piece.now result caller.new }
@@ -78,7 +78,8 @@ fn hear(caller: &mut Option<Caller>, piece: &[u8]) -> PieceHeard
     }
 }
 
-/// The place of the name of the reel that the connection opened first, or past all names where it opened none.
+/// Returns the place of the name of the reel that the connection opened first, or the place past
+/// all names if it opened none.
 fn reel_of(history: &History, connection: usize) -> usize
     ensures { name_at (book_names history.now) result
         ≡ reel_opened_by connection (map (seen_opening (book_names history.now)) history.now.opens.items) }
@@ -91,7 +92,8 @@ fn reel_of(history: &History, connection: usize) -> usize
     history.names.len()
 }
 
-/// The volume that was counted, if one was, is kept, with its connection and the place of its reel's name.
+/// Adds the volume that was counted, if one was, with its connection and the place of its reel's
+/// name.
 fn keep(counts: &mut Vec<Count>, heard: &PieceHeard, reel: usize, connection: usize)
     requires { vec_len counts.old < vec_capacity counts.old }
     ensures { counts.new.items ≡ counts.old.items ++ map (count_in heard.now.run reel connection) (option_to_list heard.now.count) }
@@ -108,7 +110,8 @@ fn keep(counts: &mut Vec<Count>, heard: &PieceHeard, reel: usize, connection: us
     }
 }
 
-/// So many bytes arrived on the client's connection. Where the attempt is over, so is the connection on its side.
+/// Removes the `count` bytes that arrived on the client's connection. If the attempt is over, the
+/// client leaves the connection.
 fn settle(
     connections: &mut [Connection],
     own: &mut Option<usize>,
@@ -130,7 +133,8 @@ fn settle(
 }
 
 impl WorldState {
-    /// So many of the bytes on the way reach the other side.
+    /// Delivers the first `count` bytes in transit to the peer. Not possible if the peer has left,
+    /// `count` is 0, or fewer bytes are in transit.
     pub(crate) fn to_client(&mut self, connection: usize, count: usize) -> Result<(), EventStop>
         requires { IsWorldKept self.old }
         ensures { IsEvent self.old (ToClient connection count) result self.new }

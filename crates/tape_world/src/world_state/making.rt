@@ -1,4 +1,4 @@
-//! A world where nothing has happened.
+//! A world in which nothing has happened.
 ghost use Rattle.std.specs.Prelude.{◌≡◌, ◌<◌, ◌++◌, [], None, IfOk, OnOk, length, map};
 ghost use Rattle.std.specs.List.{flat_map};
 ghost use Rattle.drives.specs.TapeLibrary.{EachReelOnce, IsDriveNamed};
@@ -15,7 +15,8 @@ use dumpdates::Dates;
 use std::alloc::{AllocError, Global};
 use tape_host::Host;
 
-/// Adds empty reels of these names and of this capacity, at the end of the stack of a drive.
+/// Adds blank reels of these names and of this capacity in bytes, at the end of the stack of a
+/// drive. Fails only if an allocation fails.
 fn add_reels(
     stacks: &mut ListStacks,
     drive: usize,
@@ -38,7 +39,7 @@ fn add_reels(
     Ok(())
 }
 
-/// Adds a drive with its reels, which are empty.
+/// Adds a drive with its reels, all of them blank. Fails only if an allocation fails.
 fn add_drive(stacks: &mut ListStacks, drive: &DriveSpec<'_>) -> Result<(), AllocError>
     requires free { IsDriveNamed drive.now.name.now stacks.old.library None }
     requires once { EachReelOnce (with_laid stacks.old.library drive.now) }
@@ -56,7 +57,8 @@ fn add_drive(stacks: &mut ListStacks, drive: &DriveSpec<'_>) -> Result<(), Alloc
     add_reels(stacks, number, drive.reels, drive.capacity)
 }
 
-/// Stacks of these drives, with their reels, which are empty.
+/// Makes the stacks of these drives, with their reels, all of them blank. Fails if an allocation
+/// fails.
 fn stacks_of(alloc: Global, drives: &[DriveSpec<'_>]) -> Result<ListStacks, AllocError>
     requires { AreGoodDrives (map plain_drive_spec drives.now) }
     ensures laid { IfOk result (λ s. s.library ≡ laid_library drives.now) }
@@ -70,7 +72,7 @@ fn stacks_of(alloc: Global, drives: &[DriveSpec<'_>]) -> Result<ListStacks, Allo
     Ok(stacks)
 }
 
-/// The names of all reels of these drives, in order.
+/// Copies the names of all reels of these drives, in order. Fails if an allocation fails.
 fn names_of(alloc: Global, drives: &[DriveSpec<'_>]) -> Result<Vec<Vec<u8>>, AllocError>
     ensures { IfOk result (λ names. map (λ n. n.items) names.items ≡ flat_map reels_of drives.now) }
 {
@@ -81,7 +83,7 @@ fn names_of(alloc: Global, drives: &[DriveSpec<'_>]) -> Result<Vec<Vec<u8>>, All
     Ok(names)
 }
 
-/// Adds copies of these names.
+/// Adds copies of these names. Fails if an allocation fails.
 fn push_names(alloc: Global, names: &mut Vec<Vec<u8>>, more: &[&[u8]]) -> Result<(), AllocError>
     ensures { OnOk result (map (λ n. n.items) names.new.items ≡ map (λ n. n.items) names.old.items ++ map (λ n. n.now) more.now) }
 {
@@ -92,7 +94,8 @@ fn push_names(alloc: Global, names: &mut Vec<Vec<u8>>, more: &[&[u8]]) -> Result
     Ok(())
 }
 
-/// Books with the names of all reels of these drives, and nothing else.
+/// Makes a history that has the names of all reels of these drives, and nothing else. Fails if an
+/// allocation fails.
 fn history_of(alloc: Global, drives: &[DriveSpec<'_>]) -> Result<History, AllocError>
     ensures names { IfOk result (λ b. book_names b ≡ flat_map reels_of drives.now) }
     ensures counts { IfOk result (λ b. b.counts.items ≡ []) }
@@ -114,9 +117,9 @@ fn history_of(alloc: Global, drives: &[DriveSpec<'_>]) -> Result<History, AllocE
 }
 
 impl WorldState {
-    /// A server with these drives, whose reels are empty, no connection and no client.
+    /// Makes a server with these drives, whose reels are blank, no connection and no client.
     ///
-    /// It fails only where memory is refused.
+    /// Fails only if an allocation fails.
     pub(crate) fn new(alloc: Global, drives: &[DriveSpec<'_>]) -> Result<WorldState, AllocError>
         requires { AreGoodDrives (map plain_drive_spec drives.now) }
         ensures { IfOk result (λ w. w ≡ first_world (map plain_drive_spec drives.now)) }
@@ -126,7 +129,7 @@ impl WorldState {
         WorldState::with_host(alloc, drives, host)
     }
 
-    /// The same, over a host that stands.
+    /// Like `new`, with a host that is made already.
     fn with_host(
         alloc: Global,
         drives: &[DriveSpec<'_>],

@@ -1,4 +1,4 @@
-//! What an operator does at the drives.
+//! The event in which an operator arranges reels.
 ghost use Rattle.std.specs.Prelude.{map};
 ghost use Rattle.world_model.specs.Events.PlainEvent.{Arrange};
 ghost use Rattle.world_model.specs.Kept.{IsWorldKept};
@@ -9,7 +9,9 @@ use crate::stop::EventStop;
 use world_model::kept;
 
 impl WorldState {
-    /// The operator lays these reels on the stack of a drive that nobody has open.
+    /// Puts these reels on the stack of a drive. Not possible if there is no such drive, or it has
+    /// a holder. Each name must be that of a reel in the bin or on the stack, and none may occur
+    /// twice.
     pub(crate) fn arrange(&mut self, drive: &[u8], reels: &[&[u8]]) -> Result<(), EventStop>
         requires { IsWorldKept self.old }
         ensures { IsEvent self.old (Arrange drive.now (map (λ n. n.now) reels.now)) result self.new }

@@ -1,4 +1,5 @@
-//! What is kept of a run outside of the client, as a checkpoint file keeps it, and the client that comes back with it.
+//! The run that is saved outside the client, as in a checkpoint file, and the client that resumes
+//! it.
 ghost use Rattle.std.specs.Prelude.{◌≡◌, ◌↔◌, true, IfOk, length, map};
 ghost use Rattle.dump_run.specs.Checkpoint.{checkpoint_text};
 ghost use Rattle.world_model.specs.Events.PlainEvent.{ClientRestart, Save};
@@ -19,14 +20,14 @@ use dump_client::{Answer, Client, State};
 use dump_run::one_checkpoint;
 use std::alloc::{AllocError, Global};
 
-/// What is kept is this now, or nothing.
+/// Replaces the saved run by this one, or by none.
 pub(super) fn change_kept(kept: &mut Option<KeptRun>, new: Option<KeptRun>)
     ensures { kept.new ≡ new }
 {
     *kept = new;
 }
 
-/// An answer by which the run is given up drops what is kept.
+/// Drops the saved run if the operator's answer abandons the run.
 pub(super) fn drop_kept(kept: &mut Option<KeptRun>, answer: Answer)
     ensures { kept.new ≡ kept_then answer kept.old }
 {
@@ -35,9 +36,10 @@ pub(super) fn drop_kept(kept: &mut Option<KeptRun>, answer: Answer)
     }
 }
 
-/// What is kept of this client's run: its number, what is counted, and the text of its checkpoint.
+/// Returns what is saved of this client's run: its number, its counts, and the text of its
+/// checkpoint.
 ///
-/// Fails only where memory is refused.
+/// Fails only if an allocation fails.
 fn kept_of(alloc: Global, caller: &Caller) -> Result<KeptRun, AllocError>
     ensures { IfOk result (IsKeptOf caller.now) }
 {
@@ -50,7 +52,8 @@ fn kept_of(alloc: Global, caller: &Caller) -> Result<KeptRun, AllocError>
     })
 }
 
-/// Whether the run of this client may be kept: it is not abandoned, nor finished and entered.
+/// Whether the run of this client can be saved: it is not abandoned, and not both finished and
+/// entered.
 fn may_keep(caller: &Caller, entered: &[Entered]) -> bool
     ensures { (result ≡ true) ↔ MayKeep entered.now caller.now }
 {
@@ -61,9 +64,9 @@ fn may_keep(caller: &Caller, entered: &[Entered]) -> bool
     }
 }
 
-/// The client that what is kept brings back. None where nothing is kept.
+/// Makes the client that resumes the saved run, or none if none is saved.
 ///
-/// Fails only where memory is refused.
+/// Fails only if an allocation fails.
 fn resume_run(
     alloc: Global,
     kept: &Option<KeptRun>,
@@ -88,7 +91,7 @@ fn resume_run(
     }
 }
 
-/// The client's own connection, if it has one, is over on its side.
+/// Removes the client from its own connection, if it has one.
 fn end_own(connections: &mut [Connection], own: Option<usize>)
     requires { IsPlaced own (length connections.old) }
     ensures { map seen_connection connections.new ≡ over_own own (map seen_connection connections.old) }
@@ -99,7 +102,8 @@ fn end_own(connections: &mut [Connection], own: Option<usize>)
 }
 
 impl WorldState {
-    /// The client's run is kept outside of it, with what is counted.
+    /// Saves the client's run outside the client, with its counts. Not possible if there is no
+    /// client, or its run is abandoned, or both finished and entered.
     pub(crate) fn save(&mut self) -> Result<(), EventStop>
         requires { IsWorldKept self.old }
         ensures { IsEvent self.old Save result self.new }
@@ -116,7 +120,8 @@ impl WorldState {
         Ok(())
     }
 
-    /// The client comes back with the run that is kept, or with none. Its own connection, if it has one, is over on its side.
+    /// Replaces the client by one that resumes the saved run, or by none if none is saved. The
+    /// client leaves its own connection, if it has one. Not possible if there is no client.
     pub(crate) fn client_restart(&mut self) -> Result<(), EventStop>
         requires { IsWorldKept self.old }
         ensures { IsEvent self.old ClientRestart result self.new }

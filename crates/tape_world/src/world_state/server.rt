@@ -1,4 +1,4 @@
-//! What happens at the server's side.
+//! Events at the server's side.
 ghost use Rattle.world_model.specs.Events.PlainEvent.{ToServer, EndAtServer, ServerRestart};
 ghost use Rattle.world_model.specs.Kept.{IsWorldKept};
 ghost use Rattle.tape_world.specs.Holding.{IsEvent};
@@ -9,7 +9,8 @@ use crate::stop::EventStop;
 use world_model::kept;
 
 impl WorldState {
-    /// So many of the bytes that are on the way reach the server.
+    /// Delivers the first `count` bytes in transit to the server. Not possible if the server's side
+    /// is not live, `count` is 0, fewer bytes are in transit, or the reader has less room.
     pub(crate) fn to_server(&mut self, connection: usize, count: usize) -> Result<(), EventStop>
         requires { IsWorldKept self.old }
         ensures { IsEvent self.old (ToServer connection count) result self.new }
@@ -30,7 +31,8 @@ impl WorldState {
         Ok(())
     }
 
-    /// The server sees that the connection ended.
+    /// Reports the end of the connection to the server, which ends its side. Not possible unless
+    /// the connection was cut and the server's side is live.
     pub(crate) fn end_at_server(&mut self, connection: usize) -> Result<(), EventStop>
         requires { IsWorldKept self.old }
         ensures { IsEvent self.old (EndAtServer connection) result self.new }
@@ -48,7 +50,7 @@ impl WorldState {
         Ok(())
     }
 
-    /// The server is started again: the server's sides of all connections are over.
+    /// Restarts the server, which ends the server's side of every connection.
     pub(crate) fn server_restart(&mut self) -> Result<(), EventStop>
         requires { IsWorldKept self.old }
         ensures { IsEvent self.old ServerRestart result self.new }

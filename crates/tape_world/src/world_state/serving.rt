@@ -1,4 +1,4 @@
-//! What the server does with what reached it.
+//! The event in which the server carries out a request that reached it.
 ghost use Rattle.std.specs.Prelude.{◌≡◌, ◌≤◌, ◌<◌, ◌++◌, Contains, List, ℕ, IfOk, OnErr, Some, length, map, option_map, vec_len, vec_capacity};
 ghost use Rattle.std.specs.List.{position_or_len};
 ghost use Rattle.std.specs.Option.{option_copied, option_to_list};
@@ -26,9 +26,9 @@ use tape::Trouble;
 use tape_host::{Answered, Carried, Host, RequestKind, Turn};
 use world_model::kept;
 
-/// The server's side of a connection takes one turn, and what came of it is noted.
+/// Takes one turn of the server's side of a connection, and notes it on the connection.
 ///
-/// Fails where memory is refused. Nothing has changed then.
+/// Fails if an allocation fails. Nothing has changed then.
 fn take_turn(
     host: &mut Host,
     conn: &mut Connection,
@@ -46,7 +46,7 @@ fn take_turn(
     Ok(turn)
 }
 
-/// The same, for the connection of this number, which is there.
+/// Like `take_turn`, for connection `connection`, which must exist.
 fn take_turn_at(
     host: &mut Host,
     connections: &mut [Connection],
@@ -62,7 +62,7 @@ fn take_turn_at(
     take_turn(host, &mut connections[connection - 1], connection, trouble)
 }
 
-/// The name of the first reel of a stack.
+/// Returns the name of the first reel of a stack, or the empty name if it has none.
 fn name_of_first(stack: &[ListedReel]) -> &[u8]
     ensures { result.now ≡ first_name (map rest_slot stack.now) }
 {
@@ -72,7 +72,7 @@ fn name_of_first(stack: &[ListedReel]) -> &[u8]
     }
 }
 
-/// The name of the reel that a connection has online, if it has one.
+/// Returns the name of the reel that a connection has online, if it has one.
 fn name_online(host: &Host, connection: usize) -> Option<&[u8]>
     requires { IsOnlineIn host.now.server connection }
     ensures { option_copied result ≡ name_online_at host.now.server.library (side_at host.now.server.sides connection) }
@@ -82,7 +82,7 @@ fn name_online(host: &Host, connection: usize) -> Option<&[u8]>
     Some(name_of_first(host.stack(drive)))
 }
 
-/// The name of the reel that a turn of a connection opened for writing, if it did.
+/// Returns the name of the reel that a turn of a connection opened for writing, if it did.
 fn name_opened(host: &Host, connection: usize, turn: Turn) -> Option<&[u8]>
     requires { IsOnlineIn host.now.server connection }
     ensures { option_copied result ≡ opened_in host.now.server connection turn }
@@ -96,8 +96,8 @@ fn name_opened(host: &Host, connection: usize, turn: Turn) -> Option<&[u8]>
     name_online(host, connection)
 }
 
-/// Whether a session wrote that had its device open for writing. One that has it open to read
-/// alone answers `EBADF` to a record, and `EACCES` to marks.
+/// Whether this is a write by a session that had its device open for writing. If it is open for
+/// reading only, the reply is `EBADF` to a record and `EACCES` to marks.
 fn is_write(carried: Carried) -> bool
     ensures { result ≡ is_write carried }
 {
@@ -109,7 +109,7 @@ fn is_write(carried: Carried) -> bool
     }
 }
 
-/// The name of the reel that a turn of a connection wrote on, if it did.
+/// Returns the name of the reel that a turn of a connection wrote on, if it did.
 fn name_written(host: &Host, connection: usize, turn: Turn) -> Option<&[u8]>
     requires { IsOnlineIn host.now.server connection }
     ensures { option_copied result ≡ written_in host.now.server connection turn }
@@ -123,7 +123,7 @@ fn name_written(host: &Host, connection: usize, turn: Turn) -> Option<&[u8]>
     name_online(host, connection)
 }
 
-/// The first place of a name among these, or the place past the end.
+/// Returns the first place of a name among these, or the place past the last.
 fn place_of(names: &[Vec<u8>], name: &[u8]) -> usize
     ensures { result ≡ position_or_len (λ n. bytes_eq name.now n.items) names.now }
 {
@@ -135,7 +135,7 @@ fn place_of(names: &[Vec<u8>], name: &[u8]) -> usize
     names.len()
 }
 
-/// Where a turn of a connection opened a reel for writing, that is listed by the place of the reel's name.
+/// Lists the opening, with the place of the reel's name, if the turn opened a reel for writing.
 fn note_opening(
     opens: &mut Vec<Opening>,
     names: &[Vec<u8>],
@@ -157,8 +157,8 @@ fn note_opening(
     opens.push_reserved(Opening { connection, reel });
 }
 
-/// Where a turn of a connection wrote on a reel, that is listed by the place of the reel's name.
-/// So many opens for writing were listed before it.
+/// Lists the writing, with the place of the reel's name, if the turn wrote on a reel. `after` is
+/// how many opens for writing were listed before it.
 fn note_writing(
     writings: &mut Vec<Writing>,
     after: usize,
@@ -186,8 +186,7 @@ fn note_writing(
     writings.push_reserved(writing);
 }
 
-/// Where a turn of a connection opened a reel for writing, the list of counts that the client had
-/// then is listed beside it.
+/// Lists the counts that the client had, if the turn opened a reel for writing.
 fn note_list(
     lists: &mut Vec<Vec<VolumeCount>>,
     list: Vec<VolumeCount>,
@@ -205,9 +204,9 @@ fn note_list(
     }
 }
 
-/// What the client has counted, in a list of its own; nothing, where there is no client.
+/// Copies the client's counts. The list is empty if there is no client.
 ///
-/// Fails only where memory is refused.
+/// Fails only if an allocation fails.
 fn counted_now(alloc: Global, caller: &Option<Caller>) -> Result<Vec<VolumeCount>, AllocError>
     ensures { IfOk result (λ list. list.items ≡ list_in (option_map seen_caller caller.now)) }
 {
@@ -218,9 +217,9 @@ fn counted_now(alloc: Global, caller: &Option<Caller>) -> Result<Vec<VolumeCount
 }
 
 impl History {
-    /// Makes room for what a turn may note.
+    /// Reserves room for what a turn may add.
     ///
-    /// Fails only where memory is refused.
+    /// Fails only if an allocation fails.
     fn reserve_notes(&mut self) -> Result<(), AllocError>
         ensures room { IfOk result (λ done. HasRoom self.new) }
         ensures same { IsSameHistory self.old self.new }
@@ -230,8 +229,8 @@ impl History {
         self.writings.reserve(1)
     }
 
-    /// What a turn of a connection opened for writing, with the list that the client has, and what
-    /// it wrote on is noted.
+    /// Notes what a turn of a connection opened for writing, with the client's counts, and what it
+    /// wrote on.
     fn note_turn(&mut self, list: Vec<VolumeCount>, host: &Host, connection: usize, turn: Turn)
         requires room { HasRoom self.old }
         requires there { IsOnlineIn host.now.server connection }
@@ -254,8 +253,9 @@ impl History {
 }
 
 impl WorldState {
-    /// The server carries out one request that reached it, whose device call fails so, or finds that what reached it is
-    /// none.
+    /// Carries out one request that reached the server, whose device call meets this trouble, or
+    /// ends the session if the bytes are no request. Not possible if there is no such connection,
+    /// its server's side is not live, or no whole request has reached it.
     pub(crate) fn serve(&mut self, connection: usize, trouble: Trouble) -> Result<(), EventStop>
         requires { IsWorldKept self.old }
         ensures { IsEvent self.old (Serve connection trouble) result self.new }

@@ -1,4 +1,4 @@
-//! What the client says to its server.
+//! The event in which the client sends a request to the server.
 ghost use Rattle.std.specs.Prelude.{◌≡◌, ◌≤◌, List, ℕ, [], IfOk, OnErr, length, map};
 ghost use Rattle.std.specs.Vec.{vec_capacity};
 ghost use Rattle.rmt_wire.specs.declared.limits.TheConstants.{READER_LIMIT};
@@ -17,7 +17,9 @@ use dump_client::{AttemptFault, State};
 use rmt_wire::READER_LIMIT;
 use std::alloc::{AllocError, Global};
 
-/// The client, which is to send, is asked for its next request. Answers what that made fail.
+/// Writes the next request of the client, which must be about to send one, to `out`. Returns the
+/// volume and the cause if that makes the attempt fail. `out` must be empty, with room for
+/// `READER_LIMIT` bytes.
 fn ask(caller: &mut Option<Caller>, fails: bool, out: &mut Vec<u8>) -> Option<(u32, AttemptFault)>
     requires sends { IsToSend caller.old }
     requires empty { out.old.items ≡ [] }
@@ -39,10 +41,11 @@ fn ask(caller: &mut Option<Caller>, fails: bool, out: &mut Vec<u8>) -> Option<(u
     }
 }
 
-/// The client, which is to send, sends its next request on this connection. Answers what failed: the connection is over on the
-/// client's side then.
+/// Sends the next request of the client, which must be about to send one, on this connection. If
+/// the attempt fails instead, it returns the volume and the cause, and the client leaves the
+/// connection.
 ///
-/// Fails where memory is refused. Nothing has changed then.
+/// Fails if an allocation fails. Nothing has changed then.
 fn send_on(
     alloc: Global,
     conn: &mut Connection,
@@ -65,7 +68,7 @@ fn send_on(
     Ok(failure)
 }
 
-/// The same, on the connection of this number, which is there.
+/// Like `send_on`, on connection `own`, which must exist.
 fn send_own(
     alloc: Global,
     connections: &mut [Connection],
@@ -84,8 +87,9 @@ fn send_own(
 }
 
 impl WorldState {
-    /// The client sends its next request. Where `fails` is true, and the request is a block's write, the read of the block
-    /// fails.
+    /// Sends the client's next request. If `fails` is true, and the request is the write of a
+    /// block, the read of that block fails instead. Not possible unless the client is about to send
+    /// one.
     pub(crate) fn send(&mut self, fails: bool) -> Result<(), EventStop>
         requires { IsWorldKept self.old }
         ensures { IsEvent self.old (Send fails) result self.new }
