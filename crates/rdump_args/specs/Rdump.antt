@@ -1,7 +1,7 @@
 -- The limits of the arguments of `rdump`. Public contracts cite it.
 use Rattle.std.specs.Prelude.{◌≤◌, ◌<◌, ℕ, Option, None, Some, IfSome, IsSome, IsTrue, ⊤, length}
 use Rattle.std.specs.Borrow.{Bor}
-use Rattle.clap.specs.Arguments.{Text}
+use Rattle.clap.specs.Words.{Text}
 use Rattle.dumpdates.specs.Entry.{IsName}
 use Rattle.dump_run.specs.Run.{IsDevice}
 use Rattle.address.specs.Address.{HasPort}

@@ -1,6 +1,6 @@
 -- What clap's model computes of the command `rmtd`.
 use Rattle.std.proofs.Common.{◌≡◌, ◌⊎◌, inl, inr, [], subst, sym, refl, ◌∙◌, true, Result, Ok, Err, IfOk, IfErr}
-use Rattle.clap.specs.Arguments.{FailsBy, HasKind, IsAmong, Kinds, kind_of, is_simple, is_simple_and_free}
+use Rattle.clap.specs.Words.{FailsBy, HasKind, IsAmong, Kinds, kind_of, is_simple, is_simple_and_free}
 use Rattle.clap.specs.declared.error.Error.{Error}
 use Rattle.clap.specs.declared.error.kind.ErrorKind.{ErrorKind}
 use Rattle.clap.specs.declared.error.kind.ErrorKind.TheVariants.{OutOfMemory}

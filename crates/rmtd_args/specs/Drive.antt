@@ -4,7 +4,7 @@ use Rattle.std.specs.Prelude.{◌≤◌, ◌<◌, ◌==◌, ◌≢◌, ℕ, Opti
 use Rattle.std.specs.Borrow.{Bor}
 use Rattle.std.specs.Int.{IsInRange}
 use Rattle.std.specs.List.{All, AllPairs, before_first, after_first}
-use Rattle.clap.specs.Arguments.{Text}
+use Rattle.clap.specs.Words.{Text}
 use Rattle.rmt_wire.specs.Number.{HasNoLineFeed}
 use Rattle.rmtd_args.specs.declared.drive_argument.DriveArgument.{DriveArgument}
 

@@ -1,7 +1,7 @@
 //! The arguments of `rmtd`.
 
 ghost use Rattle.std.specs.Prelude.{◌≡◌, map, codes, false, [], IfOk, IfErr, IsErrOf, MatchOption, MatchResult, option_map};
-ghost use Rattle.clap.specs.Arguments.{App, HasKind, app_of, first_of, found_of, kind_of, new_app, rows_of, rule_of, with_rule};
+ghost use Rattle.clap.specs.Words.{App, HasKind, app_of, first_of, found_of, kind_of, new_app, rows_of, rule_of, with_rule};
 ghost use Rattle.rmtd_args.specs.Drive.{plain_drive, split_of};
 ghost use Rattle.rmtd_args.specs.Rmtd.{app, app_with_limits, app_with_ways, arguments_in, arguments_rule, faults_in, flag_rule, has_stdio, matches_in, option_rule, with_version, AreBadArguments, AskToBeShown, IsLineIn, IsLineOf, IsShown, KeepsRules, ReadsCapacity, ReadsConnections, IsNumberIfGiven};
 

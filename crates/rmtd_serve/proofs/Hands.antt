@@ -38,11 +38,11 @@ pub record IsBack {S R : Type 0} (drives : S → ℕ) (start : State TableHand S
   pub idle : HoldsJust seat.view None
   pub enough : drives stacks ≡ drives start.drives.stacks
 
-pub seat_comes_back : {S R In Out : Type 0} (s : StacksPromise S R) (r : ReelPromise R) (remaining : In → Option (List ℕ)) (contents : Out → Option (List ℕ))
+pub seat_is_returned : {S R In Out : Type 0} (s : StacksPromise S R) (r : ReelPromise R) (remaining : In → Option (List ℕ)) (contents : Out → Option (List ℕ))
     (start : State TableHand S TableSeat R) {input input' : Counting In} {output output' : Counting Out} {seat : TableSeat} {stacks : S}
     → IsSeatReturned (kinds of_hand s r) (streams_kind remaining contents) start (streams input output) (streams input' output') seat stacks
     → IsBack s.drives start seat stacks
-seat_comes_back s r remaining contents start {seat = seat} {stacks} back =
+seat_is_returned s r remaining contents start {seat = seat} {stacks} back =
     let afresh = back.2 in
     let finish = afresh.finish in
     let same = same_table s r start finish afresh.kept in

@@ -2,7 +2,7 @@
 use Rattle.std.specs.Prelude.{◌≡◌, ℕ, ◌<◌, List, [], length, Option, Some, None, IsSome, All, option_map, unwrap_or}
 use Rattle.std.specs.declared.clone.Clone.{Ghosts as ClonePromise}
 use Rattle.std.specs.declared.io.traits.Read.{Ghosts as ReadPromise}
-use Rattle.clap.specs.Arguments.{Text}
+use Rattle.clap.specs.Words.{Text}
 use Rattle.rmt_server.specs.declared.stream.Served.{Served}
 use Rattle.rmt_server.specs.Stream.{Exchange, Streams, StreamsKind, AreRead}
 use Rattle.reel_files.specs.Folders.{FolderLibrary}
@@ -48,14 +48,14 @@ pub record IsListenerSetupOf (line : ServerLine) (left drives : ℕ) (stacks : L
 abbrev pub ListensOrEnds : {R Dir : Type 0} {reads : ReadPromise Dir} {clones : ClonePromise R} → ServerLine → Begun R Dir reads clones
     → Type 0
 ListensOrEnds line (End status) = status ≡ 1
-ListensOrEnds line (Serve listener listener_setup) = IsListenerSetupOf line listener_setup.left listener_setup.table.arguments listener_setup.stacks.items
+ListensOrEnds line (Serve listener listener_setup) = IsListenerSetupOf line listener_setup.left listener_setup.table.words listener_setup.stacks.items
 
 -- the effect of a line, and what remains to be done
 abbrev pub IsDone : {In Out R Dir : Type 0} {reads : ReadPromise Dir} {clones : ClonePromise R} → StreamsKind In Out
     → ServerLine → Streams In Out → Streams In Out → Begun R Dir reads clones → Type 0
 IsDone kind line old new (End status) = EndsLine kind line old new status
 IsDone kind line old new (Serve listener listener_setup) =
-    AreUntouched old new × IsSome line.listen × IsListenerSetupOf line listener_setup.left listener_setup.table.arguments listener_setup.stacks.items
+    AreUntouched old new × IsSome line.listen × IsListenerSetupOf line listener_setup.left listener_setup.table.words listener_setup.stacks.items
 
 -- The effect of the arguments, and what remains to be done. Their line was followed. Or clap
 -- printed help or the version, with status 0. Or nothing was done, because the arguments are wrong

@@ -19,7 +19,7 @@ pub(crate) struct Fresh<'t, S: Stacks + Drop, B: AtTable> {
     at: PhantomData<B>,
     ghost here: { table.now ≡ B.table },
     ghost seated: { All (λ s. IsSeatAt B.table s × HoldsJust s.view None) seats.items } by { Prim.hlevel props },
-    ghost enough: { All (λ s. S.drives s ≤ table.now.arguments) stacks.items } by { Prim.hlevel props },
+    ghost enough: { All (λ s. S.drives s ≤ table.now.words) stacks.items } by { Prim.hlevel props },
 }
 
 impl<'t, S: Stacks + Drop, B: AtTable> Fresh<'t, S, B> {
@@ -27,7 +27,7 @@ impl<'t, S: Stacks + Drop, B: AtTable> Fresh<'t, S, B> {
     pub(crate) fn new(table: &'t HoldTable, seats: Vec<HoldSeat>, stacks: Vec<S>) -> Self
         requires here { table.now ≡ B.table }
         requires seats { All (λ s. IsSeatAt B.table s × HoldsJust s.view None) seats.items }
-        requires stacks { All (λ s. S.drives s ≤ table.now.arguments) stacks.items }
+        requires stacks { All (λ s. S.drives s ≤ table.now.words) stacks.items }
     {
         Fresh {
             table,

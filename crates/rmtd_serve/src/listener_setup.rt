@@ -25,5 +25,5 @@ pub struct ListenerSetup<R: FolderSystem + Eprint> {
     /// How log lines begin.
     pub start: LineStart,
     ghost seated: { (length seats.items ≡ SEAT_LIMIT) × All (λ s. IsSeatAt table s × HoldsJust s.view None) seats.items } by { Prim.hlevel props },
-    ghost stacked: { (length stacks.items ≡ SEAT_LIMIT) × All (λ s. length s.rows ≤ table.arguments) stacks.items } by { Prim.hlevel props },
+    ghost stacked: { (length stacks.items ≡ SEAT_LIMIT) × All (λ s. length s.rows ≤ table.words) stacks.items } by { Prim.hlevel props },
 }

@@ -106,7 +106,7 @@ where
     S::Reel: Send,
     requires here { table.now ≡ B.table }
     requires seats { All (λ s. IsSeatAt B.table s × HoldsJust s.view None) seats.items }
-    requires stacks { All (λ s. S.drives s ≤ table.now.arguments) stacks.items }
+    requires stacks { All (λ s. S.drives s ≤ table.now.words) stacks.items }
     ensures over { I.is_over result.0 }
     ensures seats { All (λ s. IsSeatAt B.table s × HoldsJust s.view None) result.1.items }
 {
@@ -145,7 +145,7 @@ pub fn serve_many<R: Threads + Wait + Sync, I: Incoming + Drop, S: Stacks + Drop
 where
     S::Reel: Send,
     requires seats { (length seats.items ≡ SEAT_LIMIT) × All (λ s. IsSeatAt table.now s × HoldsJust s.view None) seats.items }
-    requires stacks { (length stacks.items ≡ SEAT_LIMIT) × All (λ s. S.drives s ≤ table.now.arguments) stacks.items }
+    requires stacks { (length stacks.items ≡ SEAT_LIMIT) × All (λ s. S.drives s ≤ table.now.words) stacks.items }
     ensures over { I.is_over result.0 }
     ensures seats { All (λ s. IsSeatAt table.now s × HoldsJust s.view None) result.1.items }
 {

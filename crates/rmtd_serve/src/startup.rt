@@ -1,7 +1,7 @@
 //! The start of `rmtd`: reads its arguments and does what they ask, up to the point where
 //! connections are served in parallel.
 ghost use Rattle.std.specs.Prelude.{◌≡◌, ◌⊎◌, ◌≤◌, Some, None, IfOk, OnErr, length, map, option_map};
-ghost use Rattle.clap.specs.Arguments.{kind_of};
+ghost use Rattle.clap.specs.Words.{kind_of};
 ghost use Rattle.drives.specs.declared.holds.TheConstants.{DRIVE_LIMIT};
 ghost use Rattle.rmtd_args.specs.Drive.{KeepsDriveRules, plain_drive};
 ghost use Rattle.rmtd_args.specs.Rmtd.{IsShown};

@@ -26,7 +26,7 @@ pub(crate) struct Worker<'t, S: Stacks + Drop, B: AtTable> {
     ghost numbered: { 1 ≤ seat.view.number },
     ghost dealt: { seat.view.number ≤ SEAT_LIMIT },
     ghost idle: { HoldsJust seat.view None } by { Prim.hlevel props },
-    ghost enough: { S.drives stacks ≤ table.now.arguments },
+    ghost enough: { S.drives stacks ≤ table.now.words },
 }
 
 impl<'t, S: Stacks + Drop, B: AtTable> Worker<'t, S, B> {
@@ -36,7 +36,7 @@ impl<'t, S: Stacks + Drop, B: AtTable> Worker<'t, S, B> {
         requires here { table.now ≡ B.table }
         requires seat { IsSeatAt B.table seat }
         requires idle { HoldsJust seat.view None }
-        requires enough { S.drives stacks ≤ table.now.arguments }
+        requires enough { S.drives stacks ≤ table.now.words }
     {
         Worker {
             table,

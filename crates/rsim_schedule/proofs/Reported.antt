@@ -118,21 +118,21 @@ count_there counts i within none =
     let both : None ≡ Some (get_or counts i d) = none ∙ there in cc
 
 -- a word, a device and names, after what was said before
-pub stack_said : (argument end text one two device told names : List ℕ) → one ≡ text ++ argument → two ≡ one ++ device → told ≡ names
-    → two ++ [] ++ told ++ end ≡ text ++ (argument ++ device ++ names ++ end)
-stack_said argument end text one two device told names e1 e2 same =
-    let first : two ≡ text ++ argument ++ device = e2 ∙ ap (λ t. t ++ device) e1 in
-    let both : two ++ [] ++ told ++ end ≡ text ++ argument ++ device ++ [] ++ names ++ end = (λ k. first k ++ [] ++ same k ++ end) in
+pub stack_said : (keyword end text one two device told names : List ℕ) → one ≡ text ++ keyword → two ≡ one ++ device → told ≡ names
+    → two ++ [] ++ told ++ end ≡ text ++ (keyword ++ device ++ names ++ end)
+stack_said keyword end text one two device told names e1 e2 same =
+    let first : two ≡ text ++ keyword ++ device = e2 ∙ ap (λ t. t ++ device) e1 in
+    let both : two ++ [] ++ told ++ end ≡ text ++ keyword ++ device ++ [] ++ names ++ end = (λ k. first k ++ [] ++ same k ++ end) in
     both ∙ simp (append_assoc, append-nil)
 
 -- the parts of a report, one after the other
-pub joined : (reels stacks argument names end counts title dates t0 t1 t2 t3 t4 t5 : List ℕ) → t0 ≡ [] → t1 ≡ t0 ++ reels → t2 ≡ t1 ++ stacks
-    → t3 ≡ t2 ++ argument ++ names ++ end → t4 ≡ t3 ++ counts → t5 ≡ t4 ++ title ++ dates
-    → t5 ≡ reels ++ stacks ++ (argument ++ names ++ end) ++ counts ++ title ++ dates
-joined reels stacks argument names end counts title dates t0 t1 t2 t3 t4 t5 h0 h1 h2 h3 h4 h5 =
+pub joined : (reels stacks keyword names end counts title dates t0 t1 t2 t3 t4 t5 : List ℕ) → t0 ≡ [] → t1 ≡ t0 ++ reels → t2 ≡ t1 ++ stacks
+    → t3 ≡ t2 ++ keyword ++ names ++ end → t4 ≡ t3 ++ counts → t5 ≡ t4 ++ title ++ dates
+    → t5 ≡ reels ++ stacks ++ (keyword ++ names ++ end) ++ counts ++ title ++ dates
+joined reels stacks keyword names end counts title dates t0 t1 t2 t3 t4 t5 h0 h1 h2 h3 h4 h5 =
     let e1 : t1 ≡ reels = h1 ∙ ap (λ t. t ++ reels) h0 in
     let e2 : t2 ≡ reels ++ stacks = h2 ∙ ap (λ t. t ++ stacks) e1 in
-    let regroup : reels ++ stacks ++ argument ++ names ++ end ≡ reels ++ stacks ++ (argument ++ names ++ end) = simp append_assoc in
-    let e3 : t3 ≡ reels ++ stacks ++ (argument ++ names ++ end) = h3 ∙ ap (λ t. t ++ argument ++ names ++ end) e2 ∙ regroup in
-    let e4 : t4 ≡ reels ++ stacks ++ (argument ++ names ++ end) ++ counts = h4 ∙ ap (λ t. t ++ counts) e3 in
+    let regroup : reels ++ stacks ++ keyword ++ names ++ end ≡ reels ++ stacks ++ (keyword ++ names ++ end) = simp append_assoc in
+    let e3 : t3 ≡ reels ++ stacks ++ (keyword ++ names ++ end) = h3 ∙ ap (λ t. t ++ keyword ++ names ++ end) e2 ∙ regroup in
+    let e4 : t4 ≡ reels ++ stacks ++ (keyword ++ names ++ end) ++ counts = h4 ∙ ap (λ t. t ++ counts) e3 in
     h5 ∙ ap (λ t. t ++ title ++ dates) e4

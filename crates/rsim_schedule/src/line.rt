@@ -79,7 +79,7 @@ pub(crate) fn read_command(text: &[u8]) -> Option<ScheduleLine<'_>> {
 
 /// Reads a command and its fields. Fields may be left over.
 fn read_words<'a>(fields: &mut LineFields<'a>) -> Option<ScheduleLine<'a>> {
-    match fields.argument()? {
+    match fields.text_field()? {
         "drive" => read_drive(fields),
         "run" => read_run(fields),
         "arrange" => read_arrange(fields),
@@ -105,7 +105,7 @@ fn read_drive<'a>(fields: &mut LineFields<'a>) -> Option<ScheduleLine<'a>> {
 
 /// Reads a run: its device, the name of the file system, and its numbers.
 fn read_run<'a>(fields: &mut LineFields<'a>) -> Option<ScheduleLine<'a>> {
-    match (fields.device(), fields.argument(), read_numbers(fields)) {
+    match (fields.device(), fields.text_field(), read_numbers(fields)) {
         (Some(device), Some(name), Some(numbers)) => Some(ScheduleLine::Run {
             device,
             name,
@@ -219,7 +219,7 @@ fn answer_of(command: &str) -> Option<Act> {
 
 /// Reads `fault`: the client sends, and the read of the block fails.
 fn read_send(fields: &mut LineFields<'_>) -> Option<Act> {
-    if fields.argument()? != "fault" {
+    if fields.text_field()? != "fault" {
         return None;
     }
     let event = Event::Send { fails: true };
@@ -242,7 +242,7 @@ fn read_trouble(fields: &mut LineFields<'_>) -> Option<Trouble> {
     if fields.is_over() {
         return Some(Trouble::None);
     }
-    match fields.argument()? {
+    match fields.text_field()? {
         "kept" => Some(Trouble::Kept),
         "lost" => Some(Trouble::Lost),
         "written" => Some(Trouble::Written(written_of(fields.number()?))),

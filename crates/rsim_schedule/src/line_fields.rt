@@ -32,7 +32,7 @@ impl<'a> LineFields<'a> {
     }
 
     /// Returns the next field, if it is UTF-8 text.
-    pub(crate) fn word(&mut self) -> Option<&'a str> {
+    pub(crate) fn text_field(&mut self) -> Option<&'a str> {
         str::from_utf8(self.field()?).ok()
     }
 
@@ -43,7 +43,7 @@ impl<'a> LineFields<'a> {
 
     /// Returns the next field, if it is a number: digits only, at most 9223372036854775807.
     pub(crate) fn number(&mut self) -> Option<u64> {
-        number_of(self.word()?)
+        number_of(self.text_field()?)
     }
 
     /// Returns the next field, if it is the number of a connection.
@@ -63,7 +63,7 @@ impl<'a> LineFields<'a> {
 
     /// Returns the next field, if it is a number or `all`.
     pub(crate) fn count(&mut self) -> Option<ByteCount> {
-        match self.word()? {
+        match self.text_field()? {
             "all" => Some(ByteCount::All),
             digits => Some(ByteCount::Exactly(number_of(digits)? as usize)),
         }

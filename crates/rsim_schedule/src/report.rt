@@ -130,10 +130,10 @@ fn push_stack(text: &mut Vec<u8>, world: &World, device: &[u8]) -> Result<(), Al
 }
 
 /// Appends a text, the names of reels, and the end of the line.
-fn push_names(text: &mut Vec<u8>, argument: &str, reels: &[ListedReel]) -> Result<(), AllocError>
-    ensures { OnOk result (text.new.items ≡ text.old.items ++ argument.now ++ names_text (names_of reels.now) ++ codes "\n") }
+fn push_names(text: &mut Vec<u8>, keyword: &str, reels: &[ListedReel]) -> Result<(), AllocError>
+    ensures { OnOk result (text.new.items ≡ text.old.items ++ keyword.now ++ names_text (names_of reels.now) ++ codes "\n") }
 {
-    push_text(text, argument)?;
+    push_text(text, keyword)?;
     for reel in reels {
         push_name(text, reel.name())?;
     }

@@ -11,7 +11,7 @@ use Rattle.tape.specs.Tape.{PlainEntry, Tape, TapeRequest, TapeAnswer, TapeStep,
 use Rattle.tape.specs.Tape.PlainEntry.{Record, Mark}
 use Rattle.tape.specs.Tape.TapeRequest.{Write as TapeWrite, Read as TapeRead, WriteMarks, ForwardFiles, BackFiles, ForwardRecords, BackRecords, Rewind, Nothing, Unknown}
 use Rattle.tape.specs.Tape.TapeAnswer.{Done as Did, Gave, Fault}
-use Rattle.tape.specs.Trouble.{ComesToDevice, DeviceStep, IsNotReopened, left_after}
+use Rattle.tape.specs.Trouble.{ComesToDevice, DeviceStep, IsUntroubled, left_after}
 use Rattle.tape.specs.declared.fault.TapeFault.TheVariants as fault
 use Rattle.tape.specs.declared.trouble.Trouble.{Trouble}
 use Rattle.tape.specs.declared.trouble.Trouble.TheVariants as trouble
@@ -87,15 +87,15 @@ space_can : (capacity : ℕ) (set : Trouble) (t : Tape) (request : TapeRequest) 
     → CanCall capacity set t request
 unfolding CanCall
 space_can capacity set t request count met place to from done short = elim (or_above count 0) [
-  | inl none ↦ not_reopened (inr (λ comes. (let some = from comes in omega (arith, some, none))))
+  | inl none ↦ untroubled (inr (λ comes. (let some = from comes in omega (arith, some, none))))
   | inr some ↦ elim (none_or_set set) [
-    | inl with_no_failure ↦ not_reopened (inl with_no_failure)
+    | inl with_no_failure ↦ untroubled (inl with_no_failure)
     | inr other ↦ fails capacity set t request other.0 (to some)
   ]
 ]
   where
-    not_reopened : IsNotReopened capacity set t request → CanCall capacity set t request
-    not_reopened quiet = elim (or_above count met) [
+    untroubled : IsUntroubled capacity set t request → CanCall capacity set t request
+    untroubled quiet = elim (or_above count met) [
       | inl within ↦ (Did, stands_at place t, (quiet, done (within, refl)))
       | inr past ↦ (Fault fault.EndOrMark, stands_at place t, (quiet, short (past, refl)))
     ]

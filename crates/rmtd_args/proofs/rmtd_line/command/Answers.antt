@@ -1,6 +1,6 @@
 use Rattle.std.proofs.Common.{◌≡◌, ap₂, codes, subst, IfOk, ◌∙◌}
 use Rattle.std.proofs.lemmas.Result.{IfOk-weaker}
-use Rattle.clap.specs.Arguments.{App, app_of, with_rule}
+use Rattle.clap.specs.Words.{App, app_of, with_rule}
 use Rattle.rmtd_args.specs.Rmtd.{app, app_with_limits, option_rule}
 use Rattle.rmtd_args.proofs.rmtd_line.command.Goals as goal
 

@@ -1,6 +1,6 @@
 use Rattle.std.proofs.Common.{ap, map, List, ℕ, Bor, ◌∙◌}
 use Rattle.std.proofs.lemmas.Result.{IfOk-weaker}
-use Rattle.clap.specs.Arguments.{App, Text, fault_of, is_simple, is_simple_and_free, matches_of}
+use Rattle.clap.specs.Words.{App, Text, fault_of, is_simple, is_simple_and_free, matches_of}
 use Rattle.rmtd_args.specs.Rmtd.{faults_in, matches_in}
 use Rattle.rmtd_args.proofs.App.{app_is_simple, app_is_simple_and_free, taken_where_ok, kind_where_err, shown_where_err, some_where_not_memory}
 use Rattle.rmtd_args.proofs.rmtd_line.matched.Goals as goal

@@ -1,5 +1,5 @@
 use Rattle.std.proofs.Common.{rules, codes, ◌∙◌}
-use Rattle.clap.specs.Arguments.{found_of}
+use Rattle.clap.specs.Words.{found_of}
 use Rattle.clap.proofs.WalkLemmas.{first_value-rows}
 use Rattle.rmtd_args.proofs.rmtd_line.stdio_of.Goals as goal
 

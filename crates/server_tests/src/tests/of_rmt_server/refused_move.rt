@@ -4,7 +4,7 @@ ghost use Rattle.std.specs.Prelude.{◌≤◌, length};
 
 use super::fixture::{END, serve_once};
 use super::full_bin::FullBin;
-use super::pieces::Wanted;
+use super::pieces::Expected;
 use drives::{DriveTable, LocalHolds};
 use std::alloc::Global;
 use std::test::Fail;
@@ -22,7 +22,7 @@ fn is_refused(alloc: Global, holds: LocalHolds) -> bool
 {
     let stacks = FullBin::new(alloc);
     let mut drives = DriveTable { holds, stacks };
-    let mut output = Wanted::all(ANSWERS);
+    let mut output = Expected::all(ANSWERS);
     serve_once(alloc, &mut drives, REQUESTS, &mut output) == END && output.is_met()
 }
 

@@ -4,7 +4,7 @@ ghost use Rattle.std.specs.Prelude.{◌≤◌, length};
 
 use super::CAPACITY;
 use super::fixture::{Drives, END, NO_OUTPUT, TRUNCATED, serve_once, two_drives};
-use super::pieces::{Pieces, Wanted};
+use super::pieces::{Pieces, Expected};
 use rmt_server::ServeFault;
 use std::alloc::Global;
 
@@ -26,9 +26,9 @@ fn is_served(alloc: Global, drives: &mut Drives, row: &Row<'_>, most: usize) -> 
         fails: row.2 != END && row.2 != TRUNCATED,
     };
     let mut output = if row.2 == NO_OUTPUT {
-        Wanted::narrow(row.1, row.1.len(), most)
+        Expected::narrow(row.1, row.1.len(), most)
     } else {
-        Wanted::narrow(row.1, usize::MAX, most)
+        Expected::narrow(row.1, usize::MAX, most)
     };
     let status = serve_once(alloc, drives, input, &mut output);
     status == row.2 && output.is_met()

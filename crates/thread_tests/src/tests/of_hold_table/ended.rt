@@ -20,7 +20,7 @@ fn take_beside(
 ) -> (HoldSeat, HoldSeat, Taken)
     requires one { IsSeatAt table.now one }
     requires other { IsSeatAt table.now other }
-    requires drive { drive < table.now.arguments }
+    requires drive { drive < table.now.words }
     ensures one { IsSeatAt table.now result.0 }
     ensures other { result.1 ≡ other }
     ensures found { found_by result.2 ≡ other.view.number → IsTrue (has other.view drive) ⊎ (2 ≤ other.made) }

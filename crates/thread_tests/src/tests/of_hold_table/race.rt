@@ -17,7 +17,7 @@ const TRIES: u32 = 2000;
 /// hold it. `faults` counts how often the seat was not alone, or saw no holder. Returns the seat.
 fn race(table: &HoldTable, mut seat: HoldSeat, inside: &AtomicU64, faults: &AtomicU64) -> HoldSeat
     requires seat { IsSeatAt table.now seat }
-    requires drives { 0 < table.now.arguments }
+    requires drives { 0 < table.now.words }
     ensures { IsSeatAt table.now result }
 {
     for _ in 0..TRIES {
@@ -41,7 +41,7 @@ fn race_in_threads<R: Threads + Sync>(
     faults: &AtomicU64,
 ) -> Result<Vec<HoldSeat>, Fail>
     requires seats { All (λ s. IsSeatAt table.now s × HoldsJust s.view None) seats.items }
-    requires drives { 0 < table.now.arguments }
+    requires drives { 0 < table.now.words }
     ensures { IfOk result (λ seats. All (λ s. IsSeatAt table.now s) seats.items) }
 {
     let inside = AtomicU64::new(0);
@@ -49,7 +49,7 @@ fn race_in_threads<R: Threads + Sync>(
         rt,
         seats,
         &|seat: HoldSeat| -> HoldSeat
-            requires { IsSeatAt table.now seat × (0 < table.now.arguments) }
+            requires { IsSeatAt table.now seat × (0 < table.now.words) }
             ensures { IsSeatAt table.entry.now result }
         { race(table, seat, &inside, faults) },
     )?;

@@ -14,7 +14,7 @@ use std::test::Fail;
 
 /// Returns the replies to a stream that ends while its drive is open.
 fn served(alloc: Global, table: &HoldTable, seat: HoldSeat, stacks: ListStacks) -> Vec<u8>
-    requires arguments { table.now.arguments ≡ 2 }
+    requires arguments { table.now.words ≡ 2 }
     requires drives { length stacks.library.drives ≡ 2 }
     requires own { IsSeatAt table.now seat }
     requires idle { HoldsJust seat.view None }

@@ -14,7 +14,7 @@ use std::thread::Threads;
 
 /// Makes a table for two drives, with its seats.
 pub(crate) fn two_words(alloc: Global) -> Result<(HoldTable, Vec<HoldSeat>), Fail>
-    ensures drives { IfOk result (λ made. made.0.arguments ≡ 2) }
+    ensures drives { IfOk result (λ made. made.0.words ≡ 2) }
     ensures count { IfOk result (λ made. length made.1.items ≡ 32) }
     ensures idle { IfOk result (λ made. All (λ s. IsSeatAt made.0 s × HoldsJust s.view None) made.1.items) }
 {

@@ -29,7 +29,7 @@ returns-in-Ok c =
     let k = c.in-Some.kept in
     let its = c.requires.text k c.in-Some.is in
     let kept = subst (λ bytes. SpellsCheckpoint bytes its.0.run k.counts.items) (sym c.deref.ensures.value) its.2 in
-    let same = c.in-Ok.ensures.comes_back its.0.run k.counts.items kept in
+    let same = c.in-Ok.ensures.resumes its.0.run k.counts.items kept in
     let index = at_index c.args.begun.now k.run its.0 c.index-begun-kept.result its.1 c.index-begun-kept.is in
     let at = c.in-Ok.client.at in
     subst (λ o. ResumesRunWith c.args.begun.now o (Some record { number = k.run; client = c.in-Ok.client })) (sym c.in-Some.is) (
