@@ -4,7 +4,7 @@ use Rattle.std.proofs.lemmas.Bool.Decides.{nat_tests}
 use Rattle.drives.specs.declared.fault.DriveFault.{DriveFault}
 use Rattle.drives.specs.declared.fault.DriveFault.TheVariants.{NoSuchDrive, Busy, NoReel, Device, OutOfMemory, NameTaken}
 use Rattle.drives.specs.declared.view.View.{View}
-use Rattle.drives.specs.Holding.{given, taken, last_drive, word_after_take, word_after_give}
+use Rattle.drives.specs.Holding.{given, taken, last_drive, holder_after_take, holder_after_give}
 use Rattle.drives.specs.TapeLibrary.{TapeLibrary, IsDriveNamed}
 use Rattle.drives.specs.Calls.StacksCall.{Latch}
 use Rattle.drives.specs.Stacking.{IsStacksCall}
@@ -36,5 +36,5 @@ latch_refused k view view' name old new d (Busy n) v named call = elim call.can 
 latch_refused k view view' name old new d NameTaken v named call = elim call.can [ inl e ↦ absurd cc | inr (inl e) ↦ absurd cc | inr (inr (inl e)) ↦ absurd cc | inr (inr (inr e)) ↦ absurd cc ]
 
 -- who holds a drive after a take that found it free and a give of it
-pub word_given_back : (number d e n : ℕ) → (e ≡ d → 0 ≡ n) → word_after_give d e (word_after_take number d e n) ≡ n
+pub word_given_back : (number d e n : ℕ) → (e ≡ d → 0 ≡ n) → holder_after_give d e (holder_after_take number d e n) ≡ n
 word_given_back number d e n free = grind (arith, nat_tests)

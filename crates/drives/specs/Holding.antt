@@ -53,12 +53,12 @@ TakeAnswers Held old new d = (0 < old.number) × (has old d ≡ false) × (has n
 TakeAnswers (Busy n) old new d = 0 < n
 
 -- who holds drive d after the seat `number` took `drive`, if n held d before
-abbrev pub word_after_take : ℕ → ℕ → ℕ → ℕ → ℕ
-word_after_take number drive d n = cond (d == drive) (cond (n == 0) number n) n
+abbrev pub holder_after_take : ℕ → ℕ → ℕ → ℕ → ℕ
+holder_after_take number drive d n = cond (d == drive) (cond (n == 0) number n) n
 
 -- who holds drive d after `drive` was given back, if n held d before
-abbrev pub word_after_give : ℕ → ℕ → ℕ → ℕ
-word_after_give drive d n = cond (d == drive) 0 n
+abbrev pub holder_after_give : ℕ → ℕ → ℕ → ℕ
+holder_after_give drive d n = cond (d == drive) 0 n
 
 -- the drive of a step, if there was one
 abbrev pub drive_of_step : Option LastStep → Option ℕ

@@ -9,7 +9,7 @@ use Rattle.drives.specs.declared.holds.Holds.{Ghosts as HoldsPromise}
 use Rattle.drives.specs.declared.stacks.Stacks.{Ghosts as StacksPromise}
 use Rattle.drives.specs.declared.table.DriveTable.{DriveTable}
 use Rattle.drives.specs.declared.view.View.{View}
-use Rattle.drives.specs.Holding.{has, taken, given, last_drive, word_after_take}
+use Rattle.drives.specs.Holding.{has, taken, given, last_drive, holder_after_take}
 use Rattle.drives.specs.TapeLibrary.{TapeLibrary, IsDriveNamed}
 use Rattle.drives.specs.Calls.{StacksKind, stacks_kind}
 use Rattle.drives.specs.Calls.StacksCall.{Latch}
@@ -49,9 +49,9 @@ found_in_open (Err (Busy n)) = n
 found_in_open result = 0
 
 -- who holds drive d after the open by the seat `number`, if n held it before
-abbrev pub word_after_open : {R : Type 0} → Result (ℕ × R) DriveFault → ℕ → ℕ → ℕ → ℕ
-word_after_open (Ok opened) number d n = word_after_take number opened.0 d n
-word_after_open (Err fault) number d n = n
+abbrev pub holder_after_open : {R : Type 0} → Result (ℕ × R) DriveFault → ℕ → ℕ → ℕ → ℕ
+holder_after_open (Ok opened) number d n = holder_after_take number opened.0 d n
+holder_after_open (Err fault) number d n = n
 
 -- The first error that applies: no drive has that name, the drive is busy, and then the errors of
 -- the latch.
@@ -80,7 +80,7 @@ pub record IsOpening {H Seat S R : Type 0} (k : Kinds H Seat S R) (old : DriveTa
   pub asked : (d : ℕ) → drive_asked result (k.holds.shows seat') ≡ Some d → d < k.holds.drives old.holds
   pub found : (d n : ℕ) → drive_asked result (k.holds.shows seat') ≡ Some d → k.holds.tells old.holds d n → found_in_open result ≡ n
   pub told : (d n : ℕ) → k.holds.tells old.holds d n
-      → k.holds.tells new.holds d (word_after_open result (k.holds.shows seat).number d n)
+      → k.holds.tells new.holds d (holder_after_open result (k.holds.shows seat).number d n)
   -- other seats hold what they held before
   pub others : (s : Seat) → (k.holds.shows s).number ≢ (k.holds.shows seat).number
       → k.holds.belongs old.holds s → k.holds.belongs new.holds s

@@ -2,7 +2,7 @@
 
 ghost use Rattle.std.specs.Prelude.{◌≡◌, ◌≢◌, ℕ, ◌<◌, ◌≤◌, ◌↔◌, IsTrue};
 ghost use Rattle.drives.specs.declared.view.View.{View};
-ghost use Rattle.drives.specs.Holding.{has, taken, given, looked, found_by, TakeAnswers, word_after_take, word_after_give};
+ghost use Rattle.drives.specs.Holding.{has, taken, given, looked, found_by, TakeAnswers, holder_after_take, holder_after_give};
 
 use crate::Taken;
 
@@ -47,7 +47,7 @@ pub trait Holds {
         ensures answer { TakeAnswers result (shows seat.old) (shows seat.new) drive }
         ensures known { found_by result ≤ seated self.old }
         ensures found { (n : ℕ) → tells self.old drive n → found_by result ≡ n }
-        ensures told { (d n : ℕ) → tells self.old d n → tells self.new d (word_after_take (shows seat.old).number drive d n) }
+        ensures told { (d n : ℕ) → tells self.old d n → tells self.new d (holder_after_take (shows seat.old).number drive d n) }
         ensures own { belongs self.new seat.new }
         ensures others { (s : Self.Seat) → (shows s).number ≢ (shows seat.old).number → belongs self.old s → belongs self.new s }
         ensures same_drives { drives self.new ≡ drives self.old }
@@ -60,7 +60,7 @@ pub trait Holds {
         requires drive { drive < drives self.old }
         requires held { IsTrue (has (shows seat.old) drive) }
         ensures step { shows seat.new ≡ given (shows seat.old) drive }
-        ensures told { (d n : ℕ) → tells self.old d n → tells self.new d (word_after_give drive d n) }
+        ensures told { (d n : ℕ) → tells self.old d n → tells self.new d (holder_after_give drive d n) }
         ensures own { belongs self.new seat.new }
         ensures others { (s : Self.Seat) → (shows s).number ≢ (shows seat.old).number → belongs self.old s → belongs self.new s }
         ensures same_drives { drives self.new ≡ drives self.old }

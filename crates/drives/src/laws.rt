@@ -29,6 +29,6 @@ pub fn lying_troubles()
 /// which the reels are at rest.
 ///
 /// It does nothing: its contract is a law of the definitions.
-pub fn told_orders()
+pub fn arranged_at_rest()
     ensures { (s : ListLibrary) (d : ℕ) (names : List (List ℕ)) → may_arrange s.library d names ≡ may_arrange (library_of s) d names }
 {}

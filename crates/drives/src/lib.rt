@@ -20,7 +20,7 @@ mod view;
 
 pub use fault::DriveFault;
 pub use holds::{DRIVE_LIMIT, Holds};
-pub use laws::{lying_troubles, told_orders};
+pub use laws::{arranged_at_rest, lying_troubles};
 pub use list::ListStacks;
 pub use listed::ListedReel;
 pub use local::{LocalHolds, LocalSeat};

@@ -7,7 +7,7 @@ use Rattle.dump_client.specs.Script.{wanted_of}
 use Rattle.dump_client.specs.Position.Received.{Reply, Noise, End}
 use Rattle.dump_client.specs.Listening.{IsReaderWaiting, IsSummary, IsFeedResult}
 use Rattle.rmt_wire.specs.Request.PlainRequest.{Close as CloseDevice}
-use Rattle.dump_client.specs.Standing.{Standing, standing, checkpoint_of, IsOver, HearsAt, FedAt, CutAt, StartedAt}
+use Rattle.dump_client.specs.Standing.{Standing, standing, checkpoint_of, IsOver, ReceivesAt, FedAt, CutAt, StartedAt}
 use Rattle.dump_client.specs.Client.{HasFedAt, IsIdle, unanswered, AppendedBy, AskedAt, IsPayload, ReadBy, IsScarce, LacksRoom, IsFaultAt, is_source_fault}
 use Rattle.dump_run.specs.Run.{PlainRun}
 use Rattle.dump_run.specs.declared.count.VolumeCount.{VolumeCount}
@@ -68,15 +68,15 @@ fed_waits run counts old step r new_reader bytes piece at seen h =
 -- a reply
 pub fed_reply : (run : PlainRun) (counts : List VolumeCount) (old : Standing) (step : Step) (r new_reader : reader.ReplyHeld) (bytes piece : List ℕ) (summary : ReplySummary) (more : Bool) (progress : Progress) (new : Standing) → Waiting step ≡ old.stage
     → (IsReaderWaiting (wanted_of step) r bytes → IsFeedResult run counts (wanted_of step) (bytes ++ piece) (feed_result.Reply summary more) new_reader)
-    → ((reply : PlainReply) → IsSummary run counts reply summary → HearsAt old step (Reply reply) more progress new)
+    → ((reply : PlainReply) → IsSummary run counts reply summary → ReceivesAt old step (Reply reply) more progress new)
     → HasFedAt old.stage r bytes → FedAt old.stage old bytes piece progress new
 fed_reply run counts old step r new_reader bytes piece summary more progress new at seen heard h =
     subst (λ s. HasFedAt s r bytes → FedAt s old bytes piece progress new) at
-    (λ w. let l = seen w in (Ok (Some l.0), l.1, l.2, subst (λ m. HearsAt old step (Reply l.0) m progress new) l.4 (heard l.0 l.3))) h
+    (λ w. let l = seen w in (Ok (Some l.0), l.1, l.2, subst (λ m. ReceivesAt old step (Reply l.0) m progress new) l.4 (heard l.0 l.3))) h
 
 -- no reply
 pub fed_noise : (run : PlainRun) (counts : List VolumeCount) (old : Standing) (step : Step) (r new_reader : reader.ReplyHeld) (bytes piece : List ℕ) (progress : Progress) (new : Standing) → Waiting step ≡ old.stage
-    → (IsReaderWaiting (wanted_of step) r bytes → IsFeedResult run counts (wanted_of step) (bytes ++ piece) feed_result.Noise new_reader) → HearsAt old step Noise false progress new
+    → (IsReaderWaiting (wanted_of step) r bytes → IsFeedResult run counts (wanted_of step) (bytes ++ piece) feed_result.Noise new_reader) → ReceivesAt old step Noise false progress new
     → HasFedAt old.stage r bytes → FedAt old.stage old bytes piece progress new
 fed_noise run counts old step r new_reader bytes piece progress new at seen heard h =
     subst (λ s. HasFedAt s r bytes → FedAt s old bytes piece progress new) at
@@ -91,7 +91,7 @@ fed_at_waiting stage step r bytes at w = subst (λ s. HasFedAt s r bytes) at w
 
 -- bytes that nobody waits for
 pub fed_unasked : (old : Standing) (step : Step) (bytes piece : List ℕ) (progress : Progress) (new : Standing) → ToSend step ≡ old.stage → piece ≢ []
-    → HearsAt old step Noise false progress new → FedAt old.stage old bytes piece progress new
+    → ReceivesAt old step Noise false progress new → FedAt old.stage old bytes piece progress new
 fed_unasked old step bytes piece progress new at some heard = subst (λ s. FedAt s old bytes piece progress new) at (inr (some, heard))
 
 pub unanswered_waiting : (stage : Stage) (step : Step) (r : reader.ReplyHeld) (bytes : List ℕ) → Waiting step ≡ stage → IsReaderWaiting (wanted_of step) r bytes
@@ -137,7 +137,7 @@ asked_failed told old step capacity before now fault new at other h is =
 
 -- the connection ends in an attempt
 pub cut_in : (old : Standing) (stage : Stage) (step : Step) (progress : Progress) (new : Standing) → stage ≡ old.stage
-    → (stage ≡ ToSend step) ⊎ (stage ≡ Waiting step) → HearsAt old step End false progress new → CutAt old.stage old progress new
+    → (stage ≡ ToSend step) ⊎ (stage ≡ Waiting step) → ReceivesAt old step End false progress new → CutAt old.stage old progress new
 cut_in old stage step progress new at (inl is) heard = subst (λ s. CutAt s old progress new) (sym is ∙ at) heard
 cut_in old stage step progress new at (inr is) heard = subst (λ s. CutAt s old progress new) (sym is ∙ at) heard
 

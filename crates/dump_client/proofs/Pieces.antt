@@ -9,7 +9,7 @@ use Rattle.dump_client.specs.Listening.{is_more}
 use Rattle.dump_client.specs.Script.{wanted_of}
 use Rattle.dump_client.specs.Position.{outcome, after_noise, after_end}
 use Rattle.dump_client.specs.Position.Received.{Reply, Noise}
-use Rattle.dump_client.specs.Standing.{Standing, standing, checkpoint_of, counted_to, IsOver, Becomes, HearsAt, Makes, FedAt, CutAt}
+use Rattle.dump_client.specs.Standing.{Standing, standing, checkpoint_of, counted_to, IsOver, Becomes, ReceivesAt, Makes, FedAt, CutAt}
 use Rattle.dump_client.specs.declared.step.Step.{Step}
 use Rattle.dump_client.specs.declared.step.Step.TheVariants.{Close}
 use Rattle.dump_client.specs.declared.outcome.Outcome.{Outcome}
@@ -56,15 +56,15 @@ final_ends old Ended more other progress new final h = h
 final_ends old o more other progress new final h = absurd final
 
 behind_noise : (old : Standing) (step : Step) (bytes q : List ℕ) (first later : Progress) (middle new : Standing)
-    → HearsAt old step Noise false first middle → IsFed bytes q later new middle
-    → HearsAt old step Noise false first new
+    → ReceivesAt old step Noise false first middle → IsFed bytes q later new middle
+    → ReceivesAt old step Noise false first new
 behind_noise old step bytes q first later middle new h f =
     let end = noise_final step in
     final_ends old (after_noise step) true false first new end
     (behind_more old (after_noise step) bytes q first later middle new (final_ends old (after_noise step) false true first middle end h) f)
 
 -- where the next request is to be sent, bytes fail the attempt
-early : (at : Standing) (step : Step) (progress : Progress) (new : Standing) → NotClose step → HearsAt at step Noise false progress new
+early : (at : Standing) (step : Step) (progress : Progress) (new : Standing) → NotClose step → ReceivesAt at step Noise false progress new
     → (progress ≡ moved.Failed Botched) × (new ≡ standing at.run at.counts Asking)
 early at Close progress new before h = absurd before
 early at step progress new before h = h

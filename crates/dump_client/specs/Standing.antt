@@ -38,7 +38,7 @@ abbrev pub standing : PlainRun → List VolumeCount → Stage → Standing
 standing run counts stage = record { run = run; counts = counts; stage = stage }
 
 -- the same, and for how many more counts there is room
-pub record RunKept : Type 0 where
+pub record LedgerState : Type 0 where
   pub at : Standing
   pub room : ℕ
 
@@ -84,23 +84,23 @@ Becomes old (Counted next) true progress new = (progress ≡ moved.Ended) × IsO
 Becomes old Ended more progress new = (progress ≡ moved.Ended) × IsOver old.run old.counts new
 
 -- at this step the client receives this
-abbrev pub HearsAt : Standing → Step → Received → Bool → Progress → Standing → Type 0
-HearsAt old step heard more progress new =
+abbrev pub ReceivesAt : Standing → Step → Received → Bool → Progress → Standing → Type 0
+ReceivesAt old step heard more progress new =
     Becomes old (outcome old.run old.counts (checkpoint_of old.counts).1 step heard) more progress new
 
 -- the client waits for the reply to this step, and these bytes came since: part of a reply, a reply
 -- and more, or no reply
 abbrev pub Makes : Standing → Step → List ℕ → Result (Option PlainReply) WireFault → List ℕ → Progress → Standing → Type 0
 Makes old step bytes (Ok None) rest progress new = (progress ≡ moved.Waiting) × (new ≡ old)
-Makes old step bytes (Ok (Some reply)) rest progress new = HearsAt old step (Reply reply) (is_more rest) progress new
-Makes old step bytes (Err fault) rest progress new = HearsAt old step Noise false progress new
+Makes old step bytes (Ok (Some reply)) rest progress new = ReceivesAt old step (Reply reply) (is_more rest) progress new
+Makes old step bytes (Err fault) rest progress new = ReceivesAt old step Noise false progress new
 
 -- A piece is fed, after `bytes` since the request was sent. The result depends on all bytes
 -- together, and not on how they are cut into pieces. Between attempts nothing happens.
 abbrev pub FedAt : Stage → Standing → List ℕ → List ℕ → Progress → Standing → Type 0
 FedAt (ToSend step) old bytes piece progress new =
     ((piece ≡ []) × (progress ≡ moved.Send) × (new ≡ old))
-    ⊎ ((piece ≢ []) × HearsAt old step Noise false progress new)
+    ⊎ ((piece ≢ []) × ReceivesAt old step Noise false progress new)
 FedAt (Waiting step) old bytes piece progress new =
     (seen : Result (Option PlainReply) WireFault) × (rest : List ℕ) × ReplyGives (Some (wanted_of step)) (bytes ++ piece) seen rest
     × Makes old step (bytes ++ piece) seen rest progress new
@@ -112,8 +112,8 @@ Feeds old bytes piece progress new = FedAt old.stage old bytes piece progress ne
 
 -- the connection ends
 abbrev pub CutAt : Stage → Standing → Progress → Standing → Type 0
-CutAt (ToSend step) old progress new = HearsAt old step End false progress new
-CutAt (Waiting step) old progress new = HearsAt old step End false progress new
+CutAt (ToSend step) old progress new = ReceivesAt old step End false progress new
+CutAt (Waiting step) old progress new = ReceivesAt old step End false progress new
 CutAt stage old progress new = (progress ≡ moved.Idle) × (new ≡ old)
 
 -- an attempt starts at the checkpoint; it is refused in other stages, and if there is no room for

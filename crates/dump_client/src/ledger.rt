@@ -7,7 +7,7 @@ ghost use Rattle.dump_client.specs.Client.{HasFedAt, unanswered};
 ghost use Rattle.dump_client.specs.Listening.{IsSummary};
 ghost use Rattle.dump_client.specs.Position.Received.{Reply, Noise, End};
 ghost use Rattle.dump_run.specs.Run.{IsRun};
-ghost use Rattle.dump_client.specs.Standing.{standing, checkpoint_of, StartedAt, AnsweredAt, HearsAt, Becomes, IsOver, IsAtStep};
+ghost use Rattle.dump_client.specs.Standing.{standing, checkpoint_of, StartedAt, AnsweredAt, ReceivesAt, Becomes, IsOver, IsAtStep};
 ghost use Rattle.dump_client.specs.Lawful.{IsLawful, AreVolumes, IsRunLeft, StageFits, OutcomeFits, RoomFits};
 ghost use Rattle.dump_client.specs.declared.stage.Stage.TheVariants as stages;
 ghost use Rattle.dump_client.specs.declared.stage.Progress.TheVariants as moved;
@@ -33,10 +33,10 @@ pub(crate) struct Ledger {
 impl Model for Ledger {
     ghost use Rattle.std.specs.Prelude.{◌-◌};
     ghost use Rattle.std.specs.Vec.{vec_capacity, vec_len};
-    ghost use Rattle.dump_client.specs.Standing.{RunKept, standing};
+    ghost use Rattle.dump_client.specs.Standing.{LedgerState, standing};
     ghost use Rattle.dump_client.specs.Lawful.{IsLawful, RoomFits};
 
-    ghost Value = { RunKept };
+    ghost Value = { LedgerState };
 
     ghost view = { λ l. record { at = standing l.run l.counted.items l.stage; room = vec_capacity l.counted - vec_len l.counted } };
 
@@ -150,7 +150,7 @@ impl Ledger {
         requires lawful { IsLawful self.old.at }
         requires room { RoomFits self.old.at.stage self.old.room }
         ensures heard { (reply : PlainReply) → IsSummary self.old.at.run self.old.at.counts reply summary →
-            HearsAt self.old.at step (Reply reply) more result self.new.at }
+            ReceivesAt self.old.at step (Reply reply) more result self.new.at }
         ensures slots { self.new.room + length self.new.at.counts ≡ self.old.room + length self.old.at.counts }
         ensures fed { (reader : readers.ReplyHeld) (bytes : List ℕ) → (more ≡ false → ReplyUnread reader None []) →
             HasFedAt self.new.at.stage reader (unanswered self.new.at.stage bytes) }
@@ -158,7 +158,7 @@ impl Ledger {
     {
         let (_, first) = self.checkpoint();
         let outcome = after_reply(&self.run, first, step, summary);
-        self.come_to(outcome, more)
+        self.apply_outcome(outcome, more)
     }
 
     /// Takes bytes, at a step, that are no reply or that come while no reply is awaited.
@@ -167,13 +167,13 @@ impl Ledger {
         requires at { IsAtStep self.old.at.stage step }
         requires lawful { IsLawful self.old.at }
         requires room { RoomFits self.old.at.stage self.old.room }
-        ensures heard { HearsAt self.old.at step Noise false result self.new.at }
+        ensures heard { ReceivesAt self.old.at step Noise false result self.new.at }
         ensures slots { self.new.room + length self.new.at.counts ≡ self.old.room + length self.old.at.counts }
         ensures fed { (reader : readers.ReplyHeld) (bytes : List ℕ) →
             HasFedAt self.new.at.stage reader (unanswered self.new.at.stage bytes) }
         ensures same_run { self.new.at.run ≡ self.old.at.run }
     {
-        self.come_to(after_noise(step), false)
+        self.apply_outcome(after_noise(step), false)
     }
 
     /// Takes the end of the connection at a step.
@@ -182,19 +182,19 @@ impl Ledger {
         requires at { IsAtStep self.old.at.stage step }
         requires lawful { IsLawful self.old.at }
         requires room { RoomFits self.old.at.stage self.old.room }
-        ensures heard { HearsAt self.old.at step End false result self.new.at }
+        ensures heard { ReceivesAt self.old.at step End false result self.new.at }
         ensures slots { self.new.room + length self.new.at.counts ≡ self.old.room + length self.old.at.counts }
         ensures fed { (reader : readers.ReplyHeld) (bytes : List ℕ) →
             HasFedAt self.new.at.stage reader (unanswered self.new.at.stage bytes) }
         ensures same_run { self.new.at.run ≡ self.old.at.run }
     {
-        self.come_to(after_end(step), false)
+        self.apply_outcome(after_end(step), false)
     }
 
     /// Changes the stage and the counts as an outcome says. `more`: bytes follow the reply that led
     /// to it.
     #[tactic(auto, using(crate::proofs::Fed::becomes_fed, crate::proofs::Fed::becomes_run))]
-    fn come_to(&mut self, outcome: Outcome, more: bool) -> Progress
+    fn apply_outcome(&mut self, outcome: Outcome, more: bool) -> Progress
         requires { OutcomeFits self.old.at.run self.old.at.counts self.old.room outcome }
         ensures becomes { Becomes self.old.at outcome more result self.new.at }
         ensures slots { self.new.room + length self.new.at.counts ≡ self.old.room + length self.old.at.counts }

@@ -154,7 +154,7 @@ impl FileMedium {
     }
 
     /// Fails with `PermissionDenied` if the file may only be read.
-    fn may_write(&self) -> io::Result<()> {
+    fn check_writable(&self) -> io::Result<()> {
         if self.is_read_only {
             let words = "the reel may only be read";
             return Err(io::Error::new(ErrorKind::PermissionDenied, words));
@@ -177,7 +177,7 @@ impl FileMedium {
     {
         self.forget();
         let written = self
-            .may_write()
+            .check_writable()
             .and_then(|()| write_framed(&self.file, frame, bytes));
         self.count(written)?;
         self.len = offset_behind(end, frame, bytes);
@@ -221,7 +221,7 @@ impl FileMedium {
         ensures failed { OnErr result (self.new ≡ record self.old { failures = raised self.old.failures }) }
     {
         self.forget();
-        let cut = self.may_write().and_then(|()| self.file.set_len(len));
+        let cut = self.check_writable().and_then(|()| self.file.set_len(len));
         self.count(cut)?;
         self.len = Some(len);
         Ok(())

@@ -10,12 +10,12 @@ use Rattle.rmt_wire.specs.declared.limits.TheConstants.{NUMBER_LIMIT}
 use Rattle.rmt_wire.specs.declared.mtio.TheConstants.{MTNOP}
 use Rattle.rdump_args.specs.declared.rdump_line.RdumpLine.{RdumpLine}
 use Rattle.rdump_args.specs.declared.rdump_line.RdumpLine.TheVariants.{Dump, Read, List, Mt, Dates}
-use Rattle.rdump_args.specs.declared.run_line.DumpLine.{DumpLine}
+use Rattle.rdump_args.specs.declared.dump_line.DumpLine.{DumpLine}
 use Rattle.rdump_args.specs.declared.read_line.ReadLine.{ReadLine}
 use Rattle.rdump_args.specs.declared.list_line.ListLine.{ListLine}
 use Rattle.rdump_args.specs.declared.list_line.ListedReels.{ListedReels}
 use Rattle.rdump_args.specs.declared.list_line.ListedReels.TheVariants.{Paths, Drive}
-use Rattle.rdump_args.specs.declared.tape_line.MtLine.{MtLine}
+use Rattle.rdump_args.specs.declared.mt_line.MtLine.{MtLine}
 
 -- a name and a level, if given, are those that an entry can have
 abbrev pub IsDatesAsked : Option (Bor Text × ℕ) → Type 0

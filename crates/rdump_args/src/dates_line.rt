@@ -71,7 +71,7 @@ fn is_name(name: &str) -> bool
 }
 
 /// The arguments of `rdump dates`.
-pub(crate) static DATES_WORDS: [ArgumentSpec; 3] = [
+pub(crate) static DATES_ARGUMENTS: [ArgumentSpec; 3] = [
     ArgumentSpec {
         name: "file",
         value: "FILE",

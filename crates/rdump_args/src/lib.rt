@@ -5,15 +5,15 @@
 mod argument;
 mod dates_line;
 mod drive;
+mod dump_line;
 mod fault;
 mod list_line;
+mod mt_line;
 mod rdump_line;
 mod read_line;
-mod run_line;
-mod tape_line;
 
+pub use dump_line::DumpLine;
 pub use list_line::{ListLine, ListedReels};
+pub use mt_line::MtLine;
 pub use rdump_line::{RdumpLine, dump_error, rdump_args};
 pub use read_line::ReadLine;
-pub use run_line::DumpLine;
-pub use tape_line::MtLine;

@@ -138,7 +138,7 @@ fn path_reels<'a>(alloc: Global, paths: &[&'a str]) -> Result<ListedReels<'a>, A
 }
 
 /// The arguments of `rdump ls`.
-pub(crate) static LIST_WORDS: [ArgumentSpec; 5] = [
+pub(crate) static LIST_ARGUMENTS: [ArgumentSpec; 5] = [
     ArgumentSpec {
         name: "path",
         value: "FILE|FOLDER",

@@ -6,12 +6,12 @@ ghost use Rattle.clap.specs.declared.error.kind.ErrorKind.TheVariants.{ValueVali
 ghost use Rattle.rdump_args.specs.Rdump.{IsRdumpLine};
 
 use crate::argument::{ArgumentSpec, args_of, check_given, push_command};
-use crate::dates_line::{DATES_WORDS, dates_in};
+use crate::dates_line::{DATES_ARGUMENTS, dates_in};
+use crate::dump_line::{DUMP_ARGUMENTS, DumpLine, dump_in};
 use crate::fault::ArgumentFault;
-use crate::list_line::{LIST_WORDS, ListLine, list_in};
-use crate::read_line::{READ_WORDS, ReadLine, read_in};
-use crate::run_line::{DUMP_WORDS, DumpLine, dump_in};
-use crate::tape_line::{MT_WORDS, MtLine, mt_in};
+use crate::list_line::{LIST_ARGUMENTS, ListLine, list_in};
+use crate::mt_line::{MT_ARGUMENTS, MtLine, mt_in};
+use crate::read_line::{READ_ARGUMENTS, ReadLine, read_in};
 use clap::error::ErrorKind;
 use clap::{ArgMatches, Command, Error};
 use std::alloc::{AllocError, Global};
@@ -209,11 +209,11 @@ static COMMANDS: [(&str, &str); 5] = [
 /// Returns the arguments of the command of this name.
 fn arguments_of(name: &str) -> &'static [ArgumentSpec] {
     match name {
-        "dump" => &DUMP_WORDS,
-        "read" => &READ_WORDS,
-        "ls" => &LIST_WORDS,
-        "mt" => &MT_WORDS,
-        "dates" => &DATES_WORDS,
+        "dump" => &DUMP_ARGUMENTS,
+        "read" => &READ_ARGUMENTS,
+        "ls" => &LIST_ARGUMENTS,
+        "mt" => &MT_ARGUMENTS,
+        "dates" => &DATES_ARGUMENTS,
         _ => &[],
     }
 }

@@ -73,7 +73,7 @@ fn length_of(text: Option<&str>) -> Result<Option<u64>, ArgumentFault>
 }
 
 /// The arguments of `rdump read`.
-pub(crate) static READ_WORDS: [ArgumentSpec; 6] = [
+pub(crate) static READ_ARGUMENTS: [ArgumentSpec; 6] = [
     ArgumentSpec::TO,
     ArgumentSpec::DEVICE,
     ArgumentSpec {

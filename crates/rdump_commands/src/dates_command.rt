@@ -2,7 +2,7 @@
 ghost use Rattle.rdump_commands.specs.Status.{IsDatesStatus};
 
 use crate::ClientSystem;
-use crate::fault::{FAILED, NO_DUMPDATES, ended, report, say};
+use crate::fault::{FAILED, NO_DUMPDATES, print_fault, report, report_failures};
 use dumpdates::{Dates, DatesFault};
 use rdump_files::dates;
 use rmt_wire::Counted;
@@ -25,9 +25,9 @@ pub fn run_dates<R: ClientSystem>(rt: &R, file: &str, asked: Option<(&str, u8)>)
     let mut out = Counted::new(io::writer(rt));
     let status = dates(rt.alloc(), &bytes, asked, &mut out);
     if status == FAILED && is_bad(rt.alloc(), &bytes) {
-        say(rt, file, NO_DUMPDATES);
+        print_fault(rt, file, NO_DUMPDATES);
     }
-    ended(rt, out.failures(), status)
+    report_failures(rt, out.failures(), status)
 }
 
 /// Whether these bytes have a line that is not an entry.

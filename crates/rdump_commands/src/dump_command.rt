@@ -3,11 +3,11 @@ ghost use Rattle.std.specs.Prelude.{◌≡◌, IfErr, IfSome};
 ghost use Rattle.rdump_commands.specs.Status.{IsStatus};
 
 use crate::ClientSystem;
+use crate::checkpoint_dump::dump_from;
 use crate::dump_end::report_end;
-use crate::dump_start::{DumpStart, refuse_files, refuse_stranger};
+use crate::dump_start::{DumpStart, refuse_files, refuse_unknown_new};
 use crate::dumping::run_printed;
-use crate::fault::{FAILED, NO_DUMPDATES, refuse_run, report, report_no_memory, say};
-use crate::going_on::dump_from;
+use crate::fault::{FAILED, NO_DUMPDATES, print_fault, refuse_run, report, report_no_memory};
 use dump_client::{Blocks, Client};
 use dumpdates::DatesFault;
 use file_medium::FileMedium;
@@ -67,7 +67,7 @@ fn dump_opened<R: ClientSystem, T: Write + Copy + Drop>(
         Ok(Some(bytes)) => {
             dump_medium(rt, line, MemoryMedium::from_bytes(bytes), start, terminal)
         }
-        Ok(None) => say(rt, line.payload, "its length changed while it was read"),
+        Ok(None) => print_fault(rt, line.payload, "its length changed while it was read"),
         Err(error) => report(rt, line.payload, error),
     }
 }
@@ -84,7 +84,7 @@ fn dump_medium<R: ClientSystem, M: Medium + Drop, T: Write + Copy + Drop>(
 {
     let payload = match PayloadFile::open(medium, line.block) {
         Ok(payload) => payload,
-        Err(MediumFailed) => return say(rt, line.payload, "its length could not be read"),
+        Err(MediumFailed) => return print_fault(rt, line.payload, "its length could not be read"),
     };
     start.bytes = payload.len();
     match since_of(rt, line, start) {
@@ -128,7 +128,7 @@ fn since_in<R: ClientSystem>(
         },
         // The failed allocation is already printed.
         Err(DatesFault::OutOfMemory) => Err(FAILED),
-        Err(_) => Err(say(rt, line.dumpdates, NO_DUMPDATES)),
+        Err(_) => Err(print_fault(rt, line.dumpdates, NO_DUMPDATES)),
     }
 }
 
@@ -150,7 +150,7 @@ fn look_at_update<R: ClientSystem>(
         return Some(status);
     }
     let dates = ReplacedFile::new(rt, rt.alloc(), line.dumpdates);
-    refuse_stranger(rt, line.dumpdates, &dates)
+    refuse_unknown_new(rt, line.dumpdates, &dates)
 }
 
 /// Dumps a payload that builds on a dump of the date `since`, and returns the exit status.
@@ -167,7 +167,7 @@ fn dump_since<R: ClientSystem, M: Medium + Drop, T: Write + Copy + Drop>(
 {
     match line.date.or(seconds_now(rt)) {
         Some(date) => dump_at(rt, line, payload, start, RunDates { date, since }, terminal),
-        None => say(rt, "the clock", "it tells no date"),
+        None => print_fault(rt, "the clock", "it tells no date"),
     }
 }
 

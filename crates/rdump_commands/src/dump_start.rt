@@ -2,11 +2,11 @@
 ghost use Rattle.std.specs.Prelude.{◌≡◌, IfSome};
 
 use crate::ClientSystem;
-use crate::fault::{FAILED, report, report_no_memory, say};
+use crate::fault::{FAILED, print_fault, report, report_no_memory};
 use dumpdates::{Dates, DatesFault};
 use printable::plain;
 use rdump_args::DumpLine;
-use rdump_files::{DumpFile, DumpFiles, OneFile, PayloadLook, ReplacedFile, open_payload};
+use rdump_files::{DumpFile, DumpFiles, PayloadLook, ReplacedFile, SameFile, open_payload};
 use std::alloc::Global;
 use std::fs::{File, Metadata};
 use std::io;
@@ -93,7 +93,7 @@ pub(crate) fn refuse_files<R: ClientSystem>(
     rt: &R,
     line: &DumpLine<'_>,
     path: &str,
-    added: io::Result<Option<OneFile>>,
+    added: io::Result<Option<SameFile>>,
 ) -> Option<u8>
     ensures { IfSome result (λ status. status ≡ 1) }
 {
@@ -105,7 +105,7 @@ pub(crate) fn refuse_files<R: ClientSystem>(
 }
 
 /// Prints that the file at this path is also another one of the dump, and returns the exit status.
-fn refuse_one<R: ClientSystem>(rt: &R, line: &DumpLine<'_>, path: &str, one: OneFile) -> u8
+fn refuse_one<R: ClientSystem>(rt: &R, line: &DumpLine<'_>, path: &str, one: SameFile) -> u8
     ensures { result ≡ 1 }
 {
     let which = match one.file {
@@ -125,16 +125,16 @@ fn refuse_one<R: ClientSystem>(rt: &R, line: &DumpLine<'_>, path: &str, one: One
 
 /// If a file that no run left has the name of the new file, prints that and returns the exit
 /// status. Returns none otherwise.
-pub(crate) fn refuse_stranger<R: ClientSystem>(
+pub(crate) fn refuse_unknown_new<R: ClientSystem>(
     rt: &R,
     path: &str,
     file: &ReplacedFile<'_, R>,
 ) -> Option<u8>
     ensures { IfSome result (λ status. status ≡ 1) }
 {
-    match file.find_stranger() {
+    match file.find_unknown_new() {
         Ok(None) => None,
-        Ok(Some(new)) => Some(say(
+        Ok(Some(new)) => Some(print_fault(
             rt,
             new.as_str(),
             "it is not one that rdump left: it is not touched",

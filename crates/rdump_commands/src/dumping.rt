@@ -8,7 +8,7 @@ use crate::ClientSystem;
 use crate::asking::Asking;
 use crate::dump_end::report_end;
 use crate::dump_start::DumpStart;
-use crate::fault::{ABNORMAL, NO_DUMPDATES, ended, report_failed};
+use crate::fault::{ABNORMAL, NO_DUMPDATES, report_failed, report_failures};
 use crate::reporting_peer::ReportingPeer;
 use dump_client::{Blocks, Client};
 use dumpdates::DatesFault;
@@ -68,7 +68,7 @@ pub(crate) fn run_printed<R: ClientSystem, B: Blocks, T: Write + Copy + Drop>(
     let status = dump_over(rt, line, client, &mut peer, &mut operator, &mut out);
     let failures = out.failures();
     Dumped {
-        status: ended(rt, failures, status),
+        status: report_failures(rt, failures, status),
         is_printed: failures == 0,
     }
 }
@@ -140,7 +140,7 @@ pub(crate) fn run_kept<R: ClientSystem, B: Blocks, T: Write + Copy + Drop>(
         report_end(rt, line, start, client);
     }
     let failures = out.failures();
-    ended(rt, failures, status)
+    report_failures(rt, failures, status)
 }
 
 /// Does what remains after a dump with a checkpoint. Enters a complete dump if `line` asks for

@@ -19,7 +19,7 @@ pub(crate) const ABNORMAL: u8 = 3;
 pub(crate) const NO_DUMPDATES: &str = "it is no dumpdates file";
 
 /// Prints on standard error what failed and why, and returns the exit status.
-pub(crate) fn say<R: Eprint>(rt: &R, what: &str, why: &str) -> u8
+pub(crate) fn print_fault<R: Eprint>(rt: &R, what: &str, why: &str) -> u8
     ensures { result ≡ 1 }
 {
     let what = plain(what);
@@ -57,7 +57,7 @@ pub(crate) fn unwritten<R: Eprint>(rt: &R, status: u8) -> u8
 }
 
 /// Prints that standard output could not be written, if `failures` is not 0, and returns `status`.
-pub(crate) fn ended<R: Eprint>(rt: &R, failures: u64, status: u8) -> u8
+pub(crate) fn report_failures<R: Eprint>(rt: &R, failures: u64, status: u8) -> u8
     ensures { result ≡ status }
 {
     if failures > 0 {

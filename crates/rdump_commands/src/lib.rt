@@ -8,14 +8,14 @@
 #![tactic(auto)]
 
 mod asking;
-mod came;
+mod blocks_read;
+mod checkpoint_dump;
 mod dates_command;
 mod dump_command;
 mod dump_end;
 mod dump_start;
 mod dumping;
 mod fault;
-mod going_on;
 mod label_text;
 mod last_reply;
 mod mt_command;

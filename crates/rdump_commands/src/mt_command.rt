@@ -4,7 +4,7 @@ ghost use Rattle.rdump_args.specs.Rdump.{IsMtLine};
 
 use crate::ClientSystem;
 use crate::fault::{ABNORMAL, report_failed, unwritten};
-use crate::shown::may_be_shown;
+use crate::shown::may_be_terminal;
 use printable::{PlainBytes, plain};
 use rdump_args::MtLine;
 use rdump_net::{SocketPeer, mt};
@@ -34,7 +34,7 @@ pub fn run_mt<R: ClientSystem>(rt: &R, line: MtLine<'_>) -> u8
 /// Prints a reply of one line.
 fn print_answer<R: ClientSystem>(rt: &R, answer: &[u8]) -> io::Result<()> {
     match answer.strip_suffix(b"\n") {
-        Some(line) if may_be_shown(rt) => rt.println(PlainBytes(line)),
+        Some(line) if may_be_terminal(rt) => rt.println(PlainBytes(line)),
         _ => io::writer(rt).write_all(answer),
     }
 }

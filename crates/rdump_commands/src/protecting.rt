@@ -12,7 +12,7 @@ use std::io;
 
 /// Why an attempt must not begin.
 #[derive(Drop)]
-pub(crate) enum Held {
+pub(crate) enum AttemptRefusal {
     /// The reel begins like this, and is not of this dump.
     Protected(ReelFront, Protection),
     /// The look failed.
@@ -22,28 +22,28 @@ pub(crate) enum Held {
 /// Looks at the first reel of the drive that `line` names, over a connection of its own. Returns
 /// why the dump of `line` must not write on it. Returns none if it may: the reel is empty, or
 /// begins with a label of the name, level and date in `line`.
-pub(crate) fn find_hold<R: ClientSystem>(
+pub(crate) fn find_obstacle<R: ClientSystem>(
     rt: &R,
     line: &DumpLine<'_>,
     peer: &mut SocketPeer<'_, R>,
-) -> Option<Held> {
+) -> Option<AttemptRefusal> {
     let device = line.device.as_bytes();
     if !is_device(device) {
         // A run has no such device, so this never happens. Without a look, no attempt is made.
-        return Some(Held::Failed(LookFault::NoReply(CallFault::Botched)));
+        return Some(AttemptRefusal::Failed(LookFault::NoReply(CallFault::Botched)));
     }
     match look_at_reel(rt.alloc(), peer, device) {
         Ok(front) => protection_of(line, front),
-        Err(fault) => Some(Held::Failed(fault)),
+        Err(fault) => Some(AttemptRefusal::Failed(fault)),
     }
 }
 
 /// Returns why the dump of `line` must not write on a reel that begins like this.
-fn protection_of(line: &DumpLine<'_>, front: ReelFront) -> Option<Held> {
+fn protection_of(line: &DumpLine<'_>, front: ReelFront) -> Option<AttemptRefusal> {
     // Without a date, this takes one that no label has.
     let date = line.date.unwrap_or(u64::MAX);
     let protection = find_protection(&front, line.fs, line.level, date)?;
-    Some(Held::Protected(front, protection))
+    Some(AttemptRefusal::Protected(front, protection))
 }
 
 /// Prints why an attempt must not begin. `failure` is the system's error, if the connection of the
@@ -51,12 +51,17 @@ fn protection_of(line: &DumpLine<'_>, front: ReelFront) -> Option<Held> {
 pub(crate) fn report_held<R: Eprint>(
     rt: &R,
     line: &DumpLine<'_>,
-    held: &Held,
+    held: &AttemptRefusal,
     failure: Option<&io::Error>,
 ) {
     match held {
-        Held::Protected(front, protection) => report_protected(rt, line, front, *protection),
-        Held::Failed(fault) => report_unfound(rt, line.to, *fault, failure),
+        AttemptRefusal::Protected(front, protection) => report_protected(
+            rt,
+            line,
+            front,
+            *protection,
+        ),
+        AttemptRefusal::Failed(fault) => report_unfound(rt, line.to, *fault, failure),
     }
 }
 

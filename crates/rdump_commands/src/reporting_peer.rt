@@ -3,7 +3,7 @@ ghost use Rattle.std.specs.Prelude.{◌≤◌, length};
 
 use crate::ClientSystem;
 use crate::last_reply::LastReply;
-use crate::protecting::{find_hold, refusal, report_held};
+use crate::protecting::{find_obstacle, refusal, report_held};
 use dump_client::AttemptFault;
 use dump_run::VolumeLabel;
 use jiff::Timestamp;
@@ -69,7 +69,7 @@ impl<'a, R: ClientSystem, T: Write> ReportingPeer<'a, R, T> {
 
     /// Looks at the reel. Returns whether the dump may write on it, and prints why if not.
     fn look(&mut self) -> bool {
-        let Some(held) = find_hold(self.rt, &self.line, &mut self.looks) else {
+        let Some(held) = find_obstacle(self.rt, &self.line, &mut self.looks) else {
             return true;
         };
         self.clear();

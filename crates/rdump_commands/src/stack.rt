@@ -3,7 +3,7 @@ ghost use Rattle.rdump_commands.specs.Status.{IsReadStatus};
 ghost use Rattle.rdump_args.specs.Rdump.{IsReadLine};
 
 use crate::ClientSystem;
-use crate::came::{BlockRange, CameBlocks};
+use crate::blocks_read::{BlockRange, BlocksRead};
 use crate::fault::{ABNORMAL, report_no_memory};
 use crate::out_file::OutFile;
 use crate::read_command::finish_file;
@@ -18,10 +18,10 @@ pub(crate) fn read_stack<R: ClientSystem>(rt: &R, line: &ReadLine<'_>, file: &Ou
     requires { IsReadLine line.now }
     ensures { IsReadStatus result }
 {
-    let mut came = CameBlocks::new(rt.alloc());
-    let end = read_volumes(rt, line, file, &mut came);
+    let mut blocks_read = BlocksRead::new(rt.alloc());
+    let end = read_volumes(rt, line, file, &mut blocks_read);
     let below = end_of_length(line.length, file.block());
-    let has_gap = report_came(rt, came.sorted(), file.was_empty(), below);
+    let has_gap = report_blocks_read(rt, blocks_read.sorted(), file.was_empty(), below);
     match end {
         ReadEnd::Whole | ReadEnd::Failed => ABNORMAL,
         ReadEnd::NoReel => end_stack(rt, line, file, has_gap),
@@ -92,14 +92,14 @@ fn read_volumes<R: ClientSystem>(
     rt: &R,
     line: &ReadLine<'_>,
     file: &OutFile,
-    came: &mut CameBlocks,
+    blocks_read: &mut BlocksRead,
 ) -> ReadEnd
     requires { IsReadLine line.now }
 {
     let mut dump = None;
     for _ in 0..u64::MAX {
         let read = read_volume(rt, line, dump.as_ref(), file);
-        if !count(rt, &read, came) {
+        if !count(rt, &read, blocks_read) {
             return ReadEnd::Failed;
         }
         if read.end != ReadEnd::Whole {
@@ -120,27 +120,32 @@ fn first_of(dump: Option<VolumeLabel>, label: Option<VolumeLabel>) -> Option<Vol
 
 /// Counts the blocks of a volume that were written. Returns false only if an allocation fails,
 /// which is printed.
-fn count<R: ClientSystem>(rt: &R, read: &VolumeRead, came: &mut CameBlocks) -> bool {
+fn count<R: ClientSystem>(rt: &R, read: &VolumeRead, blocks_read: &mut BlocksRead) -> bool {
     let Some(label) = &read.label else {
         return true;
     };
-    if came.add(label.first(), read.count).is_err() {
+    if blocks_read.add(label.first(), read.count).is_err() {
         report_no_memory(rt);
         return false;
     }
     true
 }
 
-/// Prints which blocks are missing between those in `came`, which are in order, below block
+/// Prints which blocks are missing between those in `blocks_read`, which are in order, below block
 /// `below`. If the file was empty, the blocks before the first one are missing too. Otherwise
 /// another run may have read those, so only the number of the first block is printed. Returns
 /// whether any are missing.
-fn report_came<R: ClientSystem>(rt: &R, came: &[BlockRange], was_empty: bool, below: u64) -> bool {
-    match came.first() {
-        Some(_) if was_empty => report_gaps(rt, came, 0, below),
+fn report_blocks_read<R: ClientSystem>(
+    rt: &R,
+    blocks_read: &[BlockRange],
+    was_empty: bool,
+    below: u64,
+) -> bool {
+    match blocks_read.first() {
+        Some(_) if was_empty => report_gaps(rt, blocks_read, 0, below),
         Some(range) => {
             report_first(rt, range.first);
-            report_gaps(rt, came, range.first, below)
+            report_gaps(rt, blocks_read, range.first, below)
         }
         None => false,
     }
@@ -153,12 +158,12 @@ fn report_first<R: ClientSystem>(rt: &R, first: u64) {
     }
 }
 
-/// Prints which blocks are missing between block `from` and the ranges in `came`, which are in
+/// Prints which blocks are missing between block `from` and the ranges in `blocks_read`, which are in
 /// order, below block `below`. Returns whether any are missing.
-fn report_gaps<R: ClientSystem>(rt: &R, came: &[BlockRange], from: u64, below: u64) -> bool {
+fn report_gaps<R: ClientSystem>(rt: &R, blocks_read: &[BlockRange], from: u64, below: u64) -> bool {
     let mut end = from;
     let mut has_gap = false;
-    for range in came {
+    for range in blocks_read {
         let next = range.first.min(below);
         if next > end {
             report_gap(rt, end, next - 1);

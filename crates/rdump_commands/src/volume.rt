@@ -7,7 +7,7 @@ use crate::fault::{ABNORMAL, report_failed, unwritten};
 use crate::label_text::{LabelFilter, LabelKind, LabelText};
 use crate::out_file::{BlockFault, OutFile};
 use crate::reel_peer::{ReelPeer, ReelState};
-use crate::shown::may_be_shown;
+use crate::shown::may_be_terminal;
 use crate::volume_blocks::{BlockSizes, VolumeBlocks};
 use dump_run::VolumeLabel;
 use printable::plain;
@@ -48,7 +48,7 @@ pub(crate) struct VolumeRead {
 
 /// The result of one connection.
 #[derive(Drop)]
-struct Came {
+struct VolumeOutcome {
     read: Result<(), ReadFault>,
     found: LabelKind,
     sizes: BlockSizes,
@@ -69,24 +69,24 @@ pub(crate) fn read_volume<R: ClientSystem>(
     let first = Cell::new(None);
     let mut peer = ReelPeer::new(rt, line.to, file, &first);
     let mut blocks = Counted::new(VolumeBlocks::new(file, &first));
-    let (is_shown, wanted) = (may_be_shown(rt), wanted_of(line, dump));
+    let (is_shown, wanted) = (may_be_terminal(rt), wanted_of(line, dump));
     let mut out = Counted::new(LabelText::new(io::writer(rt), is_shown, wanted, &first));
     let device = line.device.as_bytes();
     let after = after_of(line);
     let read = copy_volume(rt.alloc(), &mut peer, device, after, &mut blocks, &mut out);
-    let came = Came {
+    let blocks_read = VolumeOutcome {
         read,
         found: out.into_inner().into_found(),
         sizes: blocks.into_inner().sizes(),
         reel: peer.reel(),
     };
-    let end = match end_behind(rt, line, dump, &came) {
+    let end = match end_behind(rt, line, dump, &blocks_read) {
         Some(end) => end,
-        None => report_volume(rt, line, &came, file, peer.failure()),
+        None => report_volume(rt, line, &blocks_read, file, peer.failure()),
     };
     VolumeRead {
-        count: came.sizes.count,
-        label: into_label(came.found),
+        count: blocks_read.sizes.count,
+        label: into_label(blocks_read.found),
         end,
     }
 }
@@ -117,17 +117,17 @@ fn end_behind<R: ClientSystem>(
     rt: &R,
     line: &ReadLine<'_>,
     dump: Option<&VolumeLabel>,
-    came: &Came,
+    blocks_read: &VolumeOutcome,
 ) -> Option<ReadEnd>
     requires { IsReadLine line.now }
 {
     if dump.is_none() {
         return None;
     }
-    if has_no_reel(came.read) {
+    if has_no_reel(blocks_read.read) {
         return Some(ReadEnd::NoReel);
     }
-    if has_no_record(came) && is_blank(rt, line) {
+    if has_no_record(blocks_read) && is_blank(rt, line) {
         let _ = eprintln!(rt; "the next reel gives no record");
         return Some(ReadEnd::NoRecord);
     }
@@ -136,8 +136,8 @@ fn end_behind<R: ClientSystem>(
 
 /// Whether the read succeeded without a record. After a record with an empty text the read failed,
 /// since the reel was to be moved to the bin and was kept.
-fn has_no_record(came: &Came) -> bool {
-    match (&came.found, came.read) {
+fn has_no_record(blocks_read: &VolumeOutcome) -> bool {
+    match (&blocks_read.found, blocks_read.read) {
         (LabelKind::Nothing, Ok(())) => true,
         _ => false,
     }
@@ -181,31 +181,31 @@ fn into_label(found: LabelKind) -> Option<VolumeLabel> {
 fn report_volume<R: ClientSystem>(
     rt: &R,
     line: &ReadLine<'_>,
-    came: &Came,
+    blocks_read: &VolumeOutcome,
     file: &OutFile,
     failure: Option<&io::Error>,
 ) -> ReadEnd {
-    if has_come(line, &came.found) {
+    if has_come(line, &blocks_read.found) {
         file.begin();
     }
-    let has_begun = has_come(line, &came.found) || (!line.place && file.has_begun());
+    let has_begun = has_come(line, &blocks_read.found) || (!line.place && file.has_begun());
     if has_begun {
-        report_sizes(rt, came.sizes);
+        report_sizes(rt, blocks_read.sizes);
     }
-    let is_foreign = is_foreign(came, has_begun);
+    let is_foreign = is_foreign(blocks_read, has_begun);
     if is_foreign {
         let _ = eprintln!(rt; "not a volume of rdump");
     }
-    if let LabelKind::OtherDump(label) = &came.found {
+    if let LabelKind::OtherDump(label) = &blocks_read.found {
         return report_other(rt, line.to, label);
     }
     if is_foreign && line.place {
         return ReadEnd::Failed;
     }
     let fault = file.take_fault();
-    let end = end_of(rt, line, came.read, fault.as_ref(), failure);
+    let end = end_of(rt, line, blocks_read.read, fault.as_ref(), failure);
     if line.all {
-        report_reel(rt, came);
+        report_reel(rt, blocks_read);
     }
     end
 }
@@ -221,12 +221,12 @@ fn has_come(line: &ReadLine<'_>, found: &LabelKind) -> bool {
 
 /// Whether the reel was read, and does not begin with a label of `rdump`. A missing mark also shows
 /// that there was a record, since a mark is only looked for after one.
-fn is_foreign(came: &Came, has_begun: bool) -> bool {
-    match (&came.found, came.read) {
+fn is_foreign(blocks_read: &VolumeOutcome, has_begun: bool) -> bool {
+    match (&blocks_read.found, blocks_read.read) {
         (LabelKind::Label(_) | LabelKind::OtherDump(_), _) => false,
         (LabelKind::Foreign, _) | (_, Ok(())) => true,
         (_, Err(ReadFault::OutputFailed | ReadFault::NoMark | ReadFault::Undetermined)) => true,
-        _ => has_begun || came.reel == ReelState::Kept,
+        _ => has_begun || blocks_read.reel == ReelState::Kept,
     }
 }
 
@@ -304,11 +304,11 @@ fn report_read<R: ClientSystem>(rt: &R, to: &str, fault: ReadFault, failure: Opt
 }
 
 /// Prints where the reel is, if the server was asked to move it to the bin.
-fn report_reel<R: ClientSystem>(rt: &R, came: &Came) {
-    if came.reel != ReelState::Asked {
+fn report_reel<R: ClientSystem>(rt: &R, blocks_read: &VolumeOutcome) {
+    if blocks_read.reel != ReelState::Asked {
         return;
     }
-    let _ = match came.read {
+    let _ = match blocks_read.read {
         Ok(()) => eprintln!(rt; "the reel is in the bin"),
         Err(
             ReadFault::Refused {

@@ -10,7 +10,7 @@ use Rattle.dump_run.specs.declared.count.VolumeCount.{VolumeCount}
 use Rattle.dump_client.specs.declared.stage.Stage.{Stage}
 use Rattle.dump_client.specs.declared.stage.Stage.TheVariants.{Ready, ToSend, Waiting, Asking, Finished, Abandoned}
 use Rattle.rdump_net.specs.Lines.{IsDumped, IsLast}
-use Rattle.rdump_files.specs.Entering.{dates_entry_of, sinks, DumpSinks, IsEntered, IsUncaused, IsUpdateTold, IsDumpEntered}
+use Rattle.rdump_files.specs.Entering.{dates_entry_of, sinks, DumpSinks, IsEntered, IsUncaused, IsUpdateReported, IsDumpEntered}
 use Rattle.rdump_files.specs.Updating.{IsUpdated}
 use Rattle.rdump_files.specs.WholeFile.{WholeFileKind}
 use Rattle.rdump_files.specs.declared.dates_update.UpdateFault.{UpdateFault}
@@ -67,7 +67,7 @@ not_entered {at = at} t u = record {
 
 pub entered_so : {W F : Type 0} {contents : W → Option (List ℕ)} {k : WholeFileKind F} {at : Standing} {out out' : Counting W} {old new : F} {end : DumpEnd}
     (entry : Entry) (result : Result Unit UpdateFault) → TellsEntry at.stage at.run (Some entry) → IsUpdated k (plain_entry entry) old new result
-    → IsUpdateTold contents result out out' end → IsEntered contents k at (sinks out old) (sinks out' new) end
+    → IsUpdateReported contents result out out' end → IsEntered contents k at (sinks out old) (sinks out' new) end
 entered_so {k = k} {at} {old = old} {new} entry result t u l = record {
   unfinished = λ other. absurd (other (some_finished at.stage at.run entry t));
   enters = λ e. (result, subst (λ x. IsUpdated k x old new result) (entry_told at.stage at.run entry e t) u, l);

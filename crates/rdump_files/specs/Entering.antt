@@ -23,9 +23,9 @@ IsUncaused end status = (end.status ≡ status) × (end.fault ≡ None)
 
 -- The end of a dump after its update. If the dump was not entered, the line was printed, the status
 -- is 3 and the fault is given.
-abbrev pub IsUpdateTold : {W : Type 0} → (W → Option (List ℕ)) → Result Unit UpdateFault → Counting W → Counting W → DumpEnd → Type 0
-IsUpdateTold contents (Ok x) out out' end = (out' ≡ out) × IsUncaused end 0
-IsUpdateTold contents (Err fault) out out' end =
+abbrev pub IsUpdateReported : {W : Type 0} → (W → Option (List ℕ)) → Result Unit UpdateFault → Counting W → Counting W → DumpEnd → Type 0
+IsUpdateReported contents (Ok x) out out' end = (out' ≡ out) × IsUncaused end 0
+IsUpdateReported contents (Err fault) out out' end =
     ((whole : Bool) × IsPrinted contents (codes "dumpdates not updated\n") out out' whole) × (end.status ≡ 3) × (end.fault ≡ Some fault)
 
 -- the output of a dump, and the dumpdates file in which it is entered
@@ -42,7 +42,7 @@ pub record IsEntered {W F : Type 0} (contents : W → Option (List ℕ)) (k : Wh
     (end : DumpEnd) : Type 0 where
   pub unfinished : at.stage ≢ Finished → (new ≡ old) × IsUncaused end 3
   pub enters : at.stage ≡ Finished → (result : Result Unit UpdateFault)
-      × IsUpdated k (dates_entry_of at.run) old.file new.file result × IsUpdateTold contents result old.out new.out end
+      × IsUpdated k (dates_entry_of at.run) old.file new.file result × IsUpdateReported contents result old.out new.out end
 
 -- A dump, and then its entry. If the dump ends with a status other than 0, the file is unchanged
 -- and no fault is given. A status of 0 means that the run is finished and all was printed. Its
@@ -54,4 +54,4 @@ pub record IsDumpEntered {W F : Type 0} (contents : W → Option (List ℕ)) (k 
   pub dumped : IsDumped contents first at old.out told ended
   pub left : ended ≢ 0 → (new ≡ sinks told old.file) × IsUncaused end ended
   pub enters : ended ≡ 0 → (at.stage ≡ Finished) × ((result : Result Unit UpdateFault)
-      × IsUpdated k (dates_entry_of at.run) old.file new.file result × IsUpdateTold contents result told new.out end)
+      × IsUpdated k (dates_entry_of at.run) old.file new.file result × IsUpdateReported contents result told new.out end)

@@ -8,7 +8,7 @@ use Rattle.tape.specs.declared.medium.MediumFailed.{MediumFailed}
 use Rattle.dump_run.specs.Blocks.{cut_blocks}
 use Rattle.dump_run.specs.declared.blocks.SourceFailed.{SourceFailed}
 use Rattle.dump_run.specs.Run.{PlainRun, plain_run, IsFirstBroken}
-use Rattle.rdump_args.specs.declared.run_line.DumpLine.{DumpLine}
+use Rattle.rdump_args.specs.declared.dump_line.DumpLine.{DumpLine}
 use Rattle.rdump_files.specs.declared.payload.DumperFault.{DumperFault}
 use Rattle.rdump_files.specs.declared.payload.DumperFault.TheVariants.{Run, OutOfMemory}
 

@@ -26,7 +26,7 @@ pub enum DumpFile {
 
 /// Two of the files of a dump that are the same file.
 #[derive(Clone, Copy, Debug, PartialEq, Eq)]
-pub struct OneFile {
+pub struct SameFile {
     /// The file that was to be added.
     pub file: DumpFile,
     /// The file, added before, that is the same.
@@ -144,7 +144,7 @@ impl DumpFiles {
         alloc: Global,
         path: &str,
         is_updated: bool,
-    ) -> io::Result<Option<OneFile>> {
+    ) -> io::Result<Option<SameFile>> {
         let dates = FileId::of_path(rt, alloc, path)?;
         let same = self.add(DumpFile::Dates, dates)?;
         if same.is_some() || !is_updated {
@@ -160,7 +160,7 @@ impl DumpFiles {
         rt: &R,
         alloc: Global,
         path: &str,
-    ) -> io::Result<Option<OneFile>> {
+    ) -> io::Result<Option<SameFile>> {
         let checkpoint = FileId::of_path(rt, alloc, path)?;
         let same = self.add(DumpFile::Checkpoint, checkpoint)?;
         if same.is_some() {
@@ -172,12 +172,12 @@ impl DumpFiles {
 
     /// Adds a file, if it has an identity and differs from all that were added before. Otherwise
     /// returns the two that are the same.
-    fn add(&mut self, file: DumpFile, id: Option<FileId>) -> io::Result<Option<OneFile>> {
+    fn add(&mut self, file: DumpFile, id: Option<FileId>) -> io::Result<Option<SameFile>> {
         let Some(id) = id else {
             return Ok(None);
         };
         if let Some(other) = self.find(&id) {
-            return Ok(Some(OneFile { file, other }));
+            return Ok(Some(SameFile { file, other }));
         }
         self.known.push((file, id))?;
         Ok(None)

@@ -1,8 +1,8 @@
 //! Dumps, and enters a complete dump in a dumpdates file.
 ghost use Rattle.std.specs.Prelude.{◌≡◌, None};
-ghost use Rattle.rdump_files.specs.Entering.{IsDumpEntered, IsEntered, IsUpdateTold, sinks};
+ghost use Rattle.rdump_files.specs.Entering.{IsDumpEntered, IsEntered, IsUpdateReported, sinks};
 ghost use Rattle.rdump_files.specs.WholeFile.{whole_file};
-ghost use Rattle.rdump_net.specs.Talk.{Anywhere, TalksOver};
+ghost use Rattle.rdump_net.specs.Talk.{FromAny, TalksOver};
 
 use crate::{UpdateFault, WholeFile, update};
 use dump_client::{Blocks, Client};
@@ -41,7 +41,7 @@ pub fn dump_and_update<B: Blocks, P: Peer, R: Read, W: Write, F: WholeFile>(
     out: &mut Counted<W>,
     file: &mut F,
 ) -> DumpEnd
-    ensures talks { TalksOver B.holds Anywhere P.tells client.old client.new peer.old peer.new }
+    ensures talks { TalksOver B.holds FromAny P.tells client.old client.new peer.old peer.new }
     ensures entered { IsDumpEntered W.contents (whole_file F.gives F.takes) client.old.at.counts client.new.at
         (sinks out.old file.old) (sinks out.new file.new) result }
 {
@@ -84,7 +84,7 @@ fn unentered(status: u8) -> DumpEnd
 
 /// Prints that a complete dump was not entered, if so, and returns its end.
 fn print_update<W: Write>(updated: Result<(), UpdateFault>, out: &mut Counted<W>) -> DumpEnd
-    ensures { IsUpdateTold W.contents updated out.old out.new result }
+    ensures { IsUpdateReported W.contents updated out.old out.new result }
 {
     match updated {
         Ok(()) => unentered(COMPLETE),

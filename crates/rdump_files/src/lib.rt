@@ -31,7 +31,7 @@ mod whole_file;
 pub use ctime::date_text;
 pub use dates_file::{base_date, dates};
 pub use dates_update::{UpdateFault, update};
-pub use dump_files::{DumpFile, DumpFiles, OneFile};
+pub use dump_files::{DumpFile, DumpFiles, SameFile};
 pub use dump_update::{DumpEnd, dump_and_update, enter_dump};
 pub use files::{read_or_empty, read_steady, seconds_now};
 pub use left::{is_left_checkpoint, is_left_dates};

@@ -94,7 +94,7 @@ impl<R: Files<File = File>> Drop for NewFile<'_, R> {
             placed,
         } = self;
         if !placed {
-            take_back(rt, path.as_str(), &file);
+            remove_own(rt, path.as_str(), &file);
         }
     }
 }
@@ -111,7 +111,7 @@ impl<'a, R: Files<File = File> + Clock> NewFile<'a, R> {
             if let Some(new) = NewFile::try_make(rt, alloc, path, form)? {
                 return Ok(new);
             }
-            take_away(rt, alloc, path, form)?;
+            remove_leftover(rt, alloc, path, form)?;
             if began.elapsed(rt)?.as_secs() >= WAIT_SECONDS {
                 break;
             }
@@ -166,7 +166,7 @@ impl<'a, R: Files<File = File> + Clock> NewFile<'a, R> {
             })),
             Ok(false) => Ok(None),
             Err(error) => {
-                take_back(rt, path.as_str(), &file);
+                remove_own(rt, path.as_str(), &file);
                 Err(error)
             }
         }
@@ -241,7 +241,7 @@ impl<'a, R: Files<File = File>> NewFile<'a, R> {
         let path = self.named();
         if has_name(self.rt, path, &self.file)? {
             fs::remove_file(self.rt, path)?;
-            self.settle();
+            self.sync_folder_of();
             return Ok(());
         }
         match found_at(self.rt, path)? {
@@ -274,7 +274,7 @@ impl<'a, R: Files<File = File>> NewFile<'a, R> {
 
     /// Syncs the folder, so that the new name survives a power loss. A failure is ignored, as the
     /// file has the name anyway.
-    pub(crate) fn settle(&self) {
+    pub(crate) fn sync_folder_of(&self) {
         let _ = sync_folder(self.rt, &self.named);
     }
 
@@ -331,7 +331,7 @@ fn of_new(alloc: Global, error: io::Error) -> io::Error {
 ///
 /// Fails if no run can have left it: it is a link or a folder, or contains something else. Fails if
 /// it cannot be opened, read or removed.
-fn take_away<R: Files<File = File>>(
+fn remove_leftover<R: Files<File = File>>(
     rt: &R,
     alloc: Global,
     path: &str,
@@ -339,7 +339,7 @@ fn take_away<R: Files<File = File>>(
 ) -> io::Result<()> {
     let named = named_file(rt, alloc, path)?;
     let path = beside(alloc, &named)?;
-    match take_left(rt, alloc, path.as_str(), form) {
+    match remove_leftover_at(rt, alloc, path.as_str(), form) {
         Ok(()) => Ok(()),
         Err(error) => Err(of_new(alloc, error)),
     }
@@ -347,7 +347,7 @@ fn take_away<R: Files<File = File>>(
 
 /// Removes the file that a run left at this path. Reads it under its lock, and checks its name
 /// again before the removal.
-fn take_left<R: Files<File = File>>(
+fn remove_leftover_at<R: Files<File = File>>(
     rt: &R,
     alloc: Global,
     path: &str,
@@ -370,7 +370,7 @@ fn take_left<R: Files<File = File>>(
 
 /// Returns the path of the new file for the file that `path` names, if a regular file that no run
 /// left is there. Returns none if nothing is there, or if another run has its lock.
-pub(crate) fn find_stranger<R: Files<File = File>>(
+pub(crate) fn find_unknown_new<R: Files<File = File>>(
     rt: &R,
     alloc: Global,
     path: &str,
@@ -449,7 +449,7 @@ fn has_name<R: Files<File = File>>(rt: &R, path: &str, file: &File) -> io::Resul
 }
 
 /// Removes a new file that this run created, if it still has its name.
-fn take_back<R: Files<File = File>>(rt: &R, path: &str, file: &File) {
+fn remove_own<R: Files<File = File>>(rt: &R, path: &str, file: &File) {
     if has_name(rt, path, file).unwrap_or(false) {
         let _ = fs::remove_file(rt, path);
     }

@@ -1,7 +1,7 @@
 //! A file on the file system that is replaced as a whole.
 
 use crate::files::read_if_there;
-use crate::new_file::{Form, NewFile, find_stranger};
+use crate::new_file::{Form, NewFile, find_unknown_new};
 use crate::{FileFailed, WholeFile};
 use rdump_net::Keeper;
 use std::alloc::Global;
@@ -85,8 +85,8 @@ impl<'a, R: Files<File = File> + Clock> ReplacedFile<'a, R> {
     /// created.
     ///
     /// Fails only if an allocation fails.
-    pub fn find_stranger(&self) -> io::Result<Option<String>> {
-        match find_stranger(self.rt, self.alloc, self.path, self.form) {
+    pub fn find_unknown_new(&self) -> io::Result<Option<String>> {
+        match find_unknown_new(self.rt, self.alloc, self.path, self.form) {
             Err(error) if error.kind() != ErrorKind::OutOfMemory => Ok(None),
             found => found,
         }
@@ -160,7 +160,7 @@ impl<'a, R: Files<File = File> + Clock> ReplacedFile<'a, R> {
             Form::Checkpoint => {
                 new.check_place(self.placed.as_ref())?;
                 new.put(text)?;
-                new.settle();
+                new.sync_folder_of();
                 self.placed = Some(new);
                 Ok(())
             }
@@ -173,7 +173,7 @@ impl<'a, R: Files<File = File> + Clock> ReplacedFile<'a, R> {
 fn put_unlocked<R: Files<File = File>>(mut new: NewFile<'_, R>, text: &[u8]) -> io::Result<()> {
     new.put(text)?;
     new.unlock();
-    new.settle();
+    new.sync_folder_of();
     Ok(())
 }
 

@@ -1,3 +1,3 @@
 -- Words: the verdict on a reel; Status: the exit statuses.
-pub mod Words
+pub mod Verdict
 pub mod Status

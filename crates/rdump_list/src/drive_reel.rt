@@ -4,7 +4,7 @@
 //! returns nothing met a mark or the end.
 ghost use Rattle.rmt_wire.specs.Number.{IsLine};
 
-use crate::spacing::{Stop, can_space, next_record, no_reply, rewind, space};
+use crate::spacing::{ReadStop, can_space, next_record, no_reply, rewind, space};
 use crate::undetermined::Undetermined;
 use rdump_net::{KeptReply, Peer, PeerCaller, ReadFault, VolumeRequest};
 use reel_check::{Holding, ReelTally};
@@ -38,8 +38,8 @@ pub(crate) fn read_drive<P: Peer>(
     peer.hang_up();
     match told {
         Ok(()) => Ok(None),
-        Err(Stop::Undetermined(why)) => Ok(Some(why)),
-        Err(Stop::Fault(fault)) => Err(fault),
+        Err(ReadStop::Undetermined(why)) => Ok(Some(why)),
+        Err(ReadStop::Fault(fault)) => Err(fault),
     }
 }
 
@@ -49,7 +49,7 @@ fn read_open<P: Peer>(
     peer: &mut P,
     device: &[u8],
     tally: &mut ReelTally,
-) -> Result<(), Stop>
+) -> Result<(), ReadStop>
     requires { IsLine device.now }
 {
     open(caller, peer, device)?;
@@ -59,7 +59,7 @@ fn read_open<P: Peer>(
 }
 
 /// Opens the drive for reading.
-fn open<P: Peer>(caller: &mut PeerCaller, peer: &mut P, device: &[u8]) -> Result<(), Stop>
+fn open<P: Peer>(caller: &mut PeerCaller, peer: &mut P, device: &[u8]) -> Result<(), ReadStop>
     requires { IsLine device.now }
 {
     let open = Request::Open {
@@ -68,12 +68,12 @@ fn open<P: Peer>(caller: &mut PeerCaller, peer: &mut P, device: &[u8]) -> Result
     };
     match caller.call(peer, &open) {
         Ok(KeptReply::Done { .. }) => Ok(()),
-        Ok(KeptReply::Error { number, .. }) => Err(Stop::Fault(ReadFault::Refused {
+        Ok(KeptReply::Error { number, .. }) => Err(ReadStop::Fault(ReadFault::Refused {
             asked: VolumeRequest::Open,
             number,
         })),
-        Ok(KeptReply::Data { .. }) => Err(Stop::Fault(ReadFault::Botched)),
-        Err(fault) => Err(Stop::Fault(no_reply(fault))),
+        Ok(KeptReply::Data { .. }) => Err(ReadStop::Fault(ReadFault::Botched)),
+        Err(fault) => Err(ReadStop::Fault(no_reply(fault))),
     }
 }
 
@@ -82,7 +82,7 @@ fn read_reel<P: Peer>(
     caller: &mut PeerCaller,
     peer: &mut P,
     tally: &mut ReelTally,
-) -> Result<(), Stop> {
+) -> Result<(), ReadStop> {
     rewind(caller, peer)?;
     read_records(caller, peer, tally)?;
     match tally.holding() {
@@ -97,7 +97,7 @@ fn read_records<P: Peer>(
     caller: &mut PeerCaller,
     peer: &mut P,
     tally: &mut ReelTally,
-) -> Result<(), Stop> {
+) -> Result<(), ReadStop> {
     for _ in 0..u64::MAX {
         let record = next_record(caller, peer)?;
         if record.is_empty() {
@@ -108,7 +108,7 @@ fn read_records<P: Peer>(
             return Ok(());
         }
     }
-    Err(Stop::Undetermined(Undetermined::TooManyRecords))
+    Err(ReadStop::Undetermined(Undetermined::TooManyRecords))
 }
 
 /// Looks for a mark at the beginning, after the first read returned nothing. If spacing over one is
@@ -117,10 +117,10 @@ fn look_for_mark<P: Peer>(
     caller: &mut PeerCaller,
     peer: &mut P,
     tally: &mut ReelTally,
-) -> Result<(), Stop> {
+) -> Result<(), ReadStop> {
     rewind(caller, peer)?;
     if !can_space(caller, peer, MTFSF)? {
-        return Err(Stop::Undetermined(Undetermined::NoRecord));
+        return Err(ReadStop::Undetermined(Undetermined::NoRecord));
     }
     tally.mark();
     Ok(())
@@ -132,7 +132,7 @@ fn look_after<P: Peer>(
     caller: &mut PeerCaller,
     peer: &mut P,
     tally: &mut ReelTally,
-) -> Result<(), Stop> {
+) -> Result<(), ReadStop> {
     if can_space(caller, peer, MTBSR)? {
         return Ok(());
     }
@@ -150,10 +150,14 @@ fn look_after<P: Peer>(
 }
 
 /// Moves to the place right after the mark that follows this many records.
-fn go_after_mark<P: Peer>(caller: &mut PeerCaller, peer: &mut P, records: u64) -> Result<(), Stop> {
+fn go_after_mark<P: Peer>(
+    caller: &mut PeerCaller,
+    peer: &mut P,
+    records: u64,
+) -> Result<(), ReadStop> {
     rewind(caller, peer)?;
     if records > u64::from(NUMBER_LIMIT) {
-        return Err(Stop::Undetermined(Undetermined::TooManyRecords));
+        return Err(ReadStop::Undetermined(Undetermined::TooManyRecords));
     }
     space(caller, peer, MTFSR, records as u32)?;
     space(caller, peer, MTFSF, 1)
@@ -162,7 +166,7 @@ fn go_after_mark<P: Peer>(caller: &mut PeerCaller, peer: &mut P, records: u64) -
 /// Whether the read right after the first mark, which returned nothing, passed a second one. If a
 /// record is right before the place that spacing back over one mark leads to, there is no second
 /// mark.
-fn has_second_mark<P: Peer>(caller: &mut PeerCaller, peer: &mut P) -> Result<bool, Stop> {
+fn has_second_mark<P: Peer>(caller: &mut PeerCaller, peer: &mut P) -> Result<bool, ReadStop> {
     space(caller, peer, MTBSF, 1)?;
     if can_space(caller, peer, MTBSR)? {
         return Ok(false);

@@ -1,6 +1,6 @@
 //! The volumes of a dump that are on the reels.
 use crate::reel::ListedReel;
-use crate::words::push_count;
+use crate::verdict::push_count;
 use dumpdates::Entry;
 use reel_check::Volume;
 use std::alloc::{AllocError, Global};

@@ -4,7 +4,7 @@ use crate::dump_found::DumpFound;
 use crate::fault::report;
 use crate::printer::Printer;
 use crate::reel::ListedReel;
-use crate::words::push_count;
+use crate::verdict::push_count;
 use dumpdates::{Dates, DatesFault, Entry};
 use printable::plain;
 use std::alloc::{AllocError, Global};

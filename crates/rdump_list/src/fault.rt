@@ -4,7 +4,7 @@ use std::alloc::AllocError;
 use std::io::{self, ErrorKind};
 
 /// Prints on standard error what failed, and why.
-pub(crate) fn say<R: Eprint>(rt: &R, what: &str, why: &str) {
+pub(crate) fn print_fault<R: Eprint>(rt: &R, what: &str, why: &str) {
     let what = plain(what);
     let _ = eprintln!(rt; "rdump: {what}: {why}");
 }

@@ -3,7 +3,7 @@
 //!
 //! `run_ls` is the whole command; it uses the runtime through `ListSystem`. It reads record files
 //! in place, and the first reel of a drive's stack over a connection. It writes to neither.
-//! `push_words` appends the verdict on a reel, and `is_whole` decides whether that is `whole`.
+//! `push_verdict` appends the verdict on a reel, and `is_whole` decides whether that is `whole`.
 #![tactic(auto)]
 
 mod drive;
@@ -22,8 +22,8 @@ mod spacing;
 mod status;
 mod system;
 mod undetermined;
-mod words;
+mod verdict;
 
 pub use list_command::run_ls;
 pub use system::ListSystem;
-pub use words::{is_whole, push_words};
+pub use verdict::{is_whole, push_verdict};

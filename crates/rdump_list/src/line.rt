@@ -1,6 +1,6 @@
 //! The line that is printed for a reel.
 use crate::reel::{ListedReel, Source};
-use crate::words::{push_count, push_words};
+use crate::verdict::{push_count, push_verdict};
 use printable::plain_char;
 use reel_check::{Holding, ReelContents, Volume};
 use std::alloc::AllocError;
@@ -13,11 +13,11 @@ pub(crate) fn push_line(text: &mut Vec<u8>, reel: &ListedReel) -> Result<(), All
     match reel.source {
         Source::File => {
             push_contents(text, &reel.contents)?;
-            push_words(text, &reel.contents)?;
+            push_verdict(text, &reel.contents)?;
         }
         Source::Drive => {
             push_drive(text, reel)?;
-            push_words(text, &reel.contents)?;
+            push_verdict(text, &reel.contents)?;
         }
         Source::Undetermined(why) => {
             push_drive(text, reel)?;

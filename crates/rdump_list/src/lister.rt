@@ -1,6 +1,6 @@
 //! Record files, read in place.
 use crate::ListSystem;
-use crate::fault::{report, say};
+use crate::fault::{print_fault, report};
 use crate::folder::names_in;
 use crate::reel::{ListedReel, Source};
 use file_medium::FileMedium;
@@ -51,7 +51,7 @@ impl<'a, R: ListSystem> Lister<'a, R> {
             Ok(found) if found.is_dir() => self.read_folder(path),
             Ok(found) if found.is_file() => self.read_file(path),
             Ok(_) => {
-                self.say(path, NO_FILE);
+                self.print_fault(path, NO_FILE);
                 Ok(())
             }
             Err(error) => self.report(path, error),
@@ -76,7 +76,7 @@ impl<'a, R: ListSystem> Lister<'a, R> {
                     let path = format!(in self.rt.alloc(); "{folder}{between}{name}")?;
                     self.read_listed(path.as_str())?;
                 }
-                Err(_) => self.say(folder, "a name in it is not UTF-8"),
+                Err(_) => self.print_fault(folder, "a name in it is not UTF-8"),
             }
         }
         Ok(())
@@ -97,7 +97,7 @@ impl<'a, R: ListSystem> Lister<'a, R> {
         match self.contents_of(path) {
             Ok(Some(contents)) => self.keep(path, contents),
             Ok(None) => {
-                self.say(path, "it could not be read");
+                self.print_fault(path, "it could not be read");
                 Ok(())
             }
             Err(error) => self.report(path, error),
@@ -127,9 +127,9 @@ impl<'a, R: ListSystem> Lister<'a, R> {
     }
 
     /// Prints why a path cannot be read, and remembers the failure.
-    fn say(&mut self, path: &str, why: &str) {
+    fn print_fault(&mut self, path: &str, why: &str) {
         self.has_failed = true;
-        say(self.rt, path, why);
+        print_fault(self.rt, path, why);
     }
 
     /// Prints the system's reason why a path cannot be read, and remembers the failure. Fails if

@@ -1,6 +1,6 @@
 //! A listed reel.
 use crate::undetermined::Undetermined;
-use crate::words::is_whole;
+use crate::verdict::is_whole;
 use reel_check::{Holding, ReelContents, Volume, VolumeEnd};
 
 /// The source that a reel was read from.

@@ -3,14 +3,14 @@ ghost use Rattle.std.specs.Prelude.{◌≤◌};
 ghost use Rattle.rmt_wire.specs.declared.limits.TheConstants.{NUMBER_LIMIT};
 ghost use Rattle.rmt_wire.specs.declared.mtio.TheConstants.{MTNOP};
 
-use crate::undetermined::{Asked, Undetermined};
+use crate::undetermined::{DriveRequest, Undetermined};
 use rdump_net::{CallFault, KeptReply, Peer, PeerCaller, ReadFault};
 use rmt_wire::mtio::MTREW;
 use rmt_wire::{RECORD_LIMIT, Request};
 
 /// Why reading a reel stopped.
 #[derive(Clone, Copy)]
-pub(crate) enum Stop {
+pub(crate) enum ReadStop {
     /// Its contents cannot be determined, for this reason. The session is still open.
     Undetermined(Undetermined),
     /// There is no session, or it ended.
@@ -32,23 +32,23 @@ fn operate<P: Peer>(
     peer: &mut P,
     op: u32,
     count: u32,
-) -> Result<Option<u32>, Stop>
+) -> Result<Option<u32>, ReadStop>
     requires op { op ≤ MTNOP }
     requires count { count ≤ NUMBER_LIMIT }
 {
     match caller.call(peer, &Request::Op { op, count }) {
         Ok(KeptReply::Done { .. }) => Ok(None),
         Ok(KeptReply::Error { number, .. }) => Ok(Some(number)),
-        Ok(KeptReply::Data { .. }) => Err(Stop::Fault(ReadFault::Botched)),
-        Err(fault) => Err(Stop::Fault(no_reply(fault))),
+        Ok(KeptReply::Data { .. }) => Err(ReadStop::Fault(ReadFault::Botched)),
+        Err(fault) => Err(ReadStop::Fault(no_reply(fault))),
     }
 }
 
 /// Rewinds the reel. If that is refused, its contents cannot be determined.
-pub(crate) fn rewind<P: Peer>(caller: &mut PeerCaller, peer: &mut P) -> Result<(), Stop> {
+pub(crate) fn rewind<P: Peer>(caller: &mut PeerCaller, peer: &mut P) -> Result<(), ReadStop> {
     match operate(caller, peer, MTREW, 1)? {
         None => Ok(()),
-        Some(number) => Err(refused(Asked::Rewind, number)),
+        Some(number) => Err(refused(DriveRequest::Rewind, number)),
     }
 }
 
@@ -58,13 +58,13 @@ pub(crate) fn space<P: Peer>(
     peer: &mut P,
     op: u32,
     count: u32,
-) -> Result<(), Stop>
+) -> Result<(), ReadStop>
     requires op { op ≤ MTNOP }
     requires count { count ≤ NUMBER_LIMIT }
 {
     match operate(caller, peer, op, count)? {
         None => Ok(()),
-        Some(number) => Err(refused(Asked::Spacing, number)),
+        Some(number) => Err(refused(DriveRequest::Spacing, number)),
     }
 }
 
@@ -74,26 +74,29 @@ pub(crate) fn can_space<P: Peer>(
     caller: &mut PeerCaller,
     peer: &mut P,
     op: u32,
-) -> Result<bool, Stop>
+) -> Result<bool, ReadStop>
     requires { op ≤ MTNOP }
 {
     Ok(operate(caller, peer, op, 1)?.is_none())
 }
 
 /// Reads the next record. Returns nothing at a mark and at the end.
-pub(crate) fn next_record<P: Peer>(caller: &mut PeerCaller, peer: &mut P) -> Result<Vec<u8>, Stop> {
+pub(crate) fn next_record<P: Peer>(
+    caller: &mut PeerCaller,
+    peer: &mut P,
+) -> Result<Vec<u8>, ReadStop> {
     let read = Request::Read {
         count: RECORD_LIMIT as u32,
     };
     match caller.call(peer, &read) {
         Ok(KeptReply::Data { bytes }) => Ok(bytes),
-        Ok(KeptReply::Error { number, .. }) => Err(refused(Asked::Read, number)),
-        Ok(KeptReply::Done { .. }) => Err(Stop::Fault(ReadFault::Botched)),
-        Err(fault) => Err(Stop::Fault(no_reply(fault))),
+        Ok(KeptReply::Error { number, .. }) => Err(refused(DriveRequest::Read, number)),
+        Ok(KeptReply::Done { .. }) => Err(ReadStop::Fault(ReadFault::Botched)),
+        Err(fault) => Err(ReadStop::Fault(no_reply(fault))),
     }
 }
 
 /// Returns the stop for a refused request.
-fn refused(asked: Asked, number: u32) -> Stop {
-    Stop::Undetermined(Undetermined::Refused { asked, number })
+fn refused(asked: DriveRequest, number: u32) -> ReadStop {
+    ReadStop::Undetermined(Undetermined::Refused { asked, number })
 }

@@ -1,10 +1,10 @@
 //! Why the contents of a reel on a drive could not be determined.
-use crate::words::push_count;
+use crate::verdict::push_count;
 use std::alloc::AllocError;
 
 /// A request to a drive.
 #[derive(Clone, Copy)]
-pub(crate) enum Asked {
+pub(crate) enum DriveRequest {
     /// The rewind.
     Rewind,
     /// The read of a record.
@@ -20,7 +20,7 @@ pub(crate) enum Undetermined {
     /// device may have failed.
     NoRecord,
     /// The reply to a request was this error, which may be a fault of the device.
-    Refused { asked: Asked, number: u32 },
+    Refused { asked: DriveRequest, number: u32 },
     /// The reel has more records than one request can space over.
     TooManyRecords,
 }
@@ -34,7 +34,7 @@ impl Undetermined {
                 text.extend_from_slice(b"no record is read, and spacing is refused")
             }
             Undetermined::Refused { asked, number } => {
-                text.extend_from_slice(words_of(asked))?;
+                text.extend_from_slice(verdict_of(asked))?;
                 push_count(text, b" was answered with E", u64::from(number), b"")
             }
             Undetermined::TooManyRecords => text.extend_from_slice(b"it has too many records"),
@@ -43,10 +43,10 @@ impl Undetermined {
 }
 
 /// Returns the name of a request for the line.
-fn words_of(asked: Asked) -> &'static [u8] {
+fn verdict_of(asked: DriveRequest) -> &'static [u8] {
     match asked {
-        Asked::Rewind => b"the rewind",
-        Asked::Read => b"a read",
-        Asked::Spacing => b"spacing",
+        DriveRequest::Rewind => b"the rewind",
+        DriveRequest::Read => b"a read",
+        DriveRequest::Spacing => b"spacing",
     }
 }

@@ -5,7 +5,7 @@ use Rattle.std.specs.Result.{IsErrAnd}
 use Rattle.rmt_wire.specs.Reply.{PlainReply, Wanted}
 use Rattle.rmt_wire.specs.ReplyReader.{ReplyHeld}
 use Rattle.rmt_wire.specs.Request.{PlainRequest, request_text}
-use Rattle.rdump_net.specs.KeptReply.{plain_kept, told_reply}
+use Rattle.rdump_net.specs.KeptReply.{plain_kept, plain_result}
 use Rattle.rdump_net.specs.Call.{wanted_by, Brings, IsCalled, IsReplyHeard, IsReplyAwaited, IsTaken}
 use Rattle.rdump_net.specs.Calls.{CallsFollow, Stops, Extends, Finishes}
 use Rattle.rdump_net.specs.Calls.CallsFollow.{begins, one_more}
@@ -68,16 +68,16 @@ err_from F (Err e) fault is h = subst (λ f. F (Err f)) (sym is) h
 module _ {P : Type 0} (next : List PlainReply → Option PlainRequest) (tells : P → List Passed → Type 0) where
   -- a call that was answered
   pub call_extends : (p q : P) (replies : List PlainReply) (request : PlainRequest) (result : Result KeptReply CallFault) (answer : KeptReply) → next replies ≡ Some request → result ≡ Ok answer
-      → IsCalled tells request (told_reply result) p q → Extends next tells p q replies (replies ++ plain_kept answer ∷ [])
+      → IsCalled tells request (plain_result result) p q → Extends next tells p q replies (replies ++ plain_kept answer ∷ [])
   call_extends p q replies request result answer e is h =
-      let w = subst (λ r. IsCalled tells request (told_reply r) p q) is h in
+      let w = subst (λ r. IsCalled tells request (plain_result r) p q) is h in
       record { more = w.0; logs = w.2; follows = λ passed f. one_more request (plain_kept answer) f e w.1 }
 
   -- one that was not
   pub call_finishes : (p q : P) (replies : List PlainReply) (request : PlainRequest) (result : Result KeptReply CallFault) (fault : CallFault) → next replies ≡ Some request → result ≡ Err fault
-      → IsCalled tells request (told_reply result) p q → Finishes next tells p q replies (Some fault) replies
+      → IsCalled tells request (plain_result result) p q → Finishes next tells p q replies (Some fault) replies
   call_finishes p q replies request result fault e is h =
-      let w = subst (λ r. IsCalled tells request (told_reply r) p q) is h in
+      let w = subst (λ r. IsCalled tells request (plain_result r) p q) is h in
       record { more = w.0; logs = w.2; stops = λ passed f. inl (passed, w.0, request, f, e, w.1, refl) }
 
   -- calls, and then more

@@ -5,7 +5,7 @@ use Rattle.rmt_wire.specs.Print.{IsPrinted}
 use Rattle.dump_run.specs.Checkpoint.{checkpoint_text}
 use Rattle.dump_client.specs.Standing.{Standing}
 use Rattle.dump_client.specs.Client.{ClientHeld, HasFed}
-use Rattle.rdump_net.specs.Talk.{Just, TalksOver}
+use Rattle.rdump_net.specs.Talk.{FromThis, TalksOver}
 use Rattle.rdump_net.specs.Lines.{DumpLines, IsConclusion, IsFinish, IsRound}
 use Rattle.rdump_net.specs.Lines.DumpLines.{none as no_lines}
 use Rattle.rdump_net.specs.declared.conclusion.Conclusion.{Conclusion}
@@ -120,7 +120,7 @@ module _ {B P W K : Type 0} (k : KeptKind B P W K) where
   -- a round of talk, from where the client's checkpoint is kept
   talked_on : (old new : KeptEnds B P W K) (kept : Option (List ℕ)) (c : ClientHeld B) (p : P) → (s : KeptSoFar k old new kept)
       → kept ≡ Some (checkpoint_text new.client.at.run new.client.at.counts)
-      → TalksOver k.holds (Just new.client.at) k.tells new.client c new.peer p
+      → TalksOver k.holds (FromThis new.client.at) k.tells new.client c new.peer p
       → (fed : List ℕ) → HasFed old.client fed → IsOn k old (kept_ends c p new.out new.keeper) s.text kept fed
   talked_on old new kept c p s e t fed h =
       let one = s.on fed h in
@@ -141,7 +141,7 @@ module _ {B P W K : Type 0} (k : KeptKind B P W K) where
 
   pub round_on : (old new : KeptEnds B P W K) (kept : Option (List ℕ)) (c : ClientHeld B) (p : P) (out : Counting W) → KeptSoFar k old new kept
       → kept ≡ Some (checkpoint_text new.client.at.run new.client.at.counts)
-      → TalksOver k.holds (Just new.client.at) k.tells new.client c new.peer p
+      → TalksOver k.holds (FromThis new.client.at) k.tells new.client c new.peer p
       → IsRound k.contents new.client.at.counts c.at new.out out None → KeptSoFar k old (kept_ends c p out new.keeper) kept
   round_on old new kept c p out s e t r = record {
     text = s.text ++ r.0;
@@ -167,7 +167,7 @@ module _ {B P W K : Type 0} (k : KeptKind B P W K) where
   -- the last round
   pub round_ends : (old new : KeptEnds B P W K) (kept : Option (List ℕ)) (c : ClientHeld B) (p : P) (out : Counting W) (end : Conclusion) → KeptSoFar k old new kept
       → kept ≡ Some (checkpoint_text new.client.at.run new.client.at.counts)
-      → TalksOver k.holds (Just new.client.at) k.tells new.client c new.peer p
+      → TalksOver k.holds (FromThis new.client.at) k.tells new.client c new.peer p
       → IsRound k.contents new.client.at.counts c.at new.out out (Some end) → (end ≡ ends.Complete → c.at ≡ new.client.at)
       → IsDumpKept k old (kept_ends c p out new.keeper) end
   round_ends old new kept c p out end s e t r still = record {

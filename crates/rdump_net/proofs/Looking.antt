@@ -4,7 +4,7 @@ use Rattle.rmt_wire.specs.declared.errno.TheConstants.{EIO}
 use Rattle.rmt_wire.specs.Reply.{PlainReply}
 use Rattle.rmt_wire.specs.Reply.PlainReply.{Done, Error}
 use Rattle.rmt_wire.specs.Request.{PlainRequest}
-use Rattle.rdump_net.specs.KeptReply.{plain_kept, told_reply}
+use Rattle.rdump_net.specs.KeptReply.{plain_kept, plain_result}
 use Rattle.rdump_net.specs.Call.{IsCalled}
 use Rattle.rdump_net.specs.Look.{LookStage, Finding, Fails, Goes, IsAnsweredAt, IsLook, IsLookPart, IsReadAt, after_read, after_space, next_of, plain_front, request_at, stage_from, stage_then}
 use Rattle.rdump_net.specs.Look.Finding.{Front, Refusal}
@@ -31,7 +31,7 @@ stage_more stage (r ∷ replies) reply = stage_more (stage_then stage r) replies
 module _ {P : Type 0} (tells : P → List Passed → Type 0) (device : List ℕ) where
   -- a call that is answered
   pub goes_by : (p q : P) (from : LookStage) (request : PlainRequest) (result : Result KeptReply CallFault) (answer : KeptReply) → request_at device from ≡ Some request → result ≡ Ok answer
-      → IsCalled tells request (told_reply result) p q → Goes tells device from (stage_then from (plain_kept answer)) p q
+      → IsCalled tells request (plain_result result) p q → Goes tells device from (stage_then from (plain_kept answer)) p q
   goes_by p q from request result answer e is h = λ replies at. (
     replies ++ plain_kept answer ∷ [],
     call_extends (next_of device) tells p q replies request result answer (ap (request_at device) at ∙ e) is h,
@@ -40,7 +40,7 @@ module _ {P : Type 0} (tells : P → List Passed → Type 0) (device : List ℕ)
 
   -- one that has no reply
   pub fails_by : (p q : P) (from : LookStage) (request : PlainRequest) (result : Result KeptReply CallFault) (fault : CallFault) → request_at device from ≡ Some request → result ≡ Err fault
-      → IsCalled tells request (told_reply result) p q → Fails tells device from fault p q
+      → IsCalled tells request (plain_result result) p q → Fails tells device from fault p q
   fails_by p q from request result fault e is h = λ replies at.
       (replies, call_finishes (next_of device) tells p q replies request result fault (ap (request_at device) at ∙ e) is h)
 

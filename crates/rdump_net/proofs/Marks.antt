@@ -9,7 +9,7 @@ use Rattle.rmt_wire.specs.Reply.{PlainReply}
 use Rattle.rmt_wire.specs.Reply.PlainReply.{Done, Error}
 use Rattle.rmt_wire.specs.Request.{PlainRequest}
 use Rattle.rmt_wire.specs.Request.PlainRequest.{Close, Op}
-use Rattle.rdump_net.specs.KeptReply.{plain_kept, told_reply}
+use Rattle.rdump_net.specs.KeptReply.{plain_kept, plain_result}
 use Rattle.rdump_net.specs.Call.{IsCalled}
 use Rattle.rdump_net.specs.Calls.{Stops, Extends}
 use Rattle.rdump_net.specs.Reading.{next_end, next_close, next_over, next_forward, next_again, next_back, next_mark, records_of, ReadFails, ReadEnds, is_whole, HasReply, IsMarkFound, IsMarkKnown, IsUnmarked, GoesOnBy, CallSteps, IsDone, IsDoneNext, IsAnswered, IsLooked, IsTakenAway, Concludes}
@@ -231,7 +231,7 @@ module _ {P : Type 0} (next : List PlainReply → Option PlainRequest) (tells : 
 
   -- no mark is known to have stood, and then the close, whatever that is answered
   closed_answered : (goes : AfterVolume) (p q : P) (replies : List PlainReply) (fault : ReadFault) (answer : KeptReply) → GoesOnBy next next_close replies → IsUnmarked next replies fault → records_of (plain_kept answer ∷ []) ≡ []
-      → IsCalled tells Close (told_reply (Ok answer)) p q → Concludes next goes tells p q replies (Err fault)
+      → IsCalled tells Close (plain_result (Ok answer)) p q → Concludes next goes tells p q replies (Err fault)
   closed_answered goes p q replies fault answer at h none called =
       let x = call_extends next tells p q replies Close (Ok answer) answer (on_first next next_close replies at) refl called in
       record {
@@ -245,7 +245,7 @@ module _ {P : Type 0} (next : List PlainReply → Option PlainRequest) (tells : 
       }
 
   pub closed_unmarked : (goes : AfterVolume) (p q : P) (replies : List PlainReply) (fault : ReadFault) (result : Result KeptReply CallFault) → GoesOnBy next next_close replies → IsUnmarked next replies fault
-      → IsCalled tells Close (told_reply result) p q → Concludes next goes tells p q replies (Err fault)
+      → IsCalled tells Close (plain_result result) p q → Concludes next goes tells p q replies (Err fault)
   closed_unmarked goes p q replies fault (Ok (kept.Done n)) at h called = closed_answered goes p q replies fault (kept.Done n) at h refl called
   closed_unmarked goes p q replies fault (Ok (kept.Error n text)) at h called = closed_answered goes p q replies fault (kept.Error n text) at h refl called
   closed_unmarked goes p q replies fault (Ok (kept.Data bytes)) at h called = absurd (no_data tells p q Close (Ok (kept.Data bytes)) bytes refl refl called)

@@ -5,11 +5,11 @@ use Rattle.rmt_wire.specs.declared.limits.TheConstants.{NUMBER_LIMIT}
 use Rattle.rmt_wire.specs.declared.mtio.TheConstants.{MTWEOF}
 use Rattle.rmt_wire.specs.Request.{PlainRequest}
 use Rattle.rmt_wire.specs.Request.PlainRequest.{Open, Close, Op}
-use Rattle.rdump_net.specs.KeptReply.{plain_kept, told_reply}
+use Rattle.rdump_net.specs.KeptReply.{plain_kept, plain_result}
 use Rattle.rdump_net.specs.Call.{IsCalled}
 use Rattle.rdump_net.specs.Calls.{is_done}
 use Rattle.rdump_net.specs.Ends.{stream_ends, stream_kind}
-use Rattle.rdump_net.specs.Operation.{next_of, told_line, status_after, mode_for, IsOperationReply, IsOperated, IsReplyTold}
+use Rattle.rdump_net.specs.Operation.{next_of, printed_line, status_after, mode_for, IsOperationReply, IsOperated, IsReplyPrinted}
 use Rattle.rmt_wire.specs.Print.{IsPrinted}
 use Rattle.rmt_wire.specs.Counted.{Counting}
 use Rattle.rdump_net.specs.declared.kept_reply.KeptReply.{KeptReply}
@@ -20,13 +20,13 @@ use Rattle.rdump_net.proofs.Calls.{call_extends, call_finishes, extends_both, fi
 module _ {P : Type 0} (tells : P → List Passed → Type 0) (device : List ℕ) (op count : ℕ) where
   -- the open has no reply
   pub open_fails : (p q : P) (request : PlainRequest) (result : Result KeptReply CallFault) (fault : CallFault) → request ≡ Open device (mode_for op) → result ≡ Err fault
-      → IsCalled tells request (told_reply result) p q → IsOperationReply (next_of device op count) tells p q (Err fault)
+      → IsCalled tells request (plain_result result) p q → IsOperationReply (next_of device op count) tells p q (Err fault)
   open_fails p q request result fault e is h =
       ([], call_finishes (next_of device op count) tells p q [] request result fault (ap Some (sym e)) is h, refl)
 
   -- it is refused
   pub open_refused : (p q : P) (request : PlainRequest) (result : Result KeptReply CallFault) (answer : KeptReply) → request ≡ Open device (mode_for op) → result ≡ Ok answer → is_done (plain_kept answer) ≡ false
-      → IsCalled tells request (told_reply result) p q → IsOperationReply (next_of device op count) tells p q (Ok (plain_kept answer))
+      → IsCalled tells request (plain_result result) p q → IsOperationReply (next_of device op count) tells p q (Ok (plain_kept answer))
   open_refused p q request result answer e is unmet h = (
     plain_kept answer ∷ [],
     call_extends (next_of device op count) tells p q [] request result answer (ap Some (sym e)) is h,
@@ -37,7 +37,7 @@ module _ {P : Type 0} (tells : P → List Passed → Type 0) (device : List ℕ)
 
   -- and else the operation is asked
   pub operation_asked : (p q r : P) (request : PlainRequest) (result result' : Result KeptReply CallFault) (opened : KeptReply) → request ≡ Open device (mode_for op) → result ≡ Ok opened → is_done (plain_kept opened) ≡ true
-      → IsCalled tells request (told_reply result) p q → IsCalled tells (Op op count) (told_reply result') q r → IsOperationReply (next_of device op count) tells p r (told_reply result')
+      → IsCalled tells request (plain_result result) p q → IsCalled tells (Op op count) (plain_result result') q r → IsOperationReply (next_of device op count) tells p r (plain_result result')
   operation_asked p q r request result (Ok answer) opened e is met h k =
       let next = next_of device op count in
       let reply = plain_kept answer in
@@ -60,26 +60,26 @@ module _ {P : Type 0} (tells : P → List Passed → Type 0) (device : List ℕ)
 
   module _ {W : Type 0} (contents : W → Option (List ℕ)) where
     -- no reply is told
-    pub print_failed : (p q : P) (out : Counting W) (result : Result KeptReply CallFault) (fault : CallFault) → result ≡ Err fault → IsOperationReply (next_of device op count) tells p q (told_reply result) → IsPrinted contents [] out out true
+    pub print_failed : (p q : P) (out : Counting W) (result : Result KeptReply CallFault) (fault : CallFault) → result ≡ Err fault → IsOperationReply (next_of device op count) tells p q (plain_result result) → IsPrinted contents [] out out true
         → IsOperated (stream_kind tells contents) device op count (stream_ends p out) (stream_ends q out) 3
     print_failed p q out result fault is h nothing =
-        let w = subst (λ r. IsOperationReply (next_of device op count) tells p q (told_reply r)) is h in
+        let w = subst (λ r. IsOperationReply (next_of device op count) tells p q (plain_result r)) is h in
         record {
           replies = w.0;
           fault = Some fault;
           whole = true;
           finishes = w.1;
-          printed = subst (λ t. IsPrinted contents (told_line t) out out true) (sym w.2) nothing;
+          printed = subst (λ t. IsPrinted contents (printed_line t) out out true) (sym w.2) nothing;
           result = sym (ap (λ t. status_after t true) w.2);
         }
 
     -- a reply is told, and then comes the close
     pub told_then_closed : (p q r : P) (out out' : Counting W) (status : ℕ) (result result' : Result KeptReply CallFault) (answer : KeptReply) → result ≡ Ok answer
-        → IsOperationReply (next_of device op count) tells p q (told_reply result) → IsReplyTold contents (plain_kept answer) out out' status → IsCalled tells Close (told_reply result') q r
+        → IsOperationReply (next_of device op count) tells p q (plain_result result) → IsReplyPrinted contents (plain_kept answer) out out' status → IsCalled tells Close (plain_result result') q r
         → IsOperated (stream_kind tells contents) device op count (stream_ends p out) (stream_ends r out') status
     told_then_closed p q r out out' status result (Ok closed) answer is h told k =
         let next = next_of device op count in
-        let w = subst (λ r. IsOperationReply (next_of device op count) tells p q (told_reply r)) is h in
+        let w = subst (λ r. IsOperationReply (next_of device op count) tells p q (plain_result r)) is h in
         let last = w.4 (plain_kept closed) in
         record {
           replies = w.0 ++ plain_kept closed ∷ [];
@@ -87,18 +87,18 @@ module _ {P : Type 0} (tells : P → List Passed → Type 0) (device : List ℕ)
           whole = told.0;
           finishes = finishes_there next tells p r [] (w.0 ++ plain_kept closed ∷ []) last.0
               (extends_both next tells p q r [] w.0 (w.0 ++ plain_kept closed ∷ []) w.1 (call_extends next tells q r w.0 Close (Ok closed) closed w.2 refl k));
-          printed = subst (λ t. IsPrinted contents (told_line t) out out' told.0) (sym last.1) told.1;
+          printed = subst (λ t. IsPrinted contents (printed_line t) out out' told.0) (sym last.1) told.1;
           result = told.2 ∙ sym (ap (λ t. status_after t told.0) last.1);
         }
     told_then_closed p q r out out' status result (Err fault) answer is h told k =
         let next = next_of device op count in
-        let w = subst (λ r. IsOperationReply (next_of device op count) tells p q (told_reply r)) is h in
+        let w = subst (λ r. IsOperationReply (next_of device op count) tells p q (plain_result r)) is h in
         record {
           replies = w.0;
           fault = Some fault;
           whole = told.0;
           finishes = finishes_after next tells p q r [] w.0 w.0 (Some fault) w.1 (call_finishes next tells q r w.0 Close (Err fault) fault w.2 refl k);
-          printed = subst (λ t. IsPrinted contents (told_line t) out out' told.0) (sym w.3) told.1;
+          printed = subst (λ t. IsPrinted contents (printed_line t) out out' told.0) (sym w.3) told.1;
           result = told.2 ∙ sym (ap (λ t. status_after t told.0) w.3);
         }
 

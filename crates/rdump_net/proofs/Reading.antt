@@ -11,12 +11,12 @@ use Rattle.rmt_wire.specs.Reply.PlainReply.{Done, Data, Error}
 use Rattle.rmt_wire.specs.Reply.Wanted.{Number}
 use Rattle.rmt_wire.specs.Request.{PlainRequest}
 use Rattle.rmt_wire.specs.Request.PlainRequest.{Read, Op}
-use Rattle.rdump_net.specs.KeptReply.{told_reply}
+use Rattle.rdump_net.specs.KeptReply.{plain_result}
 use Rattle.rdump_net.specs.Call.{wanted_by, IsPeerCall, IsCalled, Brings}
 use Rattle.rdump_net.specs.Calls.{is_done, CallsFollow, Stops, Extends}
 use Rattle.rmt_wire.specs.Print.{IsPrinted}
 use Rattle.rdump_net.specs.Ends.{copy_ends, copy_kind, stream_ends, stream_kind}
-use Rattle.rdump_net.specs.Reading.{next_of, next_read, next_mark, goes_of, goes_with, records_of, text_of, label_text, file_bytes, IsNamed, ReadFails, ReadEnds, is_whole, is_copied, read_fault, AreRecords, IsAtLabel, IsVolumeReading, IsVolumeRead, EndsAtRefusal, GoesOnBy, Breaks, CallSteps, IsBegun, IsDone, IsDoneBy, IsRecordRead, Reads, ReadsVolume, AreRecordsWritten, Concludes, IsCopied, IsThrough}
+use Rattle.rdump_net.specs.Reading.{next_of, next_read, next_mark, after_for_count, after_for_records, records_of, text_of, label_text, file_bytes, IsNamed, ReadFails, ReadEnds, is_whole, is_copied, read_fault, AreRecords, IsAtLabel, IsVolumeReading, IsVolumeRead, EndsAtRefusal, GoesOnBy, Breaks, CallSteps, IsBegun, IsDone, IsDoneBy, IsRecordRead, Reads, ReadsVolume, AreRecordsWritten, Concludes, IsCopied, IsThrough}
 use Rattle.rdump_net.specs.declared.kept_reply.KeptReply.{KeptReply}
 use Rattle.rdump_net.specs.declared.kept_reply.KeptReply.TheVariants as kept
 use Rattle.rdump_net.specs.declared.fault.VolumeRequest.{VolumeRequest}
@@ -56,8 +56,8 @@ read_stops after m n number text (Data (b ∷ bytes) ∷ reads) h = read_stops a
 read_stops after m n number text (Done k ∷ reads) h = absurd h
 read_stops after m n number text (Error k words ∷ reads) h = absurd h
 
-end_after : (after : AfterVolume) (m n : ℕ) (reads ends : List PlainReply) → AreRecords m n reads → next_read after m ((reads ++ Data [] ∷ []) ++ ends) ≡ next_mark (goes_of after n) n ends
-end_after after m n [] ends h = ap (λ k. next_mark (goes_of after k) k ends) (sym h)
+end_after : (after : AfterVolume) (m n : ℕ) (reads ends : List PlainReply) → AreRecords m n reads → next_read after m ((reads ++ Data [] ∷ []) ++ ends) ≡ next_mark (after_for_count after n) n ends
+end_after after m n [] ends h = ap (λ k. next_mark (after_for_count after k) k ends) (sym h)
 end_after after m n (Data [] ∷ reads) ends h = absurd h
 end_after after m n (Data (b ∷ bytes) ∷ reads) ends h = end_after after (m + 1) n reads ends h
 end_after after m n (Done k ∷ reads) ends h = absurd h
@@ -98,7 +98,7 @@ reading_stops device after n replies (opened, rewound, b, bytes, reads, e, met, 
     ap (λ l. next_of device after (l ++ Error number text ∷ [])) e ∙ ap (λ t. if t then next_read after 1 (reads ++ Error number text ∷ []) else None) met
     ∙ read_stops after 1 n number text reads h
 
-pub reading_mark : (device : List ℕ) (after : AfterVolume) (n : ℕ) (replies : List PlainReply) → IsVolumeRead n replies → GoesOnBy (next_of device after) (next_mark (goes_of after n) n) replies
+pub reading_mark : (device : List ℕ) (after : AfterVolume) (n : ℕ) (replies : List PlainReply) → IsVolumeRead n replies → GoesOnBy (next_of device after) (next_mark (after_for_count after n) n) replies
 reading_mark device after n replies (before, (opened, rewound, b, bytes, reads, e, met, h), same) = λ ends.
     ap (λ l. next_of device after (l ++ ends)) same ∙ ap (λ l. next_of device after ((l ++ Data [] ∷ []) ++ ends)) e
     ∙ ap (λ t. if t then next_read after 1 ((reads ++ Data [] ∷ []) ++ ends) else None) met ∙ end_after after 1 n reads ends h
@@ -115,14 +115,14 @@ read_some : (n : ℕ) (replies : List PlainReply) → IsVolumeRead n replies →
 read_some n replies (before, (opened, rewound, b, bytes, reads, e, met, h), same) = records_least 1 n reads h
 
 -- what becomes of the reel
-goes_label : (after : AfterVolume) (bytes : List ℕ) (more : List (List ℕ)) → bytes ≢ [] → goes_with after (bytes ∷ more) ≡ after
+goes_label : (after : AfterVolume) (bytes : List ℕ) (more : List (List ℕ)) → bytes ≢ [] → after_for_records after (bytes ∷ more) ≡ after
 goes_label after [] more some = absurd (some refl)
 goes_label after (b ∷ bytes) more some = refl
 
 not_zero : (n : ℕ) → 1 ≤ n → nat_eq n 0 ≡ false
 not_zero n h = grind (arith, nat_tests)
 
-goes_some : (after : AfterVolume) (n : ℕ) → 1 ≤ n → goes_of after n ≡ after
+goes_some : (after : AfterVolume) (n : ℕ) → 1 ≤ n → after_for_count after n ≡ after
 goes_some after n h = ap (λ t. if t then Stay else after) (not_zero n h)
 
 -- what is asked where the label comes, and after it
@@ -133,7 +133,7 @@ pub label_stops : (device : List ℕ) (after : AfterVolume) (replies : List Plai
 label_stops device after replies (opened, rewound, e, met, none) = λ number text.
     ap (λ l. next_of device after (l ++ Error number text ∷ [])) e ∙ ap (λ t. if t then next_read after 0 (Error number text ∷ []) else None) met
 
-label_mark : (device : List ℕ) (after : AfterVolume) (replies : List PlainReply) → IsAtLabel replies → GoesOnBy (next_of device after) (next_mark (goes_of after 0) 0) (replies ++ Data [] ∷ [])
+label_mark : (device : List ℕ) (after : AfterVolume) (replies : List PlainReply) → IsAtLabel replies → GoesOnBy (next_of device after) (next_mark (after_for_count after 0) 0) (replies ++ Data [] ∷ [])
 label_mark device after replies (opened, rewound, e, met, none) = λ ends.
     ap (λ l. next_of device after ((l ++ Data [] ∷ []) ++ ends)) e ∙ ap (λ t. if t then next_read after 0 (Data [] ∷ ends) else None) met
 
@@ -154,14 +154,14 @@ number_answers_no_read n count passed (inr (inr (unlike, nothing))) = absurd (cc
 
 module _ {P : Type 0} (tells : P → List Passed → Type 0) where
   pub no_data : (p q : P) (request : PlainRequest) (result : Result KeptReply CallFault) (bytes : Vec ℕ Global) → wanted_by request ≡ Number → result ≡ Ok (kept.Data bytes)
-      → IsCalled tells request (told_reply result) p q → ⊥
+      → IsCalled tells request (plain_result result) p q → ⊥
   no_data p q request result bytes w is h =
-      let called = subst (λ r. IsCalled tells request (told_reply r) p q) is h in
+      let called = subst (λ r. IsCalled tells request (plain_result r) p q) is h in
       data_answers_no_number request bytes.items called.0 w called.1
 
-  pub no_number : (p q : P) (count : ℕ) (result : Result KeptReply CallFault) (n : ℕ) → result ≡ Ok (kept.Done n) → IsCalled tells (Read count) (told_reply result) p q → ⊥
+  pub no_number : (p q : P) (count : ℕ) (result : Result KeptReply CallFault) (n : ℕ) → result ≡ Ok (kept.Done n) → IsCalled tells (Read count) (plain_result result) p q → ⊥
   no_number p q count result n is h =
-      let called = subst (λ r. IsCalled tells (Read count) (told_reply r) p q) is h in
+      let called = subst (λ r. IsCalled tells (Read count) (plain_result r) p q) is h in
       number_answers_no_read n count called.0 called.1
 
 module _ {P : Type 0} (next : List PlainReply → Option PlainRequest) (tells : P → List Passed → Type 0) where
@@ -178,12 +178,12 @@ module _ {P : Type 0} (next : List PlainReply → Option PlainRequest) (tells : 
 
   -- a call is done
   pub step_done : (p q : P) (replies : List PlainReply) (request : PlainRequest) (result : Result KeptReply CallFault) (n : ℕ) → next replies ≡ Some request → result ≡ Ok (kept.Done n)
-      → IsCalled tells request (told_reply result) p q → IsDone next tells p q replies (Ok tt)
+      → IsCalled tells request (plain_result result) p q → IsDone next tells p q replies (Ok tt)
   step_done p q replies request result n e is h = (Done n, refl, refl, call_extends next tells p q replies request result (kept.Done n) e is h)
 
   -- it is refused
   pub step_refused : (p q : P) (replies : List PlainReply) (request : PlainRequest) (result : Result KeptReply CallFault) (asked : VolumeRequest) (n : ℕ) (text : Vec ℕ Global) → next replies ≡ Some request
-      → result ≡ Ok (kept.Error n text) → IsNamed asked request → EndsAtRefusal next replies → IsCalled tells request (told_reply result) p q → CallSteps next tells p q replies (Err (Refused asked n))
+      → result ≡ Ok (kept.Error n text) → IsNamed asked request → EndsAtRefusal next replies → IsCalled tells request (plain_result result) p q → CallSteps next tells p q replies (Err (Refused asked n))
   step_refused p q replies request result asked n text e is named stops h =
       let x = call_extends next tells p q replies request result (kept.Error n text) e is h in (
         replies ++ Error n text.items ∷ [],
@@ -204,7 +204,7 @@ module _ {P : Type 0} (next : List PlainReply → Option PlainRequest) (tells : 
   whole_so call.OutOfMemory = refl
 
   pub step_failed : (p q : P) (replies : List PlainReply) (request : PlainRequest) (result : Result KeptReply CallFault) (fault : CallFault) (told : ReadFault) → next replies ≡ Some request → result ≡ Err fault
-      → told ≡ read_fault fault → IsCalled tells request (told_reply result) p q → CallSteps next tells p q replies (Err told)
+      → told ≡ read_fault fault → IsCalled tells request (plain_result result) p q → CallSteps next tells p q replies (Err told)
   step_failed p q replies request result fault told e is same h =
       let x = call_finishes next tells p q replies request result fault e is h in
       subst (λ f. CallSteps next tells p q replies (Err f)) (sym same) (
@@ -334,7 +334,7 @@ module _ {P F W : Type 0} (tells : P → List Passed → Type 0) (filed : F → 
         label = subst (λ l. IsPrinted contents (label_text l) o o true) (sym (first_record [] at.4)) (nothing_printed contents o);
         records = subst (λ l. IsPrinted filed (file_bytes l) f f true) (sym (first_record [] at.4)) (nothing_printed filed f);
         whole = refl;
-        reads = (y, label_mark device after replies at, ap (goes_with after) (first_record [] at.4));
+        reads = (y, label_mark device after replies at, ap (after_for_records after) (first_record [] at.4));
       }
 
   -- the label is not printed
@@ -359,7 +359,7 @@ module _ {P F W : Type 0} (tells : P → List Passed → Type 0) (filed : F → 
   after_label (Ok n) p q r bytes more later x some all y = (
     extends_both (next_of device after) tells p q r replies (replies ++ Data bytes ∷ []) later x y.0,
     reading_mark device after n later y.1,
-    ap (goes_with after) all ∙ goes_label after bytes more some ∙ sym (goes_some after n (read_some n later y.1)),
+    ap (after_for_records after) all ∙ goes_label after bytes more some ∙ sym (goes_some after n (read_some n later y.1)),
   )
   after_label (Err fault) p q r bytes more later x some all y = breaks_after (next_of device after) tells p q r replies (replies ++ Data bytes ∷ []) later fault x y
 
@@ -416,12 +416,12 @@ module _ {P F W : Type 0} (tells : P → List Passed → Type 0) (filed : F → 
 
   -- what comes after the records
   pub through_end : (p q r s : P) (f f' : Counting F) (o o' : Counting W) (replies : List PlainReply) (n : ℕ) (goes : AfterVolume) (result : Result Unit ReadFault) → Extends (next_of device after) tells p q [] replies
-      → (y : IsCopied (next_of device after) after (copy_kind tells filed contents) replies (copy_ends q f o) (copy_ends r f' o') (Ok n)) → goes ≡ goes_of after n
+      → (y : IsCopied (next_of device after) after (copy_kind tells filed contents) replies (copy_ends q f o) (copy_ends r f' o') (Ok n)) → goes ≡ after_for_count after n
       → Concludes (next_of device after) goes tells r s y.later result → IsThrough (copy_kind tells filed contents) device after (copy_ends p f o) (copy_ends s f' o') result
   through_end p q r s f f' o o' replies n goes result x y e z =
       let next = next_of device after in
       let a = extends_both next tells p q r [] replies y.later x y.reads.0 in
-      let goes_so : goes ≡ goes_with after (records_of z.later) = e ∙ sym y.reads.2 ∙ ap (goes_with after) (sym z.same) in
+      let goes_so : goes ≡ after_for_records after (records_of z.later) = e ∙ sym y.reads.2 ∙ ap (after_for_records after) (sym z.same) in
       record {
         replies = z.later;
         more = a.more ++ z.more;
@@ -497,7 +497,7 @@ begun_both tells device after p q r opened (Err fault) none x y =
     (y.0, breaks_after (next_of device after) tells p q r [] (opened ∷ []) y.0 fault x y.1, y.2 ∙ none, y.3)
 
 pub step_answered : {P : Type 0} (next : List PlainReply → Option PlainRequest) (tells : P → List Passed → Type 0) (p q : P) (replies : List PlainReply) (request : PlainRequest) (called : Result KeptReply CallFault)
-    (answer : KeptReply) (named : VolumeRequest) (result : Result Unit ReadFault) → next replies ≡ Some request → EndsAtRefusal next replies → called ≡ Ok answer → wanted_by request ≡ Number → IsNamed named request → IsCalled tells request (told_reply called) p q
+    (answer : KeptReply) (named : VolumeRequest) (result : Result Unit ReadFault) → next replies ≡ Some request → EndsAtRefusal next replies → called ≡ Ok answer → wanted_by request ≡ Number → IsNamed named request → IsCalled tells request (plain_result called) p q
     → IsDoneBy answer named result → IsDone next tells p q replies result
 step_answered next tells p q replies request called answer named (Ok u) e stops is w n h d = step_done next tells p q replies request called d.0 e (is ∙ ap Ok d.1) h
 step_answered next tells p q replies request called answer named (Err fault) e stops is w n h (inl d) =

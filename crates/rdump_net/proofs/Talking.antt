@@ -11,7 +11,7 @@ use Rattle.dump_client.specs.declared.stage.Stage.TheVariants.{Ready, ToSend, Wa
 use Rattle.rdump_net.specs.Peer.{AreBytesSent, Logs, connected, given}
 use Rattle.rdump_net.specs.declared.peer.Passed.{Passed}
 use Rattle.rdump_net.specs.declared.peer.Passed.TheVariants.{Given, Sent, Ended}
-use Rattle.rdump_net.specs.Talk.{Anywhere, Nowhere, TalkStep, Talks, TalksAlone, TalksOver}
+use Rattle.rdump_net.specs.Talk.{FromAny, FromNone, TalkStep, Talks, TalksAlone, TalksOver}
 use Rattle.rdump_net.specs.Talk.TalkStep.{starts, stays, asks, has_none, hears, ends, answers}
 use Rattle.rdump_net.specs.Talk.Talks.{none, one_more}
 
@@ -54,7 +54,7 @@ joined {told} {allows} {a} {b} {fa} {fb} {one} first {c = c} {fc = fc} (one_more
     subst (λ all. Talks told allows a fa all c fc) (append_assoc one passed more) (one_more (joined first before) step)
 
 -- what is allowed nowhere is allowed only where this is
-never : (allows : Standing → Type 0) (at : Standing) → Nowhere at → allows at
+never : (allows : Standing → Type 0) (at : Standing) → FromNone at → allows at
 never allows at h = absurd h
 
 -- one call of the client, with what passed in it
@@ -208,13 +208,13 @@ wider holds allows more tells c c' p p' w h = record {
 
 -- one that starts nowhere
 pub from_nowhere : {B P : Type 0} (holds : B → List (List ℕ) → Type 0) (allows : Standing → Type 0) (tells : P → List Passed → Type 0)
-    (c c' : ClientHeld B) (p p' : P) → TalksOver holds Nowhere tells c c' p p' → TalksOver holds allows tells c c' p p'
-from_nowhere holds allows tells c c' p p' h = wider holds Nowhere allows tells c c' p p' (never allows) h
+    (c c' : ClientHeld B) (p p' : P) → TalksOver holds FromNone tells c c' p p' → TalksOver holds allows tells c c' p p'
+from_nowhere holds allows tells c c' p p' h = wider holds FromNone allows tells c c' p p' (never allows) h
 
 -- from any place
 pub from_anywhere : {B P : Type 0} (holds : B → List (List ℕ) → Type 0) (allows : Standing → Type 0) (tells : P → List Passed → Type 0)
-    (c c' : ClientHeld B) (p p' : P) → TalksOver holds allows tells c c' p p' → TalksOver holds Anywhere tells c c' p p'
-from_anywhere holds allows tells c c' p p' h = wider holds allows Anywhere tells c c' p p' (λ at x. tt) h
+    (c c' : ClientHeld B) (p p' : P) → TalksOver holds allows tells c c' p p' → TalksOver holds FromAny tells c c' p p'
+from_anywhere holds allows tells c c' p p' h = wider holds allows FromAny tells c c' p p' (λ at x. tt) h
 
 module _ {B : Type 0} (holds : B → List (List ℕ) → Type 0) where
   pub answered_alone : (c c' : ClientHeld B) (answer : Answer) (result : Result Unit StartFault) → AnsweredAt c.at.stage c.at answer result c'.at

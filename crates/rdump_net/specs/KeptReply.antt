@@ -13,6 +13,6 @@ plain_kept (kept.Data bytes) = Data bytes.items
 plain_kept (kept.Error number text) = Error number text.items
 
 -- the result of a call, with its reply as a plain value
-abbrev pub told_reply : Result KeptReply CallFault → Result PlainReply CallFault
-told_reply (Ok answer) = Ok (plain_kept answer)
-told_reply (Err fault) = Err fault
+abbrev pub plain_result : Result KeptReply CallFault → Result PlainReply CallFault
+plain_result (Ok answer) = Ok (plain_kept answer)
+plain_result (Err fault) = Err fault

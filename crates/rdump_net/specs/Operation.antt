@@ -27,10 +27,10 @@ next_of device op count (opened ∷ reply ∷ []) = if is_done opened then Some 
 next_of device op count (opened ∷ reply ∷ closed ∷ more) = None
 
 -- the reply that is printed: that to the operation, or that to an open that was refused
-abbrev pub told_of : List PlainReply → Option PlainReply
-told_of [] = None
-told_of (opened ∷ []) = if is_done opened then None else Some opened
-told_of (opened ∷ reply ∷ more) = if is_done opened then Some reply else Some opened
+abbrev pub printed_reply : List PlainReply → Option PlainReply
+printed_reply [] = None
+printed_reply (opened ∷ []) = if is_done opened then None else Some opened
+printed_reply (opened ∷ reply ∷ more) = if is_done opened then Some reply else Some opened
 
 -- the line of a reply: `A` and the number, or `E`, the number, a space and the text
 abbrev pub reply_line : PlainReply → List ℕ
@@ -39,9 +39,9 @@ reply_line (Data bytes) = codes "A" ++ decimal (length bytes) ++ codes "\n"
 reply_line (Error n text) = codes "E" ++ decimal n ++ codes " " ++ (text ++ codes "\n")
 
 -- the line that is printed, if there is a reply to print
-abbrev pub told_line : Option PlainReply → List ℕ
-told_line None = []
-told_line (Some reply) = reply_line reply
+abbrev pub printed_line : Option PlainReply → List ℕ
+printed_line None = []
+printed_line (Some reply) = reply_line reply
 
 -- the exit status: 0 if the operation was done and its reply was printed, else 3
 abbrev pub status_after : Option PlainReply → Bool → ℕ
@@ -57,8 +57,8 @@ pub record IsMt {P W : Type 0} (kind : StreamKind P W) (device : List ℕ) (op c
   pub whole : Bool
   pub stops : Stops (next_of device op count) fault replies passed
   pub logs : Logs kind.tells old.peer new.peer passed
-  pub printed : IsPrinted kind.contents (told_line (told_of replies)) old.out new.out whole
-  pub result : status ≡ status_after (told_of replies) whole
+  pub printed : IsPrinted kind.contents (printed_line (printed_reply replies)) old.out new.out whole
+  pub result : status ≡ status_after (printed_reply replies) whole
 
 -- the same once there is a connection
 pub record IsOperated {P W : Type 0} (kind : StreamKind P W) (device : List ℕ) (op count : ℕ) (old new : StreamEnds P W)
@@ -67,19 +67,19 @@ pub record IsOperated {P W : Type 0} (kind : StreamKind P W) (device : List ℕ)
   pub fault : Option CallFault
   pub whole : Bool
   pub finishes : Finishes (next_of device op count) kind.tells old.peer new.peer [] fault replies
-  pub printed : IsPrinted kind.contents (told_line (told_of replies)) old.out new.out whole
-  pub result : status ≡ status_after (told_of replies) whole
+  pub printed : IsPrinted kind.contents (printed_line (printed_reply replies)) old.out new.out whole
+  pub result : status ≡ status_after (printed_reply replies) whole
 
 -- the calls up to the reply to print, after which the close is next; `next` gives the next request
 abbrev pub IsOperationReply : {P : Type 0} → (List PlainReply → Option PlainRequest) → (P → List Passed → Type 0) → P → P
     → Result PlainReply CallFault → Type 0
 IsOperationReply next tells p p' (Ok reply) =
-    (replies : List PlainReply) × Extends next tells p p' [] replies × (next replies ≡ Some Close) × (told_of replies ≡ Some reply)
-    × ((closed : PlainReply) → (next (replies ++ closed ∷ []) ≡ None) × (told_of (replies ++ closed ∷ []) ≡ Some reply))
+    (replies : List PlainReply) × Extends next tells p p' [] replies × (next replies ≡ Some Close) × (printed_reply replies ≡ Some reply)
+    × ((closed : PlainReply) → (next (replies ++ closed ∷ []) ≡ None) × (printed_reply (replies ++ closed ∷ []) ≡ Some reply))
 IsOperationReply next tells p p' (Err fault) =
-    (replies : List PlainReply) × Finishes next tells p p' [] (Some fault) replies × (told_of replies ≡ None)
+    (replies : List PlainReply) × Finishes next tells p p' [] (Some fault) replies × (printed_reply replies ≡ None)
 
 -- a reply is printed, and this is the exit status
-abbrev pub IsReplyTold : {W : Type 0} → (W → Option (List ℕ)) → PlainReply → Counting W → Counting W → ℕ → Type 0
-IsReplyTold contents reply out out' status =
+abbrev pub IsReplyPrinted : {W : Type 0} → (W → Option (List ℕ)) → PlainReply → Counting W → Counting W → ℕ → Type 0
+IsReplyPrinted contents reply out out' status =
     (whole : Bool) × IsPrinted contents (reply_line reply) out out' whole × (status ≡ status_after (Some reply) whole)

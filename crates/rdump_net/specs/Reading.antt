@@ -75,14 +75,14 @@ next_mark Check n ends = next_back Check n ends
 next_mark Offline n ends = next_back Offline n ends
 
 -- a reel without records stays, and no mark is looked for
-abbrev pub goes_of : AfterVolume → ℕ → AfterVolume
-goes_of after n = if nat_eq n 0 then Stay else after
+abbrev pub after_for_count : AfterVolume → ℕ → AfterVolume
+after_for_count after n = if nat_eq n 0 then Stay else after
 
 -- reads until one returns nothing, after `n` records
 abbrev pub next_read : AfterVolume → ℕ → List PlainReply → Option PlainRequest
 next_read after n [] = Some (Read RECORD_LIMIT)
 next_read after n (Data (b ∷ bytes) ∷ reads) = next_read after (n + 1) reads
-next_read after n (Data [] ∷ ends) = next_mark (goes_of after n) n ends
+next_read after n (Data [] ∷ ends) = next_mark (after_for_count after n) n ends
 next_read after n (Done k ∷ reads) = None
 next_read after n (Error k text ∷ reads) = None
 
@@ -120,10 +120,10 @@ file_bytes [] = []
 file_bytes (label ∷ records) = concat records
 
 -- what to do with the reel, given its records: a reel without records stays
-abbrev pub goes_with : AfterVolume → List (List ℕ) → AfterVolume
-goes_with after [] = Stay
-goes_with after ([] ∷ records) = Stay
-goes_with after ((b ∷ label) ∷ records) = after
+abbrev pub after_for_records : AfterVolume → List (List ℕ) → AfterVolume
+after_for_records after [] = Stay
+after_for_records after ([] ∷ records) = Stay
+after_for_records after ((b ∷ label) ∷ records) = after
 
 -- this request was made and got this reply
 abbrev pub HasReply : (List PlainReply → Option PlainRequest) → List PlainReply → PlainRequest → PlainReply → Type 0
@@ -145,17 +145,17 @@ abbrev pub IsMarkMissing : (List PlainReply → Option PlainRequest) → List Pl
 IsMarkMissing next replies = (number : ℕ) × HasReply next replies (Op MTBSR 1) (Done number)
 
 -- a refusal, or a rewind after which there are too many records for one request
-abbrev pub IsNoWay : PlainRequest → PlainReply → Type 0
-IsNoWay request (Done n) = request ≡ Op MTREW 1
-IsNoWay request (Error n text) = Unit {0}
-IsNoWay request (Data bytes) = ⊥
+abbrev pub StopsTheSearch : PlainRequest → PlainReply → Type 0
+StopsTheSearch request (Done n) = request ≡ Op MTREW 1
+StopsTheSearch request (Error n text) = Unit {0}
+StopsTheSearch request (Data bytes) = ⊥
 
 -- it could not be determined: after such a reply the close is next
 abbrev pub IsUndetermined : (List PlainReply → Option PlainRequest) → List PlainReply → Type 0
 IsUndetermined next replies =
     (request : PlainRequest) × (reply : PlainReply) × (before : List PlainReply) × (rest : List PlainReply)
     × (replies ≡ before ++ reply ∷ rest) × (next before ≡ Some request) × (next (before ++ reply ∷ []) ≡ Some Close)
-    × IsNoWay request reply
+    × StopsTheSearch request reply
 
 -- the request has this name
 abbrev pub IsNamed : VolumeRequest → PlainRequest → Type 0
@@ -214,7 +214,7 @@ pub record IsRead {P F W : Type 0} (kind : CopyKind P F W) (device : List ℕ) (
   pub label : IsPrinted kind.contents (label_text (records_of replies)) old.out new.out named
   pub records : IsPrinted kind.filed (file_bytes (records_of replies)) old.file new.file filled
   pub whole : named && filled ≡ is_whole result
-  pub ends : ReadEnds (next_of device after) (goes_with after (records_of replies)) replies passed result
+  pub ends : ReadEnds (next_of device after) (after_for_records after (records_of replies)) replies passed result
 
 -- the exit status: 0 if the volume was read whole, else 3
 abbrev pub status_of : Result Unit ReadFault → ℕ
@@ -331,8 +331,8 @@ GoesOnBy next step replies = (ends : List PlainReply) → next (replies ++ ends)
 abbrev pub ReadsVolume : {P : Type 0} → (List PlainReply → Option PlainRequest) → AfterVolume → (P → List Passed → Type 0) → P → P
     → List PlainReply → Result ℕ ReadFault → List PlainReply → Type 0
 ReadsVolume next after tells p p' replies (Ok n) later =
-    Extends next tells p p' replies later × GoesOnBy next (next_mark (goes_of after n) n) later
-    × (goes_with after (records_of later) ≡ goes_of after n)
+    Extends next tells p p' replies later × GoesOnBy next (next_mark (after_for_count after n) n) later
+    × (after_for_records after (records_of later) ≡ after_for_count after n)
 ReadsVolume next after tells p p' replies (Err fault) later = Breaks next tells p p' replies fault later
 
 -- the label is printed and the records are written
@@ -454,7 +454,7 @@ pub record IsThrough {P F W : Type 0} (kind : CopyKind P F W) (device : List ℕ
   pub records : IsPrinted kind.filed (file_bytes (records_of replies)) old.file new.file filled
   pub whole : named && filled ≡ is_whole result
   pub ends : (passed : List Passed) → CallsFollow (next_of device after) [] passed
-      → ReadEnds (next_of device after) (goes_with after (records_of replies)) replies (passed ++ more) result
+      → ReadEnds (next_of device after) (after_for_records after (records_of replies)) replies (passed ++ more) result
 
 -- reads a record, or fails with the reason
 abbrev pub IsRecordRead : {P : Type 0} → (List PlainReply → Option PlainRequest) → (P → List Passed → Type 0) → P → P → List PlainReply

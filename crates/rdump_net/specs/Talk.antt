@@ -18,16 +18,16 @@ GoesOn true at fed new later = (new ≡ at) × (later ≡ fed)
 GoesOn false at fed new later = (progress : Progress) × CutAt at.stage at progress new × (later ≡ [])
 
 -- an attempt may start from any state
-abbrev pub Anywhere : Standing → Type 0
-Anywhere at = ⊤
+abbrev pub FromAny : Standing → Type 0
+FromAny at = ⊤
 
 -- no attempt may start
-abbrev pub Nowhere : Standing → Type 0
-Nowhere at = ⊥
+abbrev pub FromNone : Standing → Type 0
+FromNone at = ⊥
 
 -- an attempt may start from this state alone
-abbrev pub Just : Standing → Standing → Type 0
-Just only at = at ≡ only
+abbrev pub FromThis : Standing → Standing → Type 0
+FromThis only at = at ≡ only
 
 -- One call of the client, perhaps with the end of the connection in it. It has the client's state
 -- and the bytes since its last request, before and after, and what passed. `told` is what the
@@ -83,4 +83,4 @@ pub record TalksOver {B P : Type 0} (holds : B → List (List ℕ) → Type 0) (
 -- one call of the client that does not use the peer and starts no attempt
 pub record TalksAlone {B : Type 0} (holds : B → List (List ℕ) → Type 0) (c c' : ClientHeld B) : Type 0 where
   pub same : (payload : List (List ℕ)) → holds c.source payload → holds c'.source payload
-  pub talked : (fed : List ℕ) → HasFed c fed → (later : List ℕ) × TalkStep (holds c.source) Nowhere c.at fed [] c'.at later × HasFed c' later
+  pub talked : (fed : List ℕ) → HasFed c fed → (later : List ℕ) × TalkStep (holds c.source) FromNone c.at fed [] c'.at later × HasFed c' later

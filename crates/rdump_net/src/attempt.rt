@@ -2,7 +2,7 @@
 ghost use Rattle.std.specs.Prelude.{◌≡◌, ℕ, List, OnErr};
 ghost use Rattle.dump_client.specs.Client.{HasFed};
 ghost use Rattle.rdump_net.specs.Lines.{HasGrown};
-ghost use Rattle.rdump_net.specs.Talk.{Just, Nowhere, TalksOver};
+ghost use Rattle.rdump_net.specs.Talk.{FromThis, FromNone, TalksOver};
 ghost use Rattle.rdump_net.specs.declared.attempt.Attempted.TheVariants.{NotStarted};
 
 use crate::Peer;
@@ -35,7 +35,7 @@ pub(crate) fn attempt<B: Blocks, P: Peer>(
     peer: &mut P,
     text: &mut Vec<u8>,
 ) -> Attempted
-    ensures talks { TalksOver B.holds (Just client.old.at) P.tells client.old client.new peer.old peer.new }
+    ensures talks { TalksOver B.holds (FromThis client.old.at) P.tells client.old client.new peer.old peer.new }
     ensures still { result ≡ NotStarted → client.new.at ≡ client.old.at }
     ensures grows { HasGrown client.old.at.counts client.new.at.counts }
 {
@@ -56,7 +56,7 @@ pub(crate) fn attempt<B: Blocks, P: Peer>(
 /// Starts an attempt over a new connection, unless one is under way. If no connection can be made,
 /// that ends the attempt. Fails if the client cannot start; then it is unchanged.
 fn begin<B: Blocks, P: Peer>(client: &mut Client<B>, peer: &mut P) -> Result<Progress, StartFault>
-    ensures talks { TalksOver B.holds (Just client.old.at) P.tells client.old client.new peer.old peer.new }
+    ensures talks { TalksOver B.holds (FromThis client.old.at) P.tells client.old client.new peer.old peer.new }
     ensures still { OnErr result (client.new.at ≡ client.old.at) }
     ensures fed { (bytes : List ℕ) × HasFed client.old bytes }
 {
@@ -77,7 +77,7 @@ fn talk<B: Blocks, P: Peer>(
     text: &mut Vec<u8>,
     begun: Progress,
 ) -> Progress
-    ensures { TalksOver B.holds Nowhere P.tells client.old client.new peer.old peer.new }
+    ensures { TalksOver B.holds FromNone P.tells client.old client.new peer.old peer.new }
 {
     match begun {
         Progress::Send => converse(client, peer, text),
@@ -91,7 +91,7 @@ fn converse<B: Blocks, P: Peer>(
     peer: &mut P,
     text: &mut Vec<u8>,
 ) -> Progress
-    ensures { TalksOver B.holds Nowhere P.tells client.old client.new peer.old peer.new }
+    ensures { TalksOver B.holds FromNone P.tells client.old client.new peer.old peer.new }
 {
     for _ in 0..u64::MAX {
         match exchange(client, peer, text) {
@@ -108,7 +108,7 @@ fn exchange<B: Blocks, P: Peer>(
     peer: &mut P,
     text: &mut Vec<u8>,
 ) -> Progress
-    ensures { TalksOver B.holds Nowhere P.tells client.old client.new peer.old peer.new }
+    ensures { TalksOver B.holds FromNone P.tells client.old client.new peer.old peer.new }
 {
     match client.state() {
         State::ToSend => ask(client, peer, text),
@@ -119,7 +119,7 @@ fn exchange<B: Blocks, P: Peer>(
 
 /// Builds the next request and sends it. If it cannot be sent whole, the client's attempt ends.
 fn ask<B: Blocks, P: Peer>(client: &mut Client<B>, peer: &mut P, text: &mut Vec<u8>) -> Progress
-    ensures { TalksOver B.holds Nowhere P.tells client.old client.new peer.old peer.new }
+    ensures { TalksOver B.holds FromNone P.tells client.old client.new peer.old peer.new }
 {
     text.clear();
     match client.next_request(text) {
@@ -137,7 +137,7 @@ fn ask<B: Blocks, P: Peer>(client: &mut Client<B>, peer: &mut P, text: &mut Vec<
 /// Receives bytes from the peer and feeds them to the client. At the end of the connection, the
 /// client's attempt ends.
 fn hear<B: Blocks, P: Peer>(client: &mut Client<B>, peer: &mut P) -> Progress
-    ensures { TalksOver B.holds Nowhere P.tells client.old client.new peer.old peer.new }
+    ensures { TalksOver B.holds FromNone P.tells client.old client.new peer.old peer.new }
 {
     let mut piece = [0; PIECE];
     let count = peer.receive(&mut piece);

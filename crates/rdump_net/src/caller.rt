@@ -4,7 +4,7 @@ ghost use Rattle.rmt_wire.specs.Lent.{plain_request, plain_wanted};
 ghost use Rattle.rmt_wire.specs.Reply as kinds;
 ghost use Rattle.rmt_wire.specs.Request.{HasSpelling};
 ghost use Rattle.rmt_wire.specs.ReplyReader.{IsWithin, ReplyUnread};
-ghost use Rattle.rdump_net.specs.KeptReply.{told_reply};
+ghost use Rattle.rdump_net.specs.KeptReply.{plain_result};
 ghost use Rattle.rdump_net.specs.Call.{wanted_by, IsReplyAwaited, IsFront, IsTaken, IsReplyHeard, IsCalled};
 
 use crate::Peer;
@@ -66,7 +66,7 @@ impl PeerCaller {
     ) -> Result<KeptReply, CallFault>
         requires spelling { HasSpelling (plain_request request.now) }
         requires within { IsWithin (wanted_by (plain_request request.now)) }
-        ensures { IsCalled P.tells (plain_request request.now) (told_reply result) peer.old peer.new }
+        ensures { IsCalled P.tells (plain_request request.now) (plain_result result) peer.old peer.new }
     {
         self.text.clear();
         let Ok(()) = push_request(&mut self.text, request) else {
@@ -105,7 +105,7 @@ fn hear<P: Peer>(
     wanted: Wanted,
 ) -> Result<KeptReply, CallFault>
     requires { IsWithin (plain_wanted wanted) }
-    ensures { IsReplyHeard P.tells (plain_wanted wanted) (told_reply result) peer.old peer.new }
+    ensures { IsReplyHeard P.tells (plain_wanted wanted) (plain_result result) peer.old peer.new }
 {
     reader.clear();
     reader.expect(wanted);

@@ -3,8 +3,8 @@ ghost use Rattle.std.specs.Prelude.{◌≡◌, ◌≤◌, ◌+◌, ◌++◌, cod
 ghost use Rattle.rmt_wire.specs.Number.{IsLine};
 ghost use Rattle.rmt_wire.specs.declared.limits.TheConstants.{NUMBER_LIMIT};
 ghost use Rattle.rdump_net.specs.Ends.{stream_ends, stream_kind};
-ghost use Rattle.rdump_net.specs.KeptReply.{plain_kept, told_reply};
-ghost use Rattle.rdump_net.specs.Operation.{mode_for, next_of, reply_line, IsMt, IsOperated, IsOperationReply, IsReplyTold};
+ghost use Rattle.rdump_net.specs.KeptReply.{plain_kept, plain_result};
+ghost use Rattle.rdump_net.specs.Operation.{mode_for, next_of, reply_line, IsMt, IsOperated, IsOperationReply, IsReplyPrinted};
 ghost use Rattle.rmt_wire.specs.Print.{IsPrinted};
 
 use crate::Peer;
@@ -98,7 +98,7 @@ fn ask<P: Peer>(
     requires device { IsLine device.now }
     requires op { op ≤ NUMBER_LIMIT }
     requires count { count ≤ NUMBER_LIMIT }
-    ensures { IsOperationReply (next_of device.now op count) P.tells peer.old peer.new (told_reply result) }
+    ensures { IsOperationReply (next_of device.now op count) P.tells peer.old peer.new (plain_result result) }
 {
     let mode = mode_of(op);
     let opened = caller.call(peer, &Request::Open { device, mode })?;
@@ -117,7 +117,7 @@ fn mode_of(op: u32) -> u32
 
 /// Prints a reply. Returns the exit status.
 fn print_reply<W: Write>(answer: &KeptReply, out: &mut Counted<W>) -> u8
-    ensures { IsReplyTold W.contents (plain_kept answer.now) out.old out.new result }
+    ensures { IsReplyPrinted W.contents (plain_kept answer.now) out.old out.new result }
 {
     let printed = print_answer(answer, out);
     if answer.is_done() && printed {

@@ -5,7 +5,7 @@ ghost use Rattle.rdump_net.specs.Lines.{DumpLines, IsDumped, IsFinish, IsRound, 
 ghost use Rattle.rdump_net.specs.declared.attempt.Attempted.TheVariants.{NotStarted};
 ghost use Rattle.rdump_net.specs.declared.conclusion.Conclusion.TheVariants as ends;
 ghost use Rattle.rmt_wire.specs.Print.{IsPrinted};
-ghost use Rattle.rdump_net.specs.Talk.{Anywhere, Just, TalksAlone, TalksOver};
+ghost use Rattle.rdump_net.specs.Talk.{FromAny, FromThis, TalksAlone, TalksOver};
 
 use crate::attempt::{Attempted, attempt};
 use crate::lines::{LINE_ROOM, QUESTION, complete_text, failure_text, print_counts};
@@ -37,7 +37,7 @@ pub fn dump<B: Blocks, P: Peer, R: Read, W: Write>(
     operator: &mut R,
     out: &mut Counted<W>,
 ) -> u8
-    ensures talks { TalksOver B.holds Anywhere P.tells client.old client.new peer.old peer.new }
+    ensures talks { TalksOver B.holds FromAny P.tells client.old client.new peer.old peer.new }
     ensures printed { IsDumped W.contents client.old.at.counts client.new.at out.old out.new result }
 {
     let mut text = Vec::new(alloc);
@@ -58,7 +58,7 @@ pub(crate) fn round<B: Blocks, P: Peer, R: Read, W: Write>(
     out: &mut Counted<W>,
     text: &mut Vec<u8>,
 ) -> Option<Conclusion>
-    ensures talks { TalksOver B.holds (Just client.old.at) P.tells client.old client.new peer.old peer.new }
+    ensures talks { TalksOver B.holds (FromThis client.old.at) P.tells client.old client.new peer.old peer.new }
     ensures printed { IsRound W.contents client.old.at.counts client.new.at out.old out.new result }
     ensures still { result ≡ Some ends.Complete → client.new.at ≡ client.old.at }
 {
@@ -86,7 +86,7 @@ fn begin_volume<B: Blocks, P: Peer, R: Read, W: Write>(
     out: &mut Counted<W>,
     text: &mut Vec<u8>,
 ) -> Option<Conclusion>
-    ensures talks { TalksOver B.holds (Just client.old.at) P.tells client.old client.new peer.old peer.new }
+    ensures talks { TalksOver B.holds (FromThis client.old.at) P.tells client.old client.new peer.old peer.new }
     ensures printed { IsRound W.contents client.old.at.counts client.new.at out.old out.new result }
     ensures still { result ≡ Some ends.Complete → client.new.at ≡ client.old.at }
     ensures held { may ≡ false → (client.new ≡ client.old) × (peer.new ≡ peer.old) }
@@ -106,7 +106,7 @@ fn try_volume<B: Blocks, P: Peer, R: Read, W: Write>(
     out: &mut Counted<W>,
     text: &mut Vec<u8>,
 ) -> Option<Conclusion>
-    ensures talks { TalksOver B.holds (Just client.old.at) P.tells client.old client.new peer.old peer.new }
+    ensures talks { TalksOver B.holds (FromThis client.old.at) P.tells client.old client.new peer.old peer.new }
     ensures printed { IsRound W.contents client.old.at.counts client.new.at out.old out.new result }
     ensures still { result ≡ Some ends.Complete → client.new.at ≡ client.old.at }
 {

@@ -129,7 +129,7 @@ fn go_through<P: Peer, F: Write, W: Write>(
 {
     begin(caller, peer, device)?;
     let records = copy_records(caller, peer, file, out)?;
-    conclude(caller, peer, goes_of(after, records), records)
+    conclude(caller, peer, after_for_count(after, records), records)
 }
 
 /// Opens the device and rewinds it.
@@ -151,8 +151,8 @@ fn begin<P: Peer>(caller: &mut PeerCaller, peer: &mut P, device: &[u8]) -> Resul
 
 /// Returns what to do with a reel of which this many records were read. If there were none, it
 /// stays and no mark is looked for.
-fn goes_of(after: AfterVolume, records: u64) -> AfterVolume
-    ensures { result ≡ spec.goes_of after records }
+fn after_for_count(after: AfterVolume, records: u64) -> AfterVolume
+    ensures { result ≡ spec.after_for_count after records }
 {
     if records == 0 {
         AfterVolume::Stay

@@ -9,7 +9,7 @@ use Rattle.tape.specs.Tape.{PlainEntry, marks_met, mark_count}
 use Rattle.tape.specs.Tape.PlainEntry.{Record, Mark}
 use Rattle.dump_run.specs.Label.{PlainLabel, label_record}
 use Rattle.reel_check.specs.Holding.{IsVolume, HasTwoLengths}
-use Rattle.reel_check.specs.Contents.{record_count, records_met}
+use Rattle.reel_check.specs.Contents.{record_count, record_total}
 use Rattle.reel_check.specs.declared.holding.VolumeEnd.{VolumeEnd}
 use Rattle.reel_check.specs.declared.holding.VolumeEnd.TheVariants.{NoMark}
 
@@ -88,14 +88,14 @@ block_other l count size end block entries none some other w =
     }
 
 -- one entry more is counted
-pub records_more : (entries : List PlainEntry) (next : PlainEntry) → records_met (entries ++ next ∷ []) ≡ records_met entries + record_count next
+pub records_more : (entries : List PlainEntry) (next : PlainEntry) → record_total (entries ++ next ∷ []) ≡ record_total entries + record_count next
 records_more entries next = omega (arith, sum_by-append record_count entries (next ∷ []))
 
 pub marks_more : (entries : List PlainEntry) (next : PlainEntry) → marks_met (entries ++ next ∷ []) ≡ marks_met entries + mark_count next
 marks_more entries next = omega (arith, sum_by-append mark_count entries (next ∷ []))
 
 -- there are no more records than entries, nor marks
-pub records_bound : (entries : List PlainEntry) → records_met entries ≤ length entries
+pub records_bound : (entries : List PlainEntry) → record_total entries ≤ length entries
 records_bound [] = omega arith
 records_bound (Record bytes ∷ es) = omega (arith, sum_by-cons record_count (Record bytes) es, records_bound es)
 records_bound (Mark ∷ es) = omega (arith, sum_by-cons record_count Mark es, records_bound es)

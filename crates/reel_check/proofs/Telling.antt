@@ -12,11 +12,11 @@ use Rattle.tape.specs.FileSteps.{size_by_length}
 use Rattle.tape.specs.Scan.{IsFirst}
 use Rattle.tape.proofs.Spelling.{length_length_bytes, image_parts, image_size, spells_in}
 use Rattle.reel_check.specs.Contents.{Tally, IsTally}
-use Rattle.reel_check.specs.Finding.{IsNextLength, TellsEntry, TellsRecord, IsToldUpTo, IsToldOf}
+use Rattle.reel_check.specs.Finding.{IsNextLength, AddsEntry, AddsRecord, IsTalliedUpTo, IsTallyOfFile}
 
 -- a record's bytes stand after its first length
 record_told : (bytes written rest : List ℕ) (n : ℕ) (e : PlainEntry) (old new : Tally) → n ≢ 0 → bytes ≡ image_of e ++ rest → written ≡ bytes_of e → n ≡ length written
-    → TellsRecord (drop 4 bytes) n old new → (done : List PlainEntry) → length done + 1 < 2 ^ 64 → IsTally old done → IsTally new (done ++ e ∷ [])
+    → AddsRecord (drop 4 bytes) n old new → (done : List PlainEntry) → length done + 1 < 2 ^ 64 → IsTally old done → IsTally new (done ++ e ∷ [])
 record_told bytes written rest n Mark old new some whole is long tells = absurd (some (long ∙ ap length is))
 record_told bytes written rest n (Record b) old new some whole is long tells =
     let head = length_bytes (length b) in
@@ -24,9 +24,9 @@ record_told bytes written rest n (Record b) old new some whole is long tells =
     = ap (drop 4) (whole ∙ image_parts (Record b) rest) ∙ drop_at head ((b ++ head) ++ rest) 4 (length_length_bytes (length b)) ∙ append_assoc b head rest in
     tells b (head ++ rest) behind (long ∙ ap length is)
 
-pub tells_entry : (x : List ℕ) (at n : ℕ) (old new : Tally) → n ≢ 0 → TellsRecord (drop (at + 4) x) n old new → TellsEntry (drop at x) n old new
+pub tells_entry : (x : List ℕ) (at n : ℕ) (old new : Tally) → n ≢ 0 → AddsRecord (drop (at + 4) x) n old new → AddsEntry (drop at x) n old new
 tells_entry x at n old new some tells written rest f long =
-    let there : TellsRecord (drop 4 (drop at x)) n old new = subst (λ l. TellsRecord l n old new) (sym (drop-drop 4 at x)) tells in
+    let there : AddsRecord (drop 4 (drop at x)) n old new = subst (λ l. AddsRecord l n old new) (sym (drop-drop 4 at x)) tells in
     record_told (drop at x) written rest n f.entry old new some f.whole f.bytes_is long there
 
 size_some : (n : ℕ) → 0 < n → size_by_length n ≡ n + 8
@@ -49,12 +49,12 @@ images_long [] = omega arith
 images_long (e ∷ es) = omega (arith, images_long es, length-append (image_of e) (images_of es), image_size e)
 
 -- at the beginning nothing was told
-pub none_told : (x : List ℕ) (t : Tally) → IsTally t [] → IsToldUpTo x 0 t
+pub none_told : (x : List ℕ) (t : Tally) → IsTally t [] → IsTalliedUpTo x 0 t
 none_told x t tally = record { done = []; whole = refl; place = refl; lawful = All-nil IsTapeEntry; tally = tally }
 
 -- one entry more was told
-pub more_told : (x : List ℕ) (at to n : ℕ) (old new : Tally) → at < 2 ^ 63 → to ≡ at + size_by_length n → IsToldUpTo x at old → IsNextLength (drop at x) (Some n)
-    → TellsEntry (drop at x) n old new → IsToldUpTo x to new
+pub more_told : (x : List ℕ) (at to n : ℕ) (old new : Tally) → at < 2 ^ 63 → to ≡ at + size_by_length n → IsTalliedUpTo x at old → IsNextLength (drop at x) (Some n)
+    → AddsEntry (drop at x) n old new → IsTalliedUpTo x to new
 more_told x at to n old new low to_is told next tells =
     let written = next.0 in
     let rest = next.1 in
@@ -76,7 +76,7 @@ more_told x at to n old new low to_is told next tells =
     }
 
 -- where no entry stands any more, all are told
-pub all_told : (x : List ℕ) (at : ℕ) (t : Tally) → IsToldUpTo x at t → IsTail (drop at x) → IsToldOf x at t
+pub all_told : (x : List ℕ) (at : ℕ) (t : Tally) → IsTalliedUpTo x at t → IsTail (drop at x) → IsTallyOfFile x at t
 all_told x at t told tail entries spelled =
     let found : SpellsReel x told.done = record { tail = drop at x; whole = told.whole; is_tail = tail; lawful = told.lawful } in
     let same : told.done ≡ entries = spells_in x told.done found ∙ sym (spells_in x entries spelled) in

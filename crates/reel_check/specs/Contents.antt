@@ -14,8 +14,8 @@ record_count (Record bytes) = 1
 record_count Mark = 0
 
 -- How many records are among these entries.
-abbrev pub records_met : List PlainEntry → ℕ
-records_met entries = sum_by record_count entries
+abbrev pub record_total : List PlainEntry → ℕ
+record_total entries = sum_by record_count entries
 
 -- The view of a `ReelTally`: what its entries are, and how many records and marks came.
 pub record Tally : Type 0 where
@@ -26,14 +26,14 @@ pub record Tally : Type 0 where
 -- The tally is that of these entries.
 pub record IsTally (t : Tally) (entries : List PlainEntry) : Type 0 where
   pub holding : IsHolding t.holding entries
-  pub records : t.records ≡ records_met entries
+  pub records : t.records ≡ record_total entries
   pub marks : t.marks ≡ marks_met entries
 
 -- The contents are those of these entries, with the length of the file, and how many bytes of it
 -- follow the entries.
 pub record IsContents (c : ReelContents) (file : List ℕ) (entries : List PlainEntry) : Type 0 where
   pub holding : IsHolding c.holding entries
-  pub records : c.records ≡ records_met entries
+  pub records : c.records ≡ record_total entries
   pub marks : c.marks ≡ marks_met entries
   pub bytes : c.bytes ≡ length file
   pub tail : c.tail ≡ length file - length (images_of entries)

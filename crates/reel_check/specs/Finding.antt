@@ -19,19 +19,19 @@ IsNextLength bytes None = IsTail bytes
 IsNextLength bytes (Some n) = (written : List ℕ) × (rest : List ℕ) × IsFirst bytes written rest × (n ≡ length written)
 
 -- The entry of this length that these bytes begin with is added to a tally.
-abbrev pub TellsEntry : List ℕ → ℕ → Tally → Tally → Type 0
-TellsEntry bytes n old new =
+abbrev pub AddsEntry : List ℕ → ℕ → Tally → Tally → Type 0
+AddsEntry bytes n old new =
     (written rest : List ℕ) (f : IsFirst bytes written rest) → n ≡ length written → (done : List PlainEntry) → length done + 1 < 2 ^ 64 →
     IsTally old done → IsTally new (done ++ f.entry ∷ [])
 
 -- The record whose bytes are the first `n` of these is added to a tally.
-abbrev pub TellsRecord : List ℕ → ℕ → Tally → Tally → Type 0
-TellsRecord there n old new =
+abbrev pub AddsRecord : List ℕ → ℕ → Tally → Tally → Type 0
+AddsRecord there n old new =
     (written rest : List ℕ) → there ≡ written ++ rest → n ≡ length written → (done : List PlainEntry) → length done + 1 < 2 ^ 64 →
     IsTally old done → IsTally new (done ++ Record written ∷ [])
 
 -- The bytes before this offset are the images of entries that were added to the tally.
-pub record IsToldUpTo (bytes : List ℕ) (at : ℕ) (t : Tally) : Type 0 where
+pub record IsTalliedUpTo (bytes : List ℕ) (at : ℕ) (t : Tally) : Type 0 where
   pub done : List PlainEntry
   pub whole : bytes ≡ images_of done ++ drop at bytes
   pub place : at ≡ length (images_of done)
@@ -39,5 +39,5 @@ pub record IsToldUpTo (bytes : List ℕ) (at : ℕ) (t : Tally) : Type 0 where
   pub tally : IsTally t done
 
 -- The tally is that of the entries that the bytes spell, and they end at this offset.
-abbrev pub IsToldOf : List ℕ → ℕ → Tally → Type 0
-IsToldOf bytes end t = (entries : List PlainEntry) → SpellsReel bytes entries → (end ≡ length (images_of entries)) × IsTally t entries
+abbrev pub IsTallyOfFile : List ℕ → ℕ → Tally → Type 0
+IsTallyOfFile bytes end t = (entries : List PlainEntry) → SpellsReel bytes entries → (end ≡ length (images_of entries)) × IsTally t entries

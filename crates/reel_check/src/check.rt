@@ -7,7 +7,7 @@ ghost use Rattle.tape.specs.RecordFile.{SpellsReel, medium_kind_of};
 ghost use Rattle.dump_run.specs.Label.{label_bytes};
 ghost use Rattle.tape.specs.FileSteps.{IsMediumRun};
 ghost use Rattle.reel_check.specs.Contents.{IsContents};
-ghost use Rattle.reel_check.specs.Finding.{TellsEntry, TellsRecord, IsToldOf};
+ghost use Rattle.reel_check.specs.Finding.{AddsEntry, AddsRecord, IsTallyOfFile};
 
 use crate::entry::{LENGTH_BYTES, next_length, size_of};
 use crate::{ReelContents, ReelTally};
@@ -44,7 +44,7 @@ pub fn check_reel<M: Medium>(medium: &mut M, room: &mut [u8]) -> Result<ReelCont
 /// Returns the tally of the entries of a record file, and the offset of their end.
 fn add_entries<M: Medium>(medium: &mut M, room: &mut [u8]) -> Result<(ReelTally, u64), MediumFailed>
     ensures { IsMediumRun (medium_kind_of M.Medium)
-        (λ old new. (new ≡ old) × IfOk result (λ p. IsToldOf old p.1 p.0)) 0 (IsErr result) medium.old medium.new }
+        (λ old new. (new ≡ old) × IfOk result (λ p. IsTallyOfFile old p.1 p.0)) 0 (IsErr result) medium.old medium.new }
 {
     let mut tally = ReelTally::new();
     let mut at: u64 = 0;
@@ -65,7 +65,7 @@ fn add_entry<M: Medium>(
 ) -> Result<(), MediumFailed>
     requires { at + length + 4 < 2 ^ 64 }
     ensures { IsMediumRun (medium_kind_of M.Medium)
-        (λ old new. (new ≡ old) × IfOk result (λ _. TellsEntry (drop at old) length tally.old tally.new)) 0 (IsErr result)
+        (λ old new. (new ≡ old) × IfOk result (λ _. AddsEntry (drop at old) length tally.old tally.new)) 0 (IsErr result)
         medium.old medium.new }
 {
     if length == 0 {
@@ -87,7 +87,7 @@ fn add_record<M: Medium>(
 ) -> Result<(), MediumFailed>
     requires { at + length < 2 ^ 64 }
     ensures { IsMediumRun (medium_kind_of M.Medium)
-        (λ old new. (new ≡ old) × IfOk result (λ _. TellsRecord (drop at old) length tally.old tally.new)) 0 (IsErr result)
+        (λ old new. (new ≡ old) × IfOk result (λ _. AddsRecord (drop at old) length tally.old tally.new)) 0 (IsErr result)
         medium.old medium.new }
 {
     if length == LABEL_BYTES && tally.is_empty() {
@@ -101,7 +101,7 @@ fn add_record<M: Medium>(
 /// Adds the record of a label's length to the tally. Its bytes begin at offset `at`.
 fn add_label<M: Medium>(medium: &mut M, at: u64, tally: &mut ReelTally) -> Result<(), MediumFailed>
     ensures { IsMediumRun (medium_kind_of M.Medium)
-        (λ old new. (new ≡ old) × IfOk result (λ _. TellsRecord (drop at old) label_bytes tally.old tally.new)) 0 (IsErr result)
+        (λ old new. (new ≡ old) × IfOk result (λ _. AddsRecord (drop at old) label_bytes tally.old tally.new)) 0 (IsErr result)
         medium.old medium.new }
 {
     let mut label = [0u8; LABEL_BYTES];

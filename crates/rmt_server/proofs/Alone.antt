@@ -6,7 +6,7 @@ use Rattle.rmt_wire.specs.Request.PlainRequest.{Open, Close, Write, WriteDropped
 use Rattle.rmt_wire.specs.Reply.{PlainReply}
 use Rattle.rmt_wire.specs.Reply.PlainReply.{Done}
 use Rattle.drives.specs.declared.fault.DriveFault.{DriveFault}
-use Rattle.drives.specs.Opening.{Kinds, word_after_open}
+use Rattle.drives.specs.Opening.{Kinds, holder_after_open}
 use Rattle.rmt_server.specs.declared.access.Access.{Access}
 use Rattle.rmt_server.specs.declared.refusal.Refusal.{Refusal}
 use Rattle.rmt_server.specs.declared.refusal.Refusal.TheVariants.{BadDescriptor}
@@ -15,20 +15,20 @@ use Rattle.rmt_server.specs.Access.{access_of}
 use Rattle.rmt_server.specs.Refusals.{refused}
 use Rattle.rmt_server.specs.Session.{SessionView, refusal, is_offline}
 use Rattle.rmt_server.specs.State.{State, drive_of, status_at}
-use Rattle.rmt_server.specs.Opening.{word_after_close, opened_by, IsClosed, OpensFor}
+use Rattle.rmt_server.specs.Opening.{holder_after_close, opened_by, IsClosed, OpensFor}
 use Rattle.rmt_server.specs.Moving.{MovesIn, MovesReel}
 use Rattle.rmt_server.specs.Serving.{Serves}
 use Rattle.rmt_server.specs.Carrying.{Operates, CarriesOut, IsAlone, MayShare, IsServed, IsCarriedOut}
 use Rattle.rmt_server.proofs.Sound.{serves_same}
 
 -- once the open drive was given back, a drive that was free or open is free
-free_closed : (drive : Option ℕ) (d n : ℕ) → (0 < n → drive ≡ Some d) → word_after_close drive d n ≡ 0
+free_closed : (drive : Option ℕ) (d n : ℕ) → (0 < n → drive ≡ Some d) → holder_after_close drive d n ≡ 0
 free_closed None d n h = grind (arith, common_steps)
 free_closed (Some e) d n h = grind (arith, common_steps)
 
 -- after an open a drive that was free is free, or it is the one that is open
 free_opened : {R : Type 0} (access : Access) (result : Result (ℕ × R) DriveFault) (number d n : ℕ) → n ≡ 0
-    → 0 < word_after_open result number d n → drive_of (opened_by access result) ≡ Some d
+    → 0 < holder_after_open result number d n → drive_of (opened_by access result) ≡ Some d
 free_opened access (Ok taken) number d n e x = grind (arith, common_steps)
 free_opened access (Err fault) number d n e x = absurd (omega arith)
 
@@ -51,7 +51,7 @@ module _ {H S Seat R : Type 0} (k : Kinds H Seat S R) where
   opens_alone old None device reply new free (e, n) = rw n (free_alone old free)
   opens_alone old (Some access) device reply new free (result, e, o) = λ d l. (
       let told = o.opening.told d 0 (free d (subst (λ n. d < n) o.kept.same_holds l)) in
-      (word_after_open result (k.holds.shows old.seat).number d 0, told, λ x. ap drive_of o.opens ∙ free_opened access result _ d 0 refl x))
+      (holder_after_open result (k.holds.shows old.seat).number d 0, told, λ x. ap drive_of o.opens ∙ free_opened access result _ d 0 refl x))
 
   alone_closed : (old new : State H S Seat R) → IsAlone k old → IsClosed k old new → AllFree new
   unfolding AllFree

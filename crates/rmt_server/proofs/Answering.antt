@@ -16,7 +16,7 @@ use Rattle.rmt_wire.specs.RequestReader.{RequestHeld, Unread, IsNext, dropped_li
 use Rattle.rmt_wire.specs.declared.request.Request.{Request}
 use Rattle.rmt_wire.specs.declared.fault.WireFault.{WireFault}
 use Rattle.drives.specs.Opening.{Kinds}
-use Rattle.rmt_server.specs.State.{State, Tells}
+use Rattle.rmt_server.specs.State.{State, HasView}
 use Rattle.rmt_server.specs.Replies.{IsSayable}
 use Rattle.rmt_server.specs.Opening.{IsClosed}
 use Rattle.rmt_server.specs.Carrying.{IsCarriedOut, MayFail, MayShare}
@@ -216,8 +216,8 @@ module _ {H S Seat R : Type 0} {k : Kinds H Seat S R} {old between new : State H
 
 -- Where stacks and reel tell, a run of requests carried out is a run of serve steps
 pub run_steps : {H S Seat R : Type 0} {k : Kinds H Seat S R} {old last : State H S Seat R} {done : List Exchange}
-    → CarryRun k old done last → (fails shared : Bool) → MayFail k old fails → MayShare k old shared → (start : SessionView) → Tells k old start
-    → (finish : SessionView) × ServeRun fails shared k.reels.GROWS start done finish × Tells k last finish × MayShare k last shared × MayFail k last fails
+    → CarryRun k old done last → (fails shared : Bool) → MayFail k old fails → MayShare k old shared → (start : SessionView) → HasView k old start
+    → (finish : SessionView) × ServeRun fails shared k.reels.GROWS start done finish × HasView k last finish × MayShare k last shared × MayFail k last fails
 run_steps none fails shared may share start tells = (start, no_steps, tells, share, may)
 run_steps (one_more {between = between} request reply run carried spelling) fails shared may share start tells =
     let so_far = run_steps run fails shared may share start tells in

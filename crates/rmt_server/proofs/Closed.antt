@@ -7,9 +7,9 @@ use Rattle.drives.specs.TapeLibrary.{TapeLibrary}
 use Rattle.drives.specs.Stacking.{HasLatched, ReelCanFail, IsStacksCall}
 use Rattle.rmt_server.specs.declared.access.Access.{Access}
 use Rattle.rmt_server.specs.Session.{PlainSession, closed_library}
-use Rattle.rmt_server.specs.State.{State, drive_of, online_drive, reel_of, IsAt, IsSeenWith, IsSeenAs, IsReelCall}
+use Rattle.rmt_server.specs.State.{State, drive_of, online_drive, reel_of, IsAt, IsSeenWith, IsViewedAs, IsReelCall}
 use Rattle.rmt_server.specs.declared.session.session_state.Opened.{Opened}
-use Rattle.drives.specs.Holding.{HoldsJust, given, word_after_give}
+use Rattle.drives.specs.Holding.{HoldsJust, given, holder_after_give}
 use Rattle.drives.specs.Opening.{Kinds}
 use Rattle.drives.specs.declared.view.View.{View}
 use Rattle.rmt_server.proofs.Seats.{HoldsJust_given}
@@ -58,7 +58,7 @@ laid_kept s r old drive (Some reel) new (rested, rewound, call) = record {
 pub closed_by : {H S Seat R : Type 0} (k : Kinds H Seat S R) (old new : State H S Seat R) (device : Opened R) → IsAt k old → old.opened ≡ Some device → new.opened ≡ None
     → LaysBack k.stacks k.reels old.drives.stacks device.drive device.reel new.drives.stacks
     → k.holds.shows new.seat ≡ given (k.holds.shows old.seat) device.drive
-    → ((d n : ℕ) → k.holds.tells old.drives.holds d n → k.holds.tells new.drives.holds d (word_after_give device.drive d n))
+    → ((d n : ℕ) → k.holds.tells old.drives.holds d n → k.holds.tells new.drives.holds d (holder_after_give device.drive d n))
     → k.holds.belongs new.drives.holds new.seat
     → ((s : Seat) → (k.holds.shows s).number ≢ (k.holds.shows old.seat).number → k.holds.belongs old.drives.holds s → k.holds.belongs new.drives.holds s)
     → k.holds.drives new.drives.holds ≡ k.holds.drives old.drives.holds → k.holds.seated new.drives.holds ≡ k.holds.seated old.drives.holds
@@ -77,7 +77,7 @@ closed_by k old new device at o none laid view told own others same_holds same_s
         latched = λ d e. (let n : None ≡ Some d = sym (ap online_drive none) ∙ e in absurd cc);
       };
       laid = subst (λ p. LaysBackOpened k.stacks k.reels old.drives.stacks p new.drives.stacks) (sym o) laid;
-      step = λ v tells. kept.step device.access v.library v.session tells.library (subst (λ p. IsSeenAs k.reels p v.session) o tells.session);
+      step = λ v tells. kept.step device.access v.library v.session tells.library (subst (λ p. IsViewedAs k.reels p v.session) o tells.session);
       view = view ∙ sym (ap (view_after_close (k.holds.shows old.seat)) drive);
       told = λ d n t. rw drive (told d n t);
       kept = record {

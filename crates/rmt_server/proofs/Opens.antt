@@ -14,7 +14,7 @@ use Rattle.drives.specs.Calls.StacksCall.{Latch}
 use Rattle.drives.specs.Stacking.{HasLatched, ReelCanFail, IsStacksCall}
 use Rattle.drives.specs.Opening.{Kinds, OpenStep, SeatStep, LatchesFor, drive_asked, found_in_open}
 use Rattle.rmt_server.specs.Session.{PlainReel, plain_reel, IsOpenExcused, open_reply, session_after}
-use Rattle.rmt_server.specs.State.{IsSeenAs, reel_of, online_drive}
+use Rattle.rmt_server.specs.State.{IsViewedAs, reel_of, online_drive}
 use Rattle.rmt_server.specs.Opening.{opened_by}
 
 -- the stacks' device is at fault
@@ -75,7 +75,7 @@ pub record OpenSeen {R : Type 0} (r : ReelPromise R) (device : List ℕ) (access
   pub found : found_in_open result ≡ found_in_open plain
   pub excused : IsOpenExcused (is_device result) plain
   pub reply : open_reply result ≡ open_reply plain
-  pub seen : IsSeenAs r (opened_by access result) (session_after access plain)
+  pub seen : IsViewedAs r (opened_by access result) (session_after access plain)
 
 pub open_seen : {R : Type 0} (r : ReelPromise R) (device : List ℕ) (access : Access) (asked : Option ℕ) (result : Result (ℕ × R) DriveFault) (library library' : TapeLibrary)
     → IsOpenExcused (is_device result) result

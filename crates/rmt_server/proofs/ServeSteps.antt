@@ -17,7 +17,7 @@ use Rattle.rmt_server.specs.Access.{access_of}
 use Rattle.rmt_server.specs.Refusals.{refused}
 use Rattle.rmt_server.specs.Session.{SessionView, session_view, plain_reel, status_of, refusal, is_offline, closed, session_after, IsMoveExcused, move_reply, ServeStep}
 use Rattle.rmt_server.specs.Session.PlainSession.{Offline, Online}
-use Rattle.rmt_server.specs.State.{State, drive_of, reel_of, status_in, status_at, IsAt, IsSeenWith, IsSeenAs, Tells, SessionCanFail}
+use Rattle.rmt_server.specs.State.{State, drive_of, reel_of, status_in, status_at, IsAt, IsSeenWith, IsViewedAs, HasView, SessionCanFail}
 use Rattle.rmt_server.specs.Opening.{view_after_close, IsClosed, OpensFor}
 use Rattle.rmt_server.specs.Moving.{IsTakenOff, MovesIn, MovesReel}
 use Rattle.rmt_server.specs.Serving.{Serves}
@@ -50,10 +50,10 @@ move_excused Device f = refl
 move_excused OutOfMemory f = tt
 move_excused NameTaken f = tt
 
-module _ {H S Seat R : Type 0} (k : Kinds H Seat S R) (old : State H S Seat R) (before : SessionView) (tells : Tells k old before) where
+module _ {H S Seat R : Type 0} (k : Kinds H Seat S R) (old : State H S Seat R) (before : SessionView) (tells : HasView k old before) where
   -- a refused request
-  refused_tells : (new : State H S Seat R) → new ≡ old → Tells k new before
-  refused_tells new n = subst (λ x. Tells k x before) (sym n) tells
+  refused_tells : (new : State H S Seat R) → new ≡ old → HasView k new before
+  refused_tells new n = subst (λ x. HasView k x before) (sym n) tells
 
   -- an open, once what was open is closed
   opens : (device : List ℕ) (mode : ℕ) (access : Option Access) → access_of mode ≡ access → (reply : PlainReply) (between new : State H S Seat R)
@@ -90,7 +90,7 @@ module _ {H S Seat R : Type 0} (k : Kinds H Seat S R) (old : State H S Seat R) (
       }
 
   -- a request that takes no drive
-  served : (request : PlainRequest) (reply : PlainReply) (new : State H S Seat R) (after : SessionView) (troubled : Bool) → Tells k new after
+  served : (request : PlainRequest) (reply : PlainReply) (new : State H S Seat R) (after : SessionView) (troubled : Bool) → HasView k new after
       → (IsTrue troubled → HasTrouble k (is_of_stacks request) old new) → (IsTrue troubled → SessionCanFail k old)
       → ServeStep troubled k.reels.GROWS None 0 before request reply after → IsServed k old request reply new before
   served request reply new after troubled seen trouble able step = record {
@@ -116,10 +116,10 @@ module _ {H S Seat R : Type 0} (k : Kinds H Seat S R) (old : State H S Seat R) (
       → MatchOption opened ((reply ≡ refused BadDescriptor) × (new ≡ old)) (λ device. (reply ≡ Done 0) × IsClosed k old new)
       → IsServed k old Close reply new before
   closes None reply new o (e, n) =
-      let idle : status_of before.session ≡ status_at {R = R} None = status_seen k.reels None before.session (subst (λ p. IsSeenAs k.reels p before.session) o tells.session) in
+      let idle : status_of before.session ≡ status_at {R = R} None = status_seen k.reels None before.session (subst (λ p. IsViewedAs k.reels p before.session) o tells.session) in
       served Close reply new before false (refused_tells new n) (λ t. absurd cc) (λ t. absurd cc) (rw idle (e, refl))
   closes (Some device) reply new o (e, c) =
-      let open_at : status_of before.session ≡ status_at (Some device) = status_seen k.reels (Some device) before.session (subst (λ p. IsSeenAs k.reels p before.session) o tells.session) in
+      let open_at : status_of before.session ≡ status_at (Some device) = status_seen k.reels (Some device) before.session (subst (λ p. IsViewedAs k.reels p before.session) o tells.session) in
       served Close reply new (closed before) false (record { library = c.step before tells; session = rw c.nothing refl }) (λ t. absurd cc) (λ t. absurd cc)
       (rw (open_at, not_refused device.access device.reel) (e, refl))
 
@@ -129,7 +129,7 @@ module _ {H S Seat R : Type 0} (k : Kinds H Seat S R) (old : State H S Seat R) (
   reel_parts request reply new (n, e, serves) = reel_serves k.reels old.opened new.opened before.library before.session request reply serves tells.session
 
   reel_tells : (request : PlainRequest) (reply : PlainReply) (new : State H S Seat R) (by : Option Refusal) → new.drives ≡ old.drives
-      → (p : ReelServed k.reels (reel_of old.opened) new.opened before.library before.session by request reply) → Tells k new (session_view before.library p.after)
+      → (p : ReelServed k.reels (reel_of old.opened) new.opened before.library before.session by request reply) → HasView k new (session_view before.library p.after)
   reel_tells request reply new by n p = record { library = rw n tells.library; session = p.seen }
 
   -- a reel that was taken off its drive, or stays
@@ -177,7 +177,7 @@ module _ {H S Seat R : Type 0} (k : Kinds H Seat S R) (old : State H S Seat R) (
 
   moves_reel : (opened : Option (Opened R)) (op count : ℕ) (reply : PlainReply) (new : State H S Seat R)
       → old.opened ≡ opened → is_offline op ≡ true → refusal (status_of before.session) (Op op count) ≡ None
-      → MovesReel k old opened count reply new → IsSeenAs k.reels opened before.session
+      → MovesReel k old opened count reply new → IsViewedAs k.reels opened before.session
       → IsServed k old (Op op count) reply new before
   moves_reel None op count reply new o off free m seen = absurd m
   moves_reel (Some device) op count reply new o off free m seen = moves_in device device.reel op count reply new o off free m seen

@@ -13,7 +13,7 @@ use Rattle.drives.specs.TapeLibrary.{TapeLibrary}
 use Rattle.rmt_server.specs.Session.{PlainSession, plain_reel, session_view, status_of, refusal, IsExcused, ReelStep}
 use Rattle.rmt_server.specs.Session.PlainSession.{Online}
 use Rattle.drives.specs.Stacking.{ReelCanFail}
-use Rattle.rmt_server.specs.State.{IsSeenWith, IsSeenAs, reel_of, status_at, status_in}
+use Rattle.rmt_server.specs.State.{IsSeenWith, IsViewedAs, reel_of, status_at, status_in}
 use Rattle.rmt_server.specs.Serving.{CallsIn, CallsReel, ReelServes}
 use Rattle.rmt_server.specs.Carrying.{ReelFailed}
 
@@ -46,7 +46,7 @@ is_excused grows (Fault fault.OutOfMemory) h = h refl
 pub record ReelServed {R : Type 0} (r : ReelPromise R) (reel : Option R) (new : Option (Opened R)) (library : TapeLibrary) (session : PlainSession)
     (refused_by : Option Refusal) (request : PlainRequest) (reply : PlainReply) : Type 0 where
   pub after : PlainSession
-  pub seen : IsSeenAs r new after
+  pub seen : IsViewedAs r new after
   pub troubled : Bool
   pub trouble : IsTrue troubled → ReelFailed r reel (reel_of new)
   pub able : IsTrue troubled → ReelCanFail r reel
@@ -82,14 +82,14 @@ calls_in r device (Some reel) new library session request reply (answer, moved, 
 
 calls_reel : {R : Type 0} (r : ReelPromise R) (old new : Option (Opened R)) (library : TapeLibrary) (session : PlainSession)
     (request : PlainRequest) (reply : PlainReply)
-    → CallsReel r old new request reply → IsSeenAs r old session
+    → CallsReel r old new request reply → IsViewedAs r old session
     → ReelServed r (reel_of old) new library session None request reply
 calls_reel r None new library session request reply call seen = absurd call
 calls_reel r (Some device) new library session request reply call seen = calls_in r device device.reel new library session request reply call seen
 
 serves_by : {R : Type 0} (r : ReelPromise R) (old new : Option (Opened R)) (library : TapeLibrary) (session : PlainSession)
     (request : PlainRequest) (reply : PlainReply) (by : Option Refusal)
-    → MatchOption by (CallsReel r old new request reply) (λ x. (reply ≡ refused x) × (new ≡ old)) → IsSeenAs r old session
+    → MatchOption by (CallsReel r old new request reply) (λ x. (reply ≡ refused x) × (new ≡ old)) → IsViewedAs r old session
     → ReelServed r (reel_of old) new library session by request reply
 serves_by r old new library session request reply None call seen = calls_reel r old new library session request reply call seen
 serves_by r old new library session request reply (Some x) (e, n) seen = record {
@@ -107,14 +107,14 @@ status_with r device None session seen = ap status_of seen
 status_with r device (Some reel) session seen = ap status_of seen.2
 
 -- the checks see of a session what they see of what is open
-pub status_seen : {R : Type 0} (r : ReelPromise R) (opened : Option (Opened R)) (session : PlainSession) → IsSeenAs r opened session → status_of session ≡ status_at opened
+pub status_seen : {R : Type 0} (r : ReelPromise R) (opened : Option (Opened R)) (session : PlainSession) → IsViewedAs r opened session → status_of session ≡ status_at opened
 status_seen r None session seen = ap status_of seen
 status_seen r (Some device) session seen = status_with r device device.reel session seen
 
 -- a request that the reel serves, where stacks and reel tell
 pub reel_serves : {R : Type 0} (r : ReelPromise R) (old new : Option (Opened R)) (library : TapeLibrary) (session : PlainSession)
     (request : PlainRequest) (reply : PlainReply)
-    → ReelServes r old new request reply → IsSeenAs r old session
+    → ReelServes r old new request reply → IsViewedAs r old session
     → ReelServed r (reel_of old) new library session (refusal (status_of session) request) request reply
 reel_serves r old new library session request reply serves seen =
     rw (status_seen r old session seen) (serves_by r old new library session request reply (refusal (status_at old) request) serves seen)

@@ -4,13 +4,13 @@ use Rattle.std.proofs.lemmas.List.{ext_get_or}
 use Rattle.std.proofs.lemmas.Bool.Decides.{nat_tests}
 use Rattle.drives.specs.declared.fault.DriveFault.{DriveFault}
 use Rattle.drives.specs.Local.{Holders, IsHeldBy}
-use Rattle.drives.specs.Opening.{word_after_open}
+use Rattle.drives.specs.Opening.{holder_after_open}
 use Rattle.tape.specs.Trouble.{TroubledTape}
 use Rattle.drives.specs.contracts.list.ListStacksStacks.TheImpl.{ghosts as of_stacks}
 use Rattle.tape.specs.contracts.troubled.TroubledReelReel.TheImpl.{ghosts as of_reel}
 use Rattle.rmt_server.specs.declared.access.Access.{Access}
 use Rattle.rmt_server.specs.State.{drive_of, IsAt}
-use Rattle.rmt_server.specs.Opening.{word_after_close, opened_by}
+use Rattle.rmt_server.specs.Opening.{holder_after_close, opened_by}
 use Rattle.rmt_server.specs.Memory.{MemoryState, in_memory}
 use Rattle.rmt_server.specs.TroubledServe.{with_holder}
 use Rattle.rmt_server.proofs.Sharing.{open_held}
@@ -28,7 +28,7 @@ set_at xs e n d l = elim (eq_or_ne d e) [
 
 -- a drive that was given back has no holder
 pub closed_numbers : (drive : Option ℕ) (old new : Holders) → length new.numbers ≡ length old.numbers
-    → ((d n : ℕ) → IsHeldBy old d n → IsHeldBy new d (word_after_close drive d n)) → new.numbers ≡ with_holder drive 0 old.numbers
+    → ((d n : ℕ) → IsHeldBy old d n → IsHeldBy new d (holder_after_close drive d n)) → new.numbers ≡ with_holder drive 0 old.numbers
 closed_numbers None old new same told =
     ext_get_or 0 new.numbers old.numbers same (λ d l. (told d (slice_index old.numbers d) (subst (λ n. d < n) same l, refl)).1)
 closed_numbers (Some e) old new same told =
@@ -40,7 +40,7 @@ word_free number e d n free = grind (arith, nat_tests)
 
 -- a drive that was taken has the seat that took it
 pub opened_numbers : (access : Access) (result : Result (ℕ × TroubledTape) DriveFault) (number : ℕ) (old new : Holders) → length new.numbers ≡ length old.numbers
-    → ((d n : ℕ) → IsHeldBy old d n → IsHeldBy new d (word_after_open result number d n)) → IfOk result (λ opened. slice_index old.numbers opened.0 ≡ 0)
+    → ((d n : ℕ) → IsHeldBy old d n → IsHeldBy new d (holder_after_open result number d n)) → IfOk result (λ opened. slice_index old.numbers opened.0 ≡ 0)
     → new.numbers ≡ with_holder (drive_of (opened_by access result)) number old.numbers
 opened_numbers access (Ok opened) number old new same told free =
     ext_get_or 0 new.numbers (slice_set old.numbers opened.0 number) (same ∙ sym (length-set old.numbers opened.0 number))

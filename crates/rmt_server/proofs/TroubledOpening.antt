@@ -20,7 +20,7 @@ use Rattle.rmt_server.specs.declared.refusal.Refusal.TheVariants.{Invalid}
 use Rattle.rmt_server.specs.Refusals.{refused}
 use Rattle.rmt_server.specs.Access.{access_of}
 use Rattle.rmt_server.specs.Session.{PlainReel, plain_reel, SessionView, session_view, closed, open_reply, session_after, is_offline}
-use Rattle.rmt_server.specs.State.{drive_of, reel_of, IsAt, IsSeenAs, Tells}
+use Rattle.rmt_server.specs.State.{drive_of, reel_of, IsAt, IsViewedAs, HasView}
 use Rattle.rmt_server.specs.Opening.{opened_by, IsClosed, OpensFor, IsOpenedFor}
 use Rattle.rmt_server.specs.Carrying.{Operates, CarriesOut}
 use Rattle.rmt_server.specs.Memory.{MemoryState, in_memory}
@@ -35,7 +35,7 @@ record OpenSeenSo (trouble : Trouble) (held : ℕ) (device : List ℕ) (access :
   step : OpenStep (λ (reel : PlainReel) (t : Tape). reel.tape ≡ t) (λ (reel : PlainReel). reel.capacity) device asked plain library library'
   cause : IsOpenCause trouble held plain
   reply : open_reply result ≡ open_reply plain
-  seen : IsSeenAs of_reel (opened_by access result) (session_after access plain)
+  seen : IsViewedAs of_reel (opened_by access result) (session_after access plain)
 
 open_seen_so : (trouble : Trouble) (held : ℕ) (device : List ℕ) (access : Access) (asked : Option ℕ) (result : Result (ℕ × TroubledTape) DriveFault) (library library' : TapeLibrary)
     → OpenStep of_reel.holds of_reel.capacity device asked result library library' → IsOpenCause trouble held result → OpenSeenSo trouble held device access asked result library library'
@@ -115,7 +115,7 @@ open_next asked (Err Device) reply old new call e = inr (call.2.made.0, ap (λ (
 open_next asked (Err OutOfMemory) reply old new call e = absurd call.2.made
 open_next asked (Err NameTaken) reply old new call e = absurd call.2.made
 
-module _ (law : LyingLaw) (trouble : Trouble) (old : MemoryState) (before : SessionView) (at : IsAt in_memory old) (tells : Tells in_memory old before) where
+module _ (law : LyingLaw) (trouble : Trouble) (old : MemoryState) (before : SessionView) (at : IsAt in_memory old) (tells : HasView in_memory old before) where
   -- an open of a drive, once what was open is closed
   opened_so : (device : List ℕ) (mode : ℕ) (access : Access) (reply : PlainReply) (result : Result (ℕ × TroubledTape) DriveFault) (between new : MemoryState)
       → access_of mode ≡ Some access → reply ≡ open_reply result → IsClosed in_memory old between → IsOpenedFor in_memory between device access result new
@@ -131,7 +131,7 @@ module _ (law : LyingLaw) (trouble : Trouble) (old : MemoryState) (before : Sess
       st.2 o.opening.view o.opening.call found (rest.1 ∙ set.next) in
       let seen = open_seen_so trouble (holder_of between.drives.holds.numbers asked) device access asked result (closed before).library st.0 st.2 cause in
       let after : SessionView = session_view st.0 (session_after access seen.plain) in
-      let told : Tells in_memory new after = record { library = st.1; session = rw o.opens seen.seen } in
+      let told : HasView in_memory new after = record { library = st.1; session = rw o.opens seen.seen } in
       let drives : length (closed before).library.drives ≡ length between.drives.stacks.library.drives
       = ap (λ (s : TapeLibrary). length s.drives) (c.step before tells).0 ∙ length-map between.drives.stacks.library.drives rest_drive in
       let free = open_free between.drives.holds.numbers device asked result (closed before).library st.0 st.2 found in

@@ -16,7 +16,7 @@ use Rattle.rmt_server.specs.declared.session.session_state.Opened.{Opened}
 use Rattle.rmt_server.specs.Refusals.{refused}
 use Rattle.rmt_server.specs.Session.{PlainSession, plain_reel, session_view, status_of, refusal, tape_request, reel_reply}
 use Rattle.rmt_server.specs.Session.PlainSession.{Online}
-use Rattle.rmt_server.specs.State.{IsSeenWith, IsSeenAs, reel_of, status_at}
+use Rattle.rmt_server.specs.State.{IsSeenWith, IsViewedAs, reel_of, status_at}
 use Rattle.rmt_server.specs.Serving.{CallsIn, CallsReel, ReelServes}
 use Rattle.rmt_server.specs.TroubledServe.{TroubledReelStep, IsSpent}
 use Rattle.rmt_server.proofs.Steps.{status_seen}
@@ -25,7 +25,7 @@ use Rattle.rmt_server.proofs.Steps.{status_seen}
 pub record ReelServedSo (trouble : Trouble) (new : Option (Opened TroubledTape)) (library : TapeLibrary) (session : PlainSession) (by : Option Refusal)
     (request : PlainRequest) (reply : PlainReply) : Type 0 where
   pub after : PlainSession
-  pub seen : IsSeenAs of_reel new after
+  pub seen : IsViewedAs of_reel new after
   pub step : MatchOption by (TroubledReelStep trouble (session_view library session) request reply (session_view library after))
       (λ x. (reply ≡ refused x) × (session_view library after ≡ session_view library session))
   pub left : MatchOption (reel_of new) (Unit {0}) (λ r. IsSpent trouble reply r.trouble)
@@ -79,14 +79,14 @@ module _ (trouble : Trouble) (new : Option (Opened TroubledTape)) (library : Tap
   }
 
   calls_reel : (old : Option (Opened TroubledTape)) → CallsReel of_reel old new request reply
-      → MatchOption (reel_of old) (Unit {0}) (λ r. r.trouble ≡ trouble) → IsSeenAs of_reel old session
+      → MatchOption (reel_of old) (Unit {0}) (λ r. r.trouble ≡ trouble) → IsViewedAs of_reel old session
       → ReelServedSo trouble new library session None request reply
   calls_reel None call set seen = absurd call
   calls_reel (Some device) call set seen = calls_in device device.reel call set seen
 
   serves_by : (old : Option (Opened TroubledTape)) (by : Option Refusal)
       → MatchOption by (CallsReel of_reel old new request reply) (λ x. (reply ≡ refused x) × (new ≡ old))
-      → MatchOption (reel_of old) (Unit {0}) (λ r. r.trouble ≡ trouble) → IsSeenAs of_reel old session
+      → MatchOption (reel_of old) (Unit {0}) (λ r. r.trouble ≡ trouble) → IsViewedAs of_reel old session
       → ReelServedSo trouble new library session by request reply
   serves_by old None call set seen = calls_reel old call set seen
   serves_by old (Some x) (e, n) set seen = record {
@@ -98,7 +98,7 @@ module _ (trouble : Trouble) (new : Option (Opened TroubledTape)) (library : Tap
 
   -- a request that the reel serves, where it tells
   pub reel_serves_so : (old : Option (Opened TroubledTape)) → ReelServes of_reel old new request reply
-      → MatchOption (reel_of old) (Unit {0}) (λ r. r.trouble ≡ trouble) → IsSeenAs of_reel old session
+      → MatchOption (reel_of old) (Unit {0}) (λ r. r.trouble ≡ trouble) → IsViewedAs of_reel old session
       → ReelServedSo trouble new library session (refusal (status_of session) request) request reply
   reel_serves_so old serves set seen =
       rw (status_seen of_reel old session seen) (serves_by old (refusal (status_at old) request) serves set seen)

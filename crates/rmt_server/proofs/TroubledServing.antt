@@ -21,7 +21,7 @@ use Rattle.rmt_server.specs.declared.session.session_state.Opened.{Opened}
 use Rattle.rmt_server.specs.Refusals.{refused}
 use Rattle.rmt_server.specs.Session.{PlainSession, SessionView, session_view, plain_reel, status_of, refusal, is_offline, closed, move_reply}
 use Rattle.rmt_server.specs.Session.PlainSession.{Offline, Online}
-use Rattle.rmt_server.specs.State.{drive_of, online_in, online_drive, reel_of, status_in, status_at, IsAt, IsSeenWith, IsSeenAs, Tells}
+use Rattle.rmt_server.specs.State.{drive_of, online_in, online_drive, reel_of, status_in, status_at, IsAt, IsSeenWith, IsViewedAs, HasView}
 use Rattle.rmt_server.specs.Opening.{LaysBack, LaysBackOpened, IsClosed, Closes}
 use Rattle.rmt_server.specs.Moving.{IsTakenOff, MovesIn, MovesReel, MovesOff}
 use Rattle.rmt_server.specs.Serving.{Serves}
@@ -49,7 +49,7 @@ seen_with device None session seen = ap drive_in seen
 seen_with device (Some reel) session seen = ap drive_in seen.2
 
 -- the drive that is open is seen as it is
-pub drive_seen : (opened : Option (Opened TroubledTape)) (session : PlainSession) → IsSeenAs of_reel opened session → drive_in session ≡ drive_of opened
+pub drive_seen : (opened : Option (Opened TroubledTape)) (session : PlainSession) → IsViewedAs of_reel opened session → drive_in session ≡ drive_of opened
 drive_seen None session seen = ap drive_in seen
 drive_seen (Some device) session seen = seen_with device device.reel session seen
 
@@ -63,9 +63,9 @@ lays_lying law old new t drive (Some reel) tells l latched (rested, rewound, cal
   ap (λ (s : ListLibrary). s.trouble) call.made,
 )
 
-module _ (law : LyingLaw) (trouble : Trouble) (old : MemoryState) (before : SessionView) (at : IsAt in_memory old) (tells : Tells in_memory old before) where
+module _ (law : LyingLaw) (trouble : Trouble) (old : MemoryState) (before : SessionView) (at : IsAt in_memory old) (tells : HasView in_memory old before) where
   -- where drives and seat are as before, and the same drive is open
-  held_same : (new : MemoryState) (after : SessionView) → new.drives.holds ≡ old.drives.holds → drive_of new.opened ≡ drive_of old.opened → Tells in_memory new after
+  held_same : (new : MemoryState) (after : SessionView) → new.drives.holds ≡ old.drives.holds → drive_of new.opened ≡ drive_of old.opened → HasView in_memory new after
       → new.drives.holds.numbers ≡ with_holder (drive_in after.session) old.seat.number (with_holder (drive_in before.session) 0 old.drives.holds.numbers)
   held_same new after h d seen =
       rw (h, drive_seen new.opened after.session seen.session, d, drive_seen old.opened before.session tells.session)
@@ -90,7 +90,7 @@ module _ (law : LyingLaw) (trouble : Trouble) (old : MemoryState) (before : Sess
       → TroubledServeStep trouble old.drives.holds.numbers before request reply (session_view before.library p.after)
       → IsServedUnder trouble old before request reply new
   reel_so request reply new (n, e, serves) set same p step =
-      let seen : Tells in_memory new (session_view before.library p.after) = record { library = rw n tells.library; session = p.seen } in
+      let seen : HasView in_memory new (session_view before.library p.after) = record { library = rw n tells.library; session = p.seen } in
       record {
         after = session_view before.library p.after;
         tells = seen;
@@ -130,7 +130,7 @@ module _ (law : LyingLaw) (trouble : Trouble) (old : MemoryState) (before : Sess
   pub closed_held : (new : MemoryState) → IsClosed in_memory old new → new.drives.holds.numbers ≡ with_holder (drive_in before.session) 0 old.drives.holds.numbers
   closed_held new c = rw (drive_seen old.opened before.session tells.session) (closed_numbers (drive_of old.opened) old.drives.holds new.drives.holds c.kept.same_holds c.told)
 
-  pub closed_tells : (new : MemoryState) → IsClosed in_memory old new → Tells in_memory new (closed before)
+  pub closed_tells : (new : MemoryState) → IsClosed in_memory old new → HasView in_memory new (closed before)
   closed_tells new c = record { library = c.step before tells; session = rw c.nothing refl }
 
   not_refused : (access : Access) (reel : Option TroubledTape) → refusal (status_in access reel) Close ≡ None
@@ -141,10 +141,10 @@ module _ (law : LyingLaw) (trouble : Trouble) (old : MemoryState) (before : Sess
       → MatchOption opened ((reply ≡ refused BadDescriptor) × (new ≡ old)) (λ device. (reply ≡ Done 0) × IsClosed in_memory old new) → IsTroubled NoTrouble false old
       → IsServedUnder trouble old before Close reply new
   closes_by None reply new o (e, n) set =
-      let idle : status_of before.session ≡ status_at {R = TroubledTape} None = status_seen of_reel None before.session (subst (λ p. IsSeenAs of_reel p before.session) o tells.session) in
+      let idle : status_of before.session ≡ status_at {R = TroubledTape} None = status_seen of_reel None before.session (subst (λ p. IsViewedAs of_reel p before.session) o tells.session) in
       refused_so Close reply new NoTrouble false n set refl (rw idle (e, refl))
   closes_by (Some device) reply new o (e, c) set =
-      let online : status_of before.session ≡ status_at (Some device) = status_seen of_reel (Some device) before.session (subst (λ p. IsSeenAs of_reel p before.session) o tells.session) in
+      let online : status_of before.session ≡ status_at (Some device) = status_seen of_reel (Some device) before.session (subst (λ p. IsViewedAs of_reel p before.session) o tells.session) in
       record {
         after = closed before;
         tells = closed_tells new c;
@@ -171,7 +171,7 @@ module _ (law : LyingLaw) (trouble : Trouble) (old : MemoryState) (before : Sess
       let u = m.rewound.step t held in
       let v = m.call.step u.0 u.1 before.library tells.library in
       let after : SessionView = session_view v.0 (Offline device.drive device.access) in
-      let told : Tells in_memory new after = record { library = v.1; session = rw m.opens refl } in
+      let told : HasView in_memory new after = record { library = v.1; session = rw m.opens refl } in
       record {
         after = after;
         tells = told;
@@ -197,7 +197,7 @@ module _ (law : LyingLaw) (trouble : Trouble) (old : MemoryState) (before : Sess
       let u = m.rewound.step t held in
       let v = m.call.step before.library tells.library in
       let after : SessionView = session_view v.0 (Online device.drive device.access (plain_reel u.0 m.rested.capacity)) in
-      let told : Tells in_memory new after = record { library = v.1; session = rw m.opens (u.0, u.1, refl) } in
+      let told : HasView in_memory new after = record { library = v.1; session = rw m.opens (u.0, u.1, refl) } in
       record {
         after = after;
         tells = told;
@@ -234,7 +234,7 @@ module _ (law : LyingLaw) (trouble : Trouble) (old : MemoryState) (before : Sess
 
   moves_reel_so : (opened : Option (Opened TroubledTape)) (op count : ℕ) (reply : PlainReply) (new : MemoryState)
       → old.opened ≡ opened → is_offline op ≡ true → refusal (status_of before.session) (Op op count) ≡ None
-      → MovesReel in_memory old opened count reply new → IsTroubled NoTrouble (is_set trouble) old → IsSeenAs of_reel opened before.session
+      → MovesReel in_memory old opened count reply new → IsTroubled NoTrouble (is_set trouble) old → IsViewedAs of_reel opened before.session
       → IsServedUnder trouble old before (Op op count) reply new
   moves_reel_so None op count reply new o off free m set seen = absurd m
   moves_reel_so (Some device) op count reply new o off free m set seen = moves_in_so device device.reel op count reply new o refl off free m set seen

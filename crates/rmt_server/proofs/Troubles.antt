@@ -9,7 +9,7 @@ use Rattle.tape.specs.contracts.troubled.TroubledReelReel.TheImpl.{ghosts as of_
 use Rattle.drives.specs.ListLibrary.{troubled_in, is_set}
 use Rattle.rmt_server.specs.declared.session.session_state.Opened.{Opened}
 use Rattle.rmt_server.specs.Session.{PlainSession, SessionView, is_offline}
-use Rattle.rmt_server.specs.State.{drive_of, online_in, online_drive, reel_of, IsAt, IsSeenWith, IsSeenAs, Tells}
+use Rattle.rmt_server.specs.State.{drive_of, online_in, online_drive, reel_of, IsAt, IsSeenWith, IsViewedAs, HasView}
 use Rattle.rmt_server.specs.Opening.{IsClosed}
 use Rattle.rmt_server.specs.Troubling.{troubled, with_trouble}
 use Rattle.rmt_server.specs.Memory.{MemoryState, in_memory}
@@ -46,12 +46,12 @@ same_seen_with : (trouble : Trouble) (device : Opened TroubledTape) (reel : Opti
 same_seen_with trouble device None session seen = seen
 same_seen_with trouble device (Some reel) session seen = seen
 
-same_seen : (trouble : Trouble) (opened : Option (Opened TroubledTape)) (session : PlainSession) → IsSeenAs of_reel opened session → IsSeenAs of_reel (with_trouble trouble opened) session
+same_seen : (trouble : Trouble) (opened : Option (Opened TroubledTape)) (session : PlainSession) → IsViewedAs of_reel opened session → IsViewedAs of_reel (with_trouble trouble opened) session
 same_seen trouble None session seen = seen
 same_seen trouble (Some device) session seen = same_seen_with trouble device device.reel session seen
 
 -- what is told stays
-pub troubles_told : (reel : Trouble) (stacks : Bool) (x : MemoryState) (v : SessionView) → Tells in_memory x v → Tells in_memory (with_troubles reel stacks x) v
+pub troubles_told : (reel : Trouble) (stacks : Bool) (x : MemoryState) (v : SessionView) → HasView in_memory x v → HasView in_memory (with_troubles reel stacks x) v
 troubles_told reel stacks x v tells = record { library = tells.library; session = same_seen reel x.opened v.session tells.session }
 
 same_drive : (trouble : Trouble) (opened : Option (Opened TroubledTape)) → drive_of (with_trouble trouble opened) ≡ drive_of opened
@@ -77,7 +77,7 @@ troubles_at reel stacks x at = record {
 }
 
 -- what is open is closed while no trouble is set for its reel
-pub ended_so : (law : LyingLaw) (stacks : Bool) (old new : MemoryState) (before : SessionView) → IsAt in_memory old → Tells in_memory old before → IsTroubled NoTrouble stacks old → IsClosed in_memory old new
+pub ended_so : (law : LyingLaw) (stacks : Bool) (old new : MemoryState) (before : SessionView) → IsAt in_memory old → HasView in_memory old before → IsTroubled NoTrouble stacks old → IsClosed in_memory old new
     → IsEnded old before new
 ended_so law stacks old new before at tells set c = record {
   tells = closed_tells law NoTrouble old before at tells new c;

@@ -14,8 +14,8 @@ use Rattle.drives.specs.Opening.{Kinds}
 use Rattle.rmt_server.specs.declared.refusal.Refusal.TheVariants.{Busy}
 use Rattle.rmt_server.specs.Refusals.{refused}
 use Rattle.rmt_server.specs.Session.{SessionView, is_offline, ServeStep}
-use Rattle.rmt_server.specs.State.{State, drive_of, reel_of, IsAt, Tells, SessionCanFail, KeepsDrives}
-use Rattle.rmt_server.specs.Opening.{Closes, OpensAnew, view_after_close, word_after_close}
+use Rattle.rmt_server.specs.State.{State, drive_of, reel_of, IsAt, HasView, SessionCanFail, KeepsDrives}
+use Rattle.rmt_server.specs.Opening.{Closes, OpensAnew, view_after_close, holder_after_close}
 use Rattle.rmt_server.specs.Moving.{MovesOff}
 use Rattle.rmt_server.specs.Serving.{Serves}
 
@@ -70,14 +70,14 @@ MayShare k x shared = IsTrue shared ⊎ IsAlone k x
 pub record IsServed {H S Seat R : Type 0} (k : Kinds H Seat S R) (old : State H S Seat R) (request : PlainRequest) (reply : PlainReply)
     (new : State H S Seat R) (before : SessionView) : Type 0 where
   pub after : SessionView
-  pub tells : Tells k new after
+  pub tells : HasView k new after
   pub troubled : Bool
   pub trouble : IsTrue troubled → HasTrouble k (is_of_stacks request) old new
   pub able : IsTrue troubled → SessionCanFail k old
   pub asked : Option ℕ
   pub found : ℕ
   pub seat : (d : ℕ) → asked ≡ Some d → last_drive (k.holds.shows new.seat) ≡ Some d
-  pub told : (d n : ℕ) → asked ≡ Some d → k.holds.tells old.drives.holds d n → found ≡ word_after_close (drive_of old.opened) d n
+  pub told : (d n : ℕ) → asked ≡ Some d → k.holds.tells old.drives.holds d n → found ≡ holder_after_close (drive_of old.opened) d n
   pub taken : 0 < found → (d : ℕ) × (asked ≡ Some d) × (d < k.holds.drives old.drives.holds)
       × ((k.holds.shows new.seat).last ≡ Some (last_step Take d found))
   pub step : ServeStep troubled k.reels.GROWS asked found before request reply after
@@ -109,7 +109,7 @@ pub record IsCarriedOut {H S Seat R : Type 0} (k : Kinds H Seat S R) (old : Stat
   -- the effect, even if contents are unspecified
   pub effect : CarriesOut k old request reply new
   -- if the contents of stacks and reel are specified, this is a serve step
-  pub step : (before : SessionView) → Tells k old before → IsServed k old request reply new before
+  pub step : (before : SessionView) → HasView k old before → IsServed k old request reply new before
   -- the steps of the seat at the drives
   pub steps : SeatSteps request (k.holds.shows old.seat) (drive_of old.opened) reply (k.holds.shows new.seat) (drive_of new.opened)
   -- the drives still match the session

@@ -15,7 +15,7 @@ use Rattle.rmt_server.specs.declared.session.session_state.SessionState.{Session
 use Rattle.rmt_server.specs.declared.refusal.Refusal.TheVariants.{NoMemory}
 use Rattle.rmt_server.specs.Refusals.{refused}
 use Rattle.rmt_server.specs.Session.{SessionView, ServeStep}
-use Rattle.rmt_server.specs.State.{state, IsAt, Tells, KeepsDrives, drive_of, online_drive}
+use Rattle.rmt_server.specs.State.{state, IsAt, HasView, KeepsDrives, drive_of, online_drive}
 use Rattle.rmt_server.specs.Opening.{IsClosed}
 use Rattle.rmt_server.specs.Carrying.{IsCarriedOut, is_of_stacks}
 use Rattle.rmt_server.specs.Memory.{MemoryState, in_memory}
@@ -68,7 +68,7 @@ StaysAtUnderTrouble {H} {Seat} k = (old : DriveTable H ListLibrary Seat Troubled
 -- call
 abbrev pub TroublesAreServed : Type 0
 TroublesAreServed = (trouble : Trouble) (old new : MemoryState) (before : SessionView) (request : PlainRequest) (reply : PlainReply) →
-    IsAt in_memory old → Tells in_memory old before → IsSetFor trouble request old → IsCarriedOut in_memory old request reply new →
+    IsAt in_memory old → HasView in_memory old before → IsSetFor trouble request old → IsCarriedOut in_memory old request reply new →
     IsServedUnder trouble old before request reply new
 
 -- one request under a trouble is a serve step
@@ -85,4 +85,4 @@ NoMemoryIsWanted = (trouble : Trouble) (holders holders' : List ℕ) (k : ℕ) (
 -- `IsEnded` holds after the end of a session whose open reel has no trouble
 abbrev pub EndsUntroubled : Type 0
 EndsUntroubled = (stacks : Bool) (old new : MemoryState) (before : SessionView) →
-    IsAt in_memory old → Tells in_memory old before → IsTroubled NoTrouble stacks old → IsClosed in_memory old new → IsEnded old before new
+    IsAt in_memory old → HasView in_memory old before → IsTroubled NoTrouble stacks old → IsClosed in_memory old new → IsEnded old before new

@@ -7,7 +7,7 @@ use Rattle.tape.specs.Tape.TapeAnswer.{Done as Did}
 use Rattle.tape.specs.declared.reel.Reel.{Ghosts as ReelPromise}
 use Rattle.drives.specs.declared.fault.DriveFault.{DriveFault}
 use Rattle.drives.specs.declared.view.View.{View}
-use Rattle.drives.specs.Holding.{given, word_after_give}
+use Rattle.drives.specs.Holding.{given, holder_after_give}
 use Rattle.drives.specs.Calls.{StacksKind}
 use Rattle.drives.specs.Calls.StacksCall.{LayBack}
 use Rattle.drives.specs.Stacking.{IsStacksCall}
@@ -18,7 +18,7 @@ use Rattle.rmt_server.specs.declared.session.session_state.Opened.{Opened}
 use Rattle.rmt_server.specs.Access.{access_of}
 use Rattle.rmt_server.specs.Refusals.{refused}
 use Rattle.rmt_server.specs.Session.{SessionView, closed, open_reply}
-use Rattle.rmt_server.specs.State.{State, drive_of, IsAt, Tells, SessionCanFail, IsReelCall, KeepsDrives}
+use Rattle.rmt_server.specs.State.{State, drive_of, IsAt, HasView, SessionCanFail, IsReelCall, KeepsDrives}
 
 -- The reel is rewound and laid back on its stack. If there is none, the stacks are unchanged.
 abbrev pub LaysBack : {S R : Type 0} → StacksKind S R → ReelPromise R → S → ℕ → Option R → S → Type 0
@@ -32,9 +32,9 @@ LaysBackOpened s r old None new = new ≡ old
 LaysBackOpened s r old (Some device) new = LaysBack s r old device.drive device.reel new
 
 -- who holds drive d after the open drive was given back, if n held it before
-abbrev pub word_after_close : Option ℕ → ℕ → ℕ → ℕ
-word_after_close None d n = n
-word_after_close (Some drive) d n = word_after_give drive d n
+abbrev pub holder_after_close : Option ℕ → ℕ → ℕ → ℕ
+holder_after_close None d n = n
+holder_after_close (Some drive) d n = holder_after_give drive d n
 
 -- the view of the seat after the open drive was given back
 abbrev pub view_after_close : View → Option ℕ → View
@@ -49,11 +49,11 @@ pub record IsClosed {H S Seat R : Type 0} (k : Kinds H Seat S R) (old new : Stat
   -- there are no other calls of the reel and of the stacks
   pub laid : LaysBackOpened k.stacks k.reels old.drives.stacks old.opened new.drives.stacks
   -- the stack has the contents of the reel, if those of stacks and reel are specified
-  pub step : (v : SessionView) → Tells k old v → k.stacks.holds new.drives.stacks (closed v).library
+  pub step : (v : SessionView) → HasView k old v → k.stacks.holds new.drives.stacks (closed v).library
   -- the seat gives back the open drive, and its holder is 0 then
   pub view : k.holds.shows new.seat ≡ view_after_close (k.holds.shows old.seat) (drive_of old.opened)
   pub told : (d n : ℕ) → k.holds.tells old.drives.holds d n
-      → k.holds.tells new.drives.holds d (word_after_close (drive_of old.opened) d n)
+      → k.holds.tells new.drives.holds d (holder_after_close (drive_of old.opened) d n)
   pub kept : KeepsDrives k old new
   -- no seat number is assigned
   pub same_seats : k.holds.seated new.drives.holds ≡ k.holds.seated old.drives.holds

@@ -79,14 +79,14 @@ IsSeenWith r drive access (Some reel) session =
     (t : Tape) × r.holds reel t × (session ≡ Online drive access (plain_reel t (r.capacity reel)))
 
 -- the view of what is open, if the contents of its reel are specified
-abbrev pub IsSeenAs : {R : Type 0} → ReelPromise R → Option (Opened R) → PlainSession → Type 0
-IsSeenAs r None session = session ≡ Idle
-IsSeenAs r (Some device) session = IsSeenWith r device.drive device.access device.reel session
+abbrev pub IsViewedAs : {R : Type 0} → ReelPromise R → Option (Opened R) → PlainSession → Type 0
+IsViewedAs r None session = session ≡ Idle
+IsViewedAs r (Some device) session = IsSeenWith r device.drive device.access device.reel session
 
 -- the contents of the stacks and of the open reel are specified, and are this view
-pub record Tells {H S Seat R : Type 0} (k : Kinds H Seat S R) (x : State H S Seat R) (v : SessionView) : Type 0 where
+pub record HasView {H S Seat R : Type 0} (k : Kinds H Seat S R) (x : State H S Seat R) (v : SessionView) : Type 0 where
   pub library : k.stacks.holds x.drives.stacks v.library
-  pub session : IsSeenAs k.reels x.opened v.session
+  pub session : IsViewedAs k.reels x.opened v.session
 
 -- a device can fail: that of the stacks, or that of the open reel
 abbrev pub SessionCanFail : {H S Seat R : Type 0} → Kinds H Seat S R → State H S Seat R → Type 0

@@ -20,7 +20,7 @@ use Rattle.rmt_server.specs.declared.stream.ServeFault.{ServeFault}
 use Rattle.rmt_server.specs.declared.stream.ServeFault.TheVariants.{Input, Output}
 use Rattle.rmt_server.specs.declared.session.session_state.SessionState.{SessionState}
 use Rattle.rmt_server.specs.Session.{SessionView, closed, ServeRun}
-use Rattle.rmt_server.specs.State.{State, state, Tells}
+use Rattle.rmt_server.specs.State.{State, state, HasView}
 use Rattle.rmt_server.specs.Opening.{IsClosed}
 use Rattle.rmt_server.specs.Carrying.{IsCarriedOut, MayFail, MayShare}
 
@@ -189,7 +189,7 @@ pub record IsServedAs {H S Seat R In Out : Type 0} (k : Kinds H Seat S R) (kind 
   -- the seat keeps its number, and no seat number is assigned
   pub number : (k.holds.shows new.seat).number ≡ (k.holds.shows old.seat).number
   pub same_seats : k.holds.seated new.drives.holds ≡ k.holds.seated old.drives.holds
-  pub steps : (fails shared : Bool) → MayFail k old fails → MayShare k old shared → (start : SessionView) → Tells k old start
+  pub steps : (fails shared : Bool) → MayFail k old fails → MayShare k old shared → (start : SessionView) → HasView k old start
       → (finish : SessionView) × ServeRun fails shared k.reels.GROWS start done finish × k.stacks.holds new.drives.stacks (closed finish).library
 
 -- the same for a session that is serving

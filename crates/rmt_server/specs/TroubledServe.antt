@@ -20,7 +20,7 @@ use Rattle.rmt_server.specs.Access.{access_of}
 use Rattle.rmt_server.specs.Refusals.{refused}
 use Rattle.rmt_server.specs.Session.{PlainReel, plain_reel, PlainSession, SessionView, session_view, status_of, refusal, tape_request, reel_reply, closed, open_reply, session_after, is_offline, move_reply, MovesAs}
 use Rattle.rmt_server.specs.Session.PlainSession.{Idle, Offline, Online}
-use Rattle.rmt_server.specs.State.{seated_at, reel_of, Tells}
+use Rattle.rmt_server.specs.State.{seated_at, reel_of, HasView}
 use Rattle.rmt_server.specs.Memory.{MemoryState, in_memory}
 use Rattle.rmt_server.specs.Troubling.{with_trouble}
 use Rattle.rmt_server.specs.Carrying.{is_of_stacks}
@@ -150,7 +150,7 @@ IsNextSpent set reply left = (left ≡ set) ⊎ ((set ≡ true) × (left ≡ fal
 pub record IsServedUnder (trouble : Trouble) (old : MemoryState) (before : SessionView) (request : PlainRequest) (reply : PlainReply)
     (new : MemoryState) : Type 0 where
   pub after : SessionView
-  pub tells : Tells in_memory new after
+  pub tells : HasView in_memory new after
   pub served : TroubledServe trouble old.drives.holds.numbers old.seat.number before request reply after new.drives.holds.numbers
   pub lying : troubled_in new.drives.stacks.library ≡ 0
   pub online : MatchOption (reel_of new.opened) (Unit {0}) (λ r. IsSpent (set_online trouble request) reply r.trouble)
@@ -174,6 +174,6 @@ set_for trouble request x = set_at (is_of_stacks request) trouble x
 -- The open device was closed. Its reel is back on its stack and its drive has no holder. No reel on
 -- the stacks or in the bin has a trouble.
 pub record IsEnded (old : MemoryState) (before : SessionView) (new : MemoryState) : Type 0 where
-  pub tells : Tells in_memory new (closed before)
+  pub tells : HasView in_memory new (closed before)
   pub held : new.drives.holds.numbers ≡ with_holder (drive_in before.session) 0 old.drives.holds.numbers
   pub lying : troubled_in new.drives.stacks.library ≡ 0

@@ -9,7 +9,7 @@ ghost use Rattle.drives.specs.Opening.{kinds};
 ghost use Rattle.rmt_wire.specs.Request.{PlainRequest};
 ghost use Rattle.tape.specs.declared.trouble.Trouble.{Trouble};
 ghost use Rattle.rmt_server.specs.Session.{SessionView};
-ghost use Rattle.rmt_server.specs.State.{IsAt, Tells};
+ghost use Rattle.rmt_server.specs.State.{IsAt, HasView};
 ghost use Rattle.rmt_server.specs.Memory.{MemoryState, in_memory, session_view_seen};
 ghost use Rattle.rmt_server.specs.TroubledServe.{IsTroubled, with_troubles, set_for, IsSetFor};
 ghost use Rattle.rmt_server.specs.Laws.{NoDriveIsOpenTwice, OthersStayAt, OpenIsHeld, FreeIsClosed, StaysAt, StaysAtElsewhere, StaysAtWithMoreSeats};
@@ -68,8 +68,8 @@ pub fn stacks_trouble<H: Holds>()
 ///
 /// It does nothing: its contract is a law of the definitions.
 pub fn one_session_view()
-    ensures told { (x : MemoryState) → IsLibrary x.drives.stacks (library_of x.drives.stacks) → Tells in_memory x (session_view_seen x) }
-    ensures one { (x : MemoryState) (v : SessionView) → Tells in_memory x v → v ≡ session_view_seen x }
+    ensures told { (x : MemoryState) → IsLibrary x.drives.stacks (library_of x.drives.stacks) → HasView in_memory x (session_view_seen x) }
+    ensures one { (x : MemoryState) (v : SessionView) → HasView in_memory x v → v ≡ session_view_seen x }
 {}
 
 /// The law of one request over drives and reels in memory, if the failure of its device call is
@@ -107,7 +107,7 @@ pub fn troubled_is_served()
 pub fn troubles_set()
     ensures at { (reel : Trouble) (stacks : Bool) (x : MemoryState) → IsAt in_memory x → IsAt in_memory (with_troubles reel stacks x) }
     ensures told { (reel : Trouble) (stacks : Bool) (x : MemoryState) (v : SessionView) →
-        Tells in_memory x v → Tells in_memory (with_troubles reel stacks x) v }
+        HasView in_memory x v → HasView in_memory (with_troubles reel stacks x) v }
     ensures set { (reel : Trouble) (stacks : Bool) (x : MemoryState) → troubled_in x.drives.stacks.library ≡ 0 →
         IsTroubled reel stacks (with_troubles reel stacks x) }
     ensures request { (trouble : Trouble) (request : PlainRequest) (x : MemoryState) → troubled_in x.drives.stacks.library ≡ 0 →

@@ -4,7 +4,7 @@ use Rattle.std.proofs.lemmas.List.{replicate_more}
 use Rattle.rdump_net.specs.Peer.{Logs, given}
 use Rattle.rdump_net.specs.declared.peer.Passed.{Passed}
 use Rattle.rdump_net.specs.declared.peer.Passed.TheVariants.{Given, Ended}
-use Rattle.rmt_tools.specs.Telling.{KeptLog, kept_log, IsLogOf, where_so}
+use Rattle.rmt_tools.specs.Telling.{KeptLog, kept_log, IsLogOf, events_if}
 
 -- one end more
 pub one_end : (kept : KeptLog) (passed : List Passed) (before ends : ℕ) → kept_log passed before ≡ kept → ends ≡ min (before + 1) (2 ^ 64 - 1)
@@ -31,8 +31,8 @@ logged kept passed ends after more view none all log h =
 
 -- nothing is logged
 pub refused : (kept : KeptLog) (result : Bool) (more : List Passed) → result ≡ false
-    → (log : List Passed) → IsLogOf kept (log ++ []) → IsLogOf kept (log ++ where_so result more)
-refused kept result more e log h = subst (λ r. IsLogOf kept (log ++ where_so r more)) (sym e) h
+    → (log : List Passed) → IsLogOf kept (log ++ []) → IsLogOf kept (log ++ events_if result more)
+refused kept result more e log h = subst (λ r. IsLogOf kept (log ++ events_if r more)) (sym e) h
 
 module _ (old between new : KeptLog) (passed : List Passed) where
   -- what passes after nothing did
@@ -45,11 +45,11 @@ module _ (old between new : KeptLog) (passed : List Passed) where
 
 module _ (old new : KeptLog) (result : Bool) (passed : List Passed) where
   -- nothing passes where a call was refused
-  pub none_where : result ≡ false → Logs IsLogOf old new (where_so result passed) → Logs IsLogOf old new []
-  none_where e logs = subst (λ r. Logs IsLogOf old new (where_so r passed)) e logs
+  pub none_where : result ≡ false → Logs IsLogOf old new (events_if result passed) → Logs IsLogOf old new []
+  none_where e logs = subst (λ r. Logs IsLogOf old new (events_if r passed)) e logs
 
-  pub all_where : result ≡ true → Logs IsLogOf old new (where_so result passed) → Logs IsLogOf old new passed
-  all_where e logs = subst (λ r. Logs IsLogOf old new (where_so r passed)) e logs
+  pub all_where : result ≡ true → Logs IsLogOf old new (events_if result passed) → Logs IsLogOf old new passed
+  all_where e logs = subst (λ r. Logs IsLogOf old new (events_if r passed)) e logs
 
 -- into room that there is none is given at the end, and else what is given
 into_room : (room : List ℕ) → 0 < length room → given room [] ≡ Ended ∷ []

@@ -26,9 +26,9 @@ abbrev pub IsLogOf : KeptLog → List Passed → Type 0
 IsLogOf kept log = (n : ℕ) × (log ≡ kept.passed ++ replicate n Ended) × (kept.ends ≡ min n (2 ^ 64 - 1))
 
 -- these events if true, else none
-abbrev pub where_so : Bool → List Passed → List Passed
-where_so true passed = passed
-where_so false passed = []
+abbrev pub events_if : Bool → List Passed → List Passed
+events_if true passed = passed
+events_if false passed = []
 
 -- the drives of a peer in memory
 abbrev pub Drives : Type 0

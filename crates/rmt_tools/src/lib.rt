@@ -14,7 +14,7 @@ pub use rdump_files::{
     dumper, dumper_of, enter_dump, named_file, read_or_empty, read_steady, resume_dump, run_of,
     seconds_now, update,
 };
-pub use rdump_list::{ListSystem, is_whole, push_words, run_ls};
+pub use rdump_list::{ListSystem, is_whole, push_verdict, run_ls};
 pub use rdump_net::{
     AfterVolume, CallFault, Conclusion, Keeper, KeptReply, Passed, Peer, PeerCaller, ReadFault,
     SocketPeer, VolumeRequest, copy_volume, dump, dump_kept, failure_line, mt, read_volume,

@@ -5,7 +5,7 @@ ghost use Rattle.rmt_server.specs.Opening.{IsClosed};
 ghost use Rattle.rmt_server.specs.State.{state};
 ghost use Rattle.rdump_net.specs.Peer.{Logs, connected};
 ghost use Rattle.rdump_net.specs.declared.peer.Passed.TheVariants.{Connected, Ended};
-ghost use Rattle.rmt_tools.specs.Telling.{IsCleared, IsLogOf, IsMadeOf, IsTakenApart, where_so};
+ghost use Rattle.rmt_tools.specs.Telling.{IsCleared, IsLogOf, IsMadeOf, IsTakenApart, events_if};
 
 mod far_end;
 mod log;
@@ -92,7 +92,7 @@ impl MemoryPeer {
     /// Makes a connection with a session of its own, and logs it. An earlier connection is dropped.
     /// Returns whether it could; if not, nothing is logged.
     fn open(&mut self) -> bool
-        ensures told { Logs IsLogOf self.old.log self.new.log (where_so result (Connected ∷ [])) }
+        ensures told { Logs IsLogOf self.old.log self.new.log (events_if result (Connected ∷ [])) }
         ensures fresh { self.new.session.opened ≡ None }
         ensures cleared { IsCleared self.old.drives self.old.session self.new.drives }
     {

@@ -29,8 +29,8 @@ split_of argument = record {
 }
 
 -- the drives that the arguments give, in order
-abbrev pub drives_said : List (Bor Text) → List PlainDrive
-drives_said arguments = map split_of (map (λ s. s.now) arguments)
+abbrev pub drives_given : List (Bor Text) → List PlainDrive
+drives_given arguments = map split_of (map (λ s. s.now) arguments)
 
 -- the device is 1 to 255 bytes of one line, and the folder is not empty
 abbrev pub IsDrive : PlainDrive → Type 0

@@ -3,7 +3,7 @@
 ghost use Rattle.std.specs.Prelude.{◌≡◌, ◌≢◌, ◌↔◌, map, option_map, IfOk, IsTrue, MatchOption, MatchResult};
 ghost use Rattle.std.specs.List.{list_any, All};
 ghost use Rattle.std.specs.Str.{bytes_eq};
-ghost use Rattle.rmtd_args.specs.Drive.{drives_said, plain_drive, split_of, HaveOwnDevices, IsDrive, KeepsDriveRules};
+ghost use Rattle.rmtd_args.specs.Drive.{drives_given, plain_drive, split_of, HaveOwnDevices, IsDrive, KeepsDriveRules};
 
 use crate::wrong::Wrong;
 use rmt_wire::argument::is_device;
@@ -26,7 +26,7 @@ pub(crate) fn drives_of<'a>(
     alloc: Global,
     arguments: &[&'a str],
 ) -> Result<Vec<DriveArgument<'a>>, AllocError>
-    ensures { IfOk result (λ v. map plain_drive v.items ≡ drives_said arguments.now) }
+    ensures { IfOk result (λ v. map plain_drive v.items ≡ drives_given arguments.now) }
 {
     let mut drives = Vec::new(alloc);
     for argument in arguments {
@@ -61,8 +61,8 @@ fn is_drive(argument: &str) -> bool
 /// whose device an earlier one names.
 pub(crate) fn check_drives<'a>(arguments: &[&'a str], bin: Option<&str>) -> Result<(), Wrong<'a>>
     ensures { MatchResult result
-        (λ _. KeepsDriveRules (option_map (λ s. s.now) bin.entry) (drives_said arguments.now))
-        (λ _. ¬ (KeepsDriveRules (option_map (λ s. s.now) bin.entry) (drives_said arguments.now))) }
+        (λ _. KeepsDriveRules (option_map (λ s. s.now) bin.entry) (drives_given arguments.now))
+        (λ _. ¬ (KeepsDriveRules (option_map (λ s. s.now) bin.entry) (drives_given arguments.now))) }
 {
     if let Some(argument) = arguments.first()
         && bin.is_none()
@@ -83,7 +83,7 @@ pub(crate) fn check_drives<'a>(arguments: &[&'a str], bin: Option<&str>) -> Resu
 
 /// Returns the first of the arguments that names no drive.
 fn not_drive<'a>(arguments: &[&'a str]) -> Option<&'a str>
-    ensures { MatchOption result (All IsDrive (drives_said arguments.now)) (λ _. ¬ (All IsDrive (drives_said arguments.now))) }
+    ensures { MatchOption result (All IsDrive (drives_given arguments.now)) (λ _. ¬ (All IsDrive (drives_given arguments.now))) }
 {
     for argument in arguments {
         if !is_drive(argument) {
@@ -95,7 +95,7 @@ fn not_drive<'a>(arguments: &[&'a str]) -> Option<&'a str>
 
 /// Returns the first of the arguments whose device an earlier one names.
 fn named_again<'a>(arguments: &[&'a str]) -> Option<&'a str>
-    ensures { MatchOption result (HaveOwnDevices (drives_said arguments.now)) (λ _. ¬ (HaveOwnDevices (drives_said arguments.now))) }
+    ensures { MatchOption result (HaveOwnDevices (drives_given arguments.now)) (λ _. ¬ (HaveOwnDevices (drives_given arguments.now))) }
 {
     for place in 0..arguments.len() {
         if any_names(&arguments[..place], split(arguments[place]).device) {

@@ -9,15 +9,15 @@ use Rattle.drives.specs.declared.stacks.Stacks.{Ghosts as StacksPromise}
 use Rattle.drives.specs.declared.fault.DriveFault.{DriveFault}
 use Rattle.drives.specs.declared.view.View.{View}
 use Rattle.drives.specs.Local.{Holders, holders}
-use Rattle.drives.specs.Opening.{Kinds, kinds, word_after_open}
+use Rattle.drives.specs.Opening.{Kinds, kinds, holder_after_open}
 use Rattle.drives.specs.contracts.local.LocalHoldsHolds.TheImpl.{ghosts as of_holds}
 use Rattle.rmt_server.specs.declared.access.Access.{Access}
 use Rattle.rmt_server.specs.declared.session.session_state.Opened.{Opened}
 use Rattle.rmt_server.specs.Access.{access_of}
 use Rattle.rmt_server.specs.Session.{SessionView, session_view, closed, refusal, is_offline, ServeRun}
 use Rattle.rmt_server.specs.Session.PlainSession.{Idle}
-use Rattle.rmt_server.specs.State.{State, drive_of, SessionCanFail, IsSeenAs, status_at}
-use Rattle.rmt_server.specs.Opening.{word_after_close, IsClosed, OpensFor}
+use Rattle.rmt_server.specs.State.{State, drive_of, SessionCanFail, IsViewedAs, status_at}
+use Rattle.rmt_server.specs.Opening.{holder_after_close, IsClosed, OpensFor}
 use Rattle.rmt_server.specs.Moving.{MovesIn, MovesReel}
 use Rattle.rmt_server.specs.Carrying.{Operates, CarriesOut, IsAlone, MayFail}
 use Rattle.rmt_server.specs.Stream.{Streams, StreamsKind, streams, streams_kind, Exchange, CarryRun, IsServedAs}
@@ -37,14 +37,14 @@ use Rattle.rmtd_serve.specs.Serving.ServedInTurn.{none as none_served, one_more 
 use Rattle.rmtd_serve.proofs.Endings.{ends_with, none_fails, unserved}
 
 -- a word that is 0 or this number is so after a close
-after_close : (drive : Option ℕ) (number d n : ℕ) → (n ≡ 0) ⊎ (n ≡ number) → (word_after_close drive d n ≡ 0) ⊎ (word_after_close drive d n ≡ number)
+after_close : (drive : Option ℕ) (number d n : ℕ) → (n ≡ 0) ⊎ (n ≡ number) → (holder_after_close drive d n ≡ 0) ⊎ (holder_after_close drive d n ≡ number)
 after_close None number d n h = h
 after_close (Some e) number d n (inl h) = inl (grind (arith, common_steps))
 after_close (Some e) number d n (inr h) = grind (arith, common_steps)
 
 -- and after an open by the seat of this number
 after_open : {R : Type 0} (result : Result (ℕ × R) DriveFault) (number d n : ℕ) → (n ≡ 0) ⊎ (n ≡ number)
-    → (word_after_open result number d n ≡ 0) ⊎ (word_after_open result number d n ≡ number)
+    → (holder_after_open result number d n ≡ 0) ⊎ (holder_after_open result number d n ≡ number)
 after_open (Ok opened) number d n (inl h) = grind (arith, common_steps)
 after_open (Ok opened) number d n (inr h) = grind (arith, common_steps)
 after_open (Err fault) number d n h = h
@@ -91,8 +91,8 @@ module _ {S R : Type 0} (s : StacksPromise S R) (r : ReelPromise R) (number : �
         let before = subst (λ n. d < n) o.kept.same_holds l in
         let argument = o.opening.told d (slice_index old.drives.holds.numbers d) (before, refl) in
         elim (after_open result number d (slice_index old.drives.holds.numbers d) (free d before)) [
-          | inl f ↦ inl (argument.1 ∙ ap (λ n. word_after_open result n d (slice_index old.drives.holds.numbers d)) mine ∙ f)
-          | inr f ↦ inr (argument.1 ∙ ap (λ n. word_after_open result n d (slice_index old.drives.holds.numbers d)) mine ∙ f)
+          | inl f ↦ inl (argument.1 ∙ ap (λ n. holder_after_open result n d (slice_index old.drives.holds.numbers d)) mine ∙ f)
+          | inr f ↦ inr (argument.1 ∙ ap (λ n. holder_after_open result n d (slice_index old.drives.holds.numbers d)) mine ∙ f)
         ]),
     o.kept.number ∙ mine,
   )
@@ -176,7 +176,7 @@ pub served_from_rest : {In Out : Type 0} {remaining : In → Option (List ℕ)} 
     × ((finish : SessionView) × ServeRun false false true (session_view (library_of start.drives.stacks) Idle) served.done finish
     × (library_of new.drives.stacks ≡ (closed finish).library))
 served_from_rest start new rest closed served =
-    let idle : IsSeenAs of_reel start.opened Idle = subst (λ o. IsSeenAs of_reel o Idle) (sym closed) refl in
+    let idle : IsViewedAs of_reel start.opened Idle = subst (λ o. IsViewedAs of_reel o Idle) (sym closed) refl in
     let quiet : MayFail in_memory start false = none_fails in_memory start rest.quiet closed in
     let steps = served.steps false false quiet (inr (free_alone of_stacks of_reel start rest.free))
     (session_view (library_of start.drives.stacks) Idle) record { library = rest.told; session = idle } in (

@@ -206,7 +206,7 @@ impl<C: Clock, L: Log + Drop> Incoming for Connections<'_, C, L> {
         self.number
     }
 
-    fn let_go(&self, why: &str) {
+    fn dropped(&self, why: &str) {
         self.note_closed(why);
     }
 }

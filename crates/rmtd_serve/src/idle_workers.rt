@@ -3,8 +3,8 @@ ghost use Rattle.std.specs.Prelude.{None, All};
 ghost use Rattle.drives.specs.Holding.{HoldsJust};
 ghost use Rattle.hold_table.specs.Seats.{IsSeatAt};
 
-use crate::at_table::AtTable;
-use crate::fresh::Fresh;
+use crate::names_table::NamesTable;
+use crate::unused_seats::UnusedSeats;
 use crate::worker::Worker;
 use drives::Stacks;
 use hold_table::{HoldSeat, SEAT_LIMIT};
@@ -12,17 +12,17 @@ use std::alloc::Global;
 
 /// The workers that no thread has, and how many of them are not reserved.
 #[derive(Drop)]
-pub(crate) struct IdleWorkers<'t, S: Stacks + Drop, B: AtTable> {
-    fresh: Fresh<'t, S, B>,
+pub(crate) struct IdleWorkers<'t, S: Stacks + Drop, B: NamesTable> {
+    unused_seats: UnusedSeats<'t, S, B>,
     workers: Vec<Worker<'t, S, B>>,
     free: usize,
 }
 
-impl<'t, S: Stacks + Drop, B: AtTable> IdleWorkers<'t, S, B> {
-    /// Starts with the seats of `fresh`. None is reserved. It allocates nothing.
-    pub(crate) fn new(alloc: Global, fresh: Fresh<'t, S, B>) -> Self {
+impl<'t, S: Stacks + Drop, B: NamesTable> IdleWorkers<'t, S, B> {
+    /// Starts with the seats of `unused_seats`. None is reserved. It allocates nothing.
+    pub(crate) fn new(alloc: Global, unused_seats: UnusedSeats<'t, S, B>) -> Self {
         IdleWorkers {
-            fresh,
+            unused_seats,
             workers: Vec::new(alloc),
             free: SEAT_LIMIT,
         }
@@ -54,7 +54,7 @@ impl<'t, S: Stacks + Drop, B: AtTable> IdleWorkers<'t, S, B> {
     pub(crate) fn take(&mut self) -> Option<Worker<'t, S, B>> {
         match self.workers.pop() {
             Some(worker) => Some(worker),
-            None => self.fresh.take(),
+            None => self.unused_seats.take(),
         }
     }
 
@@ -71,11 +71,11 @@ impl<'t, S: Stacks + Drop, B: AtTable> IdleWorkers<'t, S, B> {
         ensures { All (λ s. IsSeatAt B.table s × HoldsJust s.view None) result.items }
     {
         let IdleWorkers {
-            fresh,
+            unused_seats,
             mut workers,
             free: _,
         } = self;
-        let mut seats = fresh.into_seats();
+        let mut seats = unused_seats.into_seats();
         while let Some(worker) = workers.pop() {
             let _ = seats.push(worker.into_seat());
         }

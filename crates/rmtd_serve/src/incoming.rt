@@ -25,5 +25,5 @@ pub trait Incoming {
 
     /// Called if the last pair returned is dropped without being served, with the reason. No
     /// contract speaks of it.
-    fn let_go(&self, _why: &str) {}
+    fn dropped(&self, _why: &str) {}
 }

@@ -4,14 +4,12 @@
 #![tactic(auto)]
 
 mod at;
-mod at_table;
 mod closing;
 mod connections;
 mod ended;
 mod error_log;
 mod file_limit;
 mod folders;
-mod fresh;
 mod idle_workers;
 mod incoming;
 mod line_start;
@@ -19,10 +17,12 @@ mod listener_setup;
 mod listening;
 mod many;
 mod memory_server;
+mod names_table;
 mod ready;
 mod startup;
 mod stdio;
 mod tape_server;
+mod unused_seats;
 mod warnings;
 mod worker;
 

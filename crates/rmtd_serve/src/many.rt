@@ -4,10 +4,10 @@ ghost use Rattle.std.specs.Thread.{IsSync, IsSend};
 ghost use Rattle.drives.specs.Holding.{HoldsJust};
 ghost use Rattle.hold_table.specs.Seats.{IsSeatAt};
 
-use crate::at_table::AtTable;
-use crate::fresh::Fresh;
 use crate::idle_workers::IdleWorkers;
 use crate::incoming::Incoming;
+use crate::names_table::NamesTable;
+use crate::unused_seats::UnusedSeats;
 use drives::Stacks;
 use hold_table::{HoldSeat, HoldTable, SEAT_LIMIT};
 use std::alloc::Global;
@@ -18,7 +18,7 @@ use std::thread::{self, Threads};
 
 /// The work of a thread: takes a reserved worker, serves pair `number` with it, and puts the worker
 /// back.
-fn work<W: Wait, I: Read + Drop, O: Write + Drop, S: Stacks + Drop, B: AtTable>(
+fn work<W: Wait, I: Read + Drop, O: Write + Drop, S: Stacks + Drop, B: NamesTable>(
     rt: &W,
     alloc: Global,
     idle_workers: &Mutex<IdleWorkers<'_, S, B>>,
@@ -45,7 +45,7 @@ fn serve_all<
     R: Threads + Wait + Sync,
     I: Incoming + Drop,
     S: Stacks + Drop + Send,
-    B: AtTable + Send,
+    B: NamesTable + Send,
 >(rt: &R, alloc: Global, incoming: I, idle_workers: &Mutex<IdleWorkers<'_, S, B>>) -> I
 where
     S::Reel: Send,
@@ -66,7 +66,7 @@ where
                 let number = incoming.number();
                 let is_promised = idle_workers.lock(rt).reserve();
                 if !is_promised {
-                    incoming.let_go(NO_SEAT);
+                    incoming.dropped(NO_SEAT);
                     continue;
                 }
                 let started = scope.spawn(move || work(
@@ -79,7 +79,7 @@ where
                 ));
                 if started.is_err() {
                     idle_workers.lock(rt).release();
-                    incoming.let_go(NO_THREAD);
+                    incoming.dropped(NO_THREAD);
                 }
             }
             unreachable!()
@@ -93,7 +93,7 @@ fn serve_at_table<
     R: Threads + Wait + Sync,
     I: Incoming + Drop,
     S: Stacks + Drop + Send,
-    B: AtTable + Send,
+    B: NamesTable + Send,
 >(
     rt: &R,
     alloc: Global,
@@ -110,8 +110,8 @@ where
     ensures over { I.is_over result.0 }
     ensures seats { All (λ s. IsSeatAt B.table s × HoldsJust s.view None) result.1.items }
 {
-    let fresh = Fresh::<S, B>::new(table, seats, stacks);
-    let idle_workers = Mutex::new(IdleWorkers::new(alloc, fresh));
+    let unused_seats = UnusedSeats::<S, B>::new(table, seats, stacks);
+    let idle_workers = Mutex::new(IdleWorkers::new(alloc, unused_seats));
     let incoming = serve_all(rt, alloc, incoming, &idle_workers);
     (incoming, idle_workers.into_inner().into_seats())
 }
@@ -132,7 +132,7 @@ where
 /// threads.
 ///
 /// The log of a seat's stacks has two lines for each pair that is served: when that begins, and how
-/// it ended. Both have the pair's number. For a pair that is closed unserved, `Incoming::let_go` is
+/// it ended. Both have the pair's number. For a pair that is closed unserved, `Incoming::dropped` is
 /// called.
 pub fn serve_many<R: Threads + Wait + Sync, I: Incoming + Drop, S: Stacks + Drop + Send>(
     rt: &R,

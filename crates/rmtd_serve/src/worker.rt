@@ -6,7 +6,7 @@ ghost use Rattle.hold_table.specs.Seats.{IsSeatAt};
 ghost use Rattle.hold_table.specs.declared.table.TheConstants.{SEAT_LIMIT};
 
 use crate::at::serve_at;
-use crate::at_table::AtTable;
+use crate::names_table::NamesTable;
 use drives::{DriveTable, Stacks};
 use hold_table::{HoldSeat, HoldTable, TableHand};
 use rmt_wire::Counted;
@@ -16,7 +16,7 @@ use std::marker::PhantomData;
 
 /// A seat of a table that holds no drive, and the stacks on which its sessions work.
 #[derive(Drop)]
-pub(crate) struct Worker<'t, S: Stacks + Drop, B: AtTable> {
+pub(crate) struct Worker<'t, S: Stacks + Drop, B: NamesTable> {
     table: &'t HoldTable,
     seat: HoldSeat,
     stacks: S,
@@ -29,7 +29,7 @@ pub(crate) struct Worker<'t, S: Stacks + Drop, B: AtTable> {
     ghost enough: { S.drives stacks ≤ table.now.words },
 }
 
-impl<'t, S: Stacks + Drop, B: AtTable> Worker<'t, S, B> {
+impl<'t, S: Stacks + Drop, B: NamesTable> Worker<'t, S, B> {
     /// Takes a seat of this table that holds no drive, and stacks with no more drives than the
     /// table has.
     pub(crate) fn new(table: &'t HoldTable, seat: HoldSeat, stacks: S) -> Self

@@ -8,7 +8,7 @@ use Rattle.std.proofs.lemmas.Option.{slice_get_within, slice_get-get_or, slice_g
 use Rattle.std.specs.Str.{bytes_eq}
 use Rattle.std.proofs.lemmas.Slice.Eq.{bytes_eq-Decides}
 use Rattle.tape.specs.Tape.{PlainEntry}
-use Rattle.tape.specs.List.{bytes_of, told_length}
+use Rattle.tape.specs.List.{bytes_of, entry_length}
 use Rattle.tape.specs.Trouble.{TroubledTape}
 use Rattle.drives.specs.TapeLibrary.{KeptReel, ReelSlot, Drive, drive_with, TapeLibrary, names_of}
 use Rattle.drives.specs.ListLibrary.{rest_slot}
@@ -68,20 +68,20 @@ told_more f before now xs i x got e =
     let more : take (i + 1) xs ≡ take i xs ++ x ∷ [] = take_more xs i x within ∙ ap (λ y. take i xs ++ y ∷ []) here in
     ap (λ t. t ++ f x) e ∙ flat_map_more f before (take i xs) x ∙ ap (λ l. before ++ flat_map f l) (sym more)
 
-entry_at : (entries : List PlainEntry) (before now : List ℕ) (i n : ℕ) (o : Option PlainEntry) → slice_get entries i ≡ o → Some n ≡ told_length o
+entry_at : (entries : List PlainEntry) (before now : List ℕ) (i n : ℕ) (o : Option PlainEntry) → slice_get entries i ≡ o → Some n ≡ entry_length o
     → now ≡ before ++ flat_map entry_text (take i entries) → now ++ length_text n ≡ before ++ flat_map entry_text (take (i + 1) entries)
 entry_at entries before now i n None got told e = cc
 entry_at entries before now i n (Some x) got told e =
     ap (λ m. now ++ length_text m) (same_Some n (length (bytes_of x)) told) ∙ told_more entry_text before now entries i x got e
 
-entry_in : (o : Option (List PlainEntry)) (before now : List ℕ) (i n : ℕ) → Some n ≡ told_length (option_and_then (λ entries. slice_get entries i) o)
+entry_in : (o : Option (List PlainEntry)) (before now : List ℕ) (i n : ℕ) → Some n ≡ entry_length (option_and_then (λ entries. slice_get entries i) o)
     → now ≡ before ++ flat_map entry_text (take i (unwrap_or o []))
     → now ++ length_text n ≡ before ++ flat_map entry_text (take (i + 1) (unwrap_or o []))
 entry_in None before now i n told e = cc
 entry_in (Some entries) before now i n told e = entry_at entries before now i n (slice_get entries i) refl told e
 
 -- one entry more of a reel
-pub entry_more : (w : World) (reel before now : List ℕ) (i n : ℕ) → Some n ≡ told_length (entry_on w reel i)
+pub entry_more : (w : World) (reel before now : List ℕ) (i n : ℕ) → Some n ≡ entry_length (entry_on w reel i)
     → now ≡ before ++ flat_map entry_text (take i (entries_of_reel w reel))
     → now ++ length_text n ≡ before ++ flat_map entry_text (take (i + 1) (entries_of_reel w reel))
 entry_more w reel before now i n told e = entry_in (entries_on w.server reel) before now i n told e
@@ -94,19 +94,19 @@ shown_more f show before now xs i x within is e =
     let shown : map show (take (i + 1) xs) ≡ map show (take i xs) ++ show x ∷ [] = ap (λ l. map show l) more ∙ map-append show (take i xs) (x ∷ []) in
     ap (λ t. t ++ f (show x)) e ∙ flat_map_more f before (map show (take i xs)) (show x) ∙ ap (λ l. before ++ flat_map f l) (sym shown)
 
-over_at : (entries : List PlainEntry) (i : ℕ) → None ≡ told_length (slice_get entries i) → take i entries ≡ entries
+over_at : (entries : List PlainEntry) (i : ℕ) → None ≡ entry_length (slice_get entries i) → take i entries ≡ entries
 over_at entries i told = elim (slice_get_cases entries i).1 [
-  | inl here ↦ absurd (let some : None ≡ told_length (Some here.0) = told ∙ ap (λ o. told_length o) here.2 in cc)
+  | inl here ↦ absurd (let some : None ≡ entry_length (Some here.0) = told ∙ ap (λ o. entry_length o) here.2 in cc)
   | inr past ↦ take_all i entries past.0
 ]
 
-over_in : (o : Option (List PlainEntry)) (i : ℕ) → None ≡ told_length (option_and_then (λ entries. slice_get entries i) o)
+over_in : (o : Option (List PlainEntry)) (i : ℕ) → None ≡ entry_length (option_and_then (λ entries. slice_get entries i) o)
     → take i (unwrap_or o []) ≡ unwrap_or o []
 over_in None i told = take_all i [] (omega arith)
 over_in (Some entries) i told = over_at entries i told
 
 -- no entry is left of a reel
-pub entries_over : (w : World) (reel before now : List ℕ) (i : ℕ) → None ≡ told_length (entry_on w reel i)
+pub entries_over : (w : World) (reel before now : List ℕ) (i : ℕ) → None ≡ entry_length (entry_on w reel i)
     → now ≡ before ++ flat_map entry_text (take i (entries_of_reel w reel)) → now ≡ before ++ flat_map entry_text (entries_of_reel w reel)
 entries_over w reel before now i told e = e ∙ ap (λ l. before ++ flat_map entry_text l) (over_in (entries_on w.server reel) i told)
 

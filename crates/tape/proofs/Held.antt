@@ -7,7 +7,7 @@ use Rattle.tape.specs.Tape.{PlainEntry, Tape, TapeRequest, TapeAnswer, TapeStep,
 use Rattle.tape.specs.Tape.PlainEntry.{Record, Mark}
 use Rattle.tape.specs.Tape.TapeRequest.{Write, WriteMarks, ForwardFiles, BackFiles, ForwardRecords, BackRecords, Rewind, Nothing, Unknown}
 use Rattle.tape.specs.Tape.TapeAnswer.{Done, Fault}
-use Rattle.tape.specs.List.{IsListCall, IsSeen, seen, entry_at, told_length}
+use Rattle.tape.specs.List.{IsListCall, IsSeen, seen, entry_at, entry_length}
 use Rattle.tape.specs.Media.{MemoryBytes, IsMemory, memory_kind}
 use Rattle.tape.specs.RecordFile.{SpellsReel, IsFile, FileTape, HoldsTape, tape_in, entries_in, image_added}
 use Rattle.tape.specs.Trouble.{ComesToDevice, left_by, left_after, put_by, DeviceStep, IsTroubleLeft}
@@ -44,7 +44,7 @@ seen_entries r h = spells_in h.0 (entries_of (seen r).tape) h.2.spelled ∙ ap e
 pub entry_seen : (r : FileTape MemoryBytes) (file : List ℕ) (i : ℕ) → IsSeen r → file ≡ r.medium.bytes → entry_at i (seen r).tape ≡ slice_get (entries_in file) i
 entry_seen r file i held is = ap (λ es. slice_get es i) (seen_entries r held ∙ ap entries_in (sym is))
 
-pub mark_seen : (r : FileTape MemoryBytes) (i : ℕ) → IsSeen r → (told_length (entry_at i (seen r).tape) ≡ Some 0) ↔ (entry_at i (seen r).tape ≡ Some Mark)
+pub mark_seen : (r : FileTape MemoryBytes) (i : ℕ) → IsSeen r → (entry_length (entry_at i (seen r).tape) ≡ Some 0) ↔ (entry_at i (seen r).tape ≡ Some Mark)
 mark_seen r i held = mark_told (entries_of (seen r).tape) i held.2.spelled.lawful
 
 seen_offset : (r : FileTape MemoryBytes) → IsSeen r → offset_of (seen r).tape.before ≡ r.offset

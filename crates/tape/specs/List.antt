@@ -54,13 +54,13 @@ abbrev pub entry_at : ℕ → Tape → Option PlainEntry
 entry_at i t = slice_get (entries_of t) i
 
 -- The length that `entry` returns for it: that of a record, and 0 for a mark.
-abbrev pub told_length : Option PlainEntry → Option ℕ
-told_length entry = option_map (λ e. length (bytes_of e)) entry
+abbrev pub entry_length : Option PlainEntry → Option ℕ
+entry_length entry = option_map (λ e. length (bytes_of e)) entry
 
 -- The bytes that `entry` copies of it: those of a record.
-abbrev pub told_bytes : Option PlainEntry → List ℕ
-told_bytes None = []
-told_bytes (Some e) = bytes_of e
+abbrev pub entry_bytes : Option PlainEntry → List ℕ
+entry_bytes None = []
+entry_bytes (Some e) = bytes_of e
 
 -- The first of the bytes, as many as fit, replace the front of `into`. The rest of `into` remains.
 abbrev pub with_front : List ℕ → List ℕ → List ℕ

@@ -6,7 +6,7 @@ ghost use Rattle.tape.specs.Tape.{IsRecord, IsTapeEntry, entries_of, TapeStep, o
 ghost use Rattle.tape.specs.Tape.TapeRequest.{Write, Read, WriteMarks, Rewind};
 ghost use Rattle.tape.specs.Tape.TapeAnswer.{Done};
 ghost use Rattle.tape.specs.Tape.PlainEntry.{Mark};
-ghost use Rattle.tape.specs.List.{IsListCall, IsTape, entry_at, told_length, told_bytes, with_front};
+ghost use Rattle.tape.specs.List.{IsListCall, IsTape, entry_at, entry_length, entry_bytes, with_front};
 ghost use Rattle.tape.specs.Trouble.{DeviceStep};
 ghost use Rattle.tape.specs.declared.fault.TapeFault.TheVariants.{Device};
 
@@ -56,8 +56,8 @@ impl ListReel {
     /// Copies the first bytes of the record to the front of `into`, as many as fit. The rest of
     /// `into` is unchanged.
     pub fn entry(&self, i: usize, into: &mut [u8]) -> Option<usize>
-        ensures told { result ≡ told_length (entry_at i self.now.tape) }
-        ensures copied { into.new ≡ with_front (told_bytes (entry_at i self.now.tape)) into.old }
+        ensures told { result ≡ entry_length (entry_at i self.now.tape) }
+        ensures copied { into.new ≡ with_front (entry_bytes (entry_at i self.now.tape)) into.old }
         ensures mark { (result ≡ Some 0) ↔ (entry_at i self.now.tape ≡ Some Mark) }
         ensures records { All IsTapeEntry (entries_of self.now.tape) }
     {

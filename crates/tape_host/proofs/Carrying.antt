@@ -9,7 +9,7 @@ use Rattle.drives.specs.ListLibrary.{troubled_in}
 use Rattle.drives.specs.TapeLibrary.{EachReelOnce}
 use Rattle.rmt_server.specs.declared.session.session_state.Opened.{Opened}
 use Rattle.rmt_server.specs.Session.{SessionView}
-use Rattle.rmt_server.specs.State.{drive_of, IsAt, Tells, KeepsDrives}
+use Rattle.rmt_server.specs.State.{drive_of, IsAt, HasView, KeepsDrives}
 use Rattle.rmt_server.specs.Carrying.{IsCarriedOut}
 use Rattle.rmt_server.specs.Troubling.{with_trouble}
 use Rattle.rmt_server.specs.Memory.{MemoryState, in_memory, session_view_seen}
@@ -20,12 +20,12 @@ use Rattle.tape_host.proofs.Ended.{TellsSessionView}
 -- what the laws of sessions say
 pub record Laws : Type 0 where
   pub at : (reel : Trouble) (stacks : Bool) (x : MemoryState) → IsAt in_memory x → IsAt in_memory (with_troubles reel stacks x)
-  pub told : (reel : Trouble) (stacks : Bool) (x : MemoryState) (v : SessionView) → Tells in_memory x v → Tells in_memory (with_troubles reel stacks x) v
+  pub told : (reel : Trouble) (stacks : Bool) (x : MemoryState) (v : SessionView) → HasView in_memory x v → HasView in_memory (with_troubles reel stacks x) v
   pub set : (reel : Trouble) (stacks : Bool) (x : MemoryState) → troubled_in x.drives.stacks.library ≡ 0 → IsTroubled reel stacks (with_troubles reel stacks x)
   pub request : (trouble : Trouble) (request : PlainRequest) (x : MemoryState) → troubled_in x.drives.stacks.library ≡ 0 → IsSetFor trouble request (set_for trouble request x)
   pub session_view : TellsSessionView
-  pub one : (x : MemoryState) (v : SessionView) → Tells in_memory x v → v ≡ session_view_seen x
-  pub serves : (trouble : Trouble) (old new : MemoryState) (before : SessionView) (request : PlainRequest) (reply : PlainReply) → IsAt in_memory old → Tells in_memory old before
+  pub one : (x : MemoryState) (v : SessionView) → HasView in_memory x v → v ≡ session_view_seen x
+  pub serves : (trouble : Trouble) (old new : MemoryState) (before : SessionView) (request : PlainRequest) (reply : PlainReply) → IsAt in_memory old → HasView in_memory old before
       → IsSetFor trouble request old → IsCarriedOut in_memory old request reply new → IsServedUnder trouble old before request reply new
 
 same_drive : (trouble : Trouble) (opened : Option (Opened TroubledTape)) → drive_of (with_trouble trouble opened) ≡ drive_of opened
@@ -40,7 +40,7 @@ module _ (laws : Laws) (trouble : Trouble) (request : PlainRequest) (reply : Pla
       (laws.told reel stacks old (session_view_seen old) (laws.session_view old untroubled.told))
       (subst (IsSetFor trouble request) placed (laws.request trouble request old untroubled.untroubled.lying)) carried
 
-  tells : Tells in_memory (with_troubles NoTrouble false middle) under.after
+  tells : HasView in_memory (with_troubles NoTrouble false middle) under.after
   tells = laws.told NoTrouble false middle under.after under.tells
 
   kept : KeepsDrives in_memory old (with_troubles NoTrouble false middle)

@@ -9,8 +9,8 @@ use Rattle.drives.specs.ListLibrary.{library_of, IsLibrary}
 use Rattle.drives.specs.TapeLibrary.{TapeLibrary, EachReelOnce}
 use Rattle.drives.specs.Stacking.{ReelCanFail}
 use Rattle.rmt_server.specs.Session.{SessionView}
-use Rattle.rmt_server.specs.State.{state, drive_of, reel_of, IsAt, Tells, SessionCanFail, KeepsDrives}
-use Rattle.rmt_server.specs.Opening.{word_after_close, IsClosed}
+use Rattle.rmt_server.specs.State.{state, drive_of, reel_of, IsAt, HasView, SessionCanFail, KeepsDrives}
+use Rattle.rmt_server.specs.Opening.{holder_after_close, IsClosed}
 use Rattle.rmt_server.specs.Memory.{MemoryState, in_memory, session_seen, session_view_seen}
 use Rattle.rmt_server.specs.TroubledServe.{IsTroubled, IsEnded}
 use Rattle.rmt_server.specs.ServerState.{server, ServerConnection}
@@ -31,10 +31,10 @@ OthersStay = (old new : MemoryDrives) (one after other : MemorySessionState) →
     → IsAt in_memory (state new other)
 
 abbrev pub TellsSessionView : Type 0
-TellsSessionView = (x : MemoryState) → IsLibrary x.drives.stacks (library_of x.drives.stacks) → Tells in_memory x (session_view_seen x)
+TellsSessionView = (x : MemoryState) → IsLibrary x.drives.stacks (library_of x.drives.stacks) → HasView in_memory x (session_view_seen x)
 
 abbrev pub EndsUntroubled : Type 0
-EndsUntroubled = (stacks : Bool) (old new : MemoryState) (before : SessionView) → IsAt in_memory old → Tells in_memory old before
+EndsUntroubled = (stacks : Bool) (old new : MemoryState) (before : SessionView) → IsAt in_memory old → HasView in_memory old before
     → IsTroubled NoTrouble stacks old → IsClosed in_memory old new → IsEnded old before new
 
 eq_or_ne : (m n : ℕ) → (m ≡ n) ⊎ (m ≢ n)
@@ -51,7 +51,7 @@ pub ended_none : (drives : MemoryDrives) (sides : List (Option RealServerConnect
 ended_none drives sides k e = ap (ended_from (server_of drives sides) k) (sym (side_map seen_side sides k ∙ ap (option_map seen_side) e))
 
 -- who held a drive that is held after a close
-still_held : (drive : Option ℕ) (d m n : ℕ) → word_after_close drive d m ≡ n → 0 < n → (m ≡ n) × (drive ≢ Some d)
+still_held : (drive : Option ℕ) (d m n : ℕ) → holder_after_close drive d m ≡ n → 0 < n → (m ≡ n) × (drive ≢ Some d)
 still_held None d m n e x = (e, λ o. absurd cc)
 still_held (Some drive) d m n e x = elim (eq_or_ne d drive) [
   | inl same ↦ absurd (grind (arith, common_steps))

@@ -15,7 +15,9 @@ ghost use Rattle.tape_host.specs.Turns.{TurnsAt, ServesAt, with_back};
 use crate::serving::take_turn;
 use crate::side::{Next, ServerConnection, find_side, put_side, take_side};
 use crate::turn::Turn;
-use drives::{DriveFault, DriveTable, ListStacks, ListedReel, LocalHolds, Stacks, told_orders};
+use drives::{
+    DriveFault, DriveTable, ListStacks, ListedReel, LocalHolds, Stacks, arranged_at_rest,
+};
 use rmt_server::{
     Session, more_seats, one_holder, one_session_view, open_is_held, still_at, untroubled_end,
 };
@@ -292,7 +294,7 @@ impl Host {
             (λ _. self.new ≡ self.old) }
         ensures fault { IfErr result (λ fault. fault ≡ OutOfMemory) }
     {
-        told_orders();
+        arranged_at_rest();
         open_is_held::<ListStacks>();
         still_at::<LocalHolds, ListStacks>();
         self.drives.stacks.arrange(drive, names)

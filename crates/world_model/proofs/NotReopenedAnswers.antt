@@ -12,7 +12,7 @@ use Rattle.dump_run.specs.Run.{PlainRun}
 use Rattle.dump_run.specs.Label.{label_bytes}
 use Rattle.dump_client.specs.Script.{counted_label, wanted_of}
 use Rattle.dump_client.specs.Position.Received.{Reply}
-use Rattle.dump_client.specs.Standing.{Standing, HearsAt, FedAt, IsAtStep}
+use Rattle.dump_client.specs.Standing.{Standing, ReceivesAt, FedAt, IsAtStep}
 use Rattle.dump_client.specs.Client.{HasFedAt}
 use Rattle.dump_client.specs.declared.step.Step.{Step}
 use Rattle.dump_client.specs.declared.step.Step.TheVariants.{Open, Operation, Look, Label, Block, Close}
@@ -69,7 +69,7 @@ record IsAnswered (w : World) (v : Turn w) (c : Caller) (l : Connection) (d : Du
   reply : PlainReply
   text : reply_text v.reply ≡ reply_text reply
   brief : FitsReplyReader (wanted_of step) reply
-  heard : HearsAt c.at step (Reply reply) false progress new
+  heard : ReceivesAt c.at step (Reply reply) false progress new
   goes : new.stage ≡ ToSend (Operation RewindAgain)
   noted_three : (noted v.request v.reply d).carried ≡ 3
 
@@ -118,8 +118,8 @@ answered_past g w v c l d progress new x k lawful a counted not_reopened (inr (s
     cc
 answered_past g w v c l d progress new x k lawful a counted not_reopened (inl since) =
     let is = step_is w v c l d progress new a in
-    let heard = subst (λ s. HearsAt c.at s (Reply a.reply) false progress new) is.0 a.heard in
-    let past = look_past c.at new v.reply progress (subst (λ q. HearsAt c.at Look (Reply q) false progress new) (sym (reply_is g w v c l d progress new a))
+    let heard = subst (λ s. ReceivesAt c.at s (Reply a.reply) false progress new) is.0 a.heard in
+    let past = look_past c.at new v.reply progress (subst (λ q. ReceivesAt c.at Look (Reply q) false progress new) (sym (reply_is g w v c l d progress new a))
     heard) a.goes in
     shows_both c.at.run c.at v.reply (look_finds w v c x k record {
       l = l;

@@ -10,7 +10,7 @@ use Rattle.dump_run.specs.Counts.{AreVolumes, checkpoint_after}
 use Rattle.dump_run.specs.declared.count.VolumeCount.{VolumeCount}
 use Rattle.dump_client.specs.Script.{wanted_of}
 use Rattle.dump_client.specs.Position.Received.{Reply}
-use Rattle.dump_client.specs.Standing.{Standing, checkpoint_of, count_to, counted_to, HearsAt, FedAt, Makes, IsAtStep}
+use Rattle.dump_client.specs.Standing.{Standing, checkpoint_of, count_to, counted_to, ReceivesAt, FedAt, Makes, IsAtStep}
 use Rattle.dump_client.specs.Client.{HasFedAt, unanswered}
 use Rattle.dump_client.specs.declared.step.Step.{Step}
 use Rattle.dump_client.specs.declared.step.Step.TheVariants.{Close}
@@ -225,7 +225,7 @@ record WasAtStep (w : World) (t : Listens w) : Type 0 where
   counts : t.at.counts ≡ t.c.at.counts
 
 went_on : (w : World) (t : Listens w) (h : IsHearing w t) (stage : Stage) (step : Step) → t.at.stage ≡ stage → IsAtStep stage step → step ≢ Close
-    → HearsAt t.c.at h.step (Reply h.reply) false t.progress t.at → WasAtStep w t
+    → ReceivesAt t.c.at h.step (Reply h.reply) false t.progress t.at → WasAtStep w t
 went_on w t h (ToSend next) step stage at other heard = record {
   step = h.step;
   at = subst (λ s. IsAtStep s h.step) (sym h.stage) refl;

@@ -14,7 +14,7 @@ use Rattle.dump_run.specs.declared.count.VolumeCount.{VolumeCount}
 use Rattle.dump_client.specs.Script.{counted_label, wanted_of}
 use Rattle.dump_client.specs.Position.{after_label, after_noise}
 use Rattle.dump_client.specs.Position.Received.{Reply}
-use Rattle.dump_client.specs.Standing.{Standing, standing, checkpoint_of, Becomes, HearsAt, FedAt, Makes}
+use Rattle.dump_client.specs.Standing.{Standing, standing, checkpoint_of, Becomes, ReceivesAt, FedAt, Makes}
 use Rattle.dump_client.specs.Client.{HasFedAt}
 use Rattle.dump_client.specs.declared.step.Step.{Step}
 use Rattle.dump_client.specs.declared.step.Step.TheVariants.{Operation, Look, Close}
@@ -62,7 +62,7 @@ data_past : (old new : Standing) (first : ℕ) (o : Option ℕ) (progress : Prog
 data_past old new first None progress becomes at = refl
 data_past old new first (Some volume) progress (moves, is) at = absurd (asks_sends old new (Operation RewindAgain) is at)
 
-pub look_past : (old new : Standing) (reply : PlainReply) (progress : Progress) → HearsAt old Look (Reply reply) false progress new
+pub look_past : (old new : Standing) (reply : PlainReply) (progress : Progress) → ReceivesAt old Look (Reply reply) false progress new
     → new.stage ≡ ToSend (Operation RewindAgain) → (bytes : List ℕ) × (reply ≡ Data bytes) × (counted_label old.run old.counts bytes ≡ None)
 look_past old new (Done n) progress (moves, is) at = absurd (asks_sends old new (Operation RewindAgain) is at)
 look_past old new (Error n text) progress (moves, is) at = absurd (asks_sends old new (Operation RewindAgain) is at)
@@ -96,7 +96,7 @@ pub record RepliesPast (run : PlainRun) (o : Option ServerConnection) (l : Conne
   pub reply : PlainReply
   pub text : l.back ≡ reply_text reply
   pub brief : FitsReplyReader (wanted_of step) reply
-  pub heard : HearsAt c.at step (Reply reply) false progress new
+  pub heard : ReceivesAt c.at step (Reply reply) false progress new
   pub goes : GoesTo run o c.at d new next
 
 piece_past : (run : PlainRun) (o : Option ServerConnection) (l : Connection) (c : Caller) (d : Dumping) (step next : Step) (bytes way : List ℕ) (progress : Progress)

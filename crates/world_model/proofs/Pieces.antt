@@ -7,7 +7,7 @@ use Rattle.rmt_wire.specs.ReplyReader.{ReplyHeld}
 use Rattle.rmt_wire.specs.declared.fault.WireFault.{WireFault}
 use Rattle.dump_client.specs.Script.{wanted_of}
 use Rattle.dump_client.specs.Position.Received.{Reply}
-use Rattle.dump_client.specs.Standing.{Standing, HearsAt, FedAt, Makes}
+use Rattle.dump_client.specs.Standing.{Standing, ReceivesAt, FedAt, Makes}
 use Rattle.dump_client.specs.Listening.{is_more}
 use Rattle.dump_client.specs.Client.{HasFedAt}
 use Rattle.dump_client.specs.declared.step.Step.{Step}
@@ -20,7 +20,7 @@ use Rattle.world_model.proofs.SentWire.{OneReply, one_heard, brief_begins, reply
 -- Of these bytes, with these after them on the way: it waits on, or it heard the whole reply, and nothing is after that.
 pub data HearsPiece (old : Standing) (step : Step) (reply : PlainReply) (bytes way : List ℕ) (progress : Progress) (new : Standing) : Type 0 where
   waits : progress ≡ came.Waiting → new ≡ old → reply_text reply ≡ bytes ++ way → HearsPiece old step reply bytes way progress new
-  whole : SpellsReply bytes reply (wanted_of step) → way ≡ [] → HearsAt old step (Reply reply) false progress new → HearsPiece old step reply bytes way progress new
+  whole : SpellsReply bytes reply (wanted_of step) → way ≡ [] → ReceivesAt old step (Reply reply) false progress new → HearsPiece old step reply bytes way progress new
 
 hearing_of : OneReply → (old new : Standing) (step : Step) (reply : PlainReply) (bytes rest way : List ℕ) (progress : Progress) (seen : Result (Option PlainReply) WireFault)
     → FitsReplyReader (wanted_of step) reply → reply_text reply ≡ bytes ++ way → ReplyGives (Some (wanted_of step)) bytes seen rest → Makes old step bytes seen rest progress new → HearsPiece old step reply bytes way progress new
@@ -28,7 +28,7 @@ hearing_of g old new step reply bytes rest way progress (Ok None) brief text giv
 hearing_of g old new step reply bytes rest way progress (Ok (Some found)) brief text gives hears =
     let all = reply_whole g (wanted_of step) (reply_text reply) bytes way rest reply found brief.spelled text gives in
     whole (subst (λ t. SpellsReply t reply (wanted_of step)) (text ∙ ap (λ w. bytes ++ w) all.2 ∙ append-nil bytes) brief.spelled) all.2
-    (subst (λ r. HearsAt old step (Reply r) false progress new) all.0 (subst (λ x. HearsAt old step (Reply found) (is_more x) progress new) all.1 hears))
+    (subst (λ r. ReceivesAt old step (Reply r) false progress new) all.0 (subst (λ x. ReceivesAt old step (Reply found) (is_more x) progress new) all.1 hears))
 hearing_of g old new step reply bytes rest way progress (Err fault) brief text gives hears =
     absurd (reply_no_fault (wanted_of step) (reply_text reply) bytes way rest reply fault brief.spelled text gives)
 

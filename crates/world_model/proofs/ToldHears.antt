@@ -9,7 +9,7 @@ use Rattle.rmt_server.specs.ServerState.{ServerConnection}
 use Rattle.dump_run.specs.Run.{PlainRun}
 use Rattle.dump_client.specs.Script.{wanted_of}
 use Rattle.dump_client.specs.Position.Received.{Reply}
-use Rattle.dump_client.specs.Standing.{Standing, checkpoint_of, count_to, counted_to, HearsAt, FedAt, IsOver}
+use Rattle.dump_client.specs.Standing.{Standing, checkpoint_of, count_to, counted_to, ReceivesAt, FedAt, IsOver}
 use Rattle.dump_client.specs.Lawful.{attempt_at}
 use Rattle.dump_client.specs.Client.{HasFedAt, unanswered}
 use Rattle.dump_run.specs.declared.count.VolumeCount.{VolumeCount}
@@ -50,15 +50,15 @@ pub over_stage : (run : PlainRun) (counts : List VolumeCount) (new : Standing) (
 over_stage run counts new next (inl (covers, is)) at = let clash : Finished ≡ ToSend next = sym (ap (λ (s : Standing). s.stage) is) ∙ at in cc
 over_stage run counts new next (inr (left, is)) at = let clash : Ready ≡ ToSend next = sym (ap (λ (s : Standing). s.stage) is) ∙ at in cc
 
-after_close : (old new : Standing) (reply : PlainReply) (progress : Progress) (next : Step) → HearsAt old Close (Reply reply) false progress new → new.stage ≡ ToSend next → ⊥
+after_close : (old new : Standing) (reply : PlainReply) (progress : Progress) (next : Step) → ReceivesAt old Close (Reply reply) false progress new → new.stage ≡ ToSend next → ⊥
 after_close old new (Done n) progress next (moved, over) at = over_stage old.run old.counts new next over at
 after_close old new (Data bytes) progress next (moved, over) at = over_stage old.run old.counts new next over at
 after_close old new (Error n text) progress next (moved, over) at = over_stage old.run old.counts new next over at
 
-pub unlike_close : (old new : Standing) (step next : Step) (reply : PlainReply) (progress : Progress) → HearsAt old step (Reply reply) false progress new → new.stage ≡ ToSend next
+pub unlike_close : (old new : Standing) (step next : Step) (reply : PlainReply) (progress : Progress) → ReceivesAt old step (Reply reply) false progress new → new.stage ≡ ToSend next
     → step ≢ Close
 unlike_close old new step next reply progress hears at is =
-    after_close old new reply progress next (subst (λ s. HearsAt old s (Reply reply) false progress new) is hears) at
+    after_close old new reply progress next (subst (λ s. ReceivesAt old s (Reply reply) false progress new) is hears) at
 
 -- the client goes on with its attempt
 goes_attempt : (begun : List Begun) (c : Caller) (reader : ReplyHeld) (new : Standing) (d : Dumping) (o : Option ServerConnection) (step next : Step) (b : Begun) → step ≢ Close
@@ -89,7 +89,7 @@ waits_no_more old new progress step (counted_last end followed tells over) at = 
 -- it heard the whole reply, so it waits no more
 whole_stage : (begun : List Begun) (o : Option ServerConnection) (l : Connection) (c : Caller) (d : Dumping) (step : Step) (b : Begun) (reader : ReplyHeld) (new : Standing) (way bytes : List ℕ)
     (reply : PlainReply) (progress : Progress) (stage : Stage) → new.stage ≡ stage → HasFedAt stage reader (unanswered stage bytes)
-    → HearsAt c.at step (Reply reply) false progress new → LeadsOn b.run o c.at d step reply → IsStepReplied b o l c d step → IsAttempt begun c d step b → way ≡ []
+    → ReceivesAt c.at step (Reply reply) false progress new → LeadsOn b.run o c.at d step reply → IsStepReplied b o l c d step → IsAttempt begun c d step b → way ≡ []
     → IsConnectionToldAt stage begun o (record l { back = way }) (caller c.number new reader) d
 whole_stage begun o l c d step b reader new way bytes reply progress (ToSend next) at has hears leads replied attempt none =
     let g = leads progress new next hears at in (

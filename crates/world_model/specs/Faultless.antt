@@ -14,7 +14,7 @@ use Rattle.dump_run.specs.Run.{PlainRun}
 use Rattle.dump_run.specs.Label.{label_bytes}
 use Rattle.dump_client.specs.Position.Received.{Reply}
 use Rattle.dump_client.specs.Script.{wanted_of}
-use Rattle.dump_client.specs.Standing.{Standing, HearsAt}
+use Rattle.dump_client.specs.Standing.{Standing, ReceivesAt}
 use Rattle.dump_client.specs.Client.{HasFedAt}
 use Rattle.dump_client.specs.declared.step.Step.{Step}
 use Rattle.dump_client.specs.declared.step.Step.TheVariants.{Open, Close}
@@ -202,7 +202,7 @@ attempt_on k b d session = record { connection = k; begun = b; dump = d; session
 -- `StandsThen` and `CountsThen` say.
 abbrev pub Leads : PlainDriveSpec → Stock → Attempt → Standing → Step → PlainReply → Type 0
 Leads drive t a old step reply =
-    (progress : Progress) (new : Standing) → HearsAt old step (Reply reply) false progress new
+    (progress : Progress) (new : Standing) → ReceivesAt old step (Reply reply) false progress new
     → StandsThen progress new.stage drive t a.connection a.begun a.dump a.session × CountsThen new.stage old.counts a.dump new.counts
 
 -- the connection of the client's attempt, on which no fault occurred

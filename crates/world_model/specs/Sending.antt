@@ -14,7 +14,7 @@ use Rattle.rmt_server.specs.declared.access.Access.TheVariants.{Both}
 use Rattle.dump_run.specs.Run.{PlainRun, IsRun}
 use Rattle.dump_client.specs.Script.{request_of, wanted_of}
 use Rattle.dump_client.specs.Position.Received.{Reply}
-use Rattle.dump_client.specs.Standing.{Standing, HearsAt, counted_to}
+use Rattle.dump_client.specs.Standing.{Standing, ReceivesAt, counted_to}
 use Rattle.dump_client.specs.Lawful.{steps_before, attempt_at}
 use Rattle.dump_client.specs.Client.{HasFedAt}
 use Rattle.dump_client.specs.declared.step.Step.{Step}
@@ -120,7 +120,7 @@ pub record GoesTo (run : PlainRun) (o : Option ServerConnection) (old : Standing
 -- if the reply leads the client to another step, everything before that step was done
 abbrev pub LeadsOn : PlainRun → Option ServerConnection → Standing → Dumping → Step → PlainReply → Type 0
 LeadsOn run o old d step reply =
-    (progress : Progress) (new : Standing) (next : Step) → HearsAt old step (Reply reply) false progress new
+    (progress : Progress) (new : Standing) (next : Step) → ReceivesAt old step (Reply reply) false progress new
     → new.stage ≡ ToSend next → GoesTo run o old d new next
 
 -- The client's reader keeps a text whole if it is shorter than this many bytes. It keeps data up to

@@ -3,7 +3,7 @@
 
 use super::check_row;
 use rdump_args::{ListLine, ListedReels};
-use rmt_tools::{check_reel, is_whole, push_words, run_ls};
+use rmt_tools::{check_reel, is_whole, push_verdict, run_ls};
 use std::alloc::{AllocError, Global};
 use std::fs;
 use std::test::Fail;
@@ -67,7 +67,7 @@ fn is_said(alloc: Global, row: &Row) -> Result<bool, AllocError> {
         return Ok(false);
     };
     let mut arguments = Vec::new(alloc);
-    push_words(&mut arguments, &contents)?;
+    push_verdict(&mut arguments, &contents)?;
     Ok(arguments.as_slice() == row.2.as_bytes() && is_whole(&contents) == row.3)
 }
 

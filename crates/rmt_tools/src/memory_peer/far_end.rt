@@ -147,7 +147,7 @@ fn carry(
     requires { IsAt in_memory (state drives.old session.old) }
     ensures { IsAt in_memory (state drives.new session.new) }
 {
-    if !is_sayable(&request) {
+    if !fits_reply(&request) {
         return Err(AllocError);
     }
     let reply = session.carry_out(drives, request);
@@ -155,7 +155,7 @@ fn carry(
 }
 
 /// Whether a reply can have the count of the request's operation.
-fn is_sayable(request: &Request<'_>) -> bool
+fn fits_reply(request: &Request<'_>) -> bool
     ensures { IsTrue result → IsSayable (plain_request request.now) }
 {
     match request {

@@ -2,7 +2,7 @@
 ghost use Rattle.std.specs.Prelude.{◌≡◌, ◌∷◌, ◌++◌, [], IsTrue, map, replicate};
 ghost use Rattle.rdump_net.specs.Peer.{Logs};
 ghost use Rattle.rdump_net.specs.declared.peer.Passed.TheVariants.{Connected, Sent, Given, Ended};
-ghost use Rattle.rmt_tools.specs.Telling.{IsLogOf, where_so};
+ghost use Rattle.rmt_tools.specs.Telling.{IsLogOf, events_if};
 
 use rdump_net::Passed;
 use std::alloc::Global;
@@ -46,21 +46,21 @@ impl Log {
 
     /// Logs that a connection was made. Returns whether it could.
     pub(super) fn connect(&mut self) -> bool
-        ensures { Logs IsLogOf self.old self.new (where_so result (Connected ∷ [])) }
+        ensures { Logs IsLogOf self.old self.new (events_if result (Connected ∷ [])) }
     {
         self.settle() && push_connected(&mut self.passed)
     }
 
     /// Logs that these bytes were sent. Returns whether it could.
     pub(super) fn send(&mut self, bytes: &[u8]) -> bool
-        ensures { Logs IsLogOf self.old self.new (where_so result (map Sent bytes.now)) }
+        ensures { Logs IsLogOf self.old self.new (events_if result (map Sent bytes.now)) }
     {
         self.settle() && push_sent(&mut self.passed, bytes)
     }
 
     /// Logs that these bytes came from the peer. Returns whether it could.
     pub(super) fn give(&mut self, bytes: &[u8]) -> bool
-        ensures { Logs IsLogOf self.old self.new (where_so result (map Given bytes.now)) }
+        ensures { Logs IsLogOf self.old self.new (events_if result (map Given bytes.now)) }
     {
         self.settle() && push_given(&mut self.passed, bytes)
     }
@@ -81,7 +81,7 @@ impl Log {
 
 /// Appends this many ends. Returns false if the allocation fails.
 fn push_ends(passed: &mut Vec<Passed>, ends: u64) -> bool
-    ensures { passed.new.items ≡ passed.old.items ++ where_so result (replicate ends Ended) }
+    ensures { passed.new.items ≡ passed.old.items ++ events_if result (replicate ends Ended) }
 {
     let Some(all) = passed.len().checked_add(ends as usize) else {
         return false;
@@ -91,14 +91,14 @@ fn push_ends(passed: &mut Vec<Passed>, ends: u64) -> bool
 
 /// Appends that a connection was made. Returns false if the allocation fails.
 fn push_connected(passed: &mut Vec<Passed>) -> bool
-    ensures { passed.new.items ≡ passed.old.items ++ where_so result (Connected ∷ []) }
+    ensures { passed.new.items ≡ passed.old.items ++ events_if result (Connected ∷ []) }
 {
     passed.push(Passed::Connected).is_ok()
 }
 
 /// Appends that these bytes were sent. Returns false if the allocation fails.
 fn push_sent(passed: &mut Vec<Passed>, bytes: &[u8]) -> bool
-    ensures { passed.new.items ≡ passed.old.items ++ where_so result (map Sent bytes.now) }
+    ensures { passed.new.items ≡ passed.old.items ++ events_if result (map Sent bytes.now) }
 {
     if passed.reserve(bytes.len()).is_err() {
         return false;
@@ -111,7 +111,7 @@ fn push_sent(passed: &mut Vec<Passed>, bytes: &[u8]) -> bool
 
 /// Appends that these bytes came from the peer. Returns false if the allocation fails.
 fn push_given(passed: &mut Vec<Passed>, bytes: &[u8]) -> bool
-    ensures { passed.new.items ≡ passed.old.items ++ where_so result (map Given bytes.now) }
+    ensures { passed.new.items ≡ passed.old.items ++ events_if result (map Given bytes.now) }
 {
     if passed.reserve(bytes.len()).is_err() {
         return false;

@@ -37,7 +37,7 @@ pub(super) fn put_record(
             reel.cut()?;
         }
     }
-    settle(reel, start, trouble)
+    finish_write(reel, start, trouble)
 }
 
 /// Writes `count` marks at the place, with nothing after them, with a device that fails as
@@ -60,13 +60,17 @@ pub(super) fn put_marks(
     if let Some(left) = trouble.left(count) {
         reel.put_marks(left)?;
     }
-    settle(reel, start, trouble)
+    finish_write(reel, start, trouble)
 }
 
 /// Ends a write that began at offset `start`.
 ///
 /// If there is a trouble, moves the reel back to `start` and fails with `Device`.
-fn settle(reel: &mut FileReel<MemoryMedium>, start: u64, trouble: Trouble) -> Result<(), TapeFault>
+fn finish_write(
+    reel: &mut FileReel<MemoryMedium>,
+    start: u64,
+    trouble: Trouble,
+) -> Result<(), TapeFault>
     ensures { MatchResult result (λ _. (trouble ≡ None) × (reel.new ≡ reel.old))
         (λ fault. (fault ≡ Device) × (trouble ≢ None) × (reel.new ≡ record reel.old { offset = start })) }
 {

@@ -2,7 +2,7 @@
 ghost use Rattle.std.specs.Prelude.{◌≡◌, length, map};
 ghost use Rattle.std.specs.Option.{option_copied, option_map};
 ghost use Rattle.std.specs.Str.{bytes_eq};
-ghost use Rattle.tape.specs.List.{told_length, told_bytes, with_front};
+ghost use Rattle.tape.specs.List.{entry_length, entry_bytes, with_front};
 ghost use Rattle.drives.specs.ListLibrary.{rest_slot};
 ghost use Rattle.tape_host.specs.Servers.{side_at};
 ghost use Rattle.world_model.specs.Changes.{first_name};
@@ -61,8 +61,8 @@ impl World {
     /// Copies the first bytes of the record, as many as fit, to the front of `into`, and changes no
     /// more of it.
     pub fn entry(&self, reel: &[u8], i: usize, into: &mut [u8]) -> Option<usize>
-        ensures told { result ≡ told_length (entry_on self.now reel.now i) }
-        ensures copied { into.new ≡ with_front (told_bytes (entry_on self.now reel.now i)) into.old }
+        ensures told { result ≡ entry_length (entry_on self.now reel.now i) }
+        ensures copied { into.new ≡ with_front (entry_bytes (entry_on self.now reel.now i)) into.old }
     {
         kept();
         if let Some(lying) = self.world_state.host.reel(reel) {

@@ -3,7 +3,7 @@ use Rattle.std.specs.Vec.{vec_capacity}
 use Rattle.dump_client.specs.Client.{AskedAt}
 use Rattle.rdump_net.specs.Peer.{AreBytesSent}
 use Rattle.rdump_net.specs.declared.peer.Passed.{Passed}
-use Rattle.rdump_net.specs.Talk.{Nowhere}
+use Rattle.rdump_net.specs.Talk.{FromNone}
 use Rattle.rdump_net.proofs.Talking.{asked_and_sent, asked_and_cut, asked_none, ok_none, err_none}
 use Rattle.rdump_net.proofs.attempt.ask.Goals as goal
 
@@ -16,7 +16,7 @@ returns-then-send g c =
     let h = c.in-Ok-true.ensures in
     let text = c.next_request.new.out.items in
     let sent = c.send.ensures in
-    asked_and_sent g.B.Blocks.holds Nowhere g.P.Peer.tells c.args.client.now c.next_request.new.self c.args.peer.now c.send.new.self (vec_capacity c.clear.new.self) c.clear.new.self.items text sent.0
+    asked_and_sent g.B.Blocks.holds FromNone g.P.Peer.tells c.args.client.now c.next_request.new.self c.args.peer.now c.send.new.self (vec_capacity c.clear.new.self) c.clear.new.self.items text sent.0
     c.clear.ensures.items (subst (λ b. AskedAt c.args.client.now.at.stage (g.B.Blocks.holds c.args.client.now.source) c.args.client.now.at (vec_capacity c.clear.new.self) c.clear.new.self.items (Ok b) text c.next_request.new.self.at) c.in-Ok-true.field-0-test h.asked) (sent_of text c.as_slice.result.now c.send.result true sent.0 c.as_slice.ensures.value c.if-send.true sent.1) h.same_blocks h.fed sent.2
 
 pub returns-else-send : goal.returns-else-send
@@ -25,17 +25,17 @@ returns-else-send g c =
     let k = c.ended.ensures in
     let text = c.next_request.new.out.items in
     let sent = c.send.ensures in
-    asked_and_cut g.B.Blocks.holds Nowhere g.P.Peer.tells c.args.client.now c.next_request.new.self c.ended.new.self c.args.peer.now c.send.new.self (vec_capacity c.clear.new.self) c.clear.new.self.items text sent.0 c.ended.result
+    asked_and_cut g.B.Blocks.holds FromNone g.P.Peer.tells c.args.client.now c.next_request.new.self c.ended.new.self c.args.peer.now c.send.new.self (vec_capacity c.clear.new.self) c.clear.new.self.items text sent.0 c.ended.result
     c.clear.ensures.items (subst (λ b. AskedAt c.args.client.now.at.stage (g.B.Blocks.holds c.args.client.now.source) c.args.client.now.at (vec_capacity c.clear.new.self) c.clear.new.self.items (Ok b) text c.next_request.new.self.at) c.in-Ok-true.field-0-test h.asked) (sent_of text c.as_slice.result.now c.send.result false sent.0 c.as_slice.ensures.value c.if-send.false sent.1) k.moved k.fed h.same_blocks k.same_source sent.2
 
 pub returns-in-Ok-false : goal.returns-in-Ok-false
 returns-in-Ok-false g c =
     let h = c.in-Ok-false.ensures in
-    asked_none g.B.Blocks.holds Nowhere g.P.Peer.tells c.args.client.now c.next_request.new.self c.args.peer.now (vec_capacity c.clear.new.self) c.clear.new.self.items (Ok c.in-Ok-false.field-0) c.next_request.new.out.items
+    asked_none g.B.Blocks.holds FromNone g.P.Peer.tells c.args.client.now c.next_request.new.self c.args.peer.now (vec_capacity c.clear.new.self) c.clear.new.self.items (Ok c.in-Ok-false.field-0) c.next_request.new.out.items
     c.clear.ensures.items h.asked (ok_none _ c.in-Ok-false.field-0 refl c.in-Ok-false.field-0-test) h.same_blocks h.fed
 
 pub returns-in-Err : goal.returns-in-Err
 returns-in-Err g c =
     let h = c.in-Err.ensures in
-    asked_none g.B.Blocks.holds Nowhere g.P.Peer.tells c.args.client.now c.next_request.new.self c.args.peer.now (vec_capacity c.clear.new.self) c.clear.new.self.items (Err c.in-Err.fault) c.next_request.new.out.items
+    asked_none g.B.Blocks.holds FromNone g.P.Peer.tells c.args.client.now c.next_request.new.self c.args.peer.now (vec_capacity c.clear.new.self) c.clear.new.self.items (Err c.in-Err.fault) c.next_request.new.out.items
     c.clear.ensures.items h.asked (err_none _ c.in-Err.fault refl) h.same_blocks h.fed

@@ -1,5 +1,5 @@
-use Rattle.rdump_net.specs.Talk.{Nowhere, TalksOver}
+use Rattle.rdump_net.specs.Talk.{FromNone, TalksOver}
 use Rattle.rdump_net.proofs.attempt.converse.Given as goal
 
 abbrev pub invariant-loop : goal.invariant-loop
-invariant-loop g l = TalksOver g.B.Blocks.holds Nowhere g.P.Peer.tells l.fn.client l.client l.fn.peer l.peer
+invariant-loop g l = TalksOver g.B.Blocks.holds FromNone g.P.Peer.tells l.fn.client l.client l.fn.peer l.peer

@@ -1,6 +1,6 @@
 use Rattle.std.proofs.Common.{ap}
 use Rattle.rmt_wire.specs.Request.PlainRequest.{Open}
-use Rattle.rdump_net.specs.KeptReply.{told_reply}
+use Rattle.rdump_net.specs.KeptReply.{plain_result}
 use Rattle.rdump_net.specs.Operation.{IsOperationReply, next_of}
 use Rattle.rdump_net.proofs.Calls.{err_from}
 use Rattle.rdump_net.proofs.Operating.{mode_small, open_fails, open_refused, operation_asked}
@@ -11,7 +11,7 @@ call-requires-clause-spelling g c = (c.requires.device, mode_small c.mode_of-mod
 
 pub returns-in_err-opened : goal.returns-in_err-opened
 returns-in_err-opened g c =
-    err_from (λ r. IsOperationReply (next_of c.args.device.now c.args.op c.args.count) g.P.Peer.tells c.args.peer.now c.call.new.peer (told_reply r)) c.from_residual.result c.in_err-opened.field-0.0 c.from_residual.ensures.1
+    err_from (λ r. IsOperationReply (next_of c.args.device.now c.args.op c.args.count) g.P.Peer.tells c.args.peer.now c.call.new.peer (plain_result r)) c.from_residual.result c.in_err-opened.field-0.0 c.from_residual.ensures.1
     (open_fails g.P.Peer.tells c.args.device.now c.args.op c.args.count c.args.peer.now c.call.new.peer _ c.call.result c.in_err-opened.field-0.0 (ap (Open c.args.device.now) c.mode_of-mode.ensures) c.in_err-opened.was c.call.ensures)
 
 pub returns-then-not-is_done : goal.returns-then-not-is_done

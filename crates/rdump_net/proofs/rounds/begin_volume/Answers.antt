@@ -1,12 +1,12 @@
 use Rattle.std.proofs.Common.{◌≡◌, subst, sym}
 use Rattle.rdump_net.specs.Lines.{DumpLines, question_line}
-use Rattle.rdump_net.specs.Talk.{Just}
+use Rattle.rdump_net.specs.Talk.{FromThis}
 use Rattle.rdump_net.proofs.Printed.{lines_asked}
 use Rattle.rdump_net.proofs.Talking.{nothing_said}
 use Rattle.rdump_net.proofs.rounds.begin_volume.Goals as goal
 
 pub returns-clause-talks : goal.returns-clause-talks
-returns-clause-talks g c = nothing_said g.B.Blocks.holds (Just c.args.client.now.at) g.P.Peer.tells c.args.client.now c.args.peer.now
+returns-clause-talks g c = nothing_said g.B.Blocks.holds (FromThis c.args.client.now.at) g.P.Peer.tells c.args.client.now c.args.peer.now
 
 pub ask_here-requires : goal.ask_here-requires
 ask_here-requires g c =

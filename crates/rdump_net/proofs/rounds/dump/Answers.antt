@@ -1,20 +1,20 @@
 use Rattle.std.proofs.Common.{[], None, Some}
 use Rattle.rdump_net.specs.Lines.DumpLines.{none}
-use Rattle.rdump_net.specs.Talk.{Anywhere, Just}
+use Rattle.rdump_net.specs.Talk.{FromAny, FromThis}
 use Rattle.rdump_net.proofs.Talking.{followed, from_anywhere, nothing_said}
 use Rattle.rdump_net.proofs.Printed.{dumped_so, last_alone, nothing_printed, round_after}
 use Rattle.rdump_net.proofs.rounds.dump.Goals as goal
 
 pub loop-init : goal.loop-init
 loop-init g c = record {
-  talks = nothing_said g.B.Blocks.holds Anywhere g.P.Peer.tells c.args.client.now c.args.peer.now;
+  talks = nothing_said g.B.Blocks.holds FromAny g.P.Peer.tells c.args.client.now c.args.peer.now;
   printed = ([], none, nothing_printed g.W.Write.contents c.args.out.now);
 }
 
 pub returns-in-Some-clause-talks : goal.returns-in-Some-clause-talks
 returns-in-Some-clause-talks g c =
-    followed g.B.Blocks.holds Anywhere g.P.Peer.tells c.args.client.now c.loop.client c.round.new.client c.args.peer.now c.loop.peer c.round.new.peer c.loop.invariant.talks
-    (from_anywhere g.B.Blocks.holds (Just c.loop.client.at) g.P.Peer.tells c.loop.client c.round.new.client c.loop.peer c.round.new.peer c.round.ensures.talks)
+    followed g.B.Blocks.holds FromAny g.P.Peer.tells c.args.client.now c.loop.client c.round.new.client c.args.peer.now c.loop.peer c.round.new.peer c.loop.invariant.talks
+    (from_anywhere g.B.Blocks.holds (FromThis c.loop.client.at) g.P.Peer.tells c.loop.client c.round.new.client c.loop.peer c.round.new.peer c.round.ensures.talks)
 
 pub returns-in-Some-clause-printed : goal.returns-in-Some-clause-printed
 returns-in-Some-clause-printed g c =
@@ -26,8 +26,8 @@ pub loop-preserved : goal.loop-preserved
 loop-preserved g c =
     let so_far = c.loop.invariant.printed in
     record {
-      talks = followed g.B.Blocks.holds Anywhere g.P.Peer.tells c.args.client.now c.loop.client c.round.new.client c.args.peer.now c.loop.peer c.round.new.peer c.loop.invariant.talks
-          (from_anywhere g.B.Blocks.holds (Just c.loop.client.at) g.P.Peer.tells c.loop.client c.round.new.client c.loop.peer c.round.new.peer c.round.ensures.talks);
+      talks = followed g.B.Blocks.holds FromAny g.P.Peer.tells c.args.client.now c.loop.client c.round.new.client c.args.peer.now c.loop.peer c.round.new.peer c.loop.invariant.talks
+          (from_anywhere g.B.Blocks.holds (FromThis c.loop.client.at) g.P.Peer.tells c.loop.client c.round.new.client c.loop.peer c.round.new.peer c.round.ensures.talks);
       printed = round_after g.W.Write.contents c.args.client.now.at.counts c.loop.client.at.counts c.round.new.client.at c.args.out.now c.loop.out c.round.new.out so_far.0 None so_far.1 so_far.2 c.in_default.ensures.printed;
     }
 

@@ -27,5 +27,5 @@ returns g c =
     let b = begun_as g.P.Peer.tells c.args.device.now c.args.after c.args.peer.now c.begin.new.peer c.begin.result (Ok c.in_ok-begin.field-0) c.in_ok-begin.was (c.begin.ensures c.args.after) in
     let y = copied_as next c.args.after g.P.Peer.tells g.F.Write.contents g.W.Write.contents (b.0 ∷ b.1 ∷ []) c.begin.new.peer c.copy_records.new.peer c.args.file.now c.copy_records.new.file c.args.out.now c.copy_records.new.out c.copy_records.result (Ok c.in_ok-records.records) c.in_ok-records.was
     (c.copy_records.ensures c.args.device.now c.args.after (b.0 ∷ b.1 ∷ []) (reading_begins b.0 b.1 b.2 b.3)) in
-    through_end g.P.Peer.tells g.F.Write.contents g.W.Write.contents c.args.device.now c.args.after c.args.peer.now c.begin.new.peer c.copy_records.new.peer c.conclude.new.peer c.args.file.now c.copy_records.new.file c.args.out.now c.copy_records.new.out (b.0 ∷ b.1 ∷ []) c.in_ok-records.records c.goes_of.result c.conclude.result b.4 y c.goes_of.ensures
-    (c.conclude.ensures next y.later (subst (λ h. GoesOnBy next (next_mark h c.in_ok-records.records) y.later) (sym c.goes_of.ensures) y.reads.1))
+    through_end g.P.Peer.tells g.F.Write.contents g.W.Write.contents c.args.device.now c.args.after c.args.peer.now c.begin.new.peer c.copy_records.new.peer c.conclude.new.peer c.args.file.now c.copy_records.new.file c.args.out.now c.copy_records.new.out (b.0 ∷ b.1 ∷ []) c.in_ok-records.records c.after_for_count.result c.conclude.result b.4 y c.after_for_count.ensures
+    (c.conclude.ensures next y.later (subst (λ h. GoesOnBy next (next_mark h c.in_ok-records.records) y.later) (sym c.after_for_count.ensures) y.reads.1))

@@ -1,7 +1,7 @@
 use Rattle.std.proofs.Common.{drop, ◌+◌}
 use Rattle.std.proofs.lemmas.Result.{IfOk-weaker}
 use Rattle.tape.proofs.MediumRuns.{run_as, no_bytes}
-use Rattle.reel_check.specs.Finding.{TellsEntry, TellsRecord}
+use Rattle.reel_check.specs.Finding.{AddsEntry, AddsRecord}
 use Rattle.reel_check.proofs.Telling.{tells_entry}
 use Rattle.reel_check.proofs.check.add_entry.Goals as goal
 
@@ -12,6 +12,6 @@ returns g c =
     let old = c.args.tally.now in
     let new = c.add_record.new.tally in (
       step.0,
-      IfOk-weaker c.add_record.result (λ _. TellsRecord (drop (c.args.at + 4) x) c.args.length old new) (λ _. TellsEntry (drop c.args.at x) c.args.length old new)
+      IfOk-weaker c.add_record.result (λ _. AddsRecord (drop (c.args.at + 4) x) c.args.length old new) (λ _. AddsEntry (drop c.args.at x) c.args.length old new)
           (λ _. tells_entry x c.args.at c.args.length old new c.if-length-eq0.false) step.1,
     ))

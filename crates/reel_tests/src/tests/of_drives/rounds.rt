@@ -4,7 +4,7 @@ ghost use Rattle.std.specs.Prelude.{◌≡◌, ◌<◌, length};
 
 use super::reels::{Letters, add_drives, add_three_reels, lie};
 use drives::DriveFault::{self, Device, NameTaken, NoReel, NoSuchDrive};
-use drives::{ListStacks, Stacks, lying_troubles, told_orders};
+use drives::{ListStacks, Stacks, arranged_at_rest, lying_troubles};
 use std::alloc::Global;
 use std::test::Fail;
 
@@ -224,7 +224,7 @@ fn all_go_from_none(stacks: &mut ListStacks, rows: &[Row]) -> Result<bool, Drive
     requires { length stacks.old.library.drives ≡ 0 }
 {
     lying_troubles();
-    told_orders();
+    arranged_at_rest();
     let numbered = add_drives(stacks)?;
     add_three_reels(stacks)?;
     Ok(numbered && all_go(stacks, rows))

@@ -5,8 +5,8 @@ use Rattle.dump_client.specs.Standing.{checkpoint_of}
 use Rattle.dump_client.proofs.Fits.{reply_at, reply_summary}
 use Rattle.dump_client.proofs.ledger.Ledger.reply.Goals as goal
 
-pub come_to-requires : goal.come_to-requires
-come_to-requires c =
+pub apply_outcome-requires : goal.apply_outcome-requires
+apply_outcome-requires c =
     let at = c.args.self.now.at in
     let heard = reply_summary c.self.inside.run c.args.summary in
     let led =

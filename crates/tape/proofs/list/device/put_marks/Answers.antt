@@ -18,6 +18,6 @@ returns-clause-step c =
           left_some w.in-Some.left c.left.result written (replicate w.in-Some.left Mark) old w.put_marks.new.self c.match-left.reel w.in-Some.is w.reel-is first w.in_ok-put_marks.ensures.run.step
       | in_default w ↦ left_none c.left.result written old c.match-left.reel w.in_default.is w.reel-is
     ] in
-    settled c.args.trouble written c.left.result old c.match-left.reel c.settle.new.reel c.settle.result
+    settled c.args.trouble written c.left.result old c.match-left.reel c.finish_write.new.reel c.finish_write.result
     (subst (λ k. IsTroubleLeft c.args.trouble k c.left.result) long c.left.ensures.left) put
-    (subst (λ k. IsSettled c.settle.result c.args.trouble k c.match-left.reel c.settle.new.reel) c.offset-start.ensures c.settle.ensures)
+    (subst (λ k. IsSettled c.finish_write.result c.args.trouble k c.match-left.reel c.finish_write.new.reel) c.offset-start.ensures c.finish_write.ensures)

@@ -20,5 +20,5 @@ returns-clause-step c =
           w.in_ok-cut.ensures.run.step
       | in_default w ↦ left_none c.left.result written old c.match-left.reel w.in_default.is w.reel-is
     ] in
-    settled c.args.trouble written c.left.result old c.match-left.reel c.settle.new.reel c.settle.result c.left.ensures.left put
-    (subst (λ k. IsSettled c.settle.result c.args.trouble k c.match-left.reel c.settle.new.reel) c.offset-start.ensures c.settle.ensures)
+    settled c.args.trouble written c.left.result old c.match-left.reel c.finish_write.new.reel c.finish_write.result c.left.ensures.left put
+    (subst (λ k. IsSettled c.finish_write.result c.args.trouble k c.match-left.reel c.finish_write.new.reel) c.offset-start.ensures c.finish_write.ensures)

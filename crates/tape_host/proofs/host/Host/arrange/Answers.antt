@@ -8,7 +8,7 @@ use Rattle.tape_host.proofs.host.Host.arrange.Goals as goal
 pub arrange-requires-clause-may : goal.arrange-requires-clause-may
 arrange-requires-clause-may c =
     let names = map (λ n. n.now) c.args.names.now in
-    subst IsTrue (sym (c.told_orders.ensures c.self.inside.drives.stacks c.args.drive names))
+    subst IsTrue (sym (c.arranged_at_rest.ensures c.self.inside.drives.stacks c.args.drive names))
     (subst (λ (v : Hosted). IsTrue (may_arrange v.server.library c.args.drive names)) (sym c.self.view_is) c.requires.may)
 
 pub invariant_of-self : goal.invariant_of-self

@@ -91,7 +91,7 @@ fn count_of(text: &str) -> Option<u32>
 }
 
 /// The arguments of `rdump mt`.
-pub(crate) static MT_WORDS: [ArgumentSpec; 4] = [
+pub(crate) static MT_ARGUMENTS: [ArgumentSpec; 4] = [
     ArgumentSpec::TO,
     ArgumentSpec::DEVICE,
     ArgumentSpec {

@@ -1,5 +1,5 @@
 use Rattle.drives.proofs.ToldOrder.{may_told}
-use Rattle.drives.proofs.laws.told_orders.Goals as goal
+use Rattle.drives.proofs.laws.arranged_at_rest.Goals as goal
 
 pub returns : goal.returns
 returns c = may_told

@@ -12,14 +12,14 @@ pub(crate) struct BlockRange {
 
 /// The blocks that were read, one range for each volume.
 #[derive(Drop)]
-pub(crate) struct CameBlocks {
+pub(crate) struct BlocksRead {
     ranges: Vec<BlockRange>,
 }
 
-impl CameBlocks {
+impl BlocksRead {
     /// Makes an empty list.
     pub(crate) fn new(alloc: Global) -> Self {
-        CameBlocks {
+        BlocksRead {
             ranges: Vec::new(alloc),
         }
     }

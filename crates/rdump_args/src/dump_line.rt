@@ -110,7 +110,7 @@ fn date_in(text: Option<&str>) -> Option<Option<u64>>
 }
 
 /// The arguments of `rdump dump`.
-pub(crate) static DUMP_WORDS: [ArgumentSpec; 11] = [
+pub(crate) static DUMP_ARGUMENTS: [ArgumentSpec; 11] = [
     ArgumentSpec::TO,
     ArgumentSpec::DEVICE,
     ArgumentSpec {

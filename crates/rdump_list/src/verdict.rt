@@ -1,7 +1,7 @@
 //! The verdict on a reel, in words.
 ghost use Rattle.std.specs.Prelude.{◌≡◌, ◌++◌, ◌↔◌, IsTrue, OnOk, codes, decimal};
-ghost use Rattle.rdump_list.specs.Words as spec;
-ghost use Rattle.rdump_list.specs.Words.{IsWhole, end_words, holding_words, is_end, tail_words, words_of};
+ghost use Rattle.rdump_list.specs.Verdict as spec;
+ghost use Rattle.rdump_list.specs.Verdict.{IsWhole, volume_verdict, holding_verdict, is_end, tail_verdict, verdict_of};
 
 use itoa::Buffer;
 use reel_check::{Holding, ReelContents, Volume, VolumeEnd};
@@ -11,7 +11,7 @@ use std::alloc::AllocError;
 /// even a byte. The verdict on these reels, and on no others, is `whole`.
 pub fn is_whole(contents: &ReelContents) -> bool
     ensures holds { IsTrue result ↔ IsWhole contents.now }
-    ensures said { IsTrue result ↔ (words_of contents.now ≡ codes "whole") }
+    ensures said { IsTrue result ↔ (verdict_of contents.now ≡ codes "whole") }
 {
     contents.tail == 0 && has_one_mark(&contents.holding)
 }
@@ -24,13 +24,13 @@ pub fn is_whole(contents: &ReelContents) -> bool
 /// `tail of 5 bytes`.
 ///
 /// Fails if an allocation fails.
-pub fn push_words(text: &mut Vec<u8>, contents: &ReelContents) -> Result<(), AllocError>
-    ensures { OnOk result (text.new.items ≡ text.old.items ++ words_of contents.now) }
+pub fn push_verdict(text: &mut Vec<u8>, contents: &ReelContents) -> Result<(), AllocError>
+    ensures { OnOk result (text.new.items ≡ text.old.items ++ verdict_of contents.now) }
 {
     if contents.tail == 0 {
         return push_holding(text, &contents.holding);
     }
-    if is_said_alone(&contents.holding) {
+    if tail_replaces(&contents.holding) {
         return push_tail(text, contents.tail);
     }
     push_holding(text, &contents.holding)?;
@@ -49,8 +49,8 @@ fn has_one_mark(holding: &Holding) -> bool
 }
 
 /// Whether a tail replaces the verdict on these entries, which is `whole` or `empty`.
-fn is_said_alone(holding: &Holding) -> bool
-    ensures { result ≡ spec.is_said_alone holding.now }
+fn tail_replaces(holding: &Holding) -> bool
+    ensures { result ≡ spec.tail_replaces holding.now }
 {
     match holding {
         Holding::Empty => true,
@@ -72,7 +72,7 @@ fn is_one_mark(end: VolumeEnd) -> bool
 
 /// Appends the verdict on the entries.
 fn push_holding(text: &mut Vec<u8>, holding: &Holding) -> Result<(), AllocError>
-    ensures { OnOk result (text.new.items ≡ text.old.items ++ holding_words holding.now) }
+    ensures { OnOk result (text.new.items ≡ text.old.items ++ holding_verdict holding.now) }
 {
     match holding {
         Holding::Empty => text.extend_from_slice(b"empty"),
@@ -83,7 +83,7 @@ fn push_holding(text: &mut Vec<u8>, holding: &Holding) -> Result<(), AllocError>
 
 /// Appends the verdict on a volume.
 fn push_end(text: &mut Vec<u8>, volume: &Volume) -> Result<(), AllocError>
-    ensures { OnOk result (text.new.items ≡ text.old.items ++ end_words volume.now.end volume.now.blocks) }
+    ensures { OnOk result (text.new.items ≡ text.old.items ++ volume_verdict volume.now.end volume.now.blocks) }
 {
     match volume.end {
         VolumeEnd::NoMark => push_count(text, b"no mark: ", volume.blocks, b" whole blocks"),
@@ -94,7 +94,7 @@ fn push_end(text: &mut Vec<u8>, volume: &Volume) -> Result<(), AllocError>
 
 /// Appends the number of bytes after the entries.
 fn push_tail(text: &mut Vec<u8>, bytes: u64) -> Result<(), AllocError>
-    ensures { OnOk result (text.new.items ≡ text.old.items ++ tail_words bytes) }
+    ensures { OnOk result (text.new.items ≡ text.old.items ++ tail_verdict bytes) }
 {
     push_count(text, b"tail of ", bytes, b" bytes")
 }

@@ -4,7 +4,7 @@ ghost use Rattle.std.proofs.Props.{props};
 ghost use Rattle.drives.specs.Holding.{HoldsJust};
 ghost use Rattle.hold_table.specs.Seats.{IsSeatAt};
 
-use crate::at_table::AtTable;
+use crate::names_table::NamesTable;
 use crate::worker::Worker;
 use drives::Stacks;
 use hold_table::{HoldSeat, HoldTable};
@@ -12,7 +12,7 @@ use std::marker::PhantomData;
 
 /// The seats of a table that no session had yet, and their stacks.
 #[derive(Drop)]
-pub(crate) struct Fresh<'t, S: Stacks + Drop, B: AtTable> {
+pub(crate) struct UnusedSeats<'t, S: Stacks + Drop, B: NamesTable> {
     table: &'t HoldTable,
     seats: Vec<HoldSeat>,
     stacks: Vec<S>,
@@ -22,14 +22,14 @@ pub(crate) struct Fresh<'t, S: Stacks + Drop, B: AtTable> {
     ghost enough: { All (λ s. S.drives s ≤ table.now.words) stacks.items } by { Prim.hlevel props },
 }
 
-impl<'t, S: Stacks + Drop, B: AtTable> Fresh<'t, S, B> {
+impl<'t, S: Stacks + Drop, B: NamesTable> UnusedSeats<'t, S, B> {
     /// Takes these seats and stacks of this table.
     pub(crate) fn new(table: &'t HoldTable, seats: Vec<HoldSeat>, stacks: Vec<S>) -> Self
         requires here { table.now ≡ B.table }
         requires seats { All (λ s. IsSeatAt B.table s × HoldsJust s.view None) seats.items }
         requires stacks { All (λ s. S.drives s ≤ table.now.words) stacks.items }
     {
-        Fresh {
+        UnusedSeats {
             table,
             seats,
             stacks,
@@ -42,7 +42,7 @@ impl<'t, S: Stacks + Drop, B: AtTable> Fresh<'t, S, B> {
     pub(crate) fn into_seats(self) -> Vec<HoldSeat>
         ensures { All (λ s. IsSeatAt B.table s × HoldsJust s.view None) result.items }
     {
-        let Fresh {
+        let UnusedSeats {
             table: _,
             seats,
             stacks: _,

@@ -1,6 +1,6 @@
 use Rattle.std.proofs.Common.{arith}
 use Rattle.std.proofs.lemmas.Grind.{elements}
-use Rattle.rmtd_serve.proofs.fresh.Fresh.take.Goals as goal
+use Rattle.rmtd_serve.proofs.unused_seats.UnusedSeats.take.Goals as goal
 
 pub invariant_of-self : goal.invariant_of-self
 invariant_of-self g c = grind (arith, elements)

@@ -27,30 +27,30 @@ pub record IsWhole (c : ReelContents) : Type 0 where
   pub no_tail : c.tail ≡ 0
 
 -- the verdict on a volume of this many blocks, given what follows them
-abbrev pub end_words : VolumeEnd → ℕ → List ℕ
-end_words NoMark blocks = codes "no mark: " ++ decimal blocks ++ codes " whole blocks"
-end_words OneMark blocks = codes "whole"
-end_words MoreAfterMark blocks = codes "more after the mark"
+abbrev pub volume_verdict : VolumeEnd → ℕ → List ℕ
+volume_verdict NoMark blocks = codes "no mark: " ++ decimal blocks ++ codes " whole blocks"
+volume_verdict OneMark blocks = codes "whole"
+volume_verdict MoreAfterMark blocks = codes "more after the mark"
 
 -- the verdict on entries
-abbrev pub holding_words : Holding → List ℕ
-holding_words Empty = codes "empty"
-holding_words (Volume v) = end_words v.end v.blocks
-holding_words Foreign = codes "not a volume of rdump"
+abbrev pub holding_verdict : Holding → List ℕ
+holding_verdict Empty = codes "empty"
+holding_verdict (Volume v) = volume_verdict v.end v.blocks
+holding_verdict Foreign = codes "not a volume of rdump"
 
 -- the words for bytes after the entries
-abbrev pub tail_words : ℕ → List ℕ
-tail_words bytes = codes "tail of " ++ decimal bytes ++ codes " bytes"
+abbrev pub tail_verdict : ℕ → List ℕ
+tail_verdict bytes = codes "tail of " ++ decimal bytes ++ codes " bytes"
 
 -- a tail replaces the verdict on these entries: `whole` and `empty`
-abbrev pub is_said_alone : Holding → Bool
-is_said_alone Empty = true
-is_said_alone (Volume v) = is_end v.end
-is_said_alone Foreign = false
+abbrev pub tail_replaces : Holding → Bool
+tail_replaces Empty = true
+tail_replaces (Volume v) = is_end v.end
+tail_replaces Foreign = false
 
 -- The verdict on a reel. A tail replaces `whole` and `empty`, and else follows the verdict on the
 -- entries.
-abbrev pub words_of : ReelContents → List ℕ
-words_of c =
-    if nat_eq c.tail 0 then holding_words c.holding
-    else (if is_said_alone c.holding then tail_words c.tail else (holding_words c.holding ++ (codes ", " ++ tail_words c.tail)))
+abbrev pub verdict_of : ReelContents → List ℕ
+verdict_of c =
+    if nat_eq c.tail 0 then holding_verdict c.holding
+    else (if tail_replaces c.holding then tail_verdict c.tail else (holding_verdict c.holding ++ (codes ", " ++ tail_verdict c.tail)))

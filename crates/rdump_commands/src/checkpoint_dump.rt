@@ -6,9 +6,9 @@ ghost use Rattle.rdump_files.specs.Payload.{IsRunsPayload};
 use crate::ClientSystem;
 use crate::dump_command::{RunDates, dated, report_first};
 use crate::dump_end::report_younger;
-use crate::dump_start::{DumpStart, refuse_files, refuse_stranger};
+use crate::dump_start::{DumpStart, refuse_files, refuse_unknown_new};
 use crate::dumping::run_kept;
-use crate::fault::{FAILED, refuse_run, report, report_failed, report_no_memory, say};
+use crate::fault::{FAILED, print_fault, refuse_run, report, report_failed, report_no_memory};
 use dump_client::{Blocks, Client, ResumeFault, Run};
 use rdump_args::DumpLine;
 use rdump_files::{
@@ -59,14 +59,14 @@ fn dump_kept<R: ClientSystem, M: Medium + Drop, T: Write + Copy + Drop>(
 {
     let mut file = ReplacedFile::held(rt, rt.alloc(), path);
     match file.read(rt.alloc()) {
-        Ok(None) => dump_anew(rt, line, run, payload, start, &mut file, terminal),
-        Ok(Some(bytes)) => dump_on(rt, line, &run, &bytes, payload, start, &mut file, terminal),
+        Ok(None) => dump_from_start(rt, line, run, payload, start, &mut file, terminal),
+        Ok(Some(bytes)) => resume(rt, line, &run, &bytes, payload, start, &mut file, terminal),
         Err(FileFailed) => report_unread(rt, path, file.failure()),
     }
 }
 
 /// Dumps a payload from its beginning, and returns the exit status.
-fn dump_anew<R: ClientSystem, M: Medium + Drop, T: Write + Copy + Drop>(
+fn dump_from_start<R: ClientSystem, M: Medium + Drop, T: Write + Copy + Drop>(
     rt: &R,
     line: &DumpLine<'_>,
     run: Run,
@@ -87,7 +87,7 @@ fn dump_anew<R: ClientSystem, M: Medium + Drop, T: Write + Copy + Drop>(
 }
 
 /// Resumes a dump from the checkpoint in `bytes`, and returns the exit status.
-fn dump_on<R: ClientSystem, M: Medium + Drop, T: Write + Copy + Drop>(
+fn resume<R: ClientSystem, M: Medium + Drop, T: Write + Copy + Drop>(
     rt: &R,
     line: &DumpLine<'_>,
     run: &Run,
@@ -138,7 +138,7 @@ fn dump_reported<R: ClientSystem, B: Blocks, T: Write + Copy + Drop>(
     ensures { IsStatus result }
 {
     let path = line.checkpoint.unwrap_or("");
-    if let Some(status) = refuse_stranger(rt, path, file) {
+    if let Some(status) = refuse_unknown_new(rt, path, file) {
         return status;
     }
     let told = match goes_on {
@@ -176,11 +176,11 @@ fn refuse_checkpoint<R: ClientSystem>(rt: &R, path: &str, fault: ResumedDumpFaul
         ResumedDumpFault::Unread(ResumeFault::OutOfMemory) => report_no_memory(rt),
         ResumedDumpFault::Unread(fault) => {
             let _ = println!(rt; "{fault}");
-            say(rt, path, "it is no checkpoint")
+            print_fault(rt, path, "it is no checkpoint")
         }
         ResumedDumpFault::OfAnother => {
             let _ = println!(rt; "checkpoint is of another dump");
-            say(
+            print_fault(
                 rt,
                 path,
                 "it has another device, name, level, block size or number of blocks",
@@ -196,6 +196,6 @@ fn report_unread<R: ClientSystem>(rt: &R, path: &str, failure: Option<&io::Error
     match failure {
         Some(error) if error.kind() == io::ErrorKind::OutOfMemory => report_no_memory(rt),
         Some(error) => report_failed(rt, path, error, FAILED),
-        None => say(rt, path, "it could not be read"),
+        None => print_fault(rt, path, "it could not be read"),
     }
 }
