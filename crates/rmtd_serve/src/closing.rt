@@ -16,6 +16,6 @@ pub fn close_table(table: HoldTable, seats: Vec<HoldSeat>) -> [u64; DRIVE_LIMIT]
     ensures free { length seats.items ≡ SEAT_LIMIT → (drive : ℕ) → slice_index result drive ≡ 0 }
     ensures back { All (λ s. (drive : ℕ) → slice_index result drive ≢ s.view.number) seats.items }
 {
-    let arguments = table.close(seats);
-    arguments
+    let words = table.close(seats);
+    words
 }
