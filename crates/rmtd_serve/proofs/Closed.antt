@@ -30,13 +30,13 @@ is_false : (b : Bool) → (b ≡ true → ⊥) → b ≡ false
 is_false true never = absurd (never refl)
 is_false false never = refl
 
-module _ (t : TableId) (arguments : List ℕ) (seats : List TableSeat) (closing : IsClosing arguments seats) (idle : All (λ s. IsSeatAt t s × HoldsJust s.view None) seats) where
+module _ (t : TableId) (words : List ℕ) (seats : List TableSeat) (closing : IsClosing words seats) (idle : All (λ s. IsSeatAt t s × HoldsJust s.view None) seats) where
   -- with all seats of the table back, no drive is held
-  pub free : length seats ≡ SEAT_LIMIT → (d : ℕ) → get_or arguments d 0 ≡ 0
+  pub free : length seats ≡ SEAT_LIMIT → (d : ℕ) → get_or words d 0 ≡ 0
   free all d = closing.free d all (λ k x e.
       let r = reads seats k x e in let none : HoldsJust x.view None = subst (λ (s : TableSeat). HoldsJust s.view None) r.1 (idle k x r.0).1 in
       is_false (has x.view d) (λ holds. none-some d ((none d).0 holds)))
 
   -- no drive is held by a seat that is back
-  pub back : (k : ℕ) (x : TableSeat) → k < length seats → (d : ℕ) → get_or arguments d 0 ≢ (get_or seats k x).view.number
+  pub back : (k : ℕ) (x : TableSeat) → k < length seats → (d : ℕ) → get_or words d 0 ≢ (get_or seats k x).view.number
   back k x below d same = none-some d (((idle k x below).1 d).0 ((closing.held k (get_or seats k x) d (there seats k x below)).0 same))
