@@ -27,6 +27,9 @@ from controls import FOLDERS, applied, is_beside, pairs
 
 TOP = Path(__file__).resolve().parent.parent
 PROMISES = TOP / "docs" / "PROMISES.md"
+MISTAKES = PROMISES.with_name("MISTAKES.md")
+# An edit in the table of mistakes.
+EDIT = re.compile(r"^\|[^|]*\| `(\w+/\w+)` \|", re.M)
 LONGEST = 120
 QUOTED = re.compile(r"`([^`]+)`")
 SECTION = re.compile(r"## `(\w+)`")
@@ -294,6 +297,7 @@ def main() -> int:
     for crate in libraries():
         wrong += sections[crate].missing() if crate in sections else Section(crate).missing()
     wrong += [f"docs/PROMISES.md does not name the edit {it}" for it in sorted(there - told)]
+    wrong += [f"docs/MISTAKES.md names {it}, and there is no such edit" for it in EDIT.findall(MISTAKES.read_text()) if it not in there]
     bare, said = without_controls(), told_without_controls(PROMISES.read_text().split("\n"))
     wrong += [f"{it} has no control, and \"Edits without a control\" does not name it" for it in sorted(bare - said)]
     wrong += [f"\"Edits without a control\" names {it}, which has one or is not there" for it in sorted(said - bare)]
