@@ -4,7 +4,7 @@ ghost use Rattle.std.specs.Prelude.{◌≤◌, length};
 
 use super::CAPACITY;
 use super::fixture::{Drives, END, NO_OUTPUT, TRUNCATED, serve_once, two_drives};
-use super::pieces::{Pieces, Expected};
+use super::pieces::{Expected, Pieces};
 use rmt_server::ServeFault;
 use std::alloc::Global;
 
