@@ -2,16 +2,18 @@
 """Tries the further edits: wrong bodies that the prover has to refuse, many in one check.
 
     further.py [--anew] [CRATE..]
+    further.py --beside < OUTPUT
 
 The edits that `rt ci` tries are crates/CRATE/must-fail/NAME.edit, and each costs it a check. All others are crates/CRATE/further/NAME.edit, written
-alike, with controls beside them too. `make test` tries these when `rt ci` has passed. Functions are proved one by one, so many edits are tried at once:
+alike, with controls beside them too. `make test` tries these with --beside: OUTPUT is what `rt ci` prints, and a crate's edits are tried as soon as
+the crates below it are proved (beside.py). If `rt ci` fails, no further lot begins. Functions are proved one by one, so many edits are tried at once:
 no two of a lot change functions of one name. The log names each function that is refused. An edit is refused where a function that it changes is, for
 itself: where one only calls another that is refused, the edit is tried again in a later lot. A lot that shows none is halved.
 
 A crate's lots run one after the other, over what `rt ci` proved of the crates below, and each over what those before it proved of this crate: so each
 function that a lot needs is proved once. Only the functions that a lot changes and those that they call are checked. As many crates are tried at once
-as there are processors and memory for. What was refused over the same texts is kept on this machine, and not tried again (refusals.py); with --anew
-all are tried. It prints for each edit
+as there are processors and memory for. What was refused over the same texts is kept on this machine after each lot, and not tried again (refusals.py);
+with --anew all are tried. It prints for each edit
 
     refused         and why: the goals of a function that it changes which are not proved, or what is wrong with its proof
     NOT REFUSED     the functions that it changes are proved with it
@@ -24,19 +26,23 @@ and for each crate how many checks that took. It fails where an edit is not refu
 
 from __future__ import annotations
 
+import os
 import re
 import sys
 import tempfile
 from concurrent.futures import ThreadPoolExecutor
 from itertools import takewhile
 from pathlib import Path
-from typing import NamedTuple
+from typing import Callable, NamedTuple
 
 import refusals
-from controls import REFUSED, TOP, WAITS, Pair, applied, changed_at, module_of, names_of, pairs, places_of, verdicts
+from beside import Alone, Beside
+from controls import REFUSED, TOP, WAITS, Pair, applied, below, changed_at, module_of, names_of, pairs, places_of, verdicts
 from gate import checks_at_once
 from proved import Checked, Room, Work
 
+# How much lower the priority of checks beside `rt ci` is.
+LOWER = 10
 # A function of a crate: its module, as a log writes it, and its name.
 Place = tuple[str, str]
 # What the prover says at last of what it read, and did not prove.
@@ -270,15 +276,18 @@ def shown(work: Work, edits: list[Edit], waits: Waits) -> dict[str, str]:
     return refused_of(edits, ran.log) or shown(work, edits[:half], waits) | shown(work, edits[half:], waits)
 
 
-def outcomes(work: Work, edits: list[Edit]) -> dict[str, str]:
-    """What comes of each edit. Those that a lot does not show are tried in a later one."""
+def outcomes(work: Work, edits: list[Edit], goes_on: Callable[[], bool] = lambda: True, keep: Callable[[dict[str, str]], None] = lambda _: None) -> dict[str, str]:
+    """What comes of each edit. Those that a lot does not show are tried in a later one. Has `keep` keep what each lot shows."""
     found: dict[str, str] = {}
     waits: Waits = set()
     left = sorted(edits, key=lambda it: not it.is_local())
-    while lot := lot_of(work.folder, left, waits):
-        found |= shown(work, lot, waits)
+    while goes_on() and (lot := lot_of(work.folder, left, waits)):
+        now = shown(work, lot, waits)
+        keep(now)
+        found |= now
         left = [it for it in left if it.name not in found]
-    return found | dict.fromkeys((it.name for it in left), "BAD EDIT: it can't be applied")
+    why = "BAD EDIT: it can't be applied" if goes_on() else "NOT TRIED: rt ci failed"
+    return found | dict.fromkeys((it.name for it in left), why)
 
 
 def edit_of(crate: str, file: Path) -> Edit:
@@ -313,16 +322,19 @@ class Trial:
         """About how long it takes, beside other crates."""
         return sum(it.stat().st_size for it in TOP.glob(f"crates/{self.crate}/src/**/*.rt")) * (1 + len(self.files) - len(self.kept))
 
-    def run(self, room: Room) -> str:
-        """Tries what is left, keeps what is refused, if no file was changed meanwhile, and answers how many checks that took."""
-        work = Work(room, self.crate)
-        found = outcomes(work, self.left())
-        work.remove()
+    def keep(self, found: dict[str, str]) -> None:
+        """Keeps what is refused, if no file was changed since it was read."""
         now = self.keys_now()
         for name, said in found.items():
             if now[name] == self.keys[name]:
                 refusals.keep(now[name], said)
-        self.found |= found
+
+    def run(self, room: Room, how: Alone = Alone()) -> str:
+        """Tries what is left, keeps what is refused, and answers how many checks that took."""
+        size = self.size()
+        work = Work(room, self.crate, lambda: how.turn(size))
+        self.found |= outcomes(work, self.left(), how.goes_on, self.keep)
+        work.remove()
         return f"{work.checks} checks, {work.seconds:.0f} seconds"
 
     def give_up(self, why: str) -> None:
@@ -365,16 +377,42 @@ def try_all(trials: list[Trial]) -> None:
             list(pool.map(try_one, left))
 
 
+def try_beside(trials: list[Trial], gate: Beside) -> None:
+    """Tries what is left of these crates while `rt ci` runs, each crate as soon as those below it are proved."""
+
+    def try_one(trial: Trial, folder: Path) -> None:
+        how = "no checks"
+        if trial.left() and gate.wait_for(below(trial.crate)):
+            folder.mkdir()
+            room = Room(folder, below(trial.crate))
+            said = room.prove() if room.crates else ""
+            room.copy(trial.crate)
+            if said:
+                print(said, end="")
+                trial.give_up("a crate below it is not proved")
+            else:
+                how = trial.run(room, gate)
+        trial.give_up("a crate below it is not proved")
+        print(trial.told(how), flush=True)
+
+    with tempfile.TemporaryDirectory(prefix="further-") as folder, ThreadPoolExecutor(max(1, len(trials))) as pool:
+        list(pool.map(lambda it: try_one(it, Path(folder, it.crate)), trials))
+
+
 def main() -> int:
     """Tries the further edits of the crates that are named, or of all, and fails where one is not refused."""
     known = sorted(it.parent.name for it in (TOP / "crates").glob("*/further"))
-    asked = [it for it in sys.argv[1:] if it != "--anew"]
+    asked = [it for it in sys.argv[1:] if not it.startswith("--")]
     wrong = [it for it in asked if it not in known]
     if wrong:
         print(f"no further edits: {' '.join(wrong)}")
         return 2
     trials = [Trial(it, "--anew" in sys.argv) for it in asked or known]
-    try_all(trials)
+    if "--beside" in sys.argv:
+        os.nice(LOWER)
+        try_beside(trials, Beside(sys.stdin))
+    else:
+        try_all(trials)
     refusals.forget_old()
     count, failed = sum(len(it.found) for it in trials), sum(it.failed() for it in trials)
     print(f"further edits: {count - failed} refused, {failed} not")

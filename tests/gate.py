@@ -1,10 +1,10 @@
 #!/usr/bin/env python3
-"""Runs the gate, `rt ci` and then further.py, and writes how long each crate's proof, tests and edits took.
+"""Runs the gate, `rt ci` with further.py beside it, and writes how long each crate's proof, tests and edits took.
 
     gate.py [--minutes FILE]
 
-`rt ci` proves each crate and its tests, and tries the few edits of must-fail/ one by one; where it passes, further.py tries all the others, many in a
-check. This passes on what both print, and ends with the status of the one that fails, if any. `rt ci` tells no times, so every five seconds it is
+`rt ci` proves each crate and its tests, and tries the few edits of must-fail/ one by one. further.py tries all the others, many in a check, each
+crate's as soon as the crates below it are proved. This passes on what both print, and ends with the status of the one that fails, if any. `rt ci` tells no times, so every five seconds it is
 looked up which checks run, by the command lines of the processes below this one: a check of a crate (which `rt ci` builds in the same run), of its
 tests, or of edits that must fail, one or many. The minutes are those in which at least one such check of the crate ran, written as a table to FILE, or
 else printed.
@@ -21,6 +21,7 @@ import sys
 import threading
 import time
 from collections import defaultdict
+from contextlib import suppress
 from pathlib import Path
 
 KINDS = ("proof", "tests", "edits")
@@ -119,6 +120,22 @@ def table(seconds: dict[tuple[str, str], float], whole: float) -> str:
     return "\n".join(lines) + "\n"
 
 
+def run_both() -> int:
+    """Runs `rt ci`, and further.py beside it, which is given what `rt ci` prints. Returns the status of the one that fails, 0 if both pass."""
+    env = {"RT_JOBS": str(checks_at_once()), **os.environ}
+    how = {"stdin": subprocess.DEVNULL, "stdout": subprocess.PIPE, "stderr": subprocess.STDOUT, "text": True, "errors": "replace"}
+    words = (sys.executable, str(FURTHER), "--beside")
+    with subprocess.Popen(("rt", "ci"), env=env, **how) as gate, subprocess.Popen(words, stdin=subprocess.PIPE, text=True) as edits:
+        for line in gate.stdout:
+            print(line, end="", flush=True)
+            with suppress(BrokenPipeError):
+                edits.stdin.write(line)
+                edits.stdin.flush()
+        with suppress(BrokenPipeError):
+            edits.stdin.close()
+        return gate.wait() or edits.wait()
+
+
 def main() -> int:
     parser = argparse.ArgumentParser(description="Runs rt ci and further.py, and tells the minutes of each crate.")
     parser.add_argument("--minutes", type=Path, help="the file that the table is written to")
@@ -126,8 +143,7 @@ def main() -> int:
     watch = Watch()
     watch.start()
     began = time.monotonic()
-    status = subprocess.run(["rt", "ci"], env={"RT_JOBS": str(checks_at_once()), **os.environ}).returncode
-    status = status or subprocess.run([sys.executable, str(FURTHER)]).returncode
+    status = run_both()
     whole = time.monotonic() - began
     watch.done.set()
     watch.join()

@@ -13,9 +13,10 @@ import shutil
 import signal
 import subprocess
 import time
+from contextlib import nullcontext
 from functools import lru_cache
 from pathlib import Path
-from typing import Iterable, NamedTuple
+from typing import Callable, ContextManager, Iterable, NamedTuple
 
 from controls import FOLDERS, TOP, Pair, applied, below, listed
 from gate import checks_at_once
@@ -49,7 +50,11 @@ class Room:
         (folder / "crates.txt").write_text("\n".join(lines) + "\n", encoding="utf-8")
         shutil.copy(TOP / "HANDLES", folder / "HANDLES")
         for name in self.crates:
-            shutil.copytree(TOP / "crates" / name, self.crate(name), ignore=shutil.ignore_patterns("out", *FOLDERS))
+            self.copy(name)
+
+    def copy(self, name: str) -> None:
+        """Copies a crate's sources, specs and proofs from the repository."""
+        shutil.copytree(TOP / "crates" / name, self.crate(name), ignore=shutil.ignore_patterns("out", *FOLDERS))
 
     def crate(self, name: str) -> Path:
         return self.folder / "crates" / name
@@ -85,10 +90,10 @@ class Checked(NamedTuple):
 
 
 class Work:
-    """A crate that is checked again and again, each time with other changes: what a check proves, the later ones take."""
+    """A crate that is checked again and again, each time with other changes: what a check proves, the later ones take. Each check runs in a `turn`."""
 
-    def __init__(self, room: Room, crate: str) -> None:
-        self.crate = crate
+    def __init__(self, room: Room, crate: str, turn: Callable[[], ContextManager[None]] = nullcontext) -> None:
+        self.crate, self.turn = crate, turn
         # No name that is the crate's alone, so that the gate's watch takes the checks there for those of edits.
         self.folder = room.folder / "edits" / f"{crate}-edits"
         self.words = room.words(crate)
@@ -115,9 +120,10 @@ class Work:
                 (self.folder / name).write_text(text, encoding="utf-8")
 
     def rattle(self, words: list[str]) -> Checked:
-        began = time.monotonic()
         how = {"stdin": subprocess.DEVNULL, "stdout": subprocess.PIPE, "stderr": subprocess.STDOUT, "text": True, "errors": "replace"}
-        ran = subprocess.run((str(kit() / "bin/rattle"), "check", *words), cwd=self.folder, check=False, **how)
+        with self.turn():
+            began = time.monotonic()
+            ran = subprocess.run((str(kit() / "bin/rattle"), "check", *words), cwd=self.folder, check=False, **how)
         self.checks, self.seconds = self.checks + 1, self.seconds + time.monotonic() - began
         return Checked(ran.returncode, ran.stdout)
 

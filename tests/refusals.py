@@ -20,7 +20,7 @@ import proved
 # How every refusal begins, and nothing else that is said of an edit.
 REFUSED = "refused"
 # What decides beside the crates and the kit.
-SCRIPTS = ("further.py", "proved.py", "controls.py", "refusals.py")
+SCRIPTS = ("further.py", "beside.py", "proved.py", "controls.py", "refusals.py")
 # How many seconds a refusal is kept that no run has used.
 LONGEST = 60 * 24 * 3600
 # What is raised where there is no such folder, no home, or no text.

@@ -9,6 +9,7 @@ import tempfile
 from pathlib import Path
 from typing import Iterable
 
+import beside
 import controls
 import further
 import gate
@@ -250,12 +251,17 @@ def check_trials() -> None:
     tried: list[str] = []
 
     class Fake:
-        def __init__(self, room: object, crate: str) -> None:
+        def __init__(self, room: object, crate: str, turn: object) -> None:
             self.checks, self.seconds, self.folder = 1, 1.0, controls.TOP / "crates" / crate
 
         def check(self, changes: list[Pair], only: Iterable[str] = ()) -> proved.Checked:
             tried.extend(only)
+            Fake.meanwhile()
             return Fake.answer
+
+        @staticmethod
+        def meanwhile() -> None:
+            pass
 
         def remove(self) -> None:
             pass
@@ -275,9 +281,9 @@ def check_trials() -> None:
     check("but where all are asked for", len(further.Trial("words", is_anew=True).left()) == 1)
     (refusals.place() / trial.keys["counts_one_less"]).unlink()
     changing = further.Trial("words")
-    Fake.remove = lambda _: (controls.TOP / "crates/words/specs/Words.antt").write_text("-- changed meanwhile\n")
+    was_meanwhile, Fake.meanwhile = Fake.meanwhile, lambda: (controls.TOP / "crates/words/specs/Words.antt").write_text("-- changed meanwhile\n")
     changing.run(None)
-    Fake.remove = lambda _: None
+    Fake.meanwhile = was_meanwhile
     check("nothing is kept of texts that changed meanwhile", len(further.Trial("words").left()) == 1 and not refusals.kept(changing.keys["counts_one_less"]))
     further.Trial("words").run(None)
     check("and what was tried again is", further.Trial("words").left() == [])
@@ -285,6 +291,38 @@ def check_trials() -> None:
     source.write_text("//! Changed.\n")
     check("but where a crate below changed", len(further.Trial("words").left()) == 1)
     further.Work = was
+
+
+def check_beside() -> None:
+    """Lots beside `rt ci`: what its output says is proved, and which check begins."""
+    reading, writing = os.pipe()
+    with os.fdopen(writing, "w") as output:
+        run = beside.Beside(os.fdopen(reading), processors=2)
+        output.write("rt: other proved\nrt: words is kept: an earlier run\nrt: above: trying its must-fail edits (2)\n")
+        output.flush()
+        check("a crate is proved, or kept", run.wait_for(["other", "words"]))
+        check("one whose edits are tried is not yet", "above" not in run.proved, run.proved)
+        was, beside.other_checks = beside.other_checks, lambda: 1
+        with run.changed:
+            run.waiting = [3, 5]
+            check("the largest crate begins", run.may_begin(5) and not run.may_begin(3))
+            run.running = 1
+            check("no check begins if all processors are taken", not run.may_begin(5))
+            run.running, run.waiting = 0, []
+        with run.turn(4):
+            check("a turn counts", run.running == 1 and run.waiting == [])
+        check("up to its end", run.running == 0)
+        beside.other_checks = was
+        check("lots go on while the run does", run.goes_on())
+        output.write("12 passed, 1 failed\n")
+    check("what is not proved at the end is not waited for", not run.wait_for(["above"]))
+    check("a run that failed ends the lots", not run.goes_on())
+    reading, writing = os.pipe()
+    with os.fdopen(writing, "w") as output:
+        output.write("12 passed, 0 failed\n")
+    run = beside.Beside(os.fdopen(reading))
+    run.wait_for(["words"])
+    check("and one that passed does not", run.goes_on())
 
 
 def check_no_place(folder: Path) -> None:
@@ -323,6 +361,7 @@ def main() -> int:
         check_kept()
         check_trials()
         check_watch(folder)
+        check_beside()
         check_no_place(folder)
     return ended()
 
