@@ -464,19 +464,19 @@ NAMED = (("TIME ", r"(?:\S+Z )?"), ("FOLDER", r"/\S+"), ("ADDRESS", r"[\w.-]+:\d
 
 
 def rows_of(program: str, lines: list[str]) -> Iterator[Row]:
-    """The rows of the tables of a section whose first column is headed by `Told`."""
+    """The rows of the tables of a section whose first column is headed by `Message`."""
     columns: list[str] = []
     for line in lines:
         cells = [it.strip() for it in line.strip("|").split("|")] if line.startswith("|") else []
-        if not cells or cells[0].startswith("Told"):
+        if not cells or cells[0].startswith("Message"):
             columns = cells
         elif columns and not cells[0].startswith("---"):
             yield Row(program, cells[0], tuple(re.findall(r"\d", cells[1])) if columns[1] == "Status" else ())
 
 
 def all_rows(text: str) -> list[Row]:
-    """The rows of the sections `What rmtd tells` and `What rdump tells`."""
-    titled = [(re.fullmatch(r"What (rmtd|rdump) tells", title), lines) for title, _, lines in sections(text)]
+    """The rows of the sections `Messages of rmtd` and `Messages of rdump`."""
+    titled = [(re.fullmatch(r"Messages of (rmtd|rdump)", title), lines) for title, _, lines in sections(text)]
     return [row for found, lines in titled if found for row in rows_of(found[1], lines)]
 
 
