@@ -1,5 +1,5 @@
 # Builds, runs, tests and measures the tape server and the dump client. It needs the Rattle kit's `rt` in PATH, and
-# Python 3. `make` alone lists the words.
+# Python 3. `make` alone lists the targets.
 
 SERVER := crates/rmtd/out/rmtd
 CLIENT := crates/rdump/out/rdump
@@ -18,17 +18,17 @@ MAN = $(DESTDIR)$(PREFIX)/share/man
 .PHONY: help build run try test edits bench install uninstall clean kit
 .NOTPARALLEL:
 
-help: ## list these words
+help: ## list these targets
 	@sed -n 's/^\([a-z]*\):.*## /  make \1\t/p' $(MAKEFILE_LIST) | expand -t 18
 
-build: kit ## prove and build the three programs, crates side by side; it says first how long that is likely to take
+build: kit ## prove and build the three programs, crates side by side; it prints first how long that is likely to take
 	@python3 tests/build.py $(PROGRAMS)
 
-run: kit ## show a conversation with the server, turn by turn; where it is not built, from its sources without their proofs
+run: kit ## show a conversation with the server, turn by turn; if it is not built, from its sources without their proofs
 	@python3 tests/run.py
 
 try: kit ## compile a program without its proofs, as out/try/PROGRAM: make try PROGRAM=rdump
-	@python3 tests/unproved.py $(or $(PROGRAM),$(error make try wants a program: make try PROGRAM=rdump))
+	@python3 tests/unproved.py $(or $(PROGRAM),$(error make try needs a program: make try PROGRAM=rdump))
 
 # The programs that are tested are those that `rt ci` has just proved and built, where it left them. It is noted beside them that
 # they are proved, so that `make install` proves nothing again.
