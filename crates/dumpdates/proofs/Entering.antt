@@ -1,5 +1,5 @@
 -- What a list of stored entries becomes where one is entered, and the base dates that it gives.
-use Rattle.std.proofs.Common.{◌≡◌, ℕ, suc, ◌+◌, ◌<◌, ◌≤◌, Bool, true, false, not, cond, List, [], ◌∷◌, ◌++◌, length, map, take, drop, filter, position, Option, Some, None, Result, Ok, Err, OnErr, refl, sym, ap, ◌∙◌, arith, add-one, append_assoc, set, length-append}
+use Rattle.std.proofs.Common.{◌≡◌, ℕ, suc, ◌+◌, ◌<◌, ◌≤◌, Bool, true, false, not, cond, List, [], ◌∷◌, ◌++◌, length, map, take, drop, filter, position, Option, Some, None, Result, Ok, Err, OnErr, refl, sym, ap, ◌∙◌, arith, add-one, append_assoc, set, length-append, string_bytes}
 use Rattle.std.specs.List.{prefix_len}
 use Rattle.std.proofs.lemmas.Bool.{and_parts, eqb-true, ltb-true, ltb-false}
 use Rattle.std.proofs.lemmas.List.{take_all, drop_all, append-nil, take_more_set, drop-set-lt}
@@ -57,10 +57,10 @@ none_is true k e = cc
 none_is false k e = refl
 
 -- an entry of the same name and level with the new date is the new entry
-pub same_dated : (e : DatesEntry) (x : Stored) → is_same e (plain_stored x) ≡ true → record { name = x.name.items; level = x.level; date = e.date } ≡ e
+pub same_dated : (e : DatesEntry) (x : Stored) → is_same e (plain_stored x) ≡ true → record { name = string_bytes x.name; level = x.level; date = e.date } ≡ e
 same_dated e x same =
     let both = and_parts _ _ same in
-    let name = (bytes_eq-Decides x.name.items e.name).0 both.0 in
+    let name = (bytes_eq-Decides (string_bytes x.name) e.name).0 both.0 in
     let level = eqb-true x.level e.level both.1 in
     rw (name, level) refl
 

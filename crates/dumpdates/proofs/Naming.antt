@@ -1,5 +1,5 @@
 -- The names of months and weekdays, as they are looked up.
-use Rattle.std.proofs.Common.{◌≡◌, ℕ, zero, suc, ◌+◌, ◌-◌, ◌<◌, ◌≤◌, Bool, true, List, [], ◌∷◌, length, get_or, position, Some, None, bytes_eq, sym, ap, ◌∙◌, arith, inl, inr}
+use Rattle.std.proofs.Common.{◌≡◌, ℕ, zero, suc, ◌+◌, ◌-◌, ◌<◌, ◌≤◌, Bool, true, List, [], ◌∷◌, length, get_or, position, Some, None, bytes_eq, map, Bor, refl, sym, ap, ◌∙◌, arith, inl, inr}
 use Rattle.std.specs.List.{list_any, position_or_len}
 use Rattle.std.proofs.lemmas.Bool.{ltb-false, both_ways, or_cases, or_left, or_right}
 use Rattle.std.proofs.lemmas.List.Quantifiers.{position-Some}
@@ -49,3 +49,9 @@ is_weekday word h =
 pub weekday_is : (word : List ℕ) → IsWeekday word → list_any (λ name. bytes_eq name word) weekday_names ≡ true
 weekday_is word w =
     any_at (λ name. bytes_eq name word) weekday_names w.0 w.1 ((bytes_eq-Decides (get_or weekday_names w.0 []) word).1 (sym w.2))
+
+-- the text at a place of a list of texts
+pub now_at : (names : List (Bor (List ℕ))) (i : ℕ) (other : Bor (List ℕ)) → (get_or names i other).now ≡ get_or (map (λ name. name.now) names) i other.now
+now_at [] i other = refl
+now_at (name ∷ names) zero other = refl
+now_at (name ∷ names) (suc i) other = now_at names i other

@@ -6,7 +6,7 @@ use Rattle.std.proofs.lemmas.List.{take_all}
 use Rattle.std.proofs.lemmas.List.Splits.{slice_split_first, slice_split_none}
 use Rattle.std.proofs.lemmas.List.Sums.{fails_before_first, prefix_len-le-length}
 use Rattle.dumpdates.specs.Entry.{DatesEntry}
-use Rattle.dumpdates.specs.FoundEntry.{IsAdded, IsLineRefused}
+use Rattle.dumpdates.specs.FoundLine.{IsAdded, IsLineRefused}
 use Rattle.dumpdates.specs.Lines.{lines_of, SpellLines, SpellsDates, HasDatesFault}
 use Rattle.dumpdates.specs.Text.{line_feed}
 use Rattle.dumpdates.specs.declared.fault.DatesFault.{DatesFault}

@@ -1,5 +1,5 @@
 -- Lines that have the shape of an entry: their words, and what these say.
-use Rattle.std.proofs.Common.{◌≡◌, ℕ, suc, zero, ◌-◌, ◌<◌, Bool, true, false, not, ◌&&◌, cond, List, [], ◌∷◌, ◌++◌, length, get_or, Some, None, IsUtf8, refl, sym, ◌∙◌, subst, arith}
+use Rattle.std.proofs.Common.{◌≡◌, ℕ, suc, zero, ◌-◌, ◌<◌, Bool, true, false, not, ◌&&◌, cond, List, [], ◌∷◌, ◌++◌, length, get_or, Some, None, IsUtf8, refl, sym, ap, ◌∙◌, subst, arith}
 use Rattle.std.specs.Int.{IsInRange}
 use Rattle.std.specs.List.{AllByRecursion, list_all}
 use Rattle.std.specs.Str.Parse.{AllDigits}
@@ -12,6 +12,7 @@ use Rattle.std.proofs.lemmas.Str.Parse.{digit_from_value}
 use Rattle.dumpdates.specs.Entry.{DatesEntry, IsName, IsEntry}
 use Rattle.dumpdates.specs.Front.{words_of}
 use Rattle.dumpdates.specs.Line.{is_space, AreSpaces, PlainWords, word_list, PlainFields, SpellsDigits, IsWeekday, SpellsMonth, SpellsTime, SpellsWords, HasShape, SpellsLine}
+use Rattle.dumpdates.specs.Moment.{IsMoment, seconds_at}
 use Rattle.dumpdates.specs.Names.{weekday_names, month_names, month_name}
 use Rattle.dumpdates.specs.Text.{colon}
 use Rattle.dumpdates.proofs.Days.{moment_bound}
@@ -143,6 +144,13 @@ shape_words line f h = (h.0, words_cut line h.0 (line_is_cut line (word_list h.0
 
 pub words_shape : (line : List ℕ) (w : PlainWords) (f : PlainFields) → words_of line ≡ Some w → SpellsWords w f → HasShape line f
 words_shape line w f e s = (w, cut_is_line (word_list w) line (are_words w f s) (cut_words line w e), s)
+
+-- the entry of the shape, where the date is valid
+pub found_entry : (line : List ℕ) (w : PlainWords) (f : PlainFields) (date : ℕ) → words_of line ≡ Some w → SpellsWords w f → IsMoment f.moment → date ≡ seconds_at f.moment
+    → SpellsLine line (record { name = f.name; level = f.level; date = date })
+found_entry line w f date e s moment same =
+    let entry : ℕ → DatesEntry = λ date. record { name = f.name; level = f.level; date = date } in
+    (f, words_shape line w f e s, moment, ap entry same)
 
 pub no_words : (line : List ℕ) → words_of line ≡ None → (f : PlainFields) → HasShape line f → ⊥
 no_words line none f h = let s = shape_words line f h in none_some s.0 (sym none ∙ s.1)

@@ -1,5 +1,5 @@
 -- In reading order. A list: Entry, Dates. As written: Moment, Names, Text. As read: Line, Lines.
--- Inside the code: Stored, Clock, Front, FoundEntry.
+-- Inside the code: Stored, Clock, Front, FoundLine.
 pub mod Entry
 pub mod Moment
 pub mod Names
@@ -10,4 +10,4 @@ pub mod Clock
 pub mod Line
 pub mod Lines
 pub mod Front
-pub mod FoundEntry
+pub mod FoundLine

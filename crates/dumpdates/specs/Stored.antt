@@ -1,5 +1,5 @@
 -- The plain values of entries in memory. Public contracts cite it.
-use Rattle.std.specs.Prelude.{Bool, not, List, map}
+use Rattle.std.specs.Prelude.{Bool, not, List, map, string_bytes}
 use Rattle.dumpdates.specs.Entry.{DatesEntry}
 use Rattle.dumpdates.specs.Dates.{is_same}
 use Rattle.dumpdates.specs.declared.entry.Entry.{Entry}
@@ -11,7 +11,7 @@ plain_entry e = record { name = e.name.now; level = e.level; date = e.date }
 
 -- the plain value of an entry that owns its name
 abbrev pub plain_stored : Stored → DatesEntry
-plain_stored e = record { name = e.name.items; level = e.level; date = e.date }
+plain_stored e = record { name = string_bytes e.name; level = e.level; date = e.date }
 
 -- the plain values of a list of entries
 abbrev pub plain_all : List Stored → List DatesEntry

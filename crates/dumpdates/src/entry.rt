@@ -1,6 +1,6 @@
 //! An entry, and the limits of its name, level and date.
 
-ghost use Rattle.std.specs.Prelude.{◌≡◌, ◌↔◌, ◌≤◌, IsTrue, IsUtf8};
+ghost use Rattle.std.specs.Prelude.{◌≡◌, ◌↔◌, ◌≤◌, IsSome, IfSome, IsTrue, IsUtf8};
 ghost use Rattle.std.proofs.Props.{props};
 ghost use Rattle.dumpdates.specs.Entry.{IsName, last_second};
 
@@ -28,7 +28,6 @@ pub struct Entry<'a> {
 }
 
 impl<'a> Entry<'a> {
-    ghost use Rattle.std.specs.Prelude.{IsSome, IfSome};
     ghost use Rattle.dumpdates.specs.Entry.{IsEntry};
     ghost use Rattle.dumpdates.specs.Stored.{plain_entry};
 
@@ -53,4 +52,15 @@ pub fn is_name(name: &[u8]) -> bool
     ensures text { IsName name.now → IsUtf8 name.now }
 {
     !name.is_empty() && name.len() <= NAME_LIMIT && name.iter().all(|b| b.is_ascii_graphic())
+}
+
+/// Returns the bytes as a name of a file system, or None if `is_name` rejects them.
+pub fn as_name(bytes: &[u8]) -> Option<&str>
+    ensures given { IsSome result ↔ IsName bytes.now }
+    ensures value { IfSome result (λ name. name.now ≡ bytes.now) }
+{
+    if !is_name(bytes) {
+        return None;
+    }
+    str::from_utf8(bytes).ok()
 }

@@ -1,10 +1,10 @@
 //! Reads the values of a line's words.
 
 ghost use Rattle.std.specs.Prelude.{ℕ, ◌^◌, ◌<◌, ◌≤◌, MatchOption, IfSome};
-ghost use Rattle.dumpdates.specs.FoundEntry.{SpellsMoment, plain_words, plain_fields};
+ghost use Rattle.dumpdates.specs.FoundLine.{SpellsMoment, plain_words, plain_fields};
 ghost use Rattle.dumpdates.specs.Line.{PlainFields, SpellsDigits, SpellsTime, SpellsWords};
 
-use crate::entry::is_name;
+use crate::as_name;
 use crate::moment::Moment;
 use crate::names::{is_weekday, month_named};
 use crate::words::LineWords;
@@ -12,7 +12,7 @@ use crate::words::LineWords;
 /// The values of a line's words. The date need not be valid.
 #[derive(Clone, Copy)]
 pub(crate) struct LineFields<'a> {
-    pub(crate) name: &'a [u8],
+    pub(crate) name: &'a str,
     pub(crate) level: u8,
     pub(crate) moment: Moment,
 }
@@ -22,13 +22,14 @@ pub(crate) fn fields_of(words: LineWords<'_>) -> Option<LineFields<'_>>
     ensures { MatchOption result ((f : PlainFields) → ¬ SpellsWords (plain_words words.entry) f)
         (λ f. SpellsWords (plain_words words.entry) (plain_fields f)) }
 {
-    if !is_name(words.name) || !is_weekday(words.weekday) {
+    let name = as_name(words.name)?;
+    if !is_weekday(words.weekday) {
         return None;
     }
     let level = number(words.level, 1, 1)?;
     let moment = moment_in(words)?;
     Some(LineFields {
-        name: words.name,
+        name,
         level: level as u8,
         moment,
     })

@@ -2,13 +2,13 @@
 
 ghost use Rattle.std.specs.Prelude.{◌≡◌, ◌==◌, ◌≤◌, length, OnOk, IfErr};
 ghost use Rattle.std.specs.List.{position_or_len};
-ghost use Rattle.dumpdates.specs.FoundEntry.{IsAdded, IsLineRefused};
+ghost use Rattle.dumpdates.specs.FoundLine.{IsAdded, IsLineRefused};
 ghost use Rattle.dumpdates.specs.Stored.{plain_all};
 ghost use Rattle.dumpdates.specs.Text.{line_feed};
 
 use crate::DatesFault;
 use crate::line::{EntryFault, line_of};
-use crate::list::push;
+use crate::list::append;
 use crate::stored::Stored;
 use std::alloc::Global;
 
@@ -38,7 +38,7 @@ pub(crate) fn read_line(
 {
     match line_of(line) {
         Ok(None) => Ok(()),
-        Ok(Some(found)) => Ok(push(alloc, entries, found)?),
+        Ok(Some(entry)) => Ok(append(alloc, entries, entry)?),
         Err(EntryFault::BadShape) => Err(DatesFault::BadLine(number)),
         Err(EntryFault::NoDate) => Err(DatesFault::BadDate(number)),
     }

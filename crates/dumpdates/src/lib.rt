@@ -1,9 +1,11 @@
 //! The file dumpdates of dump(8): which file systems were dumped at which levels, and when.
 //!
 //! `Dates` is the list of its entries. It reads and writes the file exactly, and returns the base
-//! date of a dump. Entering a dump changes no entry of another name or level.
+//! date of a dump. Entering a dump changes no entry of another name or level. `date_text` returns a
+//! date as the file has it.
 #![tactic(auto)]
 
+mod ctime;
 mod dates;
 mod entry;
 mod fault;
@@ -18,7 +20,8 @@ mod stored;
 mod words;
 mod writer;
 
+pub use ctime::{DATE_TEXT_BYTES, date_text};
 pub use dates::Dates;
-pub use entry::{Entry, LAST_SECOND, is_name};
+pub use entry::{Entry, LAST_SECOND, as_name, is_name};
 pub use fault::DatesFault;
 pub use laws::{one_entry, one_reading, written_and_read};

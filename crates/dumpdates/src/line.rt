@@ -1,18 +1,11 @@
 //! Reads a line of the file.
 
-ghost use Rattle.dumpdates.specs.FoundEntry.{IsLineFound};
+ghost use Rattle.dumpdates.specs.FoundLine.{IsLineFound};
 
+use crate::Entry;
 use crate::fields::fields_of;
 use crate::moment::seconds_of;
 use crate::words::{is_blank, words_of};
-
-/// The entry on a line.
-#[derive(Clone, Copy)]
-pub(crate) struct FoundEntry<'a> {
-    pub(crate) name: &'a [u8],
-    pub(crate) level: u8,
-    pub(crate) date: u64,
-}
 
 /// Why a line is neither blank nor an entry.
 #[derive(Clone, Copy)]
@@ -24,7 +17,7 @@ pub(crate) enum EntryFault {
 }
 
 /// Returns the entry on a line, or None if the line is blank. Fails if the line is neither.
-pub(crate) fn line_of(line: &[u8]) -> Result<Option<FoundEntry<'_>>, EntryFault>
+pub(crate) fn line_of(line: &[u8]) -> Result<Option<Entry<'_>>, EntryFault>
     ensures { IsLineFound line.now result }
 {
     if is_blank(line) {
@@ -39,7 +32,7 @@ pub(crate) fn line_of(line: &[u8]) -> Result<Option<FoundEntry<'_>>, EntryFault>
     let Some(date) = seconds_of(fields.moment) else {
         return Err(EntryFault::NoDate);
     };
-    Ok(Some(FoundEntry {
+    Ok(Some(Entry {
         name: fields.name,
         level: fields.level,
         date,

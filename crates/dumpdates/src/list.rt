@@ -2,12 +2,9 @@
 
 ghost use Rattle.std.specs.Prelude.{◌≡◌, ◌+◌, ◌≤◌, ◌∷◌, ◌++◌, [], Some, length, take, drop, filter, position, OnOk, OnErr};
 ghost use Rattle.dumpdates.specs.Dates as spec;
-ghost use Rattle.dumpdates.specs.Entry.{IsEntry};
-ghost use Rattle.dumpdates.specs.FoundEntry.{plain_found};
 ghost use Rattle.dumpdates.specs.Stored.{plain_entry, plain_stored, plain_all, is_other};
 
 use crate::Entry;
-use crate::line::FoundEntry;
 use crate::stored::Stored;
 use std::alloc::{AllocError, Global};
 
@@ -27,26 +24,8 @@ pub(crate) fn append(
     ensures last { OnOk result (plain_all entries.new.items ≡ plain_all entries.old.items ++ plain_entry entry.entry ∷ []) }
     ensures unchanged { OnErr result (entries.new.items ≡ entries.old.items) }
 {
-    let found = FoundEntry {
-        name: entry.name.as_bytes(),
-        level: entry.level,
-        date: entry.date,
-    };
-    push(alloc, entries, found)
-}
-
-/// Appends the entry that was found on a line. If an allocation fails, the list is unchanged.
-pub(crate) fn push(
-    alloc: Global,
-    entries: &mut Vec<Stored>,
-    found: FoundEntry<'_>,
-) -> Result<(), AllocError>
-    requires { IsEntry (plain_found found) }
-    ensures last { OnOk result (plain_all entries.new.items ≡ plain_all entries.old.items ++ plain_found found.entry ∷ []) }
-    ensures unchanged { OnErr result (entries.new.items ≡ entries.old.items) }
-{
     entries.reserve(1)?;
-    let last = Stored::new(alloc, found.name, found.level, found.date)?;
+    let last = Stored::new(alloc, entry)?;
     entries.push_reserved(last);
     Ok(())
 }

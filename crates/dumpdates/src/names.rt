@@ -1,33 +1,32 @@
 //! The English names of ctime(3).
 
-ghost use Rattle.std.specs.Prelude.{◌≡◌, ℕ, ◌<◌, MatchOption, IfSome, position, bytes_eq};
+ghost use Rattle.std.specs.Prelude.{◌≡◌, ℕ, ◌<◌, MatchOption, IfSome, length, position, bytes_eq};
 ghost use Rattle.std.specs.Int.{IsInRange};
 ghost use Rattle.std.specs.List.{list_any};
 ghost use Rattle.dumpdates.specs.Line.{SpellsMonth};
 ghost use Rattle.dumpdates.specs.Names as spec;
 
 /// The names of the weekdays, from Monday on.
-const WEEKDAYS: [[u8; 3]; 7] = [
-    *b"Mon", *b"Tue", *b"Wed", *b"Thu", *b"Fri", *b"Sat", *b"Sun",
-];
+const WEEKDAYS: [&str; 7] = ["Mon", "Tue", "Wed", "Thu", "Fri", "Sat", "Sun"];
 
 /// The names of the months.
-const MONTHS: [[u8; 3]; 12] = [
-    *b"Jan", *b"Feb", *b"Mar", *b"Apr", *b"May", *b"Jun", *b"Jul", *b"Aug", *b"Sep", *b"Oct",
-    *b"Nov", *b"Dec",
+const MONTHS: [&str; 12] = [
+    "Jan", "Feb", "Mar", "Apr", "May", "Jun", "Jul", "Aug", "Sep", "Oct", "Nov", "Dec",
 ];
 
 /// Returns the name of the weekday of a day number. Day 0 was a Thursday.
-pub(crate) fn weekday_name(day: u64) -> [u8; 3]
-    ensures { result ≡ spec.weekday_name day }
+pub(crate) fn weekday_name(day: u64) -> &'static str
+    ensures name { result.now ≡ spec.weekday_name day }
+    ensures len { length result.now ≡ 3 }
 {
     WEEKDAYS[((day % 7 + 3) % 7) as usize]
 }
 
 /// Returns the name of a month. The first month is 1.
-pub(crate) fn month_name(month: u8) -> [u8; 3]
+pub(crate) fn month_name(month: u8) -> &'static str
     requires { IsInRange 1 12 month }
-    ensures { result ≡ spec.month_name month }
+    ensures name { result.now ≡ spec.month_name month }
+    ensures len { length result.now ≡ 3 }
 {
     MONTHS[month as usize - 1]
 }
@@ -36,21 +35,28 @@ pub(crate) fn month_name(month: u8) -> [u8; 3]
 pub(crate) fn is_weekday(word: &[u8]) -> bool
     ensures { result ≡ list_any (λ name. bytes_eq name word.now) spec.weekday_names }
 {
-    WEEKDAYS.iter().any(|name| name.as_slice() == word)
+    is_among(&WEEKDAYS, word)
 }
 
 /// Returns the month with this name, or None if there is none. The first month is 1.
 pub(crate) fn month_named(word: &[u8]) -> Option<u8>
     ensures { MatchOption result ((m : ℕ) → ¬ SpellsMonth word.now m) (λ m. SpellsMonth word.now m) }
 {
-    let at = month_place(word)?;
+    let at = place_of(&MONTHS, word)?;
     Some(at as u8 + 1)
 }
 
-/// Returns the index of a name among those of the months, counted from 0, or None if it is not one.
-fn month_place(word: &[u8]) -> Option<usize>
-    ensures place { result ≡ position (λ name. bytes_eq name word.now) spec.month_names }
-    ensures bound { IfSome result (λ at. at < 12) }
+/// Whether the word is one of the names.
+fn is_among(names: &[&str], word: &[u8]) -> bool
+    ensures { result ≡ list_any (λ name. bytes_eq name.now word.now) names.now }
 {
-    MONTHS.iter().position(|name| name.as_slice() == word)
+    names.iter().any(|name| name.as_bytes() == word)
+}
+
+/// Returns the index of a word among the names, counted from 0, or None if it is not one of them.
+fn place_of(names: &[&str], word: &[u8]) -> Option<usize>
+    ensures place { result ≡ position (λ name. bytes_eq name.now word.now) names.now }
+    ensures bound { IfSome result (λ at. at < length names.now) }
+{
+    names.iter().position(|name| name.as_bytes() == word)
 }

@@ -1,6 +1,6 @@
 //! An entry that owns its name.
 
-ghost use Rattle.std.specs.Prelude.{◌≤◌};
+ghost use Rattle.std.specs.Prelude.{◌≤◌, string_bytes};
 ghost use Rattle.std.proofs.Props.{props};
 ghost use Rattle.dumpdates.specs.Entry.{IsName, last_second};
 
@@ -10,10 +10,10 @@ use std::alloc::{AllocError, Global};
 /// An entry that owns its name.
 #[derive(Drop)]
 pub(crate) struct Stored {
-    pub(crate) name: Vec<u8>,
+    pub(crate) name: String,
     pub(crate) level: u8,
     pub(crate) date: u64,
-    pub(crate) ghost name_in: { IsName name.items } by { Prim.hlevel props },
+    pub(crate) ghost name_in: { IsName (string_bytes name) } by { Prim.hlevel props },
     pub(crate) ghost level_in: { level ≤ 9 },
     pub(crate) ghost date_in: { date ≤ last_second },
 }
@@ -21,23 +21,16 @@ pub(crate) struct Stored {
 impl Stored {
     ghost use Rattle.std.specs.Prelude.{◌≡◌, IfOk};
     ghost use Rattle.dumpdates.specs.Dates as spec;
-    ghost use Rattle.dumpdates.specs.Entry.{IsEntry};
     ghost use Rattle.dumpdates.specs.Stored.{plain_entry, plain_stored};
 
     /// Copies an entry. Fails if an allocation fails.
-    pub(crate) fn new(
-        alloc: Global,
-        name: &[u8],
-        level: u8,
-        date: u64,
-    ) -> Result<Stored, AllocError>
-        requires { IsEntry (record { name = name.now; level = level; date = date }) }
-        ensures { IfOk result (λ e. plain_stored e ≡ record { name = name.now; level = level; date = date }) }
+    pub(crate) fn new(alloc: Global, entry: Entry<'_>) -> Result<Stored, AllocError>
+        ensures { IfOk result (λ e. plain_stored e ≡ plain_entry entry.entry) }
     {
         Ok(Stored {
-            name: Vec::from_slice(alloc, name)?,
-            level,
-            date,
+            name: String::from_str(alloc, entry.name)?,
+            level: entry.level,
+            date: entry.date,
         })
     }
 
@@ -46,7 +39,7 @@ impl Stored {
         ensures { plain_entry result ≡ plain_stored self.now }
     {
         Entry {
-            name: std::str::from_utf8(&self.name).unwrap(),
+            name: self.name.as_str(),
             level: self.level,
             date: self.date,
         }
@@ -56,13 +49,13 @@ impl Stored {
     pub(crate) fn is_same(&self, entry: Entry<'_>) -> bool
         ensures { result ≡ spec.is_same (plain_entry entry.entry) (plain_stored self.now) }
     {
-        self.name.as_slice() == entry.name.as_bytes() && self.level == entry.level
+        self.name.as_str() == entry.name && self.level == entry.level
     }
 
     /// Whether this entry has this name and a lower level.
     pub(crate) fn is_below(&self, name: &str, level: u8) -> bool
         ensures { result ≡ spec.is_below name.now level (plain_stored self.now) }
     {
-        self.name.as_slice() == name.as_bytes() && self.level < level
+        self.name.as_str() == name && self.level < level
     }
 }

@@ -2,7 +2,7 @@
 
 ghost use Rattle.std.specs.Prelude.{◌≡◌, ◌≤◌, length, option_map};
 ghost use Rattle.std.specs.List.{prefix_len, position_or_len, list_all};
-ghost use Rattle.dumpdates.specs.FoundEntry.{plain_words};
+ghost use Rattle.dumpdates.specs.FoundLine.{plain_words};
 ghost use Rattle.dumpdates.specs.Front as spec;
 ghost use Rattle.dumpdates.specs.Line as line_spec;
 

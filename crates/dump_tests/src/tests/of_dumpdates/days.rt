@@ -1,7 +1,7 @@
 //! Dates as days of the calendar, as date(1) prints them.
 
 use super::calls::has_text;
-use dumpdates::Dates;
+use dumpdates::{Dates, LAST_SECOND, as_name, date_text};
 use std::alloc::Global;
 
 /// Lines of entries. The name of each is its date N in seconds. The date is what
@@ -79,4 +79,26 @@ fn are_printed(alloc: Global) -> bool {
 #[test]
 fn as_date_prints_them(rt: HostRuntime) {
     assert!(rt; are_printed(rt.alloc()));
+}
+
+/// Whether a date has this text.
+fn is_date_text(date: u64, wanted: &str) -> bool {
+    match date_text(date) {
+        Some(text) => text.as_str() == wanted,
+        None => false,
+    }
+}
+
+#[test]
+fn dates_as_texts(rt: HostRuntime) {
+    assert!(rt; is_date_text(0, "Thu Jan  1 00:00:00 1970"));
+    assert!(rt; is_date_text(951782400, "Tue Feb 29 00:00:00 2000"));
+    assert!(rt; is_date_text(LAST_SECOND, "Fri Dec 31 23:59:59 9999"));
+    assert!(rt; date_text(LAST_SECOND + 1).is_none());
+}
+
+#[test]
+fn bytes_as_names(rt: HostRuntime) {
+    assert!(rt; as_name(b"/usr") == Some("/usr"));
+    assert!(rt; as_name(b"/usr local").is_none());
 }

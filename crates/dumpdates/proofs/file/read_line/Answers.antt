@@ -1,16 +1,12 @@
 use Rattle.std.proofs.Common.{rules}
 use Rattle.std.proofs.lemmas.Result.{err_from_is_err_and}
-use Rattle.dumpdates.specs.FoundEntry.{plain_found}
-use Rattle.dumpdates.proofs.Shapes.{spelled_is_entry}
+use Rattle.dumpdates.specs.Stored.{plain_entry}
 use Rattle.dumpdates.proofs.file.read_line.Goals as goal
 
-pub push-requires : goal.push-requires
-push-requires c = spelled_is_entry c.args.line.now (plain_found c.in-Ok-Some.found) (rw c.in-Ok-Some.field-0-is at c.in-Ok-Some.ensures)
-
-pub returns-in_err-push-in-Ok-Some-clause-refused : goal.returns-in_err-push-in-Ok-Some-clause-refused
-returns-in_err-push-in-Ok-Some-clause-refused c =
+pub returns-in_err-append-in-Ok-Some-clause-refused : goal.returns-in_err-append-in-Ok-Some-clause-refused
+returns-in_err-append-in-Ok-Some-clause-refused c =
     let p = err_from_is_err_and c.from_residual.result c.from_residual.ensures.1 in
-    rw (p.1, p.2) (plain_found c.in-Ok-Some.found, rw c.in-Ok-Some.field-0-is at c.in-Ok-Some.ensures)
+    rw (p.1, p.2) (plain_entry c.in-Ok-Some.entry, rw c.in-Ok-Some.field-0-is at c.in-Ok-Some.ensures)
 
 pub returns-in-Err-BadShape-clause-added : goal.returns-in-Err-BadShape-clause-added
 returns-in-Err-BadShape-clause-added c = search rules

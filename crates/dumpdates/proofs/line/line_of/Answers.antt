@@ -1,10 +1,8 @@
-use Rattle.std.proofs.Common.{◌≡◌, ℕ, ◌∙◌, ap, refl, sym}
+use Rattle.std.proofs.Common.{◌∙◌, refl, sym}
 use Rattle.std.proofs.lemmas.Bool.{false≢true}
-use Rattle.dumpdates.specs.Entry.{DatesEntry}
-use Rattle.dumpdates.specs.Moment.{seconds_at}
-use Rattle.dumpdates.specs.FoundEntry.{plain_words, plain_fields}
+use Rattle.dumpdates.specs.FoundLine.{plain_words, plain_fields}
 use Rattle.dumpdates.specs.Line.{is_space}
-use Rattle.dumpdates.proofs.Shapes.{all_from_test, not_blank, no_words, other_words, words_shape}
+use Rattle.dumpdates.proofs.Shapes.{all_from_test, not_blank, no_words, other_words, words_shape, found_entry, spelled_is_entry}
 use Rattle.dumpdates.proofs.line.line_of.Goals as goal
 
 pub returns-then-is_blank : goal.returns-then-is_blank
@@ -26,10 +24,15 @@ returns-in_default-seconds_of c =
     let f = plain_fields c.in-Some-fields_of.fields in
     (f, words_shape line (plain_words c.in-Some.words) f (sym c.in-Some.ensures) c.in-Some-fields_of.ensures, λ m. false≢true (c.in_default-seconds_of.ensures.given.1 m))
 
-pub returns : goal.returns
-returns c =
+pub invariant_of-result : goal.invariant_of-result
+invariant_of-result c =
     let line = c.args.line.now in
     let f = plain_fields c.in-Some-fields_of.fields in
-    let e : ℕ → DatesEntry = λ date. record { name = f.name; level = f.level; date = date } in
-    let same : e c.in-Some-seconds_of.date ≡ e (seconds_at f.moment) = ap e c.in-Some-seconds_of.ensures.value in
-    (f, words_shape line (plain_words c.in-Some.words) f (sym c.in-Some.ensures) c.in-Some-fields_of.ensures, c.in-Some-seconds_of.ensures.given.0 refl, same)
+    let spelled = found_entry line (plain_words c.in-Some.words) f c.in-Some-seconds_of.date (sym c.in-Some.ensures) c.in-Some-fields_of.ensures (c.in-Some-seconds_of.ensures.given.0 refl) c.in-Some-seconds_of.ensures.value in
+    let entry = spelled_is_entry line _ spelled in
+    record { name_in = entry.name; level_in = entry.level; date_in = entry.date }
+
+pub returns : goal.returns
+returns c =
+    found_entry c.args.line.now (plain_words c.in-Some.words) (plain_fields c.in-Some-fields_of.fields) c.in-Some-seconds_of.date
+    (sym c.in-Some.ensures) c.in-Some-fields_of.ensures (c.in-Some-seconds_of.ensures.given.0 refl) c.in-Some-seconds_of.ensures.value

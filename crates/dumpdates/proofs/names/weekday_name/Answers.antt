@@ -1,12 +1,13 @@
-use Rattle.std.proofs.Common.{◌≡◌, ◌+◌, ◌%◌, [], arith, ap, get_or, pos}
+use Rattle.std.proofs.Common.{◌≡◌, ◌+◌, ◌%◌, arith, pos}
 use Rattle.jiff_core.specs.Calendar.{weekday_number}
 use Rattle.jiff_core.proofs.CalendarLemmas.{weekday_number-parts}
 use Rattle.jiff_core.proofs.SignedLemmas.{signed_arith}
-use Rattle.dumpdates.specs.Names.{weekday_name, weekday_names}
+use Rattle.dumpdates.specs.Names.{weekday_name}
+use Rattle.dumpdates.proofs.Naming.{now_at}
 use Rattle.dumpdates.proofs.names.weekday_name.Goals as goal
 
-pub returns : goal.returns
+pub returns-clause-name : goal.returns-clause-name
 unfolding weekday_name
-returns c =
+returns-clause-name c =
     let same : (c.args.day % 7 + 3) % 7 ≡ weekday_number (pos c.args.day) = omega (arith, signed_arith, weekday_number-parts (pos c.args.day)) in
-    ap (λ i. get_or weekday_names i []) same
+    simp (now_at, same)

@@ -2,12 +2,13 @@
 use Rattle.std.specs.Prelude.{◌≡◌, ◌⊎◌, ◌++◌, [], ◌∷◌, List, ℕ, Option, Some, None, Result, Ok, Err}
 use Rattle.dumpdates.specs.Entry.{DatesEntry}
 use Rattle.dumpdates.specs.Clock.{plain_moment}
+use Rattle.dumpdates.specs.Stored.{plain_entry}
 use Rattle.dumpdates.specs.Line.{PlainWords, PlainFields, AreSpaces, SpellsDigits, SpellsMonth, SpellsTime, SpellsLine, IsBadLine, IsBadDate}
 use Rattle.dumpdates.specs.Lines.{IsEntryLine}
 use Rattle.dumpdates.specs.declared.moment.Moment.{Moment}
 use Rattle.dumpdates.specs.declared.words.LineWords.{LineWords}
 use Rattle.dumpdates.specs.declared.fields.LineFields.{LineFields}
-use Rattle.dumpdates.specs.declared.line.FoundEntry.{FoundEntry}
+use Rattle.dumpdates.specs.declared.entry.Entry.{Entry}
 use Rattle.dumpdates.specs.declared.line.EntryFault.{EntryFault}
 use Rattle.dumpdates.specs.declared.line.EntryFault.TheVariants.{BadShape, NoDate}
 use Rattle.dumpdates.specs.declared.fault.DatesFault.{DatesFault}
@@ -34,14 +35,10 @@ abbrev pub SpellsMoment : PlainWords → Moment → Type 0
 SpellsMoment w m =
     SpellsMonth w.month m.month × SpellsDigits 1 2 w.day m.day × SpellsTime w.time m.hour m.minute m.second × SpellsDigits 4 4 w.year m.year
 
--- the plain value of an entry that was found
-abbrev pub plain_found : FoundEntry → DatesEntry
-plain_found e = record { name = e.name.now; level = e.level; date = e.date }
-
 -- the line is blank, or this entry, or bad in this way
-abbrev pub IsLineFound : List ℕ → Result (Option FoundEntry) EntryFault → Type 0
+abbrev pub IsLineFound : List ℕ → Result (Option Entry) EntryFault → Type 0
 IsLineFound line (Ok None) = AreSpaces line
-IsLineFound line (Ok (Some found)) = SpellsLine line (plain_found found)
+IsLineFound line (Ok (Some entry)) = SpellsLine line (plain_entry entry)
 IsLineFound line (Err BadShape) = IsBadLine line
 IsLineFound line (Err NoDate) = IsBadDate line
 
