@@ -1,4 +1,3 @@
 pub mod Entering
 pub mod Reached
 pub mod Payloads
-pub mod Ctimes
