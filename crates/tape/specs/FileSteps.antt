@@ -1,5 +1,6 @@
--- What the parts of a reel on a medium do to the medium, and to the tape that its bytes spell. No
--- public contract needs it.
+-- What the parts of a reel on a medium do to the medium, and to the tape that its bytes spell. The
+-- contracts of `next_length` and `entry_size` cite `LooksAlong`, `IsMediumRun`, `first_length` and
+-- `size_by_length`. No other public contract needs it.
 use Rattle.std.specs.Prelude.{◌≡◌, ◌⊎◌, ◌==◌, if◌then◌else◌, ℕ, ◌+◌, ◌-◌, ◌^◌, ◌<◌, ◌≤◌, Bool, List, [], ◌∷◌, ◌++◌, length, reverse, take, Option, Some, None, MatchOption, Result, IsErr, IfOk, MatchResult}
 use Rattle.tape.specs.Failures.{HasRisen, Steps}
 use Rattle.tape.specs.Tape.{PlainEntry, Tape, TapeRequest, entries_of, tape, stands_at, mark_count, marks_met, records_met, passed_for_marks, passed_for_records}

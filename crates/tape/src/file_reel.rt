@@ -14,7 +14,8 @@ mod walk;
 
 use crate::entry::{MARK_SIZE, RECORD_FRAME};
 use crate::{Medium, MemoryMedium, Reel, TapeFault};
-use image::{next_length, put_marks, put_record, size_of};
+pub use image::{entry_size, next_length};
+use image::{put_marks, put_record};
 use rmt_wire::mtio::{MTBSF, MTBSR, MTFSF, MTFSR, MTNOP, MTREW, MTWEOF};
 use std::marker::Model;
 use walk::{Way, walk_files, walk_records};
@@ -224,7 +225,7 @@ impl<M: Medium> Reel for FileReel<M> {
         if copied < count {
             return Ok(0);
         }
-        self.offset += size_of(length);
+        self.offset += entry_size(length);
         Ok(count)
     }
 

@@ -24,9 +24,9 @@ mod stops;
 mod trouble;
 mod troubled;
 
-pub use entry::Entry;
+pub use entry::{Entry, LENGTH_BYTES};
 pub use fault::TapeFault;
-pub use file_reel::FileReel;
+pub use file_reel::{FileReel, entry_size, next_length};
 pub use fuse_medium::FuseMedium;
 pub use laws::{OLDER_RECORD_LIMIT, device_steps, older_reels, one_spelling};
 pub use list::ListReel;

@@ -7,7 +7,7 @@ ghost use Rattle.tape.specs.Medium.{MediumStep};
 ghost use Rattle.tape.specs.Medium.MediumCall.{Append};
 ghost use Rattle.tape.specs.RecordFile.{image_of, length_bytes, medium_kind_of};
 ghost use Rattle.tape.specs.FileSteps.{IsMediumRun, LooksAlong, BeginsWith, IsImageWritten, ahead, first_length, size_by_length};
-ghost use Rattle.tape.specs.declared.file_reel.walk.Way.TheVariants.{Forward, Back};
+ghost use Rattle.tape.specs.declared.file_reel.walk.Way.TheVariants.{Back};
 
 use crate::entry::{MARK_SIZE, RECORD_FRAME};
 use crate::{Medium, MediumFailed};
@@ -22,8 +22,8 @@ const LENGTH_LIMIT: u32 = RECORD_LIMIT as u32;
 /// How many zero bytes are written at once.
 const ROW: usize = 4096;
 
-/// Returns how many bytes an entry of this length takes. A mark has the length 0.
-pub(super) fn size_of(length: u32) -> u64
+/// Returns how many bytes an entry of this length takes in a record file. A mark has the length 0.
+pub fn entry_size(length: u32) -> u64
     ensures { result ≡ size_by_length length }
 {
     if length == 0 {
@@ -53,12 +53,15 @@ fn length_at<M: Medium>(medium: &mut M, at: u64) -> Result<Option<u32>, MediumFa
     Ok(Some(length_in(bytes)))
 }
 
-/// Returns the length of the entry that begins at an offset, 0 for a mark.
+/// Returns the length of the entry that begins at offset `at` of a record file, 0 for a mark.
 ///
-/// Returns `None` if no whole entry begins there: that is the end.
-pub(super) fn next_length<M: Medium>(medium: &mut M, at: u64) -> Result<Option<u32>, MediumFailed>
+/// Returns `None` if no whole entry begins there: that is the end. `at` is the offset at which the
+/// entry before it ends, or 0. Reads lengths only, and does not change the medium.
+///
+/// Fails with `MediumFailed` if a call of the medium failed.
+pub fn next_length<M: Medium>(medium: &mut M, at: u64) -> Result<Option<u32>, MediumFailed>
     ensures run { LooksAlong (medium_kind_of M.Medium) at result
-        (λ bytes t length. length ≡ first_length (ahead Forward t)) medium.old medium.new }
+        (λ bytes t length. length ≡ first_length t.after) medium.old medium.new }
     ensures limit { IfOk result (λ length. IfSome length (λ n. (n ≤ RECORD_LIMIT) × (at < 2 ^ 63))) }
 {
     if at >= OFFSET_LIMIT {
@@ -96,7 +99,7 @@ pub(super) fn last_length<M: Medium>(medium: &mut M, at: u64) -> Result<Option<u
     let Some(length) = length_at(medium, at - MARK_SIZE)? else {
         return Ok(None);
     };
-    if length > LENGTH_LIMIT || size_of(length) > at {
+    if length > LENGTH_LIMIT || entry_size(length) > at {
         return Ok(None);
     }
     Ok(Some(length))

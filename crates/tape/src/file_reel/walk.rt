@@ -6,7 +6,7 @@ ghost use Rattle.tape.specs.FileSteps.{LooksAlong, HasPassed, HasWalkedMarks, Ha
 ghost use Rattle.tape.specs.declared.fault.TapeFault.TheVariants.{EndOrMark};
 ghost use Rattle.tape.specs.declared.file_reel.walk.Way.TheVariants.{Forward, Back};
 
-use super::image::{last_length, next_length, size_of};
+use super::image::{entry_size, last_length, next_length};
 use crate::{Medium, MediumFailed, TapeFault};
 
 /// A direction along a reel.
@@ -57,7 +57,7 @@ fn pass_next<M: Medium>(medium: &mut M, at: u64) -> Result<Option<PassedEntry>, 
         return Ok(None);
     };
     Ok(Some(PassedEntry {
-        at: at + size_of(length),
+        at: at + entry_size(length),
         is_mark: length == 0,
     }))
 }
@@ -71,7 +71,7 @@ fn pass_last<M: Medium>(medium: &mut M, at: u64) -> Result<Option<PassedEntry>, 
         return Ok(None);
     };
     Ok(Some(PassedEntry {
-        at: at - size_of(length),
+        at: at - entry_size(length),
         is_mark: length == 0,
     }))
 }

@@ -46,5 +46,5 @@ returns-clause-call g c =
     let given = c.read_at.new.into in
     let run = read_run at n c.in_ok-copied.copied _ given c.in_ok-length.ensures.run c.in_ok-copied.ensures.call c.in-Some.is in
     rw (← c.self.view_is) (given_whole _ _ n c.in_ok-copied.copied c.min-count.result (length c.args.into.now) given (drop c.min-count.result c.args.into.now) run refl
-    (ap (λ k. at + k) c.size_of.ensures) c.min-count.ensures
+    (ap (λ k. at + k) c.entry_size.ensures) c.min-count.ensures
     (omega (arith, c.read_at.auto.into, length-take c.min-count.result c.args.into.now)) c.if-copied-count.false)

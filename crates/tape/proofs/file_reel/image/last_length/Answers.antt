@@ -4,7 +4,7 @@ use Rattle.tape.specs.FileSteps.{BeginsWith, size_by_length}
 use Rattle.tape.proofs.MediumRuns.{run_as, run_none, no_error, no_bytes}
 use Rattle.tape.proofs.Before.{start_none, last_is, last_fits}
 use Rattle.tape.proofs.file_reel.image.last_length.Goals as goal
-use Rattle.tape.proofs.file_reel.image.last_length.Goals.{then-length-gt-LENGTH_LIMIT-via-then-length-gt-LENGTH_LIMIT, then-length-gt-LENGTH_LIMIT-via-else-length-gt-LENGTH_LIMIT+then-size_of-at}
+use Rattle.tape.proofs.file_reel.image.last_length.Goals.{then-length-gt-LENGTH_LIMIT-via-then-length-gt-LENGTH_LIMIT, then-length-gt-LENGTH_LIMIT-via-else-length-gt-LENGTH_LIMIT+then-entry_size-at}
 
 pub returns-then-at-lt-MARK_SIZE-clause-run : goal.returns-then-at-lt-MARK_SIZE-clause-run
 returns-then-at-lt-MARK_SIZE-clause-run g c = run_none no_error (λ x held. (refl, λ t file. start_none x c.args.at t file c.if-at-lt-MARK_SIZE.true))
@@ -26,7 +26,7 @@ returns-then-length-gt-LENGTH_LIMIT-clause-run g c =
           let within : size_by_length c.in-Some.length ≤ c.args.at = fits.1 in
           absurd (elim c.then-length-gt-LENGTH_LIMIT.branch [
             | then-length-gt-LENGTH_LIMIT-via-then-length-gt-LENGTH_LIMIT w ↦ omega arith
-            | then-length-gt-LENGTH_LIMIT-via-else-length-gt-LENGTH_LIMIT+then-size_of-at w ↦ omega arith
+            | then-length-gt-LENGTH_LIMIT-via-else-length-gt-LENGTH_LIMIT+then-entry_size-at w ↦ omega arith
           ]),
     ))
 

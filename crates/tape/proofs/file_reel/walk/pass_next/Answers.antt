@@ -20,5 +20,5 @@ returns-clause-run g c =
       step.0,
       λ t file.
           let P : ℕ → Type 0 = λ k. (u : Tape) × IsFile x (c.args.at + k) u × IsPassed Forward t (c.in-Some.length == 0) u in
-          subst P (sym c.size_of.ensures) (next_passed x c.args.at c.in-Some.length t file (sym c.in-Some.is ∙ step.1 t file)),
+          subst P (sym c.entry_size.ensures) (next_passed x c.args.at c.in-Some.length t file (sym c.in-Some.is ∙ step.1 t file)),
     ))
