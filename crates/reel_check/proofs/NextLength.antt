@@ -1,33 +1,55 @@
 -- The length of the entry that bytes begin with.
-use Rattle.std.proofs.Common.{◌≡◌, ℕ, ◌+◌, ◌<◌, ◌≤◌, ◌^◌, List, [], ◌++◌, length, take, drop, Some, refl, sym, ap, ◌∙◌, length-append, length-drop, length-take, take-append-drop, drop-drop, arith}
-use Rattle.std.proofs.lemmas.List.{drop_at}
-use Rattle.rmt_wire.specs.declared.limits.TheConstants.{RECORD_LIMIT}
-use Rattle.tape.specs.RecordFile.{length_bytes, IsTail}
-use Rattle.tape.specs.FileSteps.{BeginsWith}
-use Rattle.tape.proofs.Spelling.{length_length_bytes, tail_short}
-use Rattle.tape.proofs.Scanning.{first_mark, first_record}
-use Rattle.reel_check.specs.Finding.{IsNextLength}
+use Rattle.std.proofs.Common.{◌≡◌, ℕ, List, [], ◌∷◌, ◌++◌, length, drop, Option, Some, None, refl, sym, ap, subst, ◌∙◌, append_assoc}
+use Rattle.std.proofs.lemmas.List.Elements.{All-append, All-head}
+use Rattle.std.proofs.lemmas.Grind.{flat_map-append}
+use Rattle.tape.specs.Tape.{PlainEntry, Tape, IsTapeEntry, tape}
+use Rattle.tape.specs.List.{bytes_of}
+use Rattle.tape.specs.RecordFile.{image_of, images_of, IsTail, IsFile, SpellsReel, entries_in}
+use Rattle.tape.specs.FileSteps.{first_length}
+use Rattle.tape.specs.Scan.{IsFirst}
+use Rattle.tape.proofs.Spelling.{found_in}
+use Rattle.reel_check.specs.Contents.{Tally}
+use Rattle.reel_check.specs.Finding.{IsTalliedUpTo}
 
--- after the last byte there is none
-pub nothing_there : (bytes : List ℕ) (at : ℕ) → length bytes < 2 ^ 63 → 2 ^ 63 ≤ at → IsTail (drop at bytes)
-nothing_there bytes at short far = tail_short (drop at bytes) (omega (arith, length-drop at bytes))
+-- The bytes begin with an entry of this length, 0 for a mark. `None` if they begin with no entry.
+abbrev pub IsNextLength : List ℕ → Option ℕ → Type 0
+IsNextLength bytes None = IsTail bytes
+IsNextLength bytes (Some n) = (written : List ℕ) × (rest : List ℕ) × IsFirst bytes written rest × (n ≡ length written)
 
--- a length of 0 is a mark
-pub first_mark_length : (bytes : List ℕ) (n : ℕ) → n ≡ 0 → BeginsWith bytes (Some n) → IsNextLength bytes (Some 0)
-first_mark_length bytes n none begins = ([], begins.1.0, first_mark bytes begins.1.0 n begins.1.1 none, refl)
+-- the length of the first entry that bytes spell is the next length
+first_next : (bytes : List ℕ) (entries : List PlainEntry) (found : Option ℕ) → SpellsReel bytes entries → found ≡ first_length entries → IsNextLength bytes found
+first_next bytes [] found s is =
+    let tail : IsNextLength bytes None = subst IsTail (sym s.whole) s.is_tail in
+    subst (IsNextLength bytes) (sym is) tail
+first_next bytes (e ∷ es) found s is =
+    subst (IsNextLength bytes) (sym is) (
+      bytes_of e,
+      images_of es ++ s.tail,
+      record {
+        entry = e;
+        whole = s.whole ∙ append_assoc (image_of e) (images_of es) s.tail;
+        bytes_is = refl;
+        lawful = All-head IsTapeEntry e es s.lawful;
+      },
+      refl,
+    )
 
--- a length, so many bytes and the length again are a record
-pub first_record_length : (bytes : List ℕ) (at n to : ℕ) → 0 < n → n ≤ RECORD_LIMIT → to ≡ at + 4 + n → BeginsWith (drop at bytes) (Some n)
-    → BeginsWith (drop to bytes) (Some n) → IsNextLength (drop at bytes) (Some n)
-first_record_length bytes at n to some limit to_is begins ends =
-    let rest = begins.1.0 in
-    let written = take n rest in
-    let one : to ≡ at + (4 + n) = omega arith in
-    let two : drop to bytes ≡ drop n rest
-    = ap (λ k. drop k bytes) one ∙ sym (drop-drop (4 + n) at bytes) ∙ sym (drop-drop n 4 (drop at bytes))
-    ∙ ap (λ l. drop n (drop 4 l)) begins.1.1 ∙ ap (drop n) (drop_at (length_bytes n) rest 4 (length_length_bytes n)) in
-    let behind : drop n rest ≡ length_bytes n ++ ends.1.0 = sym two ∙ ends.1.1 in
-    let long : n ≤ length rest = omega (arith, ap length behind, length-drop n rest, length-append (length_bytes n) ends.1.0, length_length_bytes n) in
-    let size : length written ≡ n = omega (arith, length-take n rest) in
-    let stands : rest ≡ written ++ (length_bytes n ++ ends.1.0) = sym (take-append-drop n rest) ∙ ap (λ l. written ++ l) behind in
-    (written, ends.1.0, first_record n n (drop at bytes) rest written ends.1.0 begins.1.1 some limit stands size refl, sym size)
+-- the entries that were added and those after them are a tape whose place is there, so that a length
+-- that is found for each tape is the next one
+pub next_told : (x : List ℕ) (at : ℕ) (t : Tally) (found : Option ℕ) → IsTalliedUpTo x at t → ((u : Tape) → IsFile x at u → found ≡ first_length u.after) → IsNextLength (drop at x) found
+next_told x at t found told next =
+    let after = entries_in (drop at x) in
+    let s = found_in (drop at x) in
+    let joined : images_of told.done ++ images_of after ≡ images_of (told.done ++ after) = sym (flat_map-append image_of told.done after) in
+    let file : IsFile x at (tape told.done after)
+    = record {
+      spelled = record {
+        tail = s.tail;
+        whole = told.whole ∙ ap (λ l. images_of told.done ++ l) s.whole ∙ sym (append_assoc (images_of told.done) (images_of after) s.tail)
+            ∙ ap (λ l. l ++ s.tail) joined;
+        is_tail = s.is_tail;
+        lawful = All-append IsTapeEntry told.done after told.lawful s.lawful;
+      };
+      offset_is = told.place;
+    } in
+    first_next (drop at x) after found s (next (tape told.done after) file)

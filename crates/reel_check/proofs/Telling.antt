@@ -12,7 +12,8 @@ use Rattle.tape.specs.FileSteps.{size_by_length}
 use Rattle.tape.specs.Scan.{IsFirst}
 use Rattle.tape.proofs.Spelling.{length_length_bytes, image_parts, image_size, spells_in}
 use Rattle.reel_check.specs.Contents.{Tally, IsTally}
-use Rattle.reel_check.specs.Finding.{IsNextLength, AddsEntry, AddsRecord, IsTalliedUpTo, IsTallyOfFile}
+use Rattle.reel_check.proofs.NextLength.{IsNextLength}
+use Rattle.reel_check.specs.Finding.{AddsEntry, AddsRecord, IsTalliedUpTo, IsTallyOfFile}
 
 -- a record's bytes stand after its first length
 record_told : (bytes written rest : List ℕ) (n : ℕ) (e : PlainEntry) (old new : Tally) → n ≢ 0 → bytes ≡ image_of e ++ rest → written ≡ bytes_of e → n ≡ length written

@@ -1,9 +1,9 @@
 -- What the functions that read a reel find. No public contract needs it.
-use Rattle.std.specs.Prelude.{◌≡◌, ℕ, ◌+◌, ◌<◌, ◌^◌, List, [], ◌∷◌, ◌++◌, length, drop, Option, Some, None}
+use Rattle.std.specs.Prelude.{◌≡◌, ℕ, ◌+◌, ◌<◌, ◌^◌, List, [], ◌∷◌, ◌++◌, length, drop}
 use Rattle.std.specs.List.{All}
 use Rattle.tape.specs.Tape.{PlainEntry, IsTapeEntry}
 use Rattle.tape.specs.Tape.PlainEntry.{Record}
-use Rattle.tape.specs.RecordFile.{images_of, IsTail, SpellsReel}
+use Rattle.tape.specs.RecordFile.{images_of, SpellsReel}
 use Rattle.tape.specs.Scan.{IsFirst}
 use Rattle.reel_check.specs.Holding.{IsVolume}
 use Rattle.reel_check.specs.Contents.{Tally, IsTally}
@@ -12,11 +12,6 @@ use Rattle.reel_check.specs.declared.holding.Volume.{Volume}
 -- The entries are this volume.
 abbrev pub IsOfVolume : Volume → List PlainEntry → Type 0
 IsOfVolume v entries = IsVolume v.label v.blocks v.block_bytes v.end entries
-
--- The bytes begin with an entry of this length, 0 for a mark. `None` if they begin with no entry.
-abbrev pub IsNextLength : List ℕ → Option ℕ → Type 0
-IsNextLength bytes None = IsTail bytes
-IsNextLength bytes (Some n) = (written : List ℕ) × (rest : List ℕ) × IsFirst bytes written rest × (n ≡ length written)
 
 -- The entry of this length that these bytes begin with is added to a tally.
 abbrev pub AddsEntry : List ℕ → ℕ → Tally → Tally → Type 0

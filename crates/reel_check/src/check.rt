@@ -9,10 +9,9 @@ ghost use Rattle.tape.specs.FileSteps.{IsMediumRun};
 ghost use Rattle.reel_check.specs.Contents.{IsContents};
 ghost use Rattle.reel_check.specs.Finding.{AddsEntry, AddsRecord, IsTallyOfFile};
 
-use crate::entry::{LENGTH_BYTES, next_length, size_of};
 use crate::{ReelContents, ReelTally};
 use dump_run::LABEL_BYTES;
-use tape::{Medium, MediumFailed};
+use tape::{LENGTH_BYTES, Medium, MediumFailed, entry_size, next_length};
 
 /// Returns what a record file holds. Reads it once, entry by entry from front to end, and does not
 /// change it.
@@ -50,7 +49,7 @@ fn add_entries<M: Medium>(medium: &mut M, room: &mut [u8]) -> Result<(ReelTally,
     let mut at: u64 = 0;
     while let Some(length) = next_length(medium, at)? {
         add_entry(medium, at, length, room, &mut tally)?;
-        at += size_of(length);
+        at += entry_size(length);
     }
     Ok((tally, at))
 }

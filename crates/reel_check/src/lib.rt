@@ -7,7 +7,6 @@
 
 mod check;
 mod contents;
-mod entry;
 mod holding;
 mod laws;
 mod tally;
