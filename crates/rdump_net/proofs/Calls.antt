@@ -66,12 +66,16 @@ err_from F (Ok x) fault is h = absurd is
 err_from F (Err e) fault is h = subst (λ f. F (Err f)) (sym is) h
 
 module _ {P : Type 0} (next : List PlainReply → Option PlainRequest) (tells : P → List Passed → Type 0) where
+  -- a call with this reply
+  pub reply_extends : (p q : P) (replies : List PlainReply) (request : PlainRequest) (reply : PlainReply) → next replies ≡ Some request → IsCalled tells request (Ok reply) p q
+      → Extends next tells p q replies (replies ++ reply ∷ [])
+  reply_extends p q replies request reply e h = record { more = h.0; logs = h.2; follows = λ passed f. one_more request reply f e h.1 }
+
   -- a call that was answered
   pub call_extends : (p q : P) (replies : List PlainReply) (request : PlainRequest) (result : Result KeptReply CallFault) (answer : KeptReply) → next replies ≡ Some request → result ≡ Ok answer
       → IsCalled tells request (plain_result result) p q → Extends next tells p q replies (replies ++ plain_kept answer ∷ [])
   call_extends p q replies request result answer e is h =
-      let w = subst (λ r. IsCalled tells request (plain_result r) p q) is h in
-      record { more = w.0; logs = w.2; follows = λ passed f. one_more request (plain_kept answer) f e w.1 }
+      reply_extends p q replies request (plain_kept answer) e (subst (λ r. IsCalled tells request (plain_result r) p q) is h)
 
   -- one that was not
   pub call_finishes : (p q : P) (replies : List PlainReply) (request : PlainRequest) (result : Result KeptReply CallFault) (fault : CallFault) → next replies ≡ Some request → result ≡ Err fault

@@ -5,6 +5,7 @@ pub mod Heard
 pub mod Calls
 pub mod Operating
 pub mod Reading
+pub mod DriveCalls
 pub mod Marks
 pub mod Keeping
 pub mod Looking

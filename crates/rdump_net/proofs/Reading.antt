@@ -14,9 +14,10 @@ use Rattle.rmt_wire.specs.Request.PlainRequest.{Read, Op}
 use Rattle.rdump_net.specs.KeptReply.{plain_result}
 use Rattle.rdump_net.specs.Call.{wanted_by, IsPeerCall, IsCalled, Brings}
 use Rattle.rdump_net.specs.Calls.{is_done, CallsFollow, Stops, Extends}
+use Rattle.rdump_net.specs.DriveCalls.{read_fault}
 use Rattle.rmt_wire.specs.Print.{IsPrinted}
 use Rattle.rdump_net.specs.Ends.{copy_ends, copy_kind, stream_ends, stream_kind}
-use Rattle.rdump_net.specs.Reading.{next_of, next_read, next_mark, after_for_count, after_for_records, records_of, text_of, label_text, file_bytes, IsNamed, ReadFails, ReadEnds, is_whole, is_copied, read_fault, AreRecords, IsAtLabel, IsVolumeReading, IsVolumeRead, EndsAtRefusal, GoesOnBy, Breaks, CallSteps, IsBegun, IsDone, IsDoneBy, IsRecordRead, Reads, ReadsVolume, AreRecordsWritten, Concludes, IsCopied, IsThrough}
+use Rattle.rdump_net.specs.Reading.{next_of, next_read, next_mark, after_for_count, after_for_records, records_of, text_of, label_text, file_bytes, IsNamed, ReadFails, ReadEnds, is_whole, is_copied, AreRecords, IsAtLabel, IsVolumeReading, IsVolumeRead, EndsAtRefusal, GoesOnBy, Breaks, CallSteps, IsBegun, IsDone, IsDoneBy, IsRecordRead, Reads, ReadsVolume, AreRecordsWritten, Concludes, IsCopied, IsThrough}
 use Rattle.rdump_net.specs.declared.kept_reply.KeptReply.{KeptReply}
 use Rattle.rdump_net.specs.declared.kept_reply.KeptReply.TheVariants as kept
 use Rattle.rdump_net.specs.declared.fault.VolumeRequest.{VolumeRequest}
@@ -27,7 +28,7 @@ use Rattle.rdump_net.specs.declared.fault.ReadFault.TheVariants.{Refused, Botche
 use Rattle.rdump_net.specs.declared.peer.Passed.{Passed}
 use Rattle.rdump_net.specs.declared.volume.AfterVolume.{AfterVolume}
 use Rattle.rdump_net.specs.declared.volume.AfterVolume.TheVariants.{Stay}
-use Rattle.rdump_net.proofs.Calls.{logs_both, call_extends, call_finishes, extends_both}
+use Rattle.rdump_net.proofs.Calls.{logs_both, reply_extends, call_extends, call_finishes, extends_both}
 use Rattle.rdump_net.proofs.Printed.{nothing_printed, printed_both}
 use Rattle.rdump_net.proofs.Talking.{alone}
 
@@ -181,16 +182,23 @@ module _ {P : Type 0} (next : List PlainReply → Option PlainRequest) (tells : 
       → IsCalled tells request (plain_result result) p q → IsDone next tells p q replies (Ok tt)
   step_done p q replies request result n e is h = (Done n, refl, refl, call_extends next tells p q replies request result (kept.Done n) e is h)
 
-  -- it is refused
+  -- a call is refused
+  pub refused_so : (p q : P) (replies : List PlainReply) (request : PlainRequest) (asked : VolumeRequest) (n : ℕ) (text : List ℕ) (told : ReadFault) → next replies ≡ Some request
+      → IsNamed asked request → EndsAtRefusal next replies → told ≡ Refused asked n → IsCalled tells request (Ok (Error n text)) p q → CallSteps next tells p q replies (Err told)
+  refused_so p q replies request asked n text told e named stops same h =
+      let x = reply_extends next tells p q replies request (Error n text) e h in
+      subst (λ f. CallSteps next tells p q replies (Err f)) (sym same) (
+        replies ++ Error n text ∷ [],
+        record { more = x.more; logs = x.logs; fails = λ passed f. (x.follows passed f, (replies, text, request, refl, e, named, stops n text)) },
+        records_same replies (Error n text ∷ []) refl,
+        refl,
+      )
+
+  -- it is refused, with a reply that is kept
   pub step_refused : (p q : P) (replies : List PlainReply) (request : PlainRequest) (result : Result KeptReply CallFault) (asked : VolumeRequest) (n : ℕ) (text : Vec ℕ Global) → next replies ≡ Some request
       → result ≡ Ok (kept.Error n text) → IsNamed asked request → EndsAtRefusal next replies → IsCalled tells request (plain_result result) p q → CallSteps next tells p q replies (Err (Refused asked n))
   step_refused p q replies request result asked n text e is named stops h =
-      let x = call_extends next tells p q replies request result (kept.Error n text) e is h in (
-        replies ++ Error n text.items ∷ [],
-        record { more = x.more; logs = x.logs; fails = λ passed f. (x.follows passed f, (replies, text.items, request, refl, e, named, stops n text.items)) },
-        records_same replies (Error n text.items ∷ []) refl,
-        refl,
-      )
+      refused_so p q replies request asked n text.items (Refused asked n) e named stops refl (subst (λ r. IsCalled tells request (plain_result r) p q) is h)
 
   -- it has no reply
   failed_so : (fault : CallFault) (replies : List PlainReply) (passed : List Passed) → Stops next (Some fault) replies passed → ReadFails next replies passed (read_fault fault)

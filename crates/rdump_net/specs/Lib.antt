@@ -1,12 +1,13 @@
 -- In reading order: Peer, Talk, Lines (a dump), Keeping (a dump that keeps its checkpoint);
--- KeptReply, Call, Calls (requests); Ends; Operation (mtio); Reading (a volume); Look, Protection
--- (a reel before it is written).
+-- KeptReply, Call, DriveCalls, Calls (requests); Ends; Operation (mtio); Reading (a volume); Look,
+-- Protection (a reel before it is written).
 pub mod Peer
 pub mod Talk
 pub mod Lines
 pub mod Keeping
 pub mod KeptReply
 pub mod Call
+pub mod DriveCalls
 pub mod Calls
 pub mod Ends
 pub mod Operation

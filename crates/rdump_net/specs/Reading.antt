@@ -359,12 +359,6 @@ IsAnswered next tells p p' replies (Ok None) = (number : ℕ) × CallSteps next 
 IsAnswered next tells p p' replies (Ok (Some number)) = (text : List ℕ) × CallSteps next tells p p' replies (Ok (Error number text))
 IsAnswered next tells p p' replies (Err fault) = CallSteps next tells p p' replies (Err fault)
 
--- the same, whenever it is the next request
-abbrev pub IsAnsweredNext : {P : Type 0} → (P → List Passed → Type 0) → ℕ → ℕ → P → P → Result (Option ℕ) ReadFault → Type 0
-IsAnsweredNext tells op count p p' result =
-    (next : List PlainReply → Option PlainRequest) (replies : List PlainReply) → next replies ≡ Some (Op op count)
-    → IsAnswered next tells p p' replies result
-
 -- why no mark was found
 abbrev pub IsUnmarked : (List PlainReply → Option PlainRequest) → List PlainReply → ReadFault → Type 0
 IsUnmarked next replies NoMark = IsMarkMissing next replies
@@ -461,15 +455,3 @@ abbrev pub IsRecordRead : {P : Type 0} → (List PlainReply → Option PlainRequ
     → Result (Vec ℕ Global) ReadFault → Type 0
 IsRecordRead next tells p p' replies (Ok bytes) = CallSteps next tells p p' replies (Ok (Data bytes.items))
 IsRecordRead next tells p p' replies (Err fault) = CallSteps next tells p p' replies (Err fault)
-
--- the same, whenever this request is the next one
-abbrev pub IsRecordNext : {P : Type 0} → (P → List Passed → Type 0) → PlainRequest → P → P → Result (Vec ℕ Global) ReadFault → Type 0
-IsRecordNext tells request p p' result =
-    (next : List PlainReply → Option PlainRequest) (replies : List PlainReply) → next replies ≡ Some request
-    → EndsAtRefusal next replies → IsRecordRead next tells p p' replies result
-
--- the fault of a call, as a fault of the volume
-abbrev pub read_fault : CallFault → ReadFault
-read_fault call.ConnectionEnded = ConnectionEnded
-read_fault call.Botched = Botched
-read_fault call.OutOfMemory = OutOfMemory

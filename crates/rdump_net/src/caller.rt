@@ -1,16 +1,19 @@
 //! One request to a peer, and its whole reply.
-ghost use Rattle.std.specs.Prelude.{◌≡◌, ℕ, List, ◌++◌, Some};
+ghost use Rattle.std.specs.Prelude.{◌≡◌, ◌≤◌, ℕ, List, ◌++◌, Some};
 ghost use Rattle.rmt_wire.specs.Lent.{plain_request, plain_wanted};
 ghost use Rattle.rmt_wire.specs.Reply as kinds;
 ghost use Rattle.rmt_wire.specs.Request.{HasSpelling};
+ghost use Rattle.rmt_wire.specs.declared.limits.TheConstants.{NUMBER_LIMIT};
+ghost use Rattle.rmt_wire.specs.declared.mtio.TheConstants.{MTNOP};
 ghost use Rattle.rmt_wire.specs.ReplyReader.{IsWithin, ReplyUnread};
 ghost use Rattle.rdump_net.specs.KeptReply.{plain_result};
 ghost use Rattle.rdump_net.specs.Call.{wanted_by, IsReplyAwaited, IsFront, IsTaken, IsReplyHeard, IsCalled};
+ghost use Rattle.rdump_net.specs.DriveCalls.{IsOperationCalled, IsRecordCalled};
 
 use crate::Peer;
-use crate::fault::CallFault;
+use crate::fault::{CallFault, ReadFault, VolumeRequest};
 use crate::kept_reply::{KeptReply, keep};
-use rmt_wire::{ReplyReader, Request, Wanted, push_request};
+use rmt_wire::{RECORD_LIMIT, ReplyReader, Request, Wanted, push_request};
 use std::alloc::{AllocError, Global};
 
 /// How many bytes are received at once, at most.
@@ -82,6 +85,49 @@ impl PeerCaller {
             &mut self.piece,
             wanted_of(request),
         )
+    }
+
+    /// Reads the next record from the drive that was opened, and waits for the whole of it. Returns
+    /// no bytes at a mark or at the end of the reel.
+    ///
+    /// Fails with `Refused` if the server replied with an error, and otherwise as `call` does.
+    pub fn next_record<P: Peer>(&mut self, peer: &mut P) -> Result<Vec<u8>, ReadFault>
+        ensures { IsRecordCalled P.tells peer.old peer.new result }
+    {
+        let read = Request::Read {
+            count: RECORD_LIMIT as u32,
+        };
+        let reply = self.call(peer, &read)?;
+        match reply {
+            KeptReply::Data { bytes } => Ok(bytes),
+            KeptReply::Error { number, .. } => Err(ReadFault::Refused {
+                asked: VolumeRequest::Read,
+                number,
+            }),
+            KeptReply::Done { .. } => Err(ReadFault::Botched),
+        }
+    }
+
+    /// Does an mtio operation in the drive that was opened. Returns None if it was done, else the
+    /// number of the error that it was refused with.
+    ///
+    /// `op` is at most `MTNOP`, and `count` at most `NUMBER_LIMIT`. Fails as `call` does.
+    pub fn operate<P: Peer>(
+        &mut self,
+        peer: &mut P,
+        op: u32,
+        count: u32,
+    ) -> Result<Option<u32>, ReadFault>
+        requires op { op ≤ MTNOP }
+        requires count { count ≤ NUMBER_LIMIT }
+        ensures { IsOperationCalled P.tells op count peer.old peer.new result }
+    {
+        let reply = self.call(peer, &Request::Op { op, count })?;
+        match reply {
+            KeptReply::Done { .. } => Ok(None),
+            KeptReply::Error { number, .. } => Ok(Some(number)),
+            KeptReply::Data { .. } => Err(ReadFault::Botched),
+        }
     }
 }
 

@@ -60,3 +60,18 @@ pub enum ReadFault {
     #[error("cannot be told")]
     Undetermined,
 }
+
+impl From<CallFault> for ReadFault {
+    ghost use Rattle.std.specs.Prelude.{◌≡◌};
+    ghost use Rattle.rdump_net.specs.DriveCalls.{read_fault};
+
+    ghost from_gives = { λ fault e. e ≡ read_fault fault };
+
+    fn from(fault: CallFault) -> ReadFault {
+        match fault {
+            CallFault::ConnectionEnded => ReadFault::ConnectionEnded,
+            CallFault::Botched => ReadFault::Botched,
+            CallFault::OutOfMemory => ReadFault::OutOfMemory,
+        }
+    }
+}

@@ -1,8 +1,7 @@
 //! Reading a volume back over a peer.
 ghost use Rattle.std.specs.Prelude.{◌≡◌, ◌≤◌, IfSome, IfErr, length, nat_eq, position};
 ghost use Rattle.rmt_wire.specs.Lent.{plain_request};
-ghost use Rattle.rmt_wire.specs.declared.limits.TheConstants.{NUMBER_LIMIT, RECORD_LIMIT};
-ghost use Rattle.rmt_wire.specs.declared.mtio.TheConstants.{MTNOP};
+ghost use Rattle.rmt_wire.specs.declared.limits.TheConstants.{NUMBER_LIMIT};
 ghost use Rattle.rmt_wire.specs.Number.{IsLine};
 ghost use Rattle.rmt_wire.specs.Reply.Wanted.{Number};
 ghost use Rattle.rmt_wire.specs.Request as requests;
@@ -11,17 +10,17 @@ ghost use Rattle.rdump_net.specs.Ends.{copy_ends, copy_kind, stream_ends, stream
 ghost use Rattle.rmt_wire.specs.Print.{IsPrinted};
 ghost use Rattle.rdump_net.specs.Reading as spec;
 ghost use Rattle.rdump_net.specs.declared.fault.ReadFault.TheVariants as faults;
-ghost use Rattle.rdump_net.specs.Reading.{AreFurtherRecordsWritten, IsAnsweredNext, IsBegun, IsClosedUnmarked, IsConcludedAtEnd, IsConcludedAtMark, IsCopiedAtLabel, IsDoneBy, IsDoneNext, IsLookedAtEnd, IsLookedBy, IsNamed, IsRead, IsReadStatus, IsRecordNext, IsTakenAwayAtMark, IsThrough, is_whole};
+ghost use Rattle.rdump_net.specs.Reading.{AreFurtherRecordsWritten, IsBegun, IsClosedUnmarked, IsConcludedAtEnd, IsConcludedAtMark, IsCopiedAtLabel, IsDoneBy, IsDoneNext, IsLookedAtEnd, IsLookedBy, IsNamed, IsRead, IsReadStatus, IsTakenAwayAtMark, IsThrough, is_whole};
 ghost use Rattle.rdump_net.specs.declared.volume.AfterVolume.{AfterVolume};
 
 use crate::Peer;
 use crate::caller::PeerCaller;
-use crate::fault::{CallFault, ReadFault, VolumeRequest};
+use crate::fault::{ReadFault, VolumeRequest};
 use crate::kept_reply::KeptReply;
 use rmt_wire::errno::EIO;
 use rmt_wire::fcntl::O_RDONLY;
 use rmt_wire::mtio::{MTBSR, MTFSF, MTFSR, MTOFFL, MTREW};
-use rmt_wire::{Counted, NUMBER_LIMIT, RECORD_LIMIT, Request, print_text};
+use rmt_wire::{Counted, NUMBER_LIMIT, Request, print_text};
 use std::alloc::Global;
 use std::io::Write;
 
@@ -229,7 +228,7 @@ fn look_back<P: Peer>(
 ) -> Result<Option<ReadFault>, ReadFault>
     ensures { IsLookedBy (λ goes. spec.next_back goes records) P.tells peer.old peer.new result }
 {
-    match operate(caller, peer, MTBSR, 1) {
+    match caller.operate(peer, MTBSR, 1) {
         Ok(None) => Ok(Some(ReadFault::NoMark)),
         Ok(Some(number)) => {
             if number == EIO {
@@ -251,7 +250,7 @@ fn look_again<P: Peer>(
 ) -> Result<Option<ReadFault>, ReadFault>
     ensures { IsLookedBy (λ goes. spec.next_again goes records) P.tells peer.old peer.new result }
 {
-    match operate(caller, peer, MTREW, 1) {
+    match caller.operate(peer, MTREW, 1) {
         Ok(None) => {
             if u64::from(NUMBER_LIMIT) < records {
                 Ok(Some(ReadFault::Undetermined))
@@ -273,7 +272,7 @@ fn look_forward<P: Peer>(
     requires { records ≤ NUMBER_LIMIT }
     ensures { IsLookedBy (λ goes. spec.next_forward goes records) P.tells peer.old peer.new result }
 {
-    match operate(caller, peer, MTFSR, records) {
+    match caller.operate(peer, MTFSR, records) {
         Ok(None) => look_over(caller, peer),
         Ok(Some(_)) => Ok(Some(ReadFault::Undetermined)),
         Err(fault) => Err(fault),
@@ -285,30 +284,10 @@ fn look_forward<P: Peer>(
 fn look_over<P: Peer>(caller: &mut PeerCaller, peer: &mut P) -> Result<Option<ReadFault>, ReadFault>
     ensures { IsLookedBy spec.next_over P.tells peer.old peer.new result }
 {
-    match operate(caller, peer, MTFSF, 1) {
+    match caller.operate(peer, MTFSF, 1) {
         Ok(None) => Ok(None),
         Ok(Some(_)) => Ok(Some(ReadFault::Undetermined)),
         Err(fault) => Err(fault),
-    }
-}
-
-/// Does an mtio operation. Returns None if it was done, else the number of the error that it was
-/// refused with.
-fn operate<P: Peer>(
-    caller: &mut PeerCaller,
-    peer: &mut P,
-    op: u32,
-    count: u32,
-) -> Result<Option<u32>, ReadFault>
-    requires op { op ≤ MTNOP }
-    requires count { count ≤ NUMBER_LIMIT }
-    ensures { IsAnsweredNext P.tells op count peer.old peer.new result }
-{
-    match caller.call(peer, &Request::Op { op, count }) {
-        Ok(KeptReply::Done { .. }) => Ok(None),
-        Ok(KeptReply::Error { number, .. }) => Ok(Some(number)),
-        Ok(KeptReply::Data { .. }) => Err(ReadFault::Botched),
-        Err(fault) => Err(read_fault(fault)),
     }
 }
 
@@ -344,10 +323,8 @@ fn ask<P: Peer>(
     requires named { IsNamed asked (plain_request request.now) }
     ensures { IsDoneNext P.tells (plain_request request.now) peer.old peer.new result }
 {
-    match caller.call(peer, request) {
-        Ok(answer) => done(&answer, asked),
-        Err(fault) => Err(read_fault(fault)),
-    }
+    let answer = caller.call(peer, request)?;
+    done(&answer, asked)
 }
 
 /// Succeeds if this reply says that the request was done; else fails with the reason.
@@ -364,35 +341,6 @@ fn done(answer: &KeptReply, asked: VolumeRequest) -> Result<(), ReadFault>
     }
 }
 
-/// Reads the next record. Returns nothing at a mark or at the end of the reel.
-fn next_record<P: Peer>(caller: &mut PeerCaller, peer: &mut P) -> Result<Vec<u8>, ReadFault>
-    ensures { IsRecordNext P.tells (requests.PlainRequest.Read RECORD_LIMIT) peer.old peer.new result }
-{
-    let read = Request::Read {
-        count: RECORD_LIMIT as u32,
-    };
-    match caller.call(peer, &read) {
-        Ok(KeptReply::Data { bytes }) => Ok(bytes),
-        Ok(KeptReply::Error { number, .. }) => Err(ReadFault::Refused {
-            asked: VolumeRequest::Read,
-            number,
-        }),
-        Ok(KeptReply::Done { .. }) => Err(ReadFault::Botched),
-        Err(fault) => Err(read_fault(fault)),
-    }
-}
-
-/// Converts the fault of a call to that of a volume.
-fn read_fault(fault: CallFault) -> ReadFault
-    ensures { result ≡ spec.read_fault fault }
-{
-    match fault {
-        CallFault::ConnectionEnded => ReadFault::ConnectionEnded,
-        CallFault::Botched => ReadFault::Botched,
-        CallFault::OutOfMemory => ReadFault::OutOfMemory,
-    }
-}
-
 /// Prints the label, and writes the records after it until a read returns nothing. Returns the
 /// number of records, the label included; 0 if there is no label.
 fn copy_records<P: Peer, F: Write, W: Write>(
@@ -404,7 +352,7 @@ fn copy_records<P: Peer, F: Write, W: Write>(
     ensures { IsCopiedAtLabel (copy_kind P.tells F.contents W.contents)
         (copy_ends peer.old file.old out.old) (copy_ends peer.new file.new out.new) result }
 {
-    let label = next_record(caller, peer)?;
+    let label = caller.next_record(peer)?;
     if label.is_empty() {
         return Ok(0);
     }
@@ -423,7 +371,7 @@ fn write_records<P: Peer, F: Write>(
         (stream_ends peer.old file.old) (stream_ends peer.new file.new) result }
 {
     for records in 1..u64::MAX {
-        let bytes = next_record(caller, peer)?;
+        let bytes = caller.next_record(peer)?;
         if bytes.is_empty() {
             return Ok(records);
         }
