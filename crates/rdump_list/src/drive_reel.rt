@@ -4,7 +4,7 @@
 //! returns nothing met a mark or the end.
 ghost use Rattle.rmt_wire.specs.Number.{IsLine};
 
-use crate::spacing::{ReadStop, can_space, next_record, no_reply, rewind, space};
+use crate::spacing::{ReadStop, can_space, next_record, rewind, space};
 use crate::undetermined::Undetermined;
 use rdump_net::{KeptReply, Peer, PeerCaller, ReadFault, VolumeRequest};
 use reel_check::{Holding, ReelTally};
@@ -59,21 +59,21 @@ fn read_open<P: Peer>(
 }
 
 /// Opens the drive for reading.
-fn open<P: Peer>(caller: &mut PeerCaller, peer: &mut P, device: &[u8]) -> Result<(), ReadStop>
+fn open<P: Peer>(caller: &mut PeerCaller, peer: &mut P, device: &[u8]) -> Result<(), ReadFault>
     requires { IsLine device.now }
 {
     let open = Request::Open {
         device,
         mode: O_RDONLY,
     };
-    match caller.call(peer, &open) {
-        Ok(KeptReply::Done { .. }) => Ok(()),
-        Ok(KeptReply::Error { number, .. }) => Err(ReadStop::Fault(ReadFault::Refused {
+    let reply = caller.call(peer, &open)?;
+    match reply {
+        KeptReply::Done { .. } => Ok(()),
+        KeptReply::Error { number, .. } => Err(ReadFault::Refused {
             asked: VolumeRequest::Open,
             number,
-        })),
-        Ok(KeptReply::Data { .. }) => Err(ReadStop::Fault(ReadFault::Botched)),
-        Err(fault) => Err(ReadStop::Fault(no_reply(fault))),
+        }),
+        KeptReply::Data { .. } => Err(ReadFault::Botched),
     }
 }
 

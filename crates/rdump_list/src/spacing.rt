@@ -4,9 +4,8 @@ ghost use Rattle.rmt_wire.specs.declared.limits.TheConstants.{NUMBER_LIMIT};
 ghost use Rattle.rmt_wire.specs.declared.mtio.TheConstants.{MTNOP};
 
 use crate::undetermined::{DriveRequest, Undetermined};
-use rdump_net::{CallFault, KeptReply, Peer, PeerCaller, ReadFault};
+use rdump_net::{Peer, PeerCaller, ReadFault};
 use rmt_wire::mtio::MTREW;
-use rmt_wire::{RECORD_LIMIT, Request};
 
 /// Why reading a reel stopped.
 #[derive(Clone, Copy)]
@@ -17,36 +16,15 @@ pub(crate) enum ReadStop {
     Fault(ReadFault),
 }
 
-/// Converts the fault of a call.
-pub(crate) fn no_reply(fault: CallFault) -> ReadFault {
-    match fault {
-        CallFault::ConnectionEnded => ReadFault::ConnectionEnded,
-        CallFault::Botched => ReadFault::Botched,
-        CallFault::OutOfMemory => ReadFault::OutOfMemory,
-    }
-}
-
-/// Does an mtio operation. Returns the number of the error if it is refused.
-fn operate<P: Peer>(
-    caller: &mut PeerCaller,
-    peer: &mut P,
-    op: u32,
-    count: u32,
-) -> Result<Option<u32>, ReadStop>
-    requires op { op ≤ MTNOP }
-    requires count { count ≤ NUMBER_LIMIT }
-{
-    match caller.call(peer, &Request::Op { op, count }) {
-        Ok(KeptReply::Done { .. }) => Ok(None),
-        Ok(KeptReply::Error { number, .. }) => Ok(Some(number)),
-        Ok(KeptReply::Data { .. }) => Err(ReadStop::Fault(ReadFault::Botched)),
-        Err(fault) => Err(ReadStop::Fault(no_reply(fault))),
+impl From<ReadFault> for ReadStop {
+    fn from(fault: ReadFault) -> ReadStop {
+        ReadStop::Fault(fault)
     }
 }
 
 /// Rewinds the reel. If that is refused, its contents cannot be determined.
 pub(crate) fn rewind<P: Peer>(caller: &mut PeerCaller, peer: &mut P) -> Result<(), ReadStop> {
-    match operate(caller, peer, MTREW, 1)? {
+    match caller.operate(peer, MTREW, 1)? {
         None => Ok(()),
         Some(number) => Err(refused(DriveRequest::Rewind, number)),
     }
@@ -62,7 +40,7 @@ pub(crate) fn space<P: Peer>(
     requires op { op ≤ MTNOP }
     requires count { count ≤ NUMBER_LIMIT }
 {
-    match operate(caller, peer, op, count)? {
+    match caller.operate(peer, op, count)? {
         None => Ok(()),
         Some(number) => Err(refused(DriveRequest::Spacing, number)),
     }
@@ -77,22 +55,19 @@ pub(crate) fn can_space<P: Peer>(
 ) -> Result<bool, ReadStop>
     requires { op ≤ MTNOP }
 {
-    Ok(operate(caller, peer, op, 1)?.is_none())
+    Ok(caller.operate(peer, op, 1)?.is_none())
 }
 
-/// Reads the next record. Returns nothing at a mark and at the end.
+/// Reads the next record. Returns nothing at a mark and at the end. If the read is refused, the
+/// reel's contents cannot be determined.
 pub(crate) fn next_record<P: Peer>(
     caller: &mut PeerCaller,
     peer: &mut P,
 ) -> Result<Vec<u8>, ReadStop> {
-    let read = Request::Read {
-        count: RECORD_LIMIT as u32,
-    };
-    match caller.call(peer, &read) {
-        Ok(KeptReply::Data { bytes }) => Ok(bytes),
-        Ok(KeptReply::Error { number, .. }) => Err(refused(DriveRequest::Read, number)),
-        Ok(KeptReply::Done { .. }) => Err(ReadStop::Fault(ReadFault::Botched)),
-        Err(fault) => Err(ReadStop::Fault(no_reply(fault))),
+    match caller.next_record(peer) {
+        Ok(bytes) => Ok(bytes),
+        Err(ReadFault::Refused { number, .. }) => Err(refused(DriveRequest::Read, number)),
+        Err(fault) => Err(ReadStop::Fault(fault)),
     }
 }
 
