@@ -105,12 +105,32 @@ impl<B: Blocks + Drop> Client<B> {
             ResumesAs run counts result }
     {
         one_checkpoint();
-        let Checkpoint { run, counts } = Checkpoint::read(alloc, bytes)?;
-        let ledger = Ledger::resumed(run, counts);
-        match Client::of_ledger(alloc, ledger, source) {
+        let checkpoint = Checkpoint::read(alloc, bytes)?;
+        match Client::from_checkpoint(alloc, checkpoint, source) {
             Ok(client) => Ok(client),
             Err(_) => Err(ResumeFault::OutOfMemory),
         }
+    }
+
+    /// Makes a client from a checkpoint, with its run and its counts.
+    ///
+    /// The client is `Finished` if the counts are the whole run, and `Ready` otherwise. If the
+    /// source's blocks are known, they must be as many as the run has, each of its size. It
+    /// reserves `rmt_wire::READER_LIMIT` bytes for replies, and fails only if that allocation
+    /// fails.
+    pub fn from_checkpoint(
+        alloc: Global,
+        checkpoint: Checkpoint,
+        source: B,
+    ) -> Result<Client<B>, AllocError>
+        requires { (payload : List (List ℕ)) → B.holds source payload → IsPayload checkpoint.run payload }
+        ensures over { IfOk result (λ c. IsOver checkpoint.run checkpoint.counts c.at) }
+        ensures resumes { IfOk result (λ c. (c.at.run ≡ checkpoint.run) × (c.at.counts ≡ checkpoint.counts)) }
+        ensures given { IfOk result (λ c. c.source ≡ source) }
+    {
+        let (run, counts) = checkpoint.into_parts();
+        let ledger = Ledger::resumed(run, counts);
+        Client::of_ledger(alloc, ledger, source)
     }
 }
 
@@ -123,6 +143,13 @@ impl<B: Blocks> Client<B> {
     {
         let stage = self.ledger.stage();
         stage.state()
+    }
+
+    /// Returns the run.
+    pub fn run(&self) -> &Run
+        ensures { result.now ≡ self.now.at.run }
+    {
+        self.ledger.run()
     }
 
     /// Returns the counted volumes, in order.

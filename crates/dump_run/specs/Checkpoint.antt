@@ -117,6 +117,11 @@ pub record HasLineOutOfOrder (bytes : List ℕ) (n : ℕ) : Type 0 where
   pub bad : AreVolumes run 1 0 (before ++ count ∷ []) → ⊥
   pub number : n ≡ length before + 9
 
+-- a checkpoint: a run, and the volumes of it that are counted
+pub record PlainCheckpoint : Type 0 where
+  pub run : PlainRun
+  pub counts : List VolumeCount
+
 -- why reading the bytes as a checkpoint fails; an allocation can fail whatever the bytes are
 abbrev pub HasResumeFault : List ℕ → ResumeFault → Type 0
 HasResumeFault bytes (BadLine n) = HasBadLine bytes n

@@ -1,5 +1,7 @@
 //! A checkpoint: a run and the volumes counted so far, as a text that outlives the dumping process.
 ghost use Rattle.std.specs.Prelude.{◌≡◌, List, IfOk, IfErr};
+ghost use Rattle.dump_run.specs.Run.{IsRun};
+ghost use Rattle.dump_run.specs.Counts.{AreVolumes};
 ghost use Rattle.dump_run.specs.Checkpoint.{SpellsCheckpoint, HasResumeFault};
 ghost use Rattle.dump_run.specs.declared.count.VolumeCount.{VolumeCount};
 
@@ -16,15 +18,25 @@ use counts::read_counts;
 use head::{HEAD_LINES, read_head};
 use order::ordered;
 use std::alloc::Global;
+use std::marker::Model;
 pub use text::push_checkpoint;
 
-/// A run, and the volumes of it that are counted, in order.
+/// A run, and the volumes of it that are counted, in order from volume 1.
 #[derive(Drop)]
 pub struct Checkpoint {
-    /// The parameters of the dump.
-    pub run: Run,
-    /// The counted volumes, beginning with volume 1.
-    pub counts: Vec<VolumeCount>,
+    run: Run,
+    counts: Vec<VolumeCount>,
+}
+
+impl Model for Checkpoint {
+    ghost use Rattle.dump_run.specs.Counts.{AreVolumes};
+    ghost use Rattle.dump_run.specs.Checkpoint.{PlainCheckpoint};
+
+    ghost Value = { PlainCheckpoint };
+
+    ghost view = { λ c. record { run = c.run; counts = c.counts.items } };
+
+    ghost invariant = { λ c. AreVolumes c.run 1 0 c.counts.items };
 }
 
 impl Checkpoint {
@@ -38,7 +50,7 @@ impl Checkpoint {
     ///   does not follow those before it.
     /// - `OutOfMemory`: an allocation for the counts fails.
     pub fn read(alloc: Global, bytes: &[u8]) -> Result<Checkpoint, ResumeFault>
-        ensures spelled { IfOk result (λ c. SpellsCheckpoint bytes.now c.run c.counts.items) }
+        ensures spelled { IfOk result (λ c. SpellsCheckpoint bytes.now c.run c.counts) }
         ensures refused { IfErr result (HasResumeFault bytes.now) }
     {
         let (run, rest) = read_head(bytes)?;
@@ -48,6 +60,31 @@ impl Checkpoint {
             return Err(ResumeFault::NotInOrder(HEAD_LINES + count + 1));
         }
         Ok(Checkpoint { run, counts })
+    }
+
+    /// Returns the run.
+    pub fn run(&self) -> &Run
+        ensures { result.now ≡ self.now.run }
+    {
+        &self.run
+    }
+
+    /// Returns the counted volumes, in order from volume 1.
+    pub fn counts(&self) -> &[VolumeCount]
+        ensures told { result.now ≡ self.now.counts }
+        ensures in_order { AreVolumes self.now.run 1 0 self.now.counts }
+    {
+        &self.counts
+    }
+
+    /// Returns the run and the counted volumes.
+    pub fn into_parts(self) -> (Run, Vec<VolumeCount>)
+        ensures run { result.0 ≡ self.run }
+        ensures limits { IsRun self.run }
+        ensures counts { result.1.items ≡ self.counts }
+        ensures in_order { AreVolumes self.run 1 0 self.counts }
+    {
+        (self.run, self.counts)
     }
 }
 

@@ -196,11 +196,11 @@ fn next_line(alloc: Global, lines: &[u8]) -> Result<Option<String>, AllocError> 
         Err(ResumeFault::OutOfMemory) => return Err(AllocError),
         Err(_) => return Ok(None),
     };
-    let (volume, first) = match found.counts.last() {
+    let (volume, first) = match found.counts().last() {
         Some(last) => after(*last),
         None => (1, 0),
     };
-    let least = found.run.blocks().min(1);
+    let least = found.run().blocks().min(1);
     Ok(Some(format!(in alloc; "counted {volume} {first} {least}\n")?))
 }
 

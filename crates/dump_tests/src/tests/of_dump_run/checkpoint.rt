@@ -43,7 +43,7 @@ static COUNTS: [Row; 16] = [
 /// Whether the checkpoint is written as these bytes.
 fn is_written_so(alloc: Global, checkpoint: &Checkpoint, bytes: &[u8]) -> bool {
     let mut text = Vec::new(alloc);
-    push_checkpoint(&checkpoint.run, &checkpoint.counts, &mut text).is_ok()
+    push_checkpoint(checkpoint.run(), checkpoint.counts(), &mut text).is_ok()
         && text.as_slice() == bytes
 }
 
