@@ -22,6 +22,7 @@ mod printing;
 mod progress;
 mod socket;
 mod startup;
+mod statuses;
 mod store;
 mod streams;
 mod volumes;

@@ -1,0 +1,2 @@
+-- Status: the numbers of the exit statuses.
+pub mod Status

@@ -1,0 +1,6 @@
+//! How a program ended, and the exit status that says so.
+#![tactic(auto)]
+
+mod status;
+
+pub use status::ExitStatus;
