@@ -1,5 +1,7 @@
 -- When a dump is entered in a dumpdates file.
-use Rattle.std.proofs.Common.{◌≡◌, ◌<◌, ℕ, Bool, true, false, List, Option, None, Some, Result, refl, subst, inl, inr, arith}
+use Rattle.std.proofs.Common.{◌≡◌, ◌≢◌, ℕ, Bool, true, false, List, Option, None, Some, Result, refl, subst, inl, inr, arith}
+use Rattle.exit_status.specs.declared.status.ExitStatus.{ExitStatus}
+use Rattle.exit_status.specs.declared.status.ExitStatus.TheVariants.{Success, Abnormal}
 use Rattle.rmt_wire.specs.Counted.{Counting}
 use Rattle.dumpdates.specs.declared.entry.Entry.{Entry}
 use Rattle.dumpdates.specs.Stored.{plain_entry}
@@ -16,11 +18,11 @@ use Rattle.rdump_files.specs.WholeFile.{WholeFileKind}
 use Rattle.rdump_files.specs.declared.dates_update.UpdateFault.{UpdateFault}
 use Rattle.rdump_files.specs.declared.dump_update.DumpEnd.{DumpEnd}
 
--- a dump that ended with 0 is finished
-finished_at : (whole : Bool) (at : Standing) (last : List ℕ) → IsLast whole at last 0 → at.stage ≡ Finished
+-- a dump that ended with success is finished
+finished_at : (whole : Bool) (at : Standing) (last : List ℕ) → IsLast whole at last Success → at.stage ≡ Finished
 finished_at true at last (inl h) = h.0
-finished_at true at last (inr h) = let bad : 0 ≡ 3 = h.2 in absurd (omega (arith, bad))
-finished_at false at last h = let bad : 0 ≡ 3 = h in absurd (omega (arith, bad))
+finished_at true at last (inr h) = let bad = h.2 in cc
+finished_at false at last h = let bad : Success ≡ Abnormal = h in cc
 
 -- what a run that is finished is entered as
 entry_told : (stage : Stage) (run : PlainRun) (entry : Entry) → stage ≡ Finished → TellsEntry stage run (Some entry) → plain_entry entry ≡ dates_entry_of run
@@ -37,15 +39,15 @@ some_finished Abandoned run entry t = cc
 
 module _ {W F : Type 0} {contents : W → Option (List ℕ)} {k : WholeFileKind F} {first : List VolumeCount} {at : Standing}
     {out told : Counting W} where
-  -- after another status than 0 the file is left alone
-  pub left_alone : (file : F) (ended : ℕ) (end : DumpEnd) → 0 < ended → IsDumped contents first at out told ended → IsUncaused end ended
+  -- after another status than success the file is left alone
+  pub left_alone : (file : F) (ended : ExitStatus) (end : DumpEnd) → ended ≢ Success → IsDumped contents first at out told ended → IsUncaused end ended
       → IsDumpEntered contents k first at (sinks out file) (sinks told file) end
   left_alone file ended end some d u =
-      record { told = told; ended = ended; dumped = d; left = λ _. (refl, u); enters = λ none. absurd (omega (arith, some, none)) }
+      record { told = told; ended = ended; dumped = d; left = λ _. (refl, u); enters = λ none. absurd (some none) }
 
-  -- after 0 the run's entry is put into the file
-  pub entered_after : (ended : ℕ) {old new : F} {out' : Counting W} {end : DumpEnd}
-      → ended ≡ 0 → IsDumped contents first at out told ended → IsEntered contents k at (sinks told old) (sinks out' new) end
+  -- after success the run's entry is put into the file
+  pub entered_after : (ended : ExitStatus) {old new : F} {out' : Counting W} {end : DumpEnd}
+      → ended ≡ Success → IsDumped contents first at out told ended → IsEntered contents k at (sinks told old) (sinks out' new) end
       → IsDumpEntered contents k first at (sinks out old) (sinks out' new) end
   entered_after ended e d entered =
       let finished = finished_at d.whole at d.last (subst (λ n. IsLast d.whole at d.last n) e d.ends) in
@@ -59,7 +61,7 @@ module _ {W F : Type 0} {contents : W → Option (List ℕ)} {k : WholeFileKind 
 
 -- a client that tells no entry is not finished
 pub not_entered : {W F : Type 0} {contents : W → Option (List ℕ)} {k : WholeFileKind F} {at : Standing} {s : DumpSinks W F} {end : DumpEnd}
-    → TellsEntry at.stage at.run None → IsUncaused end 3 → IsEntered contents k at s s end
+    → TellsEntry at.stage at.run None → IsUncaused end Abnormal → IsEntered contents k at s s end
 not_entered {at = at} t u = record {
   unfinished = λ _. (refl, u);
   enters = λ e. let told : TellsEntry Finished at.run None = subst (λ s. TellsEntry s at.run None) e t in absurd told;

@@ -7,6 +7,8 @@ use Rattle.dumpdates.specs.Lines.{SpellsDates, HasDatesFault}
 use Rattle.dumpdates.specs.Text.{written, line_feed}
 use Rattle.dumpdates.specs.declared.fault.DatesFault.{DatesFault}
 use Rattle.dumpdates.specs.declared.fault.DatesFault.TheVariants.{BadLine, BadDate, OutOfMemory}
+use Rattle.exit_status.specs.declared.status.ExitStatus.{ExitStatus}
+use Rattle.exit_status.specs.declared.status.ExitStatus.TheVariants.{Success, StartupError}
 use Rattle.rmt_wire.specs.Counted.{Counting}
 use Rattle.rmt_wire.specs.Print.{IsPrinted}
 
@@ -34,23 +36,23 @@ dates_fault_text (BadDate n) = codes "line " ++ decimal n ++ codes ": bad date\n
 dates_fault_text OutOfMemory = codes "out of memory\n"
 
 -- The text and the exit status that answer a query. Either the file spells entries, the text is
--- their answer and the status is 0. Or there is a fault, the text is that of the fault and the
--- status is 1. The fault can be a failed allocation only if an entry was reached.
-abbrev pub IsAnswer : List ℕ → Option AskedDump → List ℕ → ℕ → Type 0
+-- their answer and the status is `Success`. Or there is a fault, the text is that of the fault and
+-- the status is `StartupError`. The fault can be a failed allocation only if an entry was reached.
+abbrev pub IsAnswer : List ℕ → Option AskedDump → List ℕ → ExitStatus → Type 0
 IsAnswer file asked text status =
-    ((entries : List DatesEntry) × SpellsDates file entries × (text ≡ answer_text asked entries) × (status ≡ 0))
-    ⊎ ((fault : DatesFault) × HasDatesFault file fault × (text ≡ dates_fault_text fault) × (status ≡ 1))
+    ((entries : List DatesEntry) × SpellsDates file entries × (text ≡ answer_text asked entries) × (status ≡ Success))
+    ⊎ ((fault : DatesFault) × HasDatesFault file fault × (text ≡ dates_fault_text fault) × (status ≡ StartupError))
 
 -- The text was printed, and the status is `wanted`. Or a write failed, a beginning of the text was
--- printed, and the status is 1.
-abbrev pub IsStatusPrinted : {W : Type 0} → (W → Option (List ℕ)) → List ℕ → ℕ → Counting W → Counting W → ℕ → Type 0
+-- printed, and the status is `StartupError`.
+abbrev pub IsStatusPrinted : {W : Type 0} → (W → Option (List ℕ)) → List ℕ → ExitStatus → Counting W → Counting W → ExitStatus → Type 0
 IsStatusPrinted contents text wanted out out' status =
-    (IsPrinted contents text out out' true × (status ≡ wanted)) ⊎ (IsPrinted contents text out out' false × (status ≡ 1))
+    (IsPrinted contents text out out' true × (status ≡ wanted)) ⊎ (IsPrinted contents text out out' false × (status ≡ StartupError))
 
 -- the answer to the query was printed
-abbrev pub IsDates : {W : Type 0} → (W → Option (List ℕ)) → List ℕ → Option AskedDump → Counting W → Counting W → ℕ → Type 0
+abbrev pub IsDates : {W : Type 0} → (W → Option (List ℕ)) → List ℕ → Option AskedDump → Counting W → Counting W → ExitStatus → Type 0
 IsDates contents file asked out out' status =
-    (text : List ℕ) × (wanted : ℕ) × IsAnswer file asked text wanted × IsStatusPrinted contents text wanted out out' status
+    (text : List ℕ) × (wanted : ExitStatus) × IsAnswer file asked text wanted × IsStatusPrinted contents text wanted out out' status
 
 -- The result is the base date of a name at a level, and nothing was printed. Or the file is not a
 -- dumpdates file, and its fault was printed.
@@ -58,4 +60,4 @@ abbrev pub IsBaseDate : {W : Type 0} → (W → Option (List ℕ)) → List ℕ 
 IsBaseDate contents file asked out out' (Ok base) =
     ((entries : List DatesEntry) × SpellsDates file entries × (base ≡ base_of entries asked.name asked.level)) × (out' ≡ out)
 IsBaseDate contents file asked out out' (Err fault) =
-    HasDatesFault file fault × ((status : ℕ) × IsStatusPrinted contents (dates_fault_text fault) 1 out out' status)
+    HasDatesFault file fault × ((status : ExitStatus) × IsStatusPrinted contents (dates_fault_text fault) StartupError out out' status)

@@ -4,6 +4,8 @@ use Rattle.rmt_wire.specs.Counted.{Counting}
 use Rattle.rmt_wire.specs.Print.{IsPrinted}
 use Rattle.dumpdates.specs.Entry.{DatesEntry}
 use Rattle.dump_run.specs.Run.{PlainRun}
+use Rattle.exit_status.specs.declared.status.ExitStatus.{ExitStatus}
+use Rattle.exit_status.specs.declared.status.ExitStatus.TheVariants.{Success, Abnormal}
 use Rattle.dump_client.specs.Standing.{Standing}
 use Rattle.dump_run.specs.declared.count.VolumeCount.{VolumeCount}
 use Rattle.dump_client.specs.declared.stage.Stage.TheVariants.{Finished}
@@ -18,15 +20,15 @@ abbrev pub dates_entry_of : PlainRun → DatesEntry
 dates_entry_of run = record { name = run.name; level = run.level; date = run.date }
 
 -- the dump ended with this status, and without a fault
-abbrev pub IsUncaused : DumpEnd → ℕ → Type 0
+abbrev pub IsUncaused : DumpEnd → ExitStatus → Type 0
 IsUncaused end status = (end.status ≡ status) × (end.fault ≡ None)
 
 -- The end of a dump after its update. If the dump was not entered, the line was printed, the status
--- is 3 and the fault is given.
+-- is `Abnormal` and the fault is given.
 abbrev pub IsUpdateReported : {W : Type 0} → (W → Option (List ℕ)) → Result Unit UpdateFault → Counting W → Counting W → DumpEnd → Type 0
-IsUpdateReported contents (Ok x) out out' end = (out' ≡ out) × IsUncaused end 0
+IsUpdateReported contents (Ok x) out out' end = (out' ≡ out) × IsUncaused end Success
 IsUpdateReported contents (Err fault) out out' end =
-    ((whole : Bool) × IsPrinted contents (codes "dumpdates not updated\n") out out' whole) × (end.status ≡ 3) × (end.fault ≡ Some fault)
+    ((whole : Bool) × IsPrinted contents (codes "dumpdates not updated\n") out out' whole) × (end.status ≡ Abnormal) × (end.fault ≡ Some fault)
 
 -- the output of a dump, and the dumpdates file in which it is entered
 pub record DumpSinks (W F : Type 0) : Type 0 where
@@ -40,18 +42,18 @@ sinks out file = record { out = out; file = file }
 -- run, nothing changed.
 pub record IsEntered {W F : Type 0} (contents : W → Option (List ℕ)) (k : WholeFileKind F) (at : Standing) (old new : DumpSinks W F)
     (end : DumpEnd) : Type 0 where
-  pub unfinished : at.stage ≢ Finished → (new ≡ old) × IsUncaused end 3
+  pub unfinished : at.stage ≢ Finished → (new ≡ old) × IsUncaused end Abnormal
   pub enters : at.stage ≡ Finished → (result : Result Unit UpdateFault)
       × IsUpdated k (dates_entry_of at.run) old.file new.file result × IsUpdateReported contents result old.out new.out end
 
--- A dump, and then its entry. If the dump ends with a status other than 0, the file is unchanged
--- and no fault is given. A status of 0 means that the run is finished and all was printed. Its
--- entry is then put into the file.
+-- A dump, and then its entry. If the dump does not end with `Success`, the file is unchanged and no
+-- fault is given. `Success` means that the run is finished and all was printed. Its entry is then
+-- put into the file.
 pub record IsDumpEntered {W F : Type 0} (contents : W → Option (List ℕ)) (k : WholeFileKind F) (first : List VolumeCount)
     (at : Standing) (old new : DumpSinks W F) (end : DumpEnd) : Type 0 where
   pub told : Counting W
-  pub ended : ℕ
+  pub ended : ExitStatus
   pub dumped : IsDumped contents first at old.out told ended
-  pub left : ended ≢ 0 → (new ≡ sinks told old.file) × IsUncaused end ended
-  pub enters : ended ≡ 0 → (at.stage ≡ Finished) × ((result : Result Unit UpdateFault)
+  pub left : ended ≢ Success → (new ≡ sinks told old.file) × IsUncaused end ended
+  pub enters : ended ≡ Success → (at.stage ≡ Finished) × ((result : Result Unit UpdateFault)
       × IsUpdated k (dates_entry_of at.run) old.file new.file result × IsUpdateReported contents result told new.out end)

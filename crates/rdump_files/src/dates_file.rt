@@ -2,21 +2,17 @@
 
 ghost use Rattle.std.specs.Prelude.{◌≡◌, ◌⊎◌, ◌+◌, ◌++◌, ◌≤◌, [], length, codes, decimal};
 ghost use Rattle.dumpdates.specs.Text.{written};
+ghost use Rattle.exit_status.specs.declared.status.ExitStatus.TheVariants.{StartupError, Success};
 ghost use Rattle.dumpdates.specs.declared.fault.DatesFault.TheVariants.{OutOfMemory};
 ghost use Rattle.rdump_files.specs.Dates.{IsBaseDate, IsDates, IsStatusPrinted, asked_dump, dates_fault_text, plain_asked};
 
 use arrayvec::ArrayString;
 use dumpdates::{Dates, DatesFault};
+use exit_status::ExitStatus;
 use itoa::Buffer;
 use rmt_wire::{Counted, print_text};
 use std::alloc::Global;
 use std::io::Write;
-
-/// The exit status if the answer was printed.
-const ANSWERED: u8 = 0;
-
-/// The exit status if the file is bad, an allocation fails, or a write fails.
-const FAILED: u8 = 1;
 
 /// Room for a line with a number, in bytes.
 const LINE_ROOM: usize = 64;
@@ -32,14 +28,15 @@ const LINE_ROOM: usize = 64;
 /// line feed. The number is that of the first bad line, counted from 1. If an allocation fails, it
 /// prints `out of memory` and a line feed.
 ///
-/// Returns the exit status of `rdump dates`: 0 if the answer was printed. Returns 1 if the file is
-/// bad, an allocation fails, or a write fails. After a write that failed, it writes nothing more.
+/// Returns the exit status of `rdump dates`: `Success` if the answer was printed, else
+/// `StartupError`: the file is bad, an allocation fails, or a write fails. After a write that
+/// failed, it writes nothing more.
 pub fn dates<W: Write>(
     alloc: Global,
     file: &[u8],
     asked: Option<(&str, u8)>,
     out: &mut Counted<W>,
-) -> u8
+) -> ExitStatus
     ensures { IsDates W.contents file.now (plain_asked asked.entry) out.old out.new result }
 {
     let dates = match Dates::read(alloc, file) {
@@ -76,42 +73,42 @@ pub fn base_date<W: Write>(
 }
 
 /// Prints the text of the entries, and returns the exit status.
-fn print_dates<W: Write>(out: &mut Counted<W>, dates: &Dates) -> u8
-    ensures { IsStatusPrinted W.contents (written dates.now) 0 out.old out.new result
-        ⊎ (¬ (dates.now ≡ []) × IsStatusPrinted W.contents (dates_fault_text OutOfMemory) 1 out.old out.new result) }
+fn print_dates<W: Write>(out: &mut Counted<W>, dates: &Dates) -> ExitStatus
+    ensures { IsStatusPrinted W.contents (written dates.now) Success out.old out.new result
+        ⊎ (¬ (dates.now ≡ []) × IsStatusPrinted W.contents (dates_fault_text OutOfMemory) StartupError out.old out.new result) }
 {
     match dates.text() {
-        Ok(text) => print(out, &text, ANSWERED),
+        Ok(text) => print(out, &text, ExitStatus::Success),
         Err(fault) => print_fault(out, fault),
     }
 }
 
 /// Prints a date as a number and a line feed, and returns the exit status.
-fn print_base<W: Write>(out: &mut Counted<W>, date: u64) -> u8
-    ensures { IsStatusPrinted W.contents (decimal date ++ codes "\n") 0 out.old out.new result }
+fn print_base<W: Write>(out: &mut Counted<W>, date: u64) -> ExitStatus
+    ensures { IsStatusPrinted W.contents (decimal date ++ codes "\n") Success out.old out.new result }
 {
     let line = numbered("", date, "\n");
-    print(out, line.as_bytes(), ANSWERED)
+    print(out, line.as_bytes(), ExitStatus::Success)
 }
 
 /// Prints the line of a fault, and returns the exit status.
-fn print_fault<W: Write>(out: &mut Counted<W>, fault: DatesFault) -> u8
-    ensures { IsStatusPrinted W.contents (dates_fault_text fault) 1 out.old out.new result }
+fn print_fault<W: Write>(out: &mut Counted<W>, fault: DatesFault) -> ExitStatus
+    ensures { IsStatusPrinted W.contents (dates_fault_text fault) StartupError out.old out.new result }
 {
     match fault {
         DatesFault::BadLine(n) => print_at_line(out, n, ": bad line\n"),
         DatesFault::BadDate(n) => print_at_line(out, n, ": bad date\n"),
-        DatesFault::OutOfMemory => print(out, b"out of memory\n", FAILED),
+        DatesFault::OutOfMemory => print(out, b"out of memory\n", ExitStatus::StartupError),
     }
 }
 
 /// Prints what is wrong with line `number`, and returns the exit status.
-fn print_at_line<W: Write>(out: &mut Counted<W>, number: usize, fault: &str) -> u8
+fn print_at_line<W: Write>(out: &mut Counted<W>, number: usize, fault: &str) -> ExitStatus
     requires { length fault.now ≤ 16 }
-    ensures { IsStatusPrinted W.contents (codes "line " ++ decimal number ++ fault.now) 1 out.old out.new result }
+    ensures { IsStatusPrinted W.contents (codes "line " ++ decimal number ++ fault.now) StartupError out.old out.new result }
 {
     let line = numbered("line ", number as u64, fault);
-    print(out, line.as_bytes(), FAILED)
+    print(out, line.as_bytes(), ExitStatus::StartupError)
 }
 
 /// Returns the number between two texts of at most 24 bytes together.
@@ -127,14 +124,13 @@ fn numbered(before: &str, number: u64, after: &str) -> ArrayString<LINE_ROOM>
     line
 }
 
-/// Prints a text. Returns `status`, or the status of a failure if a write fails or accepts no
-/// bytes.
-fn print<W: Write>(out: &mut Counted<W>, text: &[u8], status: u8) -> u8
+/// Prints a text. Returns `status`, or `StartupError` if a write fails or accepts no bytes.
+fn print<W: Write>(out: &mut Counted<W>, text: &[u8], status: ExitStatus) -> ExitStatus
     ensures { IsStatusPrinted W.contents text.now status out.old out.new result }
 {
     if print_text(out, text) {
         status
     } else {
-        FAILED
+        ExitStatus::StartupError
     }
 }

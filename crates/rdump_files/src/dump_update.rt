@@ -6,6 +6,7 @@ ghost use Rattle.rdump_net.specs.Talk.{FromAny, TalksOver};
 
 use crate::{UpdateFault, WholeFile, update};
 use dump_client::{Blocks, Client};
+use exit_status::ExitStatus;
 use rdump_net::{Peer, dump};
 use rmt_wire::{Counted, print_text};
 use std::alloc::Global;
@@ -15,24 +16,18 @@ use std::io::{Read, Write};
 #[derive(Clone, Copy)]
 pub struct DumpEnd {
     /// The exit status.
-    pub status: u8,
+    pub status: ExitStatus,
     /// Why a complete dump was not entered. None if it was entered, or if the dump is not complete.
     pub fault: Option<UpdateFault>,
 }
-
-/// The exit status of a complete dump.
-const COMPLETE: u8 = 0;
-
-/// The exit status if a dump was abandoned, could not be reported, or could not be entered.
-const ABNORMAL: u8 = 3;
 
 /// Has a client write its run over a peer, as `dump` does. If the dump is complete and
 /// `dump complete` is printed, enters it in a dumpdates file. If that fails, it prints
 /// `dumpdates not updated`.
 ///
-/// Returns the exit status, and why a complete dump was not entered. The status is 0 if the run is
-/// finished, everything was printed and the run is entered, and 3 otherwise. The file is read and
-/// replaced only if the run is finished and everything was printed.
+/// Returns the exit status, and why a complete dump was not entered. The status is `Success` if the
+/// run is finished, everything was printed and the run is entered, and `Abnormal` otherwise. The
+/// file is read and replaced only if the run is finished and everything was printed.
 pub fn dump_and_update<B: Blocks, P: Peer, R: Read, W: Write, F: WholeFile>(
     alloc: Global,
     client: &mut Client<B>,
@@ -46,17 +41,17 @@ pub fn dump_and_update<B: Blocks, P: Peer, R: Read, W: Write, F: WholeFile>(
         (sinks out.old file.old) (sinks out.new file.new) result }
 {
     let status = dump(alloc, client, peer, operator, out);
-    if status != COMPLETE {
-        return unentered(status);
+    match status {
+        ExitStatus::Success => enter_dump(alloc, client, out, file),
+        _ => unentered(status),
     }
-    enter_dump(alloc, client, out, file)
 }
 
 /// Enters the run of a finished client in a dumpdates file. If that fails, it prints
 /// `dumpdates not updated`.
 ///
-/// Returns the exit status, and why the run was not entered. The status is 0 if the run is entered,
-/// and 3 otherwise. If the client is not finished, nothing is entered or printed.
+/// Returns the exit status, and why the run was not entered. The status is `Success` if the run is
+/// entered, and `Abnormal` otherwise. If the client is not finished, nothing is entered or printed.
 pub fn enter_dump<B: Blocks, W: Write, F: WholeFile>(
     alloc: Global,
     client: &Client<B>,
@@ -66,14 +61,14 @@ pub fn enter_dump<B: Blocks, W: Write, F: WholeFile>(
     ensures { IsEntered W.contents (whole_file F.gives F.takes) client.now.at (sinks out.old file.old) (sinks out.new file.new) result }
 {
     let Some(entry) = client.finished() else {
-        return unentered(ABNORMAL);
+        return unentered(ExitStatus::Abnormal);
     };
     let updated = update(alloc, file, entry);
     print_update(updated, out)
 }
 
 /// Returns the end of a dump that was not to be entered.
-fn unentered(status: u8) -> DumpEnd
+fn unentered(status: ExitStatus) -> DumpEnd
     ensures { (result.status ≡ status) × (result.fault ≡ None) }
 {
     DumpEnd {
@@ -87,11 +82,11 @@ fn print_update<W: Write>(updated: Result<(), UpdateFault>, out: &mut Counted<W>
     ensures { IsUpdateReported W.contents updated out.old out.new result }
 {
     match updated {
-        Ok(()) => unentered(COMPLETE),
+        Ok(()) => unentered(ExitStatus::Success),
         Err(fault) => {
             print_text(out, b"dumpdates not updated\n");
             DumpEnd {
-                status: ABNORMAL,
+                status: ExitStatus::Abnormal,
                 fault: Some(fault),
             }
         }

@@ -1,7 +1,5 @@
 //! The command `rdump ls`.
-ghost use Rattle.std.specs.Prelude.{IfOk};
 ghost use Rattle.dump_run.specs.Run.{IsDevice};
-ghost use Rattle.rdump_list.specs.Status.{IsListStatus};
 ghost use Rattle.rdump_args.specs.Rdump.{IsListLine, IsListedReels};
 
 use crate::ListSystem;
@@ -12,7 +10,8 @@ use crate::lister::Lister;
 use crate::order::sort;
 use crate::printer::Printer;
 use crate::reel::ListedReel;
-use crate::status::{FAILED, status_of};
+use crate::status::status_of;
+use exit_status::ExitStatus;
 use rdump_args::{ListLine, ListedReels};
 use std::alloc::{AllocError, Global};
 use std::io::{self, Write};
@@ -22,29 +21,27 @@ use std::io::{self, Write};
 ///
 /// Returns the exit status:
 ///
-/// - 0 if there is a reel, all reels are whole, and no volume is missing.
-/// - 1 if a file cannot be read, there is no session with the drive, an allocation fails, or a
-///   write fails.
-/// - 3 otherwise.
+/// - `Success` if there is a reel, all reels are whole, and no volume is missing.
+/// - `StartupError` if a file cannot be read, there is no session with the drive, an allocation
+///   fails, or a write fails.
+/// - `Abnormal` otherwise.
 ///
 /// Errors are printed on standard error; out of memory is printed on standard output.
-pub fn run_ls<R: ListSystem>(rt: &R, line: ListLine<'_>) -> u8
+pub fn run_ls<R: ListSystem>(rt: &R, line: ListLine<'_>) -> ExitStatus
     requires { IsListLine line }
-    ensures { IsListStatus result }
 {
     match list(rt, &line) {
         Ok(status) => status,
         Err(AllocError) => {
             let _ = println!(rt; "out of memory");
-            FAILED
+            ExitStatus::StartupError
         }
     }
 }
 
 /// Lists the reels. Returns the exit status. Fails if an allocation fails.
-fn list<R: ListSystem>(rt: &R, line: &ListLine<'_>) -> Result<u8, AllocError>
+fn list<R: ListSystem>(rt: &R, line: &ListLine<'_>) -> Result<ExitStatus, AllocError>
     requires { IsListLine line.now }
-    ensures { IfOk result IsListStatus }
 {
     let dates = match line.dumpdates {
         Some(path) => read_dates(rt, path)?,

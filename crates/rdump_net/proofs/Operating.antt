@@ -1,5 +1,7 @@
 -- The replies of one operation of mtio.
 use Rattle.std.proofs.Common.{◌≡◌, ℕ, List, [], ◌∷◌, ◌++◌, Bool, true, false, Option, Some, None, Result, Ok, Err, refl, sym, ap, subst, ◌∙◌, if◌then◌else◌, nat_eq, ◌≤◌, arith}
+use Rattle.exit_status.specs.declared.status.ExitStatus.{ExitStatus}
+use Rattle.exit_status.specs.declared.status.ExitStatus.TheVariants.{Abnormal}
 use Rattle.rmt_wire.specs.declared.fcntl.TheConstants.{O_RDONLY, O_RDWR}
 use Rattle.rmt_wire.specs.declared.limits.TheConstants.{NUMBER_LIMIT}
 use Rattle.rmt_wire.specs.declared.mtio.TheConstants.{MTWEOF}
@@ -61,7 +63,7 @@ module _ {P : Type 0} (tells : P → List Passed → Type 0) (device : List ℕ)
   module _ {W : Type 0} (contents : W → Option (List ℕ)) where
     -- no reply is told
     pub print_failed : (p q : P) (out : Counting W) (result : Result KeptReply CallFault) (fault : CallFault) → result ≡ Err fault → IsOperationReply (next_of device op count) tells p q (plain_result result) → IsPrinted contents [] out out true
-        → IsOperated (stream_kind tells contents) device op count (stream_ends p out) (stream_ends q out) 3
+        → IsOperated (stream_kind tells contents) device op count (stream_ends p out) (stream_ends q out) Abnormal
     print_failed p q out result fault is h nothing =
         let w = subst (λ r. IsOperationReply (next_of device op count) tells p q (plain_result r)) is h in
         record {
@@ -74,7 +76,7 @@ module _ {P : Type 0} (tells : P → List Passed → Type 0) (device : List ℕ)
         }
 
     -- a reply is told, and then comes the close
-    pub told_then_closed : (p q r : P) (out out' : Counting W) (status : ℕ) (result result' : Result KeptReply CallFault) (answer : KeptReply) → result ≡ Ok answer
+    pub told_then_closed : (p q r : P) (out out' : Counting W) (status : ExitStatus) (result result' : Result KeptReply CallFault) (answer : KeptReply) → result ≡ Ok answer
         → IsOperationReply (next_of device op count) tells p q (plain_result result) → IsReplyPrinted contents (plain_kept answer) out out' status → IsCalled tells Close (plain_result result') q r
         → IsOperated (stream_kind tells contents) device op count (stream_ends p out) (stream_ends r out') status
     told_then_closed p q r out out' status result (Ok closed) answer is h told k =

@@ -4,6 +4,7 @@ use Rattle.std.specs.Io.KnownBytes.{Appends}
 use Rattle.std.proofs.KnownBytes.{Appends-nil, Appends-trans}
 use Rattle.std.proofs.Math.Seq.{take-append-add, drop-append_seam}
 use Rattle.std.proofs.lemmas.List.{take-append-le, take_min}
+use Rattle.exit_status.specs.declared.status.ExitStatus.{ExitStatus}
 use Rattle.rmt_wire.specs.Counted.{Counting, HasRisen}
 use Rattle.dump_client.specs.Standing.{VolumeCount}
 use Rattle.dump_client.specs.Standing.{Standing, checkpoint_of, state_of}
@@ -132,7 +133,7 @@ module _ {W : Type 0} (contents : W → Option (List ℕ)) where
   }
 
   -- what a dump prints, with its status
-  pub dumped_so : (first : List VolumeCount) (at : Standing) (out out' : Counting W) (end : Conclusion) (status : ℕ) → status ≡ conclusion_status end
+  pub dumped_so : (first : List VolumeCount) (at : Standing) (out out' : Counting W) (end : Conclusion) (status : ExitStatus) → status ≡ conclusion_status end
       → IsConcluded contents first at out out' end → IsDumped contents first at out out' status
   dumped_so first at out out' end status e h = record {
     text = h.text;

@@ -7,6 +7,8 @@ use Rattle.dump_client.specs.Standing.{VolumeCount}
 use Rattle.dump_client.specs.declared.fault.AttemptFault.{AttemptFault}
 use Rattle.dump_client.specs.declared.fault.AttemptFault.TheVariants.{Refused, Botched, ConnectionEnded, ShortWrite, ReelTooSmall, SourceFault, OutOfMemory, CountedReel}
 use Rattle.dump_client.specs.declared.stage.Stage.TheVariants.{Finished}
+use Rattle.exit_status.specs.declared.status.ExitStatus.{ExitStatus}
+use Rattle.exit_status.specs.declared.status.ExitStatus.TheVariants.{Success, Abnormal}
 use Rattle.rmt_wire.specs.Print.{IsPrinted}
 use Rattle.rdump_net.specs.declared.conclusion.Conclusion.{Conclusion}
 use Rattle.rdump_net.specs.declared.conclusion.Conclusion.TheVariants.{Complete, Abandoned, PrintFailed}
@@ -70,17 +72,17 @@ pub data DumpLines (first : List VolumeCount) : List VolumeCount → List ℕ �
       → DumpLines first counts text → DumpLines first counts (text ++ failure_lines (checkpoint_of counts).0 fault)
   asked : {counts : List VolumeCount} {text : List ℕ} → DumpLines first counts text → DumpLines first counts (text ++ question_line)
 
--- The last line and the exit status: 0 if the run is finished, and 3 if it was abandoned. If
--- printing failed, the status is 3.
-abbrev pub IsLast : Bool → Standing → List ℕ → ℕ → Type 0
+-- The last line and the exit status: `Success` if the run is finished, and `Abnormal` if it was
+-- abandoned. If printing failed, the status is `Abnormal`.
+abbrev pub IsLast : Bool → Standing → List ℕ → ExitStatus → Type 0
 IsLast true at last status =
-    ((at.stage ≡ Finished) × (last ≡ complete_line at.counts) × (status ≡ 0))
-    ⊎ ((at.stage ≢ Finished) × (last ≡ abandoned_line) × (status ≡ 3))
-IsLast false at last status = status ≡ 3
+    ((at.stage ≡ Finished) × (last ≡ complete_line at.counts) × (status ≡ Success))
+    ⊎ ((at.stage ≢ Finished) × (last ≡ abandoned_line) × (status ≡ Abnormal))
+IsLast false at last status = status ≡ Abnormal
 
 -- what a dump prints, from the counts `first` up to the client's state `at`, and its exit status
 pub record IsDumped {W : Type 0} (contents : W → Option (List ℕ)) (first : List VolumeCount) (at : Standing)
-    (out out' : Counting W) (status : ℕ) : Type 0 where
+    (out out' : Counting W) (status : ExitStatus) : Type 0 where
   pub text : List ℕ
   pub last : List ℕ
   pub whole : Bool
@@ -107,9 +109,9 @@ pub record IsConcluded {W : Type 0} (contents : W → Option (List ℕ)) (first 
   pub ends : IsConclusion whole at last end
 
 -- the exit status of a dump that ended this way
-abbrev pub conclusion_status : Conclusion → ℕ
-conclusion_status Complete = 0
-conclusion_status end = 3
+abbrev pub conclusion_status : Conclusion → ExitStatus
+conclusion_status Complete = Success
+conclusion_status end = Abnormal
 
 -- what one round of a dump prints; the last round also prints the last line
 abbrev pub IsRound : {W : Type 0} → (W → Option (List ℕ)) → List VolumeCount → Standing → Counting W → Counting W → Option Conclusion → Type 0

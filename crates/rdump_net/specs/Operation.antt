@@ -10,6 +10,8 @@ use Rattle.rmt_wire.specs.declared.mtio.TheConstants.{MTWEOF}
 use Rattle.rdump_net.specs.Calls.{is_done, Stops, Extends, Finishes}
 use Rattle.rdump_net.specs.Ends.{StreamEnds, StreamKind}
 use Rattle.rdump_net.specs.Peer.{Logs}
+use Rattle.exit_status.specs.declared.status.ExitStatus.{ExitStatus}
+use Rattle.exit_status.specs.declared.status.ExitStatus.TheVariants.{Success, Abnormal}
 use Rattle.rmt_wire.specs.Print.{IsPrinted}
 use Rattle.rdump_net.specs.declared.fault.CallFault.{CallFault}
 use Rattle.rdump_net.specs.declared.peer.Passed.{Passed}
@@ -43,14 +45,14 @@ abbrev pub printed_line : Option PlainReply → List ℕ
 printed_line None = []
 printed_line (Some reply) = reply_line reply
 
--- the exit status: 0 if the operation was done and its reply was printed, else 3
-abbrev pub status_after : Option PlainReply → Bool → ℕ
-status_after None whole = 3
-status_after (Some reply) whole = if is_done reply && whole then 0 else 3
+-- the exit status: `Success` if the operation was done and its reply was printed, else `Abnormal`
+abbrev pub status_after : Option PlainReply → Bool → ExitStatus
+status_after None whole = Abnormal
+status_after (Some reply) whole = if is_done reply && whole then Success else Abnormal
 
 -- what an operation does over a peer, what it prints, and its exit status
 pub record IsMt {P W : Type 0} (kind : StreamKind P W) (device : List ℕ) (op count : ℕ) (old new : StreamEnds P W)
-    (status : ℕ) : Type 0 where
+    (status : ExitStatus) : Type 0 where
   pub replies : List PlainReply
   pub fault : Option CallFault
   pub passed : List Passed
@@ -62,7 +64,7 @@ pub record IsMt {P W : Type 0} (kind : StreamKind P W) (device : List ℕ) (op c
 
 -- the same once there is a connection
 pub record IsOperated {P W : Type 0} (kind : StreamKind P W) (device : List ℕ) (op count : ℕ) (old new : StreamEnds P W)
-    (status : ℕ) : Type 0 where
+    (status : ExitStatus) : Type 0 where
   pub replies : List PlainReply
   pub fault : Option CallFault
   pub whole : Bool
@@ -80,6 +82,6 @@ IsOperationReply next tells p p' (Err fault) =
     (replies : List PlainReply) × Finishes next tells p p' [] (Some fault) replies × (printed_reply replies ≡ None)
 
 -- a reply is printed, and this is the exit status
-abbrev pub IsReplyPrinted : {W : Type 0} → (W → Option (List ℕ)) → PlainReply → Counting W → Counting W → ℕ → Type 0
+abbrev pub IsReplyPrinted : {W : Type 0} → (W → Option (List ℕ)) → PlainReply → Counting W → Counting W → ExitStatus → Type 0
 IsReplyPrinted contents reply out out' status =
     (whole : Bool) × IsPrinted contents (reply_line reply) out out' whole × (status ≡ status_after (Some reply) whole)

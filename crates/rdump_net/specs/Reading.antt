@@ -3,6 +3,8 @@
 use Rattle.std.specs.Prelude.{◌≡◌, ◌⊎◌, ◌≤◌, ◌+◌, ◌-◌, ◌^◌, ◌&&◌, ℕ, Bool, true, false, List, [], ◌∷◌, ◌++◌, length, take, position, nat_eq, nat_lt, Option, Some, None, Result, Ok, Err, if◌then◌else◌, Vec}
 use Rattle.std.specs.Global.{Global}
 use Rattle.std.specs.List.{concat}
+use Rattle.exit_status.specs.declared.status.ExitStatus.{ExitStatus}
+use Rattle.exit_status.specs.declared.status.ExitStatus.TheVariants.{Success, Abnormal}
 use Rattle.rmt_wire.specs.declared.fcntl.TheConstants.{O_RDONLY}
 use Rattle.rmt_wire.specs.declared.errno.TheConstants.{EIO}
 use Rattle.rmt_wire.specs.declared.mtio.TheConstants.{MTBSR, MTFSF, MTFSR, MTREW, MTOFFL}
@@ -216,13 +218,13 @@ pub record IsRead {P F W : Type 0} (kind : CopyKind P F W) (device : List ℕ) (
   pub whole : named && filled ≡ is_whole result
   pub ends : ReadEnds (next_of device after) (after_for_records after (records_of replies)) replies passed result
 
--- the exit status: 0 if the volume was read whole, else 3
-abbrev pub status_of : Result Unit ReadFault → ℕ
-status_of (Ok x) = 0
-status_of (Err fault) = 3
+-- the exit status: `Success` if the volume was read whole, else `Abnormal`
+abbrev pub status_of : Result Unit ReadFault → ExitStatus
+status_of (Ok x) = Success
+status_of (Err fault) = Abnormal
 
 -- the exit status of `read_volume`, which leaves the reel in the drive
-abbrev pub IsReadStatus : {P F W : Type 0} → CopyKind P F W → List ℕ → CopyEnds P F W → CopyEnds P F W → ℕ → Type 0
+abbrev pub IsReadStatus : {P F W : Type 0} → CopyKind P F W → List ℕ → CopyEnds P F W → CopyEnds P F W → ExitStatus → Type 0
 IsReadStatus kind device old new status =
     (read : Result Unit ReadFault) × (status ≡ status_of read) × IsRead kind device Stay old new read
 

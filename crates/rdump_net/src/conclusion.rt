@@ -2,11 +2,7 @@
 ghost use Rattle.std.specs.Prelude.{◌≡◌};
 ghost use Rattle.rdump_net.specs.Lines.{conclusion_status};
 
-/// The exit status of a complete dump.
-const COMPLETE: u8 = 0;
-
-/// The exit status of a dump that ended in any other way.
-const ABNORMAL: u8 = 3;
+use exit_status::ExitStatus;
 
 /// How a dump ended.
 #[derive(Clone, Copy, Debug, PartialEq, Eq)]
@@ -22,13 +18,13 @@ pub enum Conclusion {
 }
 
 impl Conclusion {
-    /// Returns the exit status of `rdump dump`: 0 if the dump is complete, else 3.
-    pub fn status(self) -> u8
+    /// Returns the exit status of `rdump dump`: `Success` if the dump is complete, else `Abnormal`.
+    pub fn status(self) -> ExitStatus
         ensures { result ≡ conclusion_status self }
     {
         match self {
-            Conclusion::Complete => COMPLETE,
-            _ => ABNORMAL,
+            Conclusion::Complete => ExitStatus::Success,
+            _ => ExitStatus::Abnormal,
         }
     }
 }

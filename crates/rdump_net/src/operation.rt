@@ -13,17 +13,12 @@ use crate::fault::CallFault;
 use crate::kept_reply::KeptReply;
 use crate::lines::{LINE_ROOM, push_part};
 use arrayvec::ArrayString;
+use exit_status::ExitStatus;
 use rmt_wire::fcntl::{O_RDONLY, O_RDWR};
 use rmt_wire::mtio::MTWEOF;
 use rmt_wire::{Counted, Request, print_text};
 use std::alloc::Global;
 use std::io::Write;
-
-/// The exit status if the operation was done.
-const DONE: u8 = 0;
-
-/// The exit status if the operation was refused, or its reply could not be printed.
-const FAILED: u8 = 3;
 
 /// Does one mtio operation `op`, with this count, at a device, over a connection of its own. It
 /// prints the server's reply on one line: `A1`, or `E5 Input/output error`.
@@ -35,9 +30,9 @@ const FAILED: u8 = 3;
 /// The device is one line of at most `LINE_LIMIT` bytes, and both numbers are at most
 /// `NUMBER_LIMIT`.
 ///
-/// Returns the exit status of `rdump mt`: 0 if the operation was done and the reply was printed,
-/// else 3. Nothing is printed if memory runs out, if the connection ends before the reply, or if
-/// the bytes that come are no reply.
+/// Returns the exit status of `rdump mt`: `Success` if the operation was done and the reply was
+/// printed, else `Abnormal`. Nothing is printed if memory runs out, if the connection ends before
+/// the reply, or if the bytes that come are no reply.
 pub fn mt<P: Peer, W: Write>(
     alloc: Global,
     peer: &mut P,
@@ -45,7 +40,7 @@ pub fn mt<P: Peer, W: Write>(
     op: u32,
     count: u32,
     out: &mut Counted<W>,
-) -> u8
+) -> ExitStatus
     requires device { IsLine device.now }
     requires op { op ≤ NUMBER_LIMIT }
     requires count { count ≤ NUMBER_LIMIT }
@@ -53,10 +48,10 @@ pub fn mt<P: Peer, W: Write>(
         (stream_ends peer.old out.old) (stream_ends peer.new out.new) result }
 {
     let Ok(mut caller) = PeerCaller::new(alloc) else {
-        return FAILED;
+        return ExitStatus::Abnormal;
     };
     if !peer.connect() {
-        return FAILED;
+        return ExitStatus::Abnormal;
     }
     let status = operate(&mut caller, peer, device, op, count, out);
     peer.hang_up();
@@ -71,7 +66,7 @@ fn operate<P: Peer, W: Write>(
     op: u32,
     count: u32,
     out: &mut Counted<W>,
-) -> u8
+) -> ExitStatus
     requires device { IsLine device.now }
     requires op { op ≤ NUMBER_LIMIT }
     requires count { count ≤ NUMBER_LIMIT }
@@ -79,7 +74,7 @@ fn operate<P: Peer, W: Write>(
         (stream_ends peer.old out.old) (stream_ends peer.new out.new) result }
 {
     let Ok(answer) = ask(caller, peer, device, op, count) else {
-        return FAILED;
+        return ExitStatus::Abnormal;
     };
     let status = print_reply(&answer, out);
     let _ = caller.call(peer, &Request::Close);
@@ -116,14 +111,14 @@ fn mode_of(op: u32) -> u32
 }
 
 /// Prints a reply. Returns the exit status.
-fn print_reply<W: Write>(answer: &KeptReply, out: &mut Counted<W>) -> u8
+fn print_reply<W: Write>(answer: &KeptReply, out: &mut Counted<W>) -> ExitStatus
     ensures { IsReplyPrinted W.contents (plain_kept answer.now) out.old out.new result }
 {
     let printed = print_answer(answer, out);
     if answer.is_done() && printed {
-        DONE
+        ExitStatus::Success
     } else {
-        FAILED
+        ExitStatus::Abnormal
     }
 }
 

@@ -13,6 +13,7 @@ use crate::operator::says_yes;
 use crate::{Conclusion, Peer};
 use arrayvec::ArrayString;
 use dump_client::{Answer, AttemptFault, Blocks, Client, State, VolumeCount};
+use exit_status::ExitStatus;
 use rmt_wire::{Counted, print_text};
 use std::alloc::Global;
 use std::io::{Read, Write};
@@ -28,15 +29,15 @@ use std::io::{Read, Write};
 /// anything else it prints `dump abandoned`. If the peer does not let an attempt begin, it prints
 /// `retry?` alone and reads a line too; after `yes` it asks the peer again.
 ///
-/// Returns the exit status of `rdump dump`: 0 if the run is finished and every line was printed,
-/// else 3. After a write that fails it does nothing more.
+/// Returns the exit status of `rdump dump`: `Success` if the run is finished and every line was
+/// printed, else `Abnormal`. After a write that fails it does nothing more.
 pub fn dump<B: Blocks, P: Peer, R: Read, W: Write>(
     alloc: Global,
     client: &mut Client<B>,
     peer: &mut P,
     operator: &mut R,
     out: &mut Counted<W>,
-) -> u8
+) -> ExitStatus
     ensures talks { TalksOver B.holds FromAny P.tells client.old client.new peer.old peer.new }
     ensures printed { IsDumped W.contents client.old.at.counts client.new.at out.old out.new result }
 {

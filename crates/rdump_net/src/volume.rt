@@ -17,18 +17,13 @@ use crate::Peer;
 use crate::caller::PeerCaller;
 use crate::fault::{ReadFault, VolumeRequest};
 use crate::kept_reply::KeptReply;
+use exit_status::ExitStatus;
 use rmt_wire::errno::EIO;
 use rmt_wire::fcntl::O_RDONLY;
 use rmt_wire::mtio::{MTBSR, MTFSF, MTFSR, MTOFFL, MTREW};
 use rmt_wire::{Counted, NUMBER_LIMIT, Request, print_text};
 use std::alloc::Global;
 use std::io::Write;
-
-/// The exit status if the volume was read whole.
-const WHOLE: u8 = 0;
-
-/// The exit status if it was not.
-const FAILED: u8 = 3;
 
 /// What to do with a reel once its volume was read whole.
 #[derive(Clone, Copy, Debug, PartialEq, Eq)]
@@ -45,22 +40,22 @@ pub enum AfterVolume {
 /// Reads the first volume of a reel, as `copy_volume` does with `AfterVolume::Stay`. The reel stays
 /// in the drive.
 ///
-/// Returns the exit status: 0 if the volume was read whole, else 3. The device is one line of at
-/// most `LINE_LIMIT` bytes.
+/// Returns the exit status: `Success` if the volume was read whole, else `Abnormal`. The device is
+/// one line of at most `LINE_LIMIT` bytes.
 pub fn read_volume<P: Peer, F: Write, W: Write>(
     alloc: Global,
     peer: &mut P,
     device: &[u8],
     file: &mut Counted<F>,
     out: &mut Counted<W>,
-) -> u8
+) -> ExitStatus
     requires { IsLine device.now }
     ensures { IsReadStatus (copy_kind P.tells F.contents W.contents) device.now
         (copy_ends peer.old file.old out.old) (copy_ends peer.new file.new out.new) result }
 {
     match copy_volume(alloc, peer, device, AfterVolume::Stay, file, out) {
-        Ok(()) => WHOLE,
-        Err(_) => FAILED,
+        Ok(()) => ExitStatus::Success,
+        Err(_) => ExitStatus::Abnormal,
     }
 }
 

@@ -1,2 +1,3 @@
--- A peer in memory: Telling.
+-- A peer in memory: Telling; exit statuses as numbers: Codes.
 pub mod Telling
+pub mod Codes

@@ -1,23 +1,26 @@
 //! Most of the public items of the crates below, under one name: the parts of `rmtd`, `rdump` and
-//! `rsim`. It adds a peer in memory, which tests use in place of a connection.
+//! `rsim`. Its `dump`, `read_volume`, `mt`, `dates` and `schedule` return the number of their exit
+//! status. It adds a peer in memory, which tests use in place of a connection.
 #![tactic(auto)]
 
+mod exit_codes;
 mod memory_peer;
 
+pub use exit_codes::{dates, dump, mt, read_volume, schedule};
 pub use hold_table::{HoldSeat, HoldTable, TableHand};
 pub use memory_peer::MemoryPeer;
 pub use rdump_args::{DumpLine, ListLine, ListedReels, MtLine, RdumpLine, ReadLine, rdump_args};
 pub use rdump_commands::{rdump, run_arguments, run_client, run_dates, run_dump, run_mt, run_read};
 pub use rdump_files::{
     Clearing, DumpEnd, DumperFault, FileFailed, Gauge, PayloadFile, ProgressLine, ReplacedFile,
-    ResumedDumpFault, Shown, UpdateFault, WholeFile, base_date, date_text, dates, dump_and_update,
-    dumper, dumper_of, enter_dump, named_file, read_or_empty, read_steady, resume_dump, run_of,
+    ResumedDumpFault, Shown, UpdateFault, WholeFile, base_date, date_text, dump_and_update, dumper,
+    dumper_of, enter_dump, named_file, read_or_empty, read_steady, resume_dump, run_of,
     seconds_now, update,
 };
 pub use rdump_list::{ListSystem, is_whole, push_verdict, run_ls};
 pub use rdump_net::{
     AfterVolume, CallFault, Conclusion, Keeper, KeptReply, Passed, Peer, PeerCaller, ReadFault,
-    SocketPeer, VolumeRequest, copy_volume, dump, dump_kept, failure_line, mt, read_volume,
+    SocketPeer, VolumeRequest, copy_volume, dump_kept, failure_line,
 };
 pub use reel_check::{
     Holding, ReelContents, ReelTally, Volume, VolumeEnd, check_reel, dumped_volume, one_holding,
@@ -29,4 +32,4 @@ pub use rmtd_serve::{
     Begun, Connections, Incoming, ListenerSetup, MemoryServer, TapeServer, begin, exit_status,
     folder_stacks, run_stdio, seat_stacks, serve_at, serve_connections, serve_many, start,
 };
-pub use rsim_schedule::{rsim, schedule};
+pub use rsim_schedule::rsim;

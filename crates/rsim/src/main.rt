@@ -1,26 +1,24 @@
 //! The simulator of a dump client, a tape server and other clients.
 #![tactic(auto)]
 
+use exit_status::ExitStatus;
 use rmt_wire::Counted;
 use rsim_schedule::rsim;
 use std::process::ExitCode;
 use std::{env, io};
-
-/// The exit status if the arguments cannot be read, or if `rsim` fails.
-const FAILED: u8 = 1;
 
 /// Runs the simulator with its arguments, and exits with its status.
 fn main(rt: HostRuntime) -> ExitCode {
     let mut out = Counted::new(rt.stdout());
     let status = match arguments(&rt) {
         // An error could not be printed, or an allocation failed.
-        Ok(arguments) => rsim(&rt, &arguments, &mut out).unwrap_or(FAILED),
+        Ok(arguments) => rsim(&rt, &arguments, &mut out).unwrap_or(ExitStatus::StartupError),
         Err(error) => {
             let _ = eprintln!(rt; "rsim: the words could not be read: {error}");
-            FAILED
+            ExitStatus::StartupError
         }
     };
-    ExitCode::from(status)
+    ExitCode::from(status.code())
 }
 
 /// Returns the arguments of the program, with its own name first.

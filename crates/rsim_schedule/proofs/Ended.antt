@@ -2,6 +2,8 @@
 use Rattle.std.proofs.Common.{◌≡◌, ◌≢◌, ◌≤◌, ℕ, List, [], ◌++◌, Bool, true, false, if◌then◌else◌, inl, inr, Option, Result, Ok, Err, IfErr, refl, sym, ap, subst, ◌∙◌}
 use Rattle.std.specs.Result.{IsErrAnd}
 use Rattle.std.proofs.lemmas.Result.{err_from_is_err_and}
+use Rattle.exit_status.specs.declared.status.ExitStatus.{ExitStatus}
+use Rattle.exit_status.specs.declared.status.ExitStatus.TheVariants.{Success, Abnormal}
 use Rattle.rmt_wire.specs.Counted.{Counting}
 use Rattle.rmt_wire.specs.Print.{IsPrinted}
 use Rattle.rdump_net.proofs.Printed.{nothing_printed, printed_both}
@@ -58,11 +60,11 @@ module _ {W : Type 0} (contents : W → Option (List ℕ)) where
   reported drives w (Err NotPossible) report a b c good p is only printed = absurd cc
   reported drives w (Err OutOfMemory) report a b c good p is only printed = absurd cc
 
-  pub all_run : (x : Unit) (a b : Counting W) → IsScheduleRun contents a (Ok x) b → IsScheduled contents a 0 b
+  pub all_run : (x : Unit) (a b : Counting W) → IsScheduleRun contents a (Ok x) b → IsScheduled contents a Success b
   all_run x a b run = inl (run.0, run.1, run.2, refl)
 
-  told : (n : ℕ) (halt : Halt) (text : List ℕ) (whole : Bool) (a b c : Counting W) (status : ℕ) → 1 ≤ n → halt ≢ StreamFailed → IsPlay text
-      → IsPrinted contents text a b true → IsPrinted contents (halt_line n halt) b c whole → status ≡ (if whole then halt_status halt else 3)
+  told : (n : ℕ) (halt : Halt) (text : List ℕ) (whole : Bool) (a b c : Counting W) (status : ExitStatus) → 1 ≤ n → halt ≢ StreamFailed → IsPlay text
+      → IsPrinted contents text a b true → IsPrinted contents (halt_line n halt) b c whole → status ≡ (if whole then halt_status halt else Abnormal)
       → IsScheduled contents a status c
   told n halt text true a b c status first differs play printed line e = inr (inl (
     text ++ halt_line n halt,
@@ -82,7 +84,7 @@ module _ {W : Type 0} (contents : W → Option (List ℕ)) where
   ))
 
   -- a schedule that ends early
-  pub not_all_run : (n : ℕ) (halt : Halt) (a b c : Counting W) (status : ℕ) → 1 ≤ n → IsScheduleRun contents a (Err halt) b
+  pub not_all_run : (n : ℕ) (halt : Halt) (a b c : Counting W) (status : ExitStatus) → 1 ≤ n → IsScheduleRun contents a (Err halt) b
       → IsHaltTold contents n halt b status c → IsScheduled contents a status c
   not_all_run n BadLine a b c status first run line =
       told n BadLine run.0 line.0 a b c status first (λ e. cc) run.1 run.2 line.1 line.2

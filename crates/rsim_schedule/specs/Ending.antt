@@ -1,5 +1,7 @@
 -- How a schedule ends: what it prints, and its exit status. Public contracts cite it.
 use Rattle.std.specs.Prelude.{◌≡◌, ◌≢◌, ◌⊎◌, ◌≤◌, ℕ, Bool, true, false, List, [], ◌++◌, codes, decimal, if◌then◌else◌, Option, Result, Ok, Err}
+use Rattle.exit_status.specs.declared.status.ExitStatus.{ExitStatus}
+use Rattle.exit_status.specs.declared.status.ExitStatus.TheVariants.{Success, StartupError, Abnormal}
 use Rattle.rmt_wire.specs.Counted.{Counting}
 use Rattle.rmt_wire.specs.Print.{IsPrinted}
 use Rattle.world_model.specs.World.{World}
@@ -17,18 +19,19 @@ halt_line n OutOfMemory = codes "line " ++ decimal n ++ codes ": out of memory\n
 halt_line n StreamFailed = []
 
 -- the exit status of a schedule that ends early
-abbrev pub halt_status : Halt → ℕ
-halt_status BadLine = 1
-halt_status NotPossible = 1
-halt_status OutOfMemory = 3
-halt_status StreamFailed = 3
+abbrev pub halt_status : Halt → ExitStatus
+halt_status BadLine = StartupError
+halt_status NotPossible = StartupError
+halt_status OutOfMemory = Abnormal
+halt_status StreamFailed = Abnormal
 
--- The line for this halt was printed, and `status` is its exit status, or 3 if that write failed.
+-- The line for this halt was printed, and `status` is its exit status, or `Abnormal` if that write
+-- failed.
 -- For `StreamFailed` nothing is printed.
-abbrev pub IsHaltTold : {W : Type 0} → (W → Option (List ℕ)) → ℕ → Halt → Counting W → ℕ → Counting W → Type 0
-IsHaltTold contents n StreamFailed out status out' = (out' ≡ out) × (status ≡ 3)
+abbrev pub IsHaltTold : {W : Type 0} → (W → Option (List ℕ)) → ℕ → Halt → Counting W → ExitStatus → Counting W → Type 0
+IsHaltTold contents n StreamFailed out status out' = (out' ≡ out) × (status ≡ Abnormal)
 IsHaltTold contents n halt out status out' =
-    (whole : Bool) × IsPrinted contents (halt_line n halt) out out' whole × (status ≡ (if whole then halt_status halt else 3))
+    (whole : Bool) × IsPrinted contents (halt_line n halt) out out' whole × (status ≡ (if whole then halt_status halt else Abnormal))
 
 -- events led from the first world of these good drives to this world, and printed this text
 pub record HasPlayed (w : World) (text : List ℕ) : Type 0 where
@@ -66,18 +69,18 @@ IsScheduleRun contents out (Err StreamFailed) out' =
 IsScheduleRun contents out (Err halt) out' = (text : List ℕ) × IsPlay text × IsPrinted contents text out out' true
 
 -- How a schedule ended:
--- - status 0: the report was printed.
+-- - `Success`: the report was printed.
 -- - the status of a halt: the line of that halt was printed.
--- - status 3: a write failed, and only a beginning of the text was printed.
-abbrev pub IsScheduled : {W : Type 0} → (W → Option (List ℕ)) → Counting W → ℕ → Counting W → Type 0
+-- - `Abnormal`: a write failed, and only a beginning of the text was printed.
+abbrev pub IsScheduled : {W : Type 0} → (W → Option (List ℕ)) → Counting W → ExitStatus → Counting W → Type 0
 IsScheduled contents out status out' =
-    ((text : List ℕ) × IsReport text × IsPrinted contents text out out' true × (status ≡ 0))
+    ((text : List ℕ) × IsReport text × IsPrinted contents text out out' true × (status ≡ Success))
     ⊎ ((text : List ℕ) × (n : ℕ) × (halt : Halt) × (1 ≤ n) × (halt ≢ StreamFailed) × IsHalted n halt text
     × IsPrinted contents text out out' true × (status ≡ halt_status halt))
     ⊎ ((text : List ℕ) × (IsPlay text ⊎ IsReport text ⊎ ((n : ℕ) × (halt : Halt) × IsHalted n halt text))
-    × IsPrinted contents text out out' false × (status ≡ 3))
+    × IsPrinted contents text out out' false × (status ≡ Abnormal))
 
 -- A schedule was run, and this is its status. Or no schedule was run, nothing was printed on `out`,
--- and the status is 0 or 1.
-abbrev pub IsRsim : {W : Type 0} → (W → Option (List ℕ)) → Counting W → ℕ → Counting W → Type 0
-IsRsim contents out status out' = IsScheduled contents out status out' ⊎ ((out' ≡ out) × ((status ≡ 0) ⊎ (status ≡ 1)))
+-- and the status is `Success` or `StartupError`.
+abbrev pub IsRsim : {W : Type 0} → (W → Option (List ℕ)) → Counting W → ExitStatus → Counting W → Type 0
+IsRsim contents out status out' = IsScheduled contents out status out' ⊎ ((out' ≡ out) × ((status ≡ Success) ⊎ (status ≡ StartupError)))

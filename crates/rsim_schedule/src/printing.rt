@@ -1,5 +1,6 @@
 //! What is printed while a schedule runs, and when it ends early.
 ghost use Rattle.std.specs.Prelude.{◌≡◌, ◌≤◌, ◌++◌, Bool, length, codes, decimal, if◌then◌else◌, IfErr};
+ghost use Rattle.exit_status.specs.declared.status.ExitStatus.TheVariants.{Abnormal};
 ghost use Rattle.rdump_net.specs.Lines.{failure_line as line_of};
 ghost use Rattle.rmt_wire.specs.Print.{IsPrinted};
 ghost use Rattle.rsim_schedule.specs.Playing.{is_whole};
@@ -9,16 +10,11 @@ ghost use Rattle.rsim_schedule.specs.declared.halt.Halt.TheVariants.{StreamFaile
 use crate::halt::Halt;
 use arrayvec::ArrayString;
 use dump_client::AttemptFault;
+use exit_status::ExitStatus;
 use itoa::Buffer;
 use rdump_net::{LINE_ROOM, failure_line};
 use rmt_wire::{Counted, print_text};
 use std::io::Write;
-
-/// The exit status if a line is bad or not possible.
-const AT_FAULT: u8 = 1;
-
-/// The exit status if an allocation or a write failed.
-const FAILED: u8 = 3;
 
 /// Prints the line of a failed attempt.
 pub(crate) fn print_failure<W: Write>(
@@ -44,29 +40,34 @@ pub(crate) fn print_all<W: Write>(text: &[u8], out: &mut Counted<W>) -> Result<(
 
 /// Prints why the schedule ends at line `number`, and returns the exit status. After a failed write
 /// it prints nothing.
-pub(crate) fn print_halt<W: Write>(number: usize, halt: Halt, out: &mut Counted<W>) -> u8
+pub(crate) fn print_halt<W: Write>(number: usize, halt: Halt, out: &mut Counted<W>) -> ExitStatus
     ensures { IsHaltTold W.contents number halt out.old result out.new }
 {
     match halt {
-        Halt::BadLine => print_last(number, ": bad line\n", AT_FAULT, out),
-        Halt::NotPossible => print_last(number, ": not possible\n", AT_FAULT, out),
-        Halt::OutOfMemory => print_last(number, ": out of memory\n", FAILED, out),
-        Halt::StreamFailed => FAILED,
+        Halt::BadLine => print_last(number, ": bad line\n", ExitStatus::StartupError, out),
+        Halt::NotPossible => print_last(number, ": not possible\n", ExitStatus::StartupError, out),
+        Halt::OutOfMemory => print_last(number, ": out of memory\n", ExitStatus::Abnormal, out),
+        Halt::StreamFailed => ExitStatus::Abnormal,
     }
 }
 
-/// Prints the last line of a schedule that ends early. Returns `status`, or `FAILED` if the write
+/// Prints the last line of a schedule that ends early. Returns `status`, or `Abnormal` if the write
 /// fails.
-fn print_last<W: Write>(number: usize, what: &str, status: u8, out: &mut Counted<W>) -> u8
+fn print_last<W: Write>(
+    number: usize,
+    what: &str,
+    status: ExitStatus,
+    out: &mut Counted<W>,
+) -> ExitStatus
     requires { length what.now ≤ 16 }
     ensures { (whole : Bool) × IsPrinted W.contents (codes "line " ++ decimal number ++ what.now) out.old out.new whole
-        × (result ≡ (if whole then status else FAILED)) }
+        × (result ≡ (if whole then status else Abnormal)) }
 {
     let line = halt_text(number, what);
     if print_text(out, line.as_bytes()) {
         status
     } else {
-        FAILED
+        ExitStatus::Abnormal
     }
 }
 

@@ -1,25 +1,24 @@
 //! The program `rsim`.
 ghost use Rattle.std.specs.Prelude.{◌≡◌, ◌⊎◌, OnErr, IfOk};
+ghost use Rattle.exit_status.specs.declared.status.ExitStatus.TheVariants.{StartupError, Success};
 ghost use Rattle.rsim_schedule.specs.Ending.{IsRsim};
 
 use crate::arguments::file_in;
 use crate::running::schedule;
 use clap::error::ErrorKind;
+use exit_status::ExitStatus;
 use rmt_wire::Counted;
 use std::io::Write;
 use std::rt::Files;
 use std::{fs, io};
 
-/// The exit status if the arguments are wrong, or the file cannot be read.
-const FAILED: u8 = 1;
-
 /// Runs the program `rsim`: runs the schedule in the file that the arguments name, and prints on
 /// `out` as `schedule` does. The first argument is the name of the program itself.
 ///
 /// Returns the exit status of the schedule. If the arguments are wrong or the file cannot be read,
-/// it prints one line on standard error and returns 1. It does the same if parsing the arguments
-/// runs out of memory. It prints the help and the version on standard output and returns 0, or 1 if
-/// that write fails.
+/// it prints one line on standard error and returns `StartupError`. It does the same if parsing the
+/// arguments runs out of memory. It prints the help and the version on standard output and returns
+/// `Success`, or `StartupError` if that write fails.
 ///
 /// Fails only if an allocation for the list of arguments fails, or if a line cannot be printed on
 /// standard error. In both cases no schedule was run.
@@ -27,7 +26,7 @@ pub fn rsim<R: Files + Print + Eprint + AllocGlobal, W: Write>(
     rt: &R,
     arguments: &[String],
     out: &mut Counted<W>,
-) -> io::Result<u8>
+) -> io::Result<ExitStatus>
     ensures ended { IfOk result (λ status. IsRsim W.contents out.old status out.new) }
     ensures failed { OnErr result (out.new ≡ out.old) }
 {
@@ -47,7 +46,7 @@ fn run_file<R: Files + Eprint + AllocGlobal, W: Write>(
     rt: &R,
     file: &str,
     out: &mut Counted<W>,
-) -> io::Result<u8>
+) -> io::Result<ExitStatus>
     ensures ended { IfOk result (λ status. IsRsim W.contents out.old status out.new) }
     ensures failed { OnErr result (out.new ≡ out.old) }
 {
@@ -59,26 +58,26 @@ fn run_file<R: Files + Eprint + AllocGlobal, W: Write>(
 
 /// Prints one line on standard error that the arguments are wrong, and returns the exit status.
 /// Prints the help and the version on standard output.
-fn refuse<R: Print + Eprint>(rt: &R, error: clap::Error) -> io::Result<u8>
-    ensures { IfOk result (λ status. (status ≡ 0) ⊎ (status ≡ FAILED)) }
+fn refuse<R: Print + Eprint>(rt: &R, error: clap::Error) -> io::Result<ExitStatus>
+    ensures { IfOk result (λ status. (status ≡ Success) ⊎ (status ≡ StartupError)) }
 {
     if error.kind() == ErrorKind::OutOfMemory {
         return print_error(rt, "the words", io::ErrorKind::OutOfMemory.into());
     }
     if error.use_stderr() {
         eprintln!(rt; "rsim: wrong words: one FILE is wanted, see rsim --help")?;
-        return Ok(FAILED);
+        return Ok(ExitStatus::StartupError);
     }
     match error.print(rt) {
-        Ok(()) => Ok(0),
+        Ok(()) => Ok(ExitStatus::Success),
         Err(why) => print_error(rt, "standard output", why),
     }
 }
 
 /// Prints on standard error what failed and why, and returns the exit status.
-fn print_error<R: Eprint>(rt: &R, what: &str, why: io::Error) -> io::Result<u8>
-    ensures { IfOk result (λ status. status ≡ FAILED) }
+fn print_error<R: Eprint>(rt: &R, what: &str, why: io::Error) -> io::Result<ExitStatus>
+    ensures { IfOk result (λ status. status ≡ StartupError) }
 {
     eprintln!(rt; "rsim: {what}: {why}")?;
-    Ok(FAILED)
+    Ok(ExitStatus::StartupError)
 }

@@ -11,6 +11,7 @@ use crate::player::play_all;
 use crate::printing::{print_all, print_halt};
 use crate::report::report_of;
 use crate::setup::{read_drives, world_of};
+use exit_status::ExitStatus;
 use rmt_wire::Counted;
 use std::alloc::Global;
 use std::io::Write;
@@ -24,14 +25,14 @@ use tape_world::World;
 /// `line 3: not possible`. Lines count from 1. If an allocation fails, it prints
 /// `line 3: out of memory`. After a failed write it prints nothing more.
 ///
-/// Returns the exit status of `rsim`: 0 if all lines were run, 1 if a line is faulty, and 3 if an
-/// allocation or a write failed.
-pub fn schedule<W: Write>(alloc: Global, text: &[u8], out: &mut Counted<W>) -> u8
+/// Returns the exit status of `rsim`: `Success` if all lines were run, `StartupError` if a line is
+/// faulty, and `Abnormal` if an allocation or a write failed.
+pub fn schedule<W: Write>(alloc: Global, text: &[u8], out: &mut Counted<W>) -> ExitStatus
     ensures { IsScheduled W.contents out.old result out.new }
 {
     let mut lines = ScheduleLines::new(text);
     match run_all(alloc, &mut lines, out) {
-        Ok(()) => 0,
+        Ok(()) => ExitStatus::Success,
         Err(halt) => print_halt(lines.number, halt, out),
     }
 }

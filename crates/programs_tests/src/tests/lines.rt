@@ -139,7 +139,7 @@ fn prints(
     let mut printed = Vec::new(alloc);
     let mut out = Counted::new(&mut printed);
     let end = dump_and_update(alloc, client, peer, &mut operator, &mut out, store);
-    end.status == row.status && end.fault == row.fault && printed.as_slice() == row.printed
+    end.status.code() == row.status && end.fault == row.fault && printed.as_slice() == row.printed
 }
 
 /// Whether a dump of this client goes as the row says.

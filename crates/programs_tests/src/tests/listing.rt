@@ -89,7 +89,7 @@ fn listed(rt: &HostRuntime, path: &'static str) -> Result<u8, AllocError> {
         dumpdates: None,
         blocks: None,
     };
-    Ok(run_ls(rt, line))
+    Ok(run_ls(rt, line).code())
 }
 
 /// `rdump ls` returns 0 for a whole volume, 3 for one that has only a label, and 1 for a missing

@@ -5,8 +5,8 @@ ghost use Rattle.std.specs.Prelude.{◌≡◌, ◌≤◌, length};
 
 use super::fixture::{DEVICE, PayloadDumper, client};
 use drives::{DriveTable, ListStacks, LocalHolds, Stacks};
-use rdump_net::{Peer, dump};
-use rmt_tools::MemoryPeer;
+use rdump_net::Peer;
+use rmt_tools::{MemoryPeer, dump};
 use rmt_wire::Counted;
 use std::alloc::Global;
 use std::test::Fail;

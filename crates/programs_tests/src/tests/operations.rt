@@ -3,7 +3,7 @@
 use super::check_row;
 use super::fake::{FakePeer, Replies};
 use super::fixture::DEVICE;
-use rdump_net::mt;
+use rmt_tools::mt;
 use rmt_wire::Counted;
 use std::alloc::Global;
 

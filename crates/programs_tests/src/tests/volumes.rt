@@ -3,7 +3,8 @@
 use super::check_row;
 use super::fake::{FakePeer, Replies};
 use super::fixture::DEVICE;
-use rdump_net::{AfterVolume, CallFault, ReadFault, VolumeRequest, copy_volume, read_volume};
+use rdump_net::{AfterVolume, CallFault, ReadFault, VolumeRequest, copy_volume};
+use rmt_tools::read_volume;
 use rmt_wire::Counted;
 use std::alloc::Global;
 use std::io::Write;

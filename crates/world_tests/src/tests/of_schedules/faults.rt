@@ -65,7 +65,7 @@ fn nothing_follows_a_failed_write(rt: HostRuntime) {
             taken: &mut taken,
             left: *left,
         });
-        let status = schedule(rt.alloc(), text, &mut out);
+        let status = schedule(rt.alloc(), text, &mut out).code();
         assert!(rt; (status, out.failures()) == *ended);
         drop(out);
         assert_eq!(rt; taken.as_slice(), *printed);

@@ -16,7 +16,7 @@ pub(crate) struct Case {
 pub(crate) fn check(alloc: Global, text: &[u8], wanted: &[u8], status: u8) -> Result<(), Fail> {
     let mut printed = Vec::new(alloc);
     let mut out = Counted::new(&mut printed);
-    let told = schedule(alloc, text, &mut out);
+    let told = schedule(alloc, text, &mut out).code();
     if told == status && printed.as_slice() == wanted {
         return Ok(());
     }

@@ -23,7 +23,7 @@ fn ended_on(rt: &HostRuntime, path: &str) -> Result<(Vec<u8>, u8), Fail> {
     arguments.push(String::from_str(rt.alloc(), path)?)?;
     let mut printed = Vec::new(rt.alloc());
     let mut out = Counted::new(&mut printed);
-    let status = rsim(rt, &arguments, &mut out)?;
+    let status = rsim(rt, &arguments, &mut out)?.code();
     Ok((printed, status))
 }
 
