@@ -23,7 +23,7 @@ pub fn run_dates<R: ClientSystem>(rt: &R, file: &str, asked: Option<(&str, u8)>)
         Err(error) => return report(rt, file, error),
     };
     let mut out = Counted::new(io::writer(rt));
-    let status = dates(rt.alloc(), &bytes, asked, &mut out);
+    let status = dates(rt.alloc(), &bytes, asked, &mut out).code();
     if status == FAILED && is_bad(rt.alloc(), &bytes) {
         print_fault(rt, file, NO_DUMPDATES);
     }

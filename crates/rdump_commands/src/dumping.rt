@@ -12,6 +12,7 @@ use crate::fault::{ABNORMAL, NO_DUMPDATES, report_failed, report_failures};
 use crate::reporting_peer::ReportingPeer;
 use dump_client::{Blocks, Client};
 use dumpdates::DatesFault;
+use exit_status::ExitStatus;
 use printable::plain;
 use rdump_args::DumpLine;
 use rdump_files::{Clearing, FileFailed, ReplacedFile, UpdateFault, dump_and_update, enter_dump};
@@ -87,7 +88,7 @@ fn dump_over<R: ClientSystem, B: Blocks, P: Peer, I: Read, W: Write>(
     if line.update {
         dump_entered(rt, line.dumpdates, client, peer, operator, out)
     } else {
-        dump(rt.alloc(), client, peer, operator, out)
+        dump(rt.alloc(), client, peer, operator, out).code()
     }
 }
 
@@ -108,7 +109,7 @@ fn dump_entered<R: ClientSystem, B: Blocks, P: Peer, I: Read, W: Write>(
     if let Some(fault) = end.fault {
         report_unentered(rt, dumpdates, fault, file.failure());
     }
-    end.status
+    end.status.code()
 }
 
 /// Has a client dump as `run_client` does, and keeps its checkpoint in `file`. The file is removed
@@ -238,7 +239,7 @@ fn enter<R: ClientSystem, B: Blocks, W: Write>(
         report_unentered(rt, dumpdates, fault, file.failure());
     }
     match end.status {
-        COMPLETE => COMPLETE,
+        ExitStatus::Success => COMPLETE,
         _ => ABNORMAL,
     }
 }

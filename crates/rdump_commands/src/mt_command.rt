@@ -51,7 +51,7 @@ fn answer_of<R: ClientSystem>(
 {
     let mut out = Counted::new(answer);
     let device = line.device.as_bytes();
-    mt(rt.alloc(), peer, device, line.op, line.count, &mut out)
+    mt(rt.alloc(), peer, device, line.op, line.count, &mut out).code()
 }
 
 /// Prints that no reply came from the server at this address, with the system's error if there is

@@ -54,7 +54,7 @@ pub fn run_arguments<R: ClientSystem, S: AsStr, T: Write + Copy + Drop>(
     match rdump_args(rt.alloc(), arguments) {
         Ok(RdumpLine::Dump(line)) => run_dump(rt, &line, terminal),
         Ok(RdumpLine::Read(line)) => run_read(rt, line),
-        Ok(RdumpLine::List(line)) => run_ls(rt, line),
+        Ok(RdumpLine::List(line)) => run_ls(rt, line).code(),
         Ok(RdumpLine::Mt(line)) => run_mt(rt, line),
         Ok(RdumpLine::Dates { file, asked }) => run_dates(rt, file, asked),
         Err(error) => refuse(rt, error),
