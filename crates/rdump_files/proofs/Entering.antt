@@ -1,5 +1,5 @@
 -- When a dump is entered in a dumpdates file.
-use Rattle.std.proofs.Common.{◌≡◌, ◌≢◌, ℕ, Bool, true, false, List, Option, None, Some, Result, refl, subst, inl, inr, arith}
+use Rattle.std.proofs.Common.{◌≡◌, ◌≢◌, ℕ, Bool, true, false, List, Option, None, Some, Result, refl, subst, inl, inr}
 use Rattle.exit_status.specs.declared.status.ExitStatus.{ExitStatus}
 use Rattle.exit_status.specs.declared.status.ExitStatus.TheVariants.{Success, Abnormal}
 use Rattle.rmt_wire.specs.Counted.{Counting}
