@@ -29,7 +29,7 @@ pub use reel_check::{
 pub use reel_files::{FileMedium, FolderDrive, FolderFault, FolderStacks};
 pub use rmtd_args::{DriveArgument, LineFault, ServerLine, server_line, server_words};
 pub use rmtd_serve::{
-    Begun, Connections, Incoming, ListenerSetup, MemoryServer, TapeServer, begin, exit_status,
+    Begun, Connections, ExitStatus, Incoming, ListenerSetup, MemoryServer, TapeServer, begin,
     folder_stacks, run_stdio, seat_stacks, serve_at, serve_connections, serve_many, start,
 };
 pub use rsim_schedule::rsim;

@@ -14,7 +14,7 @@ fn main(rt: HostRuntime) -> io::Result<ExitCode> {
     let mut input = Counted::new(rt.stdin());
     let mut output = Counted::new(rt.stdout());
     let (listener, listener_setup) = match start(&rt, &mut input, &mut output)? {
-        Begun::End(status) => return Ok(ExitCode::from(status)),
+        Begun::End(status) => return Ok(ExitCode::from(status.code())),
         Begun::Serve(listener, listener_setup) => (listener, listener_setup),
     };
     let ListenerSetup {
@@ -32,5 +32,5 @@ fn main(rt: HostRuntime) -> io::Result<ExitCode> {
     let connections = Connections::new(&rt, &listener, left, log);
     let (connections, seats) = serve_many(&rt, rt.alloc(), connections, &table, seats, stacks);
     close_table(table, seats);
-    Ok(ExitCode::from(connections.status()))
+    Ok(ExitCode::from(connections.status().code()))
 }

@@ -30,11 +30,14 @@ use Rattle.drives.specs.ListLibrary.{ListLibrary, library_of}
 use Rattle.drives.specs.contracts.list.ListStacksStacks.TheImpl.{ghosts as of_stacks}
 use Rattle.tape.specs.contracts.troubled.TroubledReelReel.TheImpl.{ghosts as of_reel}
 use Rattle.rmt_server.specs.Stream.CarryRun.{none, one_more}
+use Rattle.rmtd_serve.specs.declared.session_fault.SessionFault.{SessionFault}
 use Rattle.rmtd_serve.specs.Serving.{AllFree, IsAtRest, IsServedNext, ServedInTurn}
+use Rattle.rmtd_serve.specs.Generic.{IsServedAt}
+use Rattle.rmtd_serve.specs.Generic.IsServedAt.{no_memory, no_seat, one_served}
 use Rattle.rmtd_serve.specs.Seating.{ServesStreams}
 use Rattle.rmtd_serve.specs.Seating.ServesStreams.{untouched, served as by_session}
 use Rattle.rmtd_serve.specs.Serving.ServedInTurn.{none as none_served, one_more as one_more_served}
-use Rattle.rmtd_serve.proofs.Endings.{ends_with, none_fails, unserved}
+use Rattle.rmtd_serve.proofs.Endings.{ends_with, none_fails, none_ends, unserved}
 
 -- a word that is 0 or this number is so after a close
 after_close : (drive : Option ℕ) (number d n : ℕ) → (n ≡ 0) ⊎ (n ≡ number) → (holder_after_close drive d n ≡ 0) ⊎ (holder_after_close drive d n ≡ number)
@@ -158,7 +161,7 @@ seated_free holds new free e = rw e free
 
 -- and after a session of its own
 pub served_free : {S R In Out : Type 0} (s : StacksPromise S R) (r : ReelPromise R) {kind : StreamsKind In Out} {old new : Streams In Out}
-    {ending : Option Served} (start : State Holders S View R) {finish : State Holders S View R} → AllFree start.drives.holds
+    {ending : Result Served SessionFault} (start : State Holders S View R) {finish : State Holders S View R} → AllFree start.drives.holds
     → ServesStreams (kinds of_holds s r) kind start old new ending finish → AllFree finish.drives.holds
 served_free s r start free (untouched i o) = free
 served_free s r start free (by_session finish result is steady) = ends_free s r _ start is.last finish free refl is.run is.ended
@@ -168,43 +171,40 @@ pub free_alone : {S R : Type 0} (s : StacksPromise S R) (r : ReelPromise R) (x :
     → IsAlone (kinds of_holds s r) x
 free_alone s r x free d l = (0, (l, free d l), λ y. absurd (omega arith))
 
--- a stream that is served from drives at rest leaves drives at rest, and its requests are a run of serve steps from the reels as they lay
-pub served_from_rest : {In Out : Type 0} {remaining : In → Option (List ℕ)} {contents : Out → Option (List ℕ)} {result : Result Served ServeFault}
-    {input input' : Counting In} {output output' : Counting Out} (start new : MemoryState) → IsAtRest start.drives → start.opened ≡ None
+-- a session at stacks at rest leaves them at rest, and its requests are a run of serve steps from the reels as they lay
+served_from_rest : {In Out : Type 0} {remaining : In → Option (List ℕ)} {contents : Out → Option (List ℕ)} {result : Result Served ServeFault}
+    {input input' : Counting In} {output output' : Counting Out} (start new : MemoryState) → IsAtRest start.drives.stacks → start.opened ≡ None
+    → IsAlone in_memory start
     → (served : IsServedAs in_memory (streams_kind remaining contents) result (streams input output) (streams input' output') start new)
-    → IsAtRest new.drives
+    → IsAtRest new.drives.stacks
     × ((finish : SessionView) × ServeRun false false true (session_view (library_of start.drives.stacks) Idle) served.done finish
     × (library_of new.drives.stacks ≡ (closed finish).library))
-served_from_rest start new rest closed served =
+served_from_rest start new rest closed alone served =
     let idle : IsViewedAs of_reel start.opened Idle = subst (λ o. IsViewedAs of_reel o Idle) (sym closed) refl in
     let quiet : MayFail in_memory start false = none_fails in_memory start rest.quiet closed in
-    let steps = served.steps false false quiet (inr (free_alone of_stacks of_reel start rest.free))
+    let steps = served.steps false false quiet (inr alone)
     (session_view (library_of start.drives.stacks) Idle) record { library = rest.told; session = idle } in (
       record {
-        free = ends_free of_stacks of_reel _ start served.last new rest.free refl served.run served.ended;
-        enough = served.ended.at.enough;
         told = (refl, subst EachReelOnce steps.2.0 steps.2.1);
         quiet = λ f. let bad : false ≡ true = quiet (ends_quiet served.run served.ended (inl f)) in absurd cc;
       },
       (steps.0, steps.1, sym steps.2.0),
     )
 
--- a session of its own leaves drives at rest, and what it served is a run from the reels as they lay
-pub served_at_rest : {In Out : Type 0} {remaining : In → Option (List ℕ)} {contents : Out → Option (List ℕ)} {ending : Option Served}
-    {input input' : Counting In} {output output' : Counting Out} (start : MemoryState) {finish : MemoryState} → IsAtRest start.drives → start.opened ≡ None
-    → ServesStreams in_memory (streams_kind remaining contents) start (streams input output) (streams input' output') ending finish
-    → IsAtRest finish.drives
-    × IsServedNext (streams_kind remaining contents) (library_of start.drives.stacks) (library_of finish.drives.stacks) (streams input output) (streams input' output') ending
-served_at_rest {remaining = remaining} {contents} {input = input} {input'} {output} start rest nothing (untouched i o) =
-    let library = library_of start.drives.stacks in (
-      rest,
-      subst (λ o'. IsServedNext (streams_kind remaining contents) library library (streams input output) (streams input' o') None) (sym o)
-          (subst (λ i'. IsServedNext (streams_kind remaining contents) library library (streams input output) (streams i' output) None) (sym i) (unserved refl refl)),
-    )
-served_at_rest {remaining = remaining} {contents} {input = input} {input'} {output} {output'} start rest nothing (by_session finish result is steady) =
-    let from = served_from_rest start finish rest nothing is in
+-- a stream that is served at stacks at rest leaves them at rest, and what it served is a run from the reels as they lay
+pub served_at_rest : {In Out : Type 0} (remaining : In → Option (List ℕ)) (contents : Out → Option (List ℕ)) {ending : Result Served SessionFault}
+    {input input' : Counting In} {output output' : Counting Out} {before after : ListLibrary} → IsAtRest before
+    → IsServedAt in_memory (streams_kind remaining contents) before after (streams input output) (streams input' output') ending
+    → IsAtRest after
+    × IsServedNext (streams_kind remaining contents) (library_of before) (library_of after) (streams input output) (streams input' output') ending
+served_at_rest remaining contents rest (no_memory same i o) =
+    (subst IsAtRest (sym same) rest, unserved remaining contents (ap library_of same) i (none_ends remaining contents i o))
+served_at_rest remaining contents rest (no_seat same i o) =
+    (subst IsAtRest (sym same) rest, unserved remaining contents (ap library_of same) i (none_ends remaining contents i o))
+served_at_rest remaining contents {input = input} {input'} {output} {output'} rest (one_served start finish result b n alone a f is steady) =
+    let from = served_from_rest start finish (subst IsAtRest (sym b) rest) n alone is in
     let run = from.1 in (
-      from.0,
+      subst IsAtRest a from.0,
       record {
         read = is.read;
         done = is.done;
@@ -212,15 +212,10 @@ served_at_rest {remaining = remaining} {contents} {input = input} {input'} {outp
         finish = run.0;
         consumed = is.consumed;
         ends = ends_with remaining contents result input input' output output' is.read is.done is.rest is.ends steady;
-        run = run.1;
-        left = run.2;
+        run = subst (λ s. ServeRun false false true (session_view (library_of s) Idle) is.done run.0) b run.1;
+        left = ap library_of (sym a) ∙ run.2;
       },
     )
-
--- drives at rest are so after one more seat was given
-pub seated_rest : {holds : Holders} (new : Holders) (stacks : ListLibrary) → IsAtRest (record { holds = holds; stacks = stacks })
-    → {last : ℕ} → new ≡ holders holds.numbers last → IsAtRest (record { holds = new; stacks = stacks })
-seated_rest new stacks rest e = rw e (record { free = rest.free; enough = rest.enough; told = rest.told; quiet = rest.quiet })
 
 -- streams served after others that were
 pub in_turn : {first between last : TapeLibrary} → ServedInTurn first between → ServedInTurn between last → ServedInTurn first last

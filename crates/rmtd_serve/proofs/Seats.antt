@@ -1,6 +1,5 @@
 -- What a seat keeps while a session works at it, and how it comes back.
-use Rattle.std.proofs.Common.{◌≡◌, ℕ, ◌≤◌, List, Option, None, OnOk, Result, refl, sym, subst, ◌∙◌}
-use Rattle.std.specs.Result.{result_ok}
+use Rattle.std.proofs.Common.{◌≡◌, ℕ, ◌≤◌, List, Option, None, OnOk, Result, Err, refl, sym, subst, ◌∙◌}
 use Rattle.rmt_wire.specs.Counted.{Counting}
 use Rattle.drives.specs.declared.table.DriveTable.{DriveTable}
 use Rattle.drives.specs.Holding.{HoldsJust}
@@ -11,6 +10,9 @@ use Rattle.rmt_server.specs.declared.stream.ServeFault.{ServeFault}
 use Rattle.rmt_server.specs.State.{State, state, seated_at, IsAt, KeepsDrives}
 use Rattle.rmt_server.specs.Stream.{streams, streams_kind, Exchange, CarryRun, IsServedAs, NoneFailed}
 use Rattle.rmt_server.specs.Stream.CarryRun.{none, one_more}
+use Rattle.rmtd_serve.specs.declared.session_fault.SessionFault.{SessionFault}
+use Rattle.rmtd_serve.specs.declared.session_fault.SessionFault.TheVariants.{OutOfMemory}
+use Rattle.rmtd_serve.specs.Status.{ending_of}
 use Rattle.rmtd_serve.specs.Seating.{IsServedAfresh, KeepsSeats, ServesStreams}
 use Rattle.rmtd_serve.specs.Seating.ServesStreams.{untouched, served}
 
@@ -47,7 +49,7 @@ idle_at k drives seat own idle enough = record {
 pub untouched_back : {H S Seat R In Out : Type 0} (k : Kinds H Seat S R) (remaining : In → Option (List ℕ)) (contents : Out → Option (List ℕ))
     (drives : DriveTable H S Seat R) (seat back : Seat) (input : Counting In) (output : Counting Out)
     → k.holds.belongs drives.holds seat → HoldsJust (k.holds.shows seat) None → k.stacks.drives drives.stacks ≤ k.holds.drives drives.holds
-    → back ≡ seat → IsServedAfresh k (streams_kind remaining contents) (seated_at drives seat None) (streams input output) (streams input output) drives back None
+    → back ≡ seat → IsServedAfresh k (streams_kind remaining contents) (seated_at drives seat None) (streams input output) (streams input output) drives back (Err OutOfMemory)
 untouched_back k remaining contents drives seat back input output own idle enough same = record {
   finish = seated_at drives seat None;
   serves = untouched refl refl;
@@ -61,9 +63,9 @@ untouched_back k remaining contents drives seat back input output own idle enoug
 -- a session with nothing open is served, and its seat comes back
 pub served_back : {H S Seat R In Out : Type 0} (k : Kinds H Seat S R) (remaining : In → Option (List ℕ)) (contents : Out → Option (List ℕ))
     (drives drives' : DriveTable H S Seat R) (seat : Seat) (session_state session_state' : SessionState Seat R) (input input' : Counting In) (output output' : Counting Out)
-    (result : Result Served ServeFault) (back : Seat) (ending : Option Served) → session_state ≡ record { seat = seat; opened = None }
+    (result : Result Served ServeFault) (back : Seat) (ending : Result Served SessionFault) → session_state ≡ record { seat = seat; opened = None }
     → IsServedAs k (streams_kind remaining contents) result (streams input output) (streams input' output') (state drives session_state) (state drives' session_state')
-    → OnOk result (NoneFailed (streams input output) (streams input' output')) → session_state'.opened ≡ None → back ≡ session_state'.seat → ending ≡ result_ok result
+    → OnOk result (NoneFailed (streams input output) (streams input' output')) → session_state'.opened ≡ None → back ≡ session_state'.seat → ending ≡ ending_of result
     → IsServedAfresh k (streams_kind remaining contents) (seated_at drives seat None) (streams input output) (streams input' output') drives' back ending
 served_back k remaining contents drives drives' seat session_state session_state' input input' output output' result back ending new is steady nothing same e =
     subst (λ d. IsServedAfresh k (streams_kind remaining contents) (state drives d) (streams input output) (streams input' output') drives' back ending) new record {

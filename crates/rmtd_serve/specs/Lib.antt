@@ -1,5 +1,6 @@
--- In reading order: Stdio, Serving (a drive in memory), Generic (any drives), Folders (drives in
--- folders), Seating (seats of threads), Accepting (a listener), Startup.
+-- In reading order: Status, Stdio, Serving (a drive in memory), Generic (any drives), Folders
+-- (drives in folders), Seating (seats of threads), Accepting (a listener), Startup.
+pub mod Status
 pub mod Stdio
 pub mod Serving
 pub mod Generic

@@ -1,6 +1,5 @@
 -- The effect of serving a pair of streams at a seat, on the streams and on the seat.
-use Rattle.std.specs.Prelude.{◌≡◌, ◌≢◌, Option, None, OnOk, Result}
-use Rattle.std.specs.Result.{result_ok}
+use Rattle.std.specs.Prelude.{◌≡◌, ◌≢◌, None, OnOk, Result, Err}
 use Rattle.std.specs.declared.io.traits.Read.{Ghosts as ReadPromise}
 use Rattle.std.specs.declared.io.traits.Write.{Ghosts as WritePromise}
 use Rattle.rmt_wire.specs.Counted.{Counting}
@@ -10,16 +9,18 @@ use Rattle.rmt_server.specs.declared.stream.Served.{Served}
 use Rattle.rmt_server.specs.declared.stream.ServeFault.{ServeFault}
 use Rattle.rmt_server.specs.State.{State, seated_at, IsAt}
 use Rattle.rmt_server.specs.Stream.{Streams, streams_kind, StreamsKind, Serving, streams_of, IsServedAs, NoneFailed}
+use Rattle.rmtd_serve.specs.declared.session_fault.SessionFault.{SessionFault}
+use Rattle.rmtd_serve.specs.declared.session_fault.SessionFault.TheVariants.{OutOfMemory}
+use Rattle.rmtd_serve.specs.Status.{ending_of}
 
--- A session serves the streams, with this ending. There is no ending if a stream failed. If an
--- allocation failed before the first request was read, neither stream is touched and nothing is
--- done.
+-- A session serves the streams, with this ending. If an allocation failed before the first request
+-- was read, neither stream is touched and nothing is done.
 pub data ServesStreams {H S Seat R In Out : Type 0} (k : Kinds H Seat S R) (kind : StreamsKind In Out) (start : State H S Seat R)
-    (old new : Streams In Out) : Option Served → State H S Seat R → Type 0 where
-  untouched : new.input ≡ old.input → new.output ≡ old.output → ServesStreams k kind start old new None start
+    (old new : Streams In Out) : Result Served SessionFault → State H S Seat R → Type 0 where
+  untouched : new.input ≡ old.input → new.output ≡ old.output → ServesStreams k kind start old new (Err OutOfMemory) start
   served : (finish : State H S Seat R) (result : Result Served ServeFault)
       → IsServedAs k kind result old new start finish → OnOk result (NoneFailed old new)
-      → ServesStreams k kind start old new (result_ok result) finish
+      → ServesStreams k kind start old new (ending_of result) finish
 
 -- The seat keeps its number, other seats keep what they hold, and the numbers of drives stay the
 -- same.
@@ -32,7 +33,7 @@ pub record KeepsSeats {H S Seat R : Type 0} (k : Kinds H Seat S R) (old new : St
 
 -- The session returns the drives and the seat, and has nothing open, so the seat holds no drive.
 pub record IsServedAfresh {H S Seat R In Out : Type 0} (k : Kinds H Seat S R) (kind : StreamsKind In Out) (start : State H S Seat R)
-    (old new : Streams In Out) (drives : DriveTable H S Seat R) (seat : Seat) (ending : Option Served) : Type 0 where
+    (old new : Streams In Out) (drives : DriveTable H S Seat R) (seat : Seat) (ending : Result Served SessionFault) : Type 0 where
   pub finish : State H S Seat R
   pub serves : ServesStreams k kind start old new ending finish
   pub drives_back : drives ≡ finish.drives
@@ -45,7 +46,7 @@ pub record IsServedAfresh {H S Seat R In Out : Type 0} (k : Kinds H Seat S R) (k
 abbrev pub IsSeatReturned : {H S Seat R In Out : Type 0} → Kinds H Seat S R → StreamsKind In Out → State H S Seat R
     → Streams In Out → Streams In Out → Seat → S → Type 0
 IsSeatReturned {H} {S} {Seat} {R} k kind start old new seat stacks =
-    (ending : Option Served) × (drives : DriveTable H S Seat R)
+    (ending : Result Served SessionFault) × (drives : DriveTable H S Seat R)
     × IsServedAfresh k kind start old new drives seat ending × (stacks ≡ drives.stacks)
 
 -- a pair of streams, and a seat at these drives that has nothing open
@@ -54,7 +55,7 @@ idle input output drives seat = record { requests = input; replies = output; sta
 
 -- a session of its own serves the streams, with this ending, and returns the seat
 abbrev pub ServesAfresh : {In Out H S Seat R : Type 0} → Kinds H Seat S R → ReadPromise In → WritePromise Out
-    → Serving (Counting In) Out H S Seat R → Serving (Counting In) Out H S Seat R → Option Served → Type 0
+    → Serving (Counting In) Out H S Seat R → Serving (Counting In) Out H S Seat R → Result Served SessionFault → Type 0
 ServesAfresh k input output old new ending =
     IsServedAfresh k (streams_kind input.remaining output.contents) old.state (streams_of old) (streams_of new) new.state.drives new.state.seat ending
 

@@ -1,8 +1,5 @@
 -- Streams served one after the other with a drive in memory. Public contracts cite it.
-use Rattle.std.specs.Prelude.{◌≡◌, ℕ, ◌<◌, ◌≤◌, false, true, List, length, slice_index, Option}
-use Rattle.tape.specs.Trouble.{TroubledTape}
-use Rattle.drives.specs.declared.table.DriveTable.{DriveTable}
-use Rattle.drives.specs.declared.view.View.{View}
+use Rattle.std.specs.Prelude.{◌≡◌, ℕ, ◌<◌, false, true, List, length, slice_index, Result}
 use Rattle.drives.specs.TapeLibrary.{TapeLibrary}
 use Rattle.drives.specs.ListLibrary.{ListLibrary, IsLibrary, library_of, StacksCanFail}
 use Rattle.drives.specs.Local.{Holders}
@@ -10,24 +7,23 @@ use Rattle.rmt_server.specs.declared.stream.Served.{Served}
 use Rattle.rmt_server.specs.Session.{SessionView, session_view, closed, ServeRun}
 use Rattle.rmt_server.specs.Session.PlainSession.{Idle}
 use Rattle.rmt_server.specs.Stream.{Exchange, Streams, StreamsKind, AreRead}
+use Rattle.rmtd_serve.specs.declared.session_fault.SessionFault.{SessionFault}
 use Rattle.rmtd_serve.specs.Stdio.{EndsWith}
 
 -- no seat holds a drive
 abbrev pub AllFree : Holders → Type 0
 AllFree holds = (d : ℕ) → d < length holds.numbers → slice_index holds.numbers d ≡ 0
 
--- No session holds a drive, each reel is in one place, and no device can fail.
-pub record IsAtRest (drives : DriveTable Holders ListLibrary View TroubledTape) : Type 0 where
-  pub free : AllFree drives.holds
-  pub enough : length drives.stacks.library.drives ≤ length drives.holds.numbers
-  pub told : IsLibrary drives.stacks (library_of drives.stacks)
-  pub quiet : StacksCanFail drives.stacks → ⊥
+-- Each reel is in one place, and no device can fail.
+pub record IsAtRest (stacks : ListLibrary) : Type 0 where
+  pub told : IsLibrary stacks (library_of stacks)
+  pub quiet : StacksCanFail stacks → ⊥
 
 -- One stream is served. The requests read, with their replies, are a run of serve steps from the
 -- reels as they were. In that run no device fails and no drive is busy, and what is open at its end
--- is closed. If an allocation failed nothing is read.
+-- is closed. If there was no session nothing is read.
 pub record IsServedNext {In Out : Type 0} (kind : StreamsKind In Out) (before after : TapeLibrary) (old new : Streams In Out)
-    (ending : Option Served) : Type 0 where
+    (ending : Result Served SessionFault) : Type 0 where
   pub read : List ℕ
   pub done : List Exchange
   pub rest : List ℕ

@@ -1,5 +1,5 @@
 -- The effect of the start of `rmtd`, and what remains to be done. Public contracts cite it.
-use Rattle.std.specs.Prelude.{◌≡◌, ℕ, ◌<◌, List, [], length, Option, Some, None, IsSome, All, option_map, unwrap_or}
+use Rattle.std.specs.Prelude.{◌≡◌, ℕ, ◌<◌, List, [], length, Option, Some, None, IsSome, All, option_map, unwrap_or, Result}
 use Rattle.std.specs.declared.clone.Clone.{Ghosts as ClonePromise}
 use Rattle.std.specs.declared.io.traits.Read.{Ghosts as ReadPromise}
 use Rattle.clap.specs.Words.{Text}
@@ -10,28 +10,28 @@ use Rattle.rmtd_args.specs.declared.rmtd_line.ServerLine.{ServerLine}
 use Rattle.rmtd_args.specs.Rmtd.{AskToBeShown, IsLineOf}
 use Rattle.rmtd_serve.specs.declared.startup.Begun.{Begun}
 use Rattle.rmtd_serve.specs.declared.startup.Begun.TheVariants.{End, Serve}
-use Rattle.rmtd_serve.specs.Stdio.{EndsWith, IsStdio, exit_status}
+use Rattle.rmtd_serve.specs.declared.session_fault.SessionFault.{SessionFault}
+use Rattle.rmtd_serve.specs.declared.status.ExitStatus.{ExitStatus}
+use Rattle.rmtd_serve.specs.declared.status.ExitStatus.TheVariants.{Ended, Failed}
+use Rattle.rmtd_serve.specs.Status.{exit_status}
+use Rattle.rmtd_serve.specs.Stdio.{AreUntouched, EndsWith, EndsStdio}
 use Rattle.rmtd_serve.specs.Folders.{stacks_of}
-
--- neither stream was touched
-abbrev pub AreUntouched : {In Out : Type 0} → Streams In Out → Streams In Out → Type 0
-AreUntouched old new = (new.input ≡ old.input) × (new.output ≡ old.output)
 
 -- The arguments were followed, and the status is this one. The streams were served with a drive in
 -- memory or with drives in folders, and the requests read were answered up to that end. Or all
 -- connections were served one after the other. Or the server could not start, or the listener can
 -- never accept again. Reels in folders have no known contents, so their replies are not specified.
-pub data EndsLine {In Out : Type 0} (kind : StreamsKind In Out) (line : ServerLine) (old new : Streams In Out) (status : ℕ) : Type 0 where
+pub data EndsLine {In Out : Type 0} (kind : StreamsKind In Out) (line : ServerLine) (old new : Streams In Out) (status : ExitStatus) : Type 0 where
   in_memory : line.listen ≡ None → line.drives.items ≡ []
-      → IsStdio kind line.capacity old new status
+      → EndsStdio kind line.capacity old new status
       → EndsLine kind line old new status
-  in_folders : (ending : Option Served) (read : List ℕ) (done : List Exchange) (rest : List ℕ)
+  in_folders : (ending : Result Served SessionFault) (read : List ℕ) (done : List Exchange) (rest : List ℕ)
       → line.listen ≡ None → 0 < length line.drives.items
       → AreRead kind old new read → EndsWith kind ending old new read done rest → status ≡ exit_status ending
       → EndsLine kind line old new status
-  listened : IsSome line.listen → line.drives.items ≡ [] → AreUntouched old new → status ≡ 0
+  listened : IsSome line.listen → line.drives.items ≡ [] → AreUntouched old new → status ≡ Ended
       → EndsLine kind line old new status
-  failed : AreUntouched old new → status ≡ 1 → EndsLine kind line old new status
+  failed : AreUntouched old new → status ≡ Failed → EndsLine kind line old new status
 
 -- The setup of a listener that these arguments ask for: the number of connections, the drives, and
 -- stacks of them for each seat.
@@ -47,7 +47,7 @@ pub record IsListenerSetupOf (line : ServerLine) (left drives : ℕ) (stacks : L
 -- as it says
 abbrev pub ListensOrEnds : {R Dir : Type 0} {reads : ReadPromise Dir} {clones : ClonePromise R} → ServerLine → Begun R Dir reads clones
     → Type 0
-ListensOrEnds line (End status) = status ≡ 1
+ListensOrEnds line (End status) = status ≡ Failed
 ListensOrEnds line (Serve listener listener_setup) = IsListenerSetupOf line listener_setup.left listener_setup.table.words listener_setup.stacks.items
 
 -- the effect of a line, and what remains to be done
@@ -58,15 +58,15 @@ IsDone kind line old new (Serve listener listener_setup) =
     AreUntouched old new × IsSome line.listen × IsListenerSetupOf line listener_setup.left listener_setup.table.words listener_setup.stacks.items
 
 -- The effect of the arguments, and what remains to be done. Their line was followed. Or clap
--- printed help or the version, with status 0. Or nothing was done, because the arguments are wrong
--- or something failed, with status 1.
+-- printed help or the version. Or nothing was done, because the arguments are wrong or something
+-- failed.
 pub data IsBegun {In Out R Dir : Type 0} {reads : ReadPromise Dir} {clones : ClonePromise R} (kind : StreamsKind In Out)
     (arguments : List Text) (old new : Streams In Out) (begun : Begun R Dir reads clones) : Type 0 where
   followed : (line : ServerLine) → IsLineOf arguments line → IsDone kind line old new begun
       → IsBegun kind arguments old new begun
-  shown : AskToBeShown arguments → AreUntouched old new → begun ≡ End 0
+  shown : AskToBeShown arguments → AreUntouched old new → begun ≡ End Ended
       → IsBegun kind arguments old new begun
-  refused : AreUntouched old new → begun ≡ End 1
+  refused : AreUntouched old new → begun ≡ End Failed
       → IsBegun kind arguments old new begun
 
 -- the same for some arguments: no clause says which ones the program has

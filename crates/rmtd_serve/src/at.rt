@@ -7,6 +7,7 @@ ghost use Rattle.rmtd_serve.specs.Seating.{idle, GivesBack, ServesAfresh};
 
 use crate::ended::Ended;
 use crate::error_log::text_of;
+use crate::session_fault::SessionFault;
 use drives::{DriveTable, Holds, Stacks};
 use rmt_server::{Served, Session, serve};
 use rmt_wire::{Counted, RequestReader};
@@ -39,8 +40,9 @@ pub fn serve_at<H: Holds + Drop, S: Stacks + Drop, I: Read, O: Write>(
     let begun = text_of(format_args!("connection {number}: served"));
     drives.stacks.note(begun.as_str());
     let (seat, ending) = serve_afresh(alloc, &mut drives, seat, input, output);
-    let ended = Ended::of(number, ending, input, output);
-    drives.stacks.note(text_of(ended).as_str());
+    drives
+        .stacks
+        .note(text_of(Ended { number, ending }).as_str());
     (seat, drives.stacks)
 }
 
@@ -48,16 +50,16 @@ pub fn serve_at<H: Holds + Drop, S: Stacks + Drop, I: Read, O: Write>(
 /// ended.
 ///
 /// The seat must hold no drive, and holds none afterwards, however the streams end. The session has
-/// nothing open at first, and what it opens is closed at its end. Returns None as the ending if a
-/// stream failed, or if an allocation failed before the first request was read. In the second case
-/// nothing is read or written.
+/// nothing open at first, and what it opens is closed at its end. The ending is `Stream` if a read or
+/// a write failed. It is `OutOfMemory` if an allocation failed before the first request was read;
+/// then nothing is read or written.
 pub(crate) fn serve_afresh<H: Holds, S: Stacks, I: Read, O: Write>(
     alloc: Global,
     drives: &mut DriveTable<H, S>,
     seat: H::Seat,
     input: &mut Counted<I>,
     output: &mut Counted<O>,
-) -> (H::Seat, Option<Served>)
+) -> (H::Seat, Result<Served, SessionFault>)
     requires own { H.belongs drives.old.holds seat }
     requires idle { HoldsJust (H.shows seat) None }
     requires enough { S.drives drives.old.stacks ≤ H.drives drives.old.holds }
@@ -65,12 +67,12 @@ pub(crate) fn serve_afresh<H: Holds, S: Stacks, I: Read, O: Write>(
         (idle input.new output.new drives.new result.0) result.1 }
 {
     let Ok(mut wire) = RequestReader::new(alloc) else {
-        return (seat, None);
+        return (seat, Err(SessionFault::OutOfMemory));
     };
     let mut session = match Session::new(alloc, seat) {
         Ok(session) => session,
-        Err((seat, _)) => return (seat, None),
+        Err((seat, _)) => return (seat, Err(SessionFault::OutOfMemory)),
     };
-    let ending = serve(input, output, &mut wire, &mut session, drives).ok();
-    (session.into_seat(), ending)
+    let ending = serve(input, output, &mut wire, &mut session, drives);
+    (session.into_seat(), ending.map_err(SessionFault::Stream))
 }

@@ -3,9 +3,11 @@ ghost use Rattle.std.specs.Prelude.{◌≡◌, ◌+◌, ◌<◌, false, true, If
 ghost use Rattle.std.specs.IoError.{raw_os_error};
 ghost use Rattle.std.proofs.Props.{props};
 ghost use Rattle.rmtd_serve.specs.Accepting.{AreOver, IsLasting, lasting_of};
+ghost use Rattle.rmtd_serve.specs.declared.status.ExitStatus.TheVariants.{Ended, Failed};
 
 use crate::error_log::text_of;
-use crate::incoming::Incoming;
+use crate::incoming::{DropReason, Incoming};
+use crate::status::ExitStatus;
 use reel_files::Log;
 use rmt_wire::errno::{EBADF, EINVAL};
 use std::fmt::Display;
@@ -85,12 +87,16 @@ impl<'a, C: Clock, L: Log + Drop> Connections<'a, C, L> {
         }
     }
 
-    /// Returns the exit status of a server that served them: 0 if as many came as `new` was given,
-    /// else 1.
-    pub fn status(&self) -> u8
-        ensures { result ≡ if self.now.left == 0 then 0 else 1 }
+    /// Returns the exit status of a server that served them: `Ended` if as many came as `new` was
+    /// given, else `Failed`.
+    pub fn status(&self) -> ExitStatus
+        ensures { result ≡ if self.now.left == 0 then Ended else Failed }
     {
-        u8::from(self.left > 0)
+        if self.left == 0 {
+            ExitStatus::Ended
+        } else {
+            ExitStatus::Failed
+        }
     }
 
     /// Whether another connection may come.
@@ -206,7 +212,7 @@ impl<C: Clock, L: Log + Drop> Incoming for Connections<'_, C, L> {
         self.number
     }
 
-    fn dropped(&self, why: &str) {
+    fn dropped(&self, why: DropReason) {
         self.note_closed(why);
     }
 }

@@ -2,6 +2,18 @@
 ghost use Rattle.std.specs.Prelude.{◌≡◌, None};
 
 use std::io::{Read, Write};
+use thiserror::Error;
+
+/// Why a pair of streams is dropped without being served.
+#[derive(Clone, Copy, Debug, PartialEq, Eq, Error)]
+pub enum DropReason {
+    /// All seats are taken, or an allocation for the return of a seat failed.
+    #[error("no seat is free")]
+    NoSeat,
+    /// The system cannot start a thread for it.
+    #[error("no thread")]
+    NoThread,
+}
 
 /// A source of pairs of streams, one for each session, such as the connections of a listener.
 pub trait Incoming {
@@ -25,5 +37,5 @@ pub trait Incoming {
 
     /// Called if the last pair returned is dropped without being served, with the reason. No
     /// contract speaks of it.
-    fn dropped(&self, _why: &str) {}
+    fn dropped(&self, _why: DropReason) {}
 }

@@ -41,5 +41,5 @@ fn serve_stream(server: &mut MemoryServer, stream: &TcpStream, number: u64) -> E
     let mut input = Counted::new(stream);
     let mut output = Counted::new(stream);
     let ending = server.serve(&mut input, &mut output);
-    Ended::of(number, ending, &input, &output)
+    Ended { number, ending }
 }

@@ -5,7 +5,7 @@ ghost use Rattle.drives.specs.Holding.{HoldsJust};
 ghost use Rattle.hold_table.specs.Seats.{IsSeatAt};
 
 use crate::idle_workers::IdleWorkers;
-use crate::incoming::Incoming;
+use crate::incoming::{DropReason, Incoming};
 use crate::names_table::NamesTable;
 use crate::unused_seats::UnusedSeats;
 use drives::Stacks;
@@ -33,13 +33,6 @@ fn work<W: Wait, I: Read + Drop, O: Write + Drop, S: Stacks + Drop, B: NamesTabl
     idle_workers.lock(rt).put(worker);
 }
 
-/// Why a pair is closed unserved: all seats are taken, or an allocation for the return of its seat
-/// failed.
-const NO_SEAT: &str = "no seat is free";
-
-/// Why a pair is closed unserved if the system cannot start a thread for it.
-const NO_THREAD: &str = "no thread";
-
 /// Starts a thread for each pair that comes while a worker is free, and waits for all threads.
 fn serve_all<
     R: Threads + Wait + Sync,
@@ -66,7 +59,7 @@ where
                 let number = incoming.number();
                 let is_promised = idle_workers.lock(rt).reserve();
                 if !is_promised {
-                    incoming.dropped(NO_SEAT);
+                    incoming.dropped(DropReason::NoSeat);
                     continue;
                 }
                 let started = scope.spawn(move || work(
@@ -79,7 +72,7 @@ where
                 ));
                 if started.is_err() {
                     idle_workers.lock(rt).release();
-                    incoming.dropped(NO_THREAD);
+                    incoming.dropped(DropReason::NoThread);
                 }
             }
             unreachable!()

@@ -1,15 +1,16 @@
 //! A drive in memory that serves one stream after the other.
-ghost use Rattle.std.specs.Prelude.{◌≡◌, IfSome, length};
+ghost use Rattle.std.specs.Prelude.{◌≡◌, IfOk, length};
 ghost use Rattle.drives.specs.ListLibrary.{IsLibrary, StacksCanFail};
 ghost use Rattle.rmt_server.specs.Stream.{streams, streams_kind};
 ghost use Rattle.rmtd_serve.specs.Stdio.{blank_session_view};
 ghost use Rattle.rmtd_serve.specs.Serving.{IsServedNext};
 
-use crate::at::serve_afresh;
-use drives::{DriveTable, ListStacks, LocalHolds};
+use crate::session_fault::SessionFault;
+use crate::tape_server::TapeServer;
+use drives::ListStacks;
 use rmt_server::Served;
 use rmt_wire::Counted;
-use std::alloc::Global;
+use std::alloc::{AllocError, Global};
 use std::io::{Read, Write};
 use std::marker::Model;
 
@@ -25,8 +26,7 @@ const REEL: &[u8] = b"reel";
 /// session holds the drive.
 #[derive(Drop)]
 pub struct MemoryServer {
-    alloc: Global,
-    drives: DriveTable<LocalHolds, ListStacks>,
+    server: TapeServer<ListStacks>,
 }
 
 impl Model for MemoryServer {
@@ -36,50 +36,51 @@ impl Model for MemoryServer {
 
     ghost Value = { TapeLibrary };
 
-    ghost view = { λ s. library_of s.drives.stacks };
+    ghost view = { λ s. library_of s.server };
 
-    ghost invariant = { λ s. IsAtRest s.drives };
+    ghost invariant = { λ s. IsAtRest s.server };
 }
 
 impl MemoryServer {
-    /// Makes the drive, with one empty reel `reel` of `capacity` bytes. Returns None if an
-    /// allocation fails.
-    pub fn new(alloc: Global, capacity: u64) -> Option<MemoryServer>
-        ensures { IfSome result (λ s. s ≡ (blank_session_view capacity).library) }
+    /// Makes the drive, with one empty reel `reel` of `capacity` bytes. Fails only if an allocation
+    /// fails.
+    pub fn new(alloc: Global, capacity: u64) -> Result<MemoryServer, AllocError>
+        ensures { IfOk result (λ s. s ≡ (blank_session_view capacity).library) }
     {
-        let holds = LocalHolds::new(alloc, 1).ok()?;
         let stacks = one_reel(alloc, capacity)?;
-        let drives = DriveTable { holds, stacks };
-        Some(MemoryServer { alloc, drives })
+        let server = TapeServer::new(alloc, 1, stacks)?;
+        Ok(MemoryServer { server })
     }
 
     /// Serves one stream in a session of its own, which releases the drive at its end. Returns how
     /// the stream ended.
     ///
-    /// Returns None if a stream failed, if an allocation failed before the first request was read,
-    /// or if no session number is left.
+    /// Fails with `Stream` if a read or a write failed, with `OutOfMemory` if an allocation failed
+    /// before the first request was read, and with `NoSeat` if no session number is left. In the
+    /// last two cases nothing is read or written.
     pub fn serve<R: Read, W: Write>(
         &mut self,
         input: &mut Counted<R>,
         output: &mut Counted<W>,
-    ) -> Option<Served>
+    ) -> Result<Served, SessionFault>
         ensures { IsServedNext (streams_kind R.remaining W.contents) self.old self.new
             (streams input.old output.old) (streams input.new output.new) result }
     {
-        let seat = self.drives.holds.seat()?;
-        let (_, ending) = serve_afresh(self.alloc, &mut self.drives, seat, input, output);
-        ending
+        self.server.serve(input, output)
     }
 }
 
-/// Makes the drive with its one reel, which is empty. Returns None if an allocation fails.
-fn one_reel(alloc: Global, capacity: u64) -> Option<ListStacks>
-    ensures library { IfSome result (λ stacks. IsLibrary stacks (blank_session_view capacity).library) }
-    ensures quiet { IfSome result (λ stacks. StacksCanFail stacks → ⊥) }
-    ensures drives { IfSome result (λ stacks. length stacks.library.drives ≡ 1) }
+/// Makes the drive with its one reel, which is empty. Fails only if an allocation fails, since no
+/// other drive or reel has these names.
+fn one_reel(alloc: Global, capacity: u64) -> Result<ListStacks, AllocError>
+    ensures library { IfOk result (λ stacks. IsLibrary stacks (blank_session_view capacity).library) }
+    ensures quiet { IfOk result (λ stacks. StacksCanFail stacks → ⊥) }
+    ensures drives { IfOk result (λ stacks. length stacks.library.drives ≡ 1) }
 {
     let mut stacks = ListStacks::new(alloc);
-    let drive = stacks.add_drive(DEVICE).ok()?;
-    stacks.add_reel(drive, REEL, capacity).ok()?;
-    Some(stacks)
+    let drive = stacks.add_drive(DEVICE).map_err(|_| AllocError)?;
+    stacks
+        .add_reel(drive, REEL, capacity)
+        .map_err(|_| AllocError)?;
+    Ok(stacks)
 }

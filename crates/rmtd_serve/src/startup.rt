@@ -6,7 +6,10 @@ ghost use Rattle.drives.specs.declared.holds.TheConstants.{DRIVE_LIMIT};
 ghost use Rattle.rmtd_args.specs.Drive.{KeepsDriveRules, plain_drive};
 ghost use Rattle.rmtd_args.specs.Rmtd.{IsShown};
 ghost use Rattle.rmt_server.specs.Stream.{streams, streams_kind};
-ghost use Rattle.rmtd_serve.specs.Startup.{AreUntouched, IsDone, IsBegun, IsStarted, ListensOrEnds};
+ghost use Rattle.rmtd_serve.specs.declared.status.ExitStatus.TheVariants.{Ended, Failed};
+ghost use Rattle.rmtd_serve.specs.Status.{exit_status};
+ghost use Rattle.rmtd_serve.specs.Stdio.{AreUntouched};
+ghost use Rattle.rmtd_serve.specs.Startup.{IsDone, IsBegun, IsStarted, ListensOrEnds};
 
 use crate::connections::Connections;
 use crate::error_log::ErrorLog;
@@ -14,25 +17,29 @@ use crate::file_limit::log_limit;
 use crate::folders::logged_stacks;
 use crate::line_start::LineStart;
 use crate::listener_setup::ListenerSetup;
+use crate::listening::serve_connections;
+use crate::memory_server::MemoryServer;
 use crate::ready::listener_setup_of;
+use crate::session_fault::SessionFault;
+use crate::status::ExitStatus;
+use crate::stdio::serve_alone;
+use crate::tape_server::TapeServer;
 use crate::warnings::Warnings;
-use crate::{MemoryServer, TapeServer, exit_status, run_stdio, serve_connections};
 use clap::Error;
 use clap::error::ErrorKind;
 use drives::Stacks;
 use file_medium::reserve_std_fds;
 use printable::{PlainLines, plain};
 use reel_files::{FolderStacks, FolderSystem, Log};
+use rmt_server::Served;
 use rmt_wire::Counted;
 use rmtd_args::{ServerLine, server_line};
 use std::alloc::{AllocError, Global};
 use std::env;
+use std::fmt::Display;
 use std::io::{self, Read, Write};
 use std::net::{Net, TcpListener, TcpStream};
 use std::rt::Env;
-
-/// The exit status if the arguments are wrong, or if the program cannot start.
-const FAILED: u8 = 1;
 
 /// The message if the program cannot start because it is out of memory.
 const NOT_STARTED: &str = "it did not start";
@@ -53,7 +60,7 @@ where
 #[derive(Drop)]
 pub enum Begun<R: FolderSystem + Eprint> {
     /// To end with this status.
-    End(u8),
+    End(ExitStatus),
     /// To serve the connections of this listener in parallel.
     Serve(TcpListener, ListenerSetup<R>),
 }
@@ -62,7 +69,7 @@ pub enum Begun<R: FolderSystem + Eprint> {
 /// served in parallel.
 ///
 /// If the arguments cannot be read, or if an allocation fails at the start, it prints that on
-/// standard error and the status is 1. With `--stdio` the start lasts until the first request is
+/// standard error and the status is `Failed`. With `--stdio` the start lasts until the first request is
 /// read. It fails only if standard error cannot be written.
 pub fn start<R: ServerSystem, I: Read, O: Write>(
     rt: &R,
@@ -133,13 +140,13 @@ fn lent(alloc: Global, arguments: &[String]) -> Result<Vec<&str>, AllocError> {
 /// The first argument is the name of the program. The standard streams are `input` and `output`;
 /// messages are printed on those of the system.
 ///
-/// - With `--stdio` it serves the streams. The status says how they ended (`exit_status`).
+/// - With `--stdio` it serves the streams. The status says how they ended (`ExitStatus::of`).
 /// - With `--listen` and a drive in memory it serves connections one after the other. The status is
-///   0 if all have come, and 1 if the listener can never accept again.
+///   `Ended` if all have come, and `Failed` if the listener can never accept again.
 /// - With `--listen` and drives in folders, what remains is to serve the connections in parallel.
-/// - Help and the version are printed on standard output, and the status is 0.
+/// - Help and the version are printed on standard output, and the status is `Ended`.
 ///
-/// In these cases it prints the error on standard error, and the status is 1:
+/// In these cases it prints the error on standard error, and the status is `Failed`:
 /// - The arguments are wrong, a folder cannot be used, or the server cannot listen at the address.
 /// - Standard output cannot be written.
 /// - An allocation fails for the arguments, for the listener, or for the session of `--stdio`. In
@@ -188,8 +195,8 @@ fn serve_line<R: ServerSystem, I: Read, O: Write>(
     }
     let Some(address) = line.listen else {
         warn_of_bin(rt, line, start)?;
-        let status = run_stdio(rt.alloc(), input, output, line.capacity);
-        return Ok(end(rt, status, input, output));
+        let ending = serve_alone(rt.alloc(), input, output, line.capacity);
+        return Ok(end(rt, ending));
     };
     match listen(rt, address, line, start) {
         Ok(status) => Ok(Begun::End(status)),
@@ -258,11 +265,9 @@ fn serve_in_folders<R: ServerSystem, S: Stacks + Drop, I: Read, O: Write>(
         (streams input.old output.old) (streams input.new output.new)) }
     ensures failed { OnErr result (AreUntouched (streams input.old output.old) (streams input.new output.new)) }
 {
-    let Some(mut server) = TapeServer::new(rt.alloc(), line.drives.len(), stacks) else {
-        return Err(io::ErrorKind::OutOfMemory.into());
-    };
-    let status = exit_status(server.serve(input, output));
-    Ok(end(rt, status, input, output))
+    let mut server = TapeServer::new(rt.alloc(), line.drives.len(), stacks)?;
+    let ending = server.serve(input, output);
+    Ok(end(rt, ending))
 }
 
 /// Listens at this address, for drives in folders. All memory for the start is allocated before the
@@ -290,31 +295,28 @@ fn listen_in_folders<R: ServerSystem>(
     }
 }
 
-/// Returns `End` with this status, after the streams were served. If an allocation failed before
-/// the first request was read, it prints that on standard error. The message is dropped if it
-/// cannot be written.
-fn end<R: ServerSystem, I: Read, O: Write>(
-    rt: &R,
-    status: u8,
-    input: &Counted<I>,
-    output: &Counted<O>,
-) -> Begun<R>
-    ensures { result ≡ Begun.End status }
+/// Returns `End` with the status for this ending of the streams. If there was no session to serve
+/// them, it prints the reason on standard error. The message is dropped if it cannot be written.
+fn end<R: ServerSystem>(rt: &R, ending: Result<Served, SessionFault>) -> Begun<R>
+    ensures { result ≡ Begun.End (exit_status ending) }
 {
-    if status == FAILED && input.failures() == 0 && output.failures() == 0 {
-        let _ = report(rt, NOT_STARTED, io::ErrorKind::OutOfMemory.into());
+    match ending {
+        Ok(_) | Err(SessionFault::Stream(_)) => {}
+        Err(fault) => {
+            let _ = report(rt, NOT_STARTED, fault);
+        }
     }
-    Begun::End(status)
+    Begun::End(ExitStatus::of(ending))
 }
 
-/// Prints on standard error what failed and why. Returns `End` with status 1. It fails if standard
-/// error cannot be written.
-fn report<R: ServerSystem>(rt: &R, what: &str, why: io::Error) -> io::Result<Begun<R>>
-    ensures { IfOk result (λ begun. begun ≡ Begun.End 1) }
+/// Prints on standard error what failed and why. Returns `End` with the status `Failed`. It fails if
+/// standard error cannot be written.
+fn report<R: ServerSystem, D: Display + Drop>(rt: &R, what: &str, why: D) -> io::Result<Begun<R>>
+    ensures { IfOk result (λ begun. begun ≡ Begun.End Failed) }
 {
     let what = plain(what);
     eprintln!(rt; "rmtd: {what}: {why}")?;
-    Ok(Begun::End(FAILED))
+    Ok(Begun::End(ExitStatus::Failed))
 }
 
 /// The log line of a listener whose reel is in memory.
@@ -336,18 +338,17 @@ fn warn_of_bin<R: ServerSystem>(rt: &R, line: &ServerLine<'_>, start: LineStart)
 /// Listens at this address, and serves as many connections as the arguments say with a drive in
 /// memory. It logs that the reel is in memory.
 ///
-/// Returns the status: 0 if all connections came, and 1 if the listener can never accept again.
+/// Returns the status: `Ended` if all connections came, and `Failed` if the listener can never accept
+/// again.
 fn listen<R: ServerSystem>(
     rt: &R,
     address: &str,
     line: &ServerLine<'_>,
     start: LineStart,
-) -> io::Result<u8>
-    ensures { IfOk result (λ status. (status ≡ 0) ⊎ (status ≡ 1)) }
+) -> io::Result<ExitStatus>
+    ensures { IfOk result (λ status. (status ≡ Ended) ⊎ (status ≡ Failed)) }
 {
-    let Some(mut server) = MemoryServer::new(rt.alloc(), line.capacity) else {
-        return Err(io::ErrorKind::OutOfMemory.into());
-    };
+    let mut server = MemoryServer::new(rt.alloc(), line.capacity)?;
     let log = log_of(rt, start);
     let listener = bind(rt, address, &log)?;
     log.note(if line.bin.is_some() {
@@ -386,12 +387,13 @@ fn bind<R: ServerSystem, L: Log>(rt: &R, address: &str, log: &L) -> io::Result<T
 }
 
 /// Prints why the arguments leave nothing to do: an error on standard error, or help and the
-/// version on standard output. Returns `End`, with status 0 for help and the version, else 1.
+/// version on standard output. Returns `End`, with the status `Ended` for help and the version, else
+/// `Failed`.
 fn refuse<R: ServerSystem>(rt: &R, error: Error) -> io::Result<Begun<R>>
-    ensures { IfOk result (λ begun. (begun ≡ Begun.End 1) ⊎ ((begun ≡ Begun.End 0) × IsShown (kind_of error))) }
+    ensures { IfOk result (λ begun. (begun ≡ Begun.End Failed) ⊎ ((begun ≡ Begun.End Ended) × IsShown (kind_of error))) }
 {
     if error.kind() == ErrorKind::OutOfMemory {
-        return report(rt, "the words", io::ErrorKind::OutOfMemory.into());
+        return report(rt, "the words", io::Error::from(io::ErrorKind::OutOfMemory));
     }
     let printed = if error.use_stderr() {
         print_error(rt, &error)
@@ -401,7 +403,12 @@ fn refuse<R: ServerSystem>(rt: &R, error: Error) -> io::Result<Begun<R>>
     if let Err(why) = printed {
         return report(rt, "standard output", why);
     }
-    Ok(Begun::End(if error.use_stderr() { FAILED } else { 0 }))
+    let status = if error.use_stderr() {
+        ExitStatus::Failed
+    } else {
+        ExitStatus::Ended
+    };
+    Ok(Begun::End(status))
 }
 
 /// Prints an error about the arguments on standard error. The error may quote them, so control

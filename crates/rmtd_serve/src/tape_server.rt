@@ -1,5 +1,5 @@
 //! Drives of any kind that serve one stream after the other.
-ghost use Rattle.std.specs.Prelude.{◌≡◌, ◌≤◌, IfSome, length};
+ghost use Rattle.std.specs.Prelude.{◌≡◌, ◌≤◌, IfOk};
 ghost use Rattle.drives.specs.contracts.local.LocalHoldsHolds.TheImpl.{ghosts as of_holds};
 ghost use Rattle.drives.specs.declared.holds.TheConstants.{DRIVE_LIMIT};
 ghost use Rattle.drives.specs.Opening.{kinds};
@@ -7,10 +7,11 @@ ghost use Rattle.rmt_server.specs.Stream.{streams, streams_kind};
 ghost use Rattle.rmtd_serve.specs.Generic.{IsServedAt};
 
 use crate::at::serve_afresh;
+use crate::session_fault::SessionFault;
 use drives::{DriveTable, LocalHolds, Stacks};
 use rmt_server::Served;
 use rmt_wire::Counted;
-use std::alloc::Global;
+use std::alloc::{AllocError, Global};
 use std::io::{Read, Write};
 use std::marker::Model;
 
@@ -38,32 +39,33 @@ impl<S: Stacks + Drop> Model for TapeServer<S> {
 
 impl<S: Stacks + Drop> TapeServer<S> {
     /// Makes a server with these stacks. `drives` is the number of drives, 1 to `DRIVE_LIMIT`.
-    /// Returns None if an allocation fails.
-    pub fn new(alloc: Global, drives: usize, stacks: S) -> Option<TapeServer<S>>
+    /// Fails only if an allocation fails.
+    pub fn new(alloc: Global, drives: usize, stacks: S) -> Result<TapeServer<S>, AllocError>
         requires some { 1 ≤ drives }
         requires few { drives ≤ DRIVE_LIMIT }
         requires enough { S.drives stacks ≤ drives }
-        ensures { IfSome result (λ s. s ≡ stacks) }
+        ensures { IfOk result (λ s. s ≡ stacks) }
     {
-        let holds = LocalHolds::new(alloc, drives).ok()?;
+        let holds = LocalHolds::new(alloc, drives)?;
         let drives = DriveTable { holds, stacks };
-        Some(TapeServer { alloc, drives })
+        Ok(TapeServer { alloc, drives })
     }
 
     /// Serves one stream in a session of its own, which releases the drive at its end. Returns how
     /// the stream ended.
     ///
-    /// Returns None if a stream failed, if an allocation failed before the first request was read,
-    /// or if no session number is left.
+    /// Fails with `Stream` if a read or a write failed, with `OutOfMemory` if an allocation failed
+    /// before the first request was read, and with `NoSeat` if no session number is left. In the
+    /// last two cases nothing is read or written.
     pub fn serve<R: Read, W: Write>(
         &mut self,
         input: &mut Counted<R>,
         output: &mut Counted<W>,
-    ) -> Option<Served>
+    ) -> Result<Served, SessionFault>
         ensures { IsServedAt (kinds of_holds S.Stacks S.Reel.Reel) (streams_kind R.remaining W.contents) self.old self.new
             (streams input.old output.old) (streams input.new output.new) result }
     {
-        let seat = self.drives.holds.seat()?;
+        let seat = self.drives.holds.seat().ok_or(SessionFault::NoSeat)?;
         let (_, ending) = serve_afresh(self.alloc, &mut self.drives, seat, input, output);
         ending
     }

@@ -30,14 +30,14 @@ fn hears(stream: &mut TcpStream) -> bool {
 
 /// Whether a drive serves the next connection, and then a stream that reads its one record.
 fn serves_both<C: Clock>(clock: &C, alloc: Global, listener: &TcpListener) -> bool {
-    let Some(mut server) = MemoryServer::new(alloc, 1024) else {
+    let Ok(mut server) = MemoryServer::new(alloc, 1024) else {
         return false;
     };
     serve_connections(&mut server, Connections::new(clock, listener, 1, NoLog));
     let mut taken = Vec::new(alloc);
     let mut input = Counted::new(b"O/dev/st0\n0\nR10\nR10\n".as_slice());
     let mut output = Counted::new(&mut taken);
-    server.serve(&mut input, &mut output) == Some(Served::End)
+    server.serve(&mut input, &mut output) == Ok(Served::End)
         && taken.as_slice() == b"A0\nA5\nhelloA0\n".as_slice()
 }
 

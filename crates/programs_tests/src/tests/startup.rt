@@ -5,7 +5,7 @@
 //! The borrow checker knows only the types that occur in a function's own text.
 
 use rmt_wire::Counted;
-use rmtd_serve::{Begun, ServerSystem, begin, start};
+use rmtd_serve::{Begun, ExitStatus, ServerSystem, begin, start};
 use std::fs::{self, File};
 use std::io;
 use std::net::{TcpListener, TcpStream};
@@ -41,7 +41,7 @@ fn is_done<R: ServerSystem>(rt: &R, row: &Row) -> bool {
     let mut input = Counted::new(sent);
     let mut output = Counted::new(&mut taken);
     let begun = begin(rt, arguments, &mut input, &mut output);
-    matches!(begun, Ok(Begun::End(ended)) if ended == status) && taken.as_slice() == wanted
+    matches!(begun, Ok(Begun::End(ended)) if ended.code() == status) && taken.as_slice() == wanted
 }
 
 #[test]
@@ -88,7 +88,7 @@ fn connections_at_folders_are_left(rt: HostRuntime) -> io::Result<()> {
 fn is_refused<R: ServerSystem + Env>(rt: &R) -> io::Result<bool> {
     let mut output = Counted::new(Vec::new(rt.alloc()));
     let begun = start(rt, &mut Counted::new(b"C\n".as_slice()), &mut output)?;
-    Ok(matches!(begun, Begun::End(1)))
+    Ok(matches!(begun, Begun::End(ExitStatus::Failed)))
 }
 
 #[test]

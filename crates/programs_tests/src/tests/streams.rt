@@ -28,7 +28,7 @@ fn keeps_a_record(alloc: Global, server: &mut TapeServer<ListStacks>) -> bool {
     let mut taken = Vec::new(alloc);
     let mut input = Counted::new(WRITTEN);
     let mut output = Counted::new(&mut taken);
-    server.serve(&mut input, &mut output) == Some(Served::End) && taken.as_slice() == ANSWERED
+    server.serve(&mut input, &mut output) == Ok(Served::End) && taken.as_slice() == ANSWERED
 }
 
 /// Makes one drive with one reel.
@@ -44,9 +44,7 @@ fn one_drive(alloc: Global) -> Result<ListStacks, Fail>
 #[test]
 fn a_stream_at_drives(rt: HostRuntime) -> Result<(), Fail> {
     let stacks = one_drive(rt.alloc())?;
-    let Some(mut server) = TapeServer::new(rt.alloc(), 1, stacks) else {
-        return Err(Fail::new("no server"));
-    };
+    let mut server = TapeServer::new(rt.alloc(), 1, stacks)?;
     assert!(rt; keeps_a_record(rt.alloc(), &mut server));
     Ok(())
 }

@@ -1,5 +1,6 @@
 use Rattle.std.proofs.Common.{refl}
 use Rattle.drives.specs.Opening.{kinds}
+use Rattle.rmtd_serve.proofs.Endings.{of_stream}
 use Rattle.rmtd_serve.proofs.Seats.{untouched_back, served_back}
 use Rattle.rmtd_serve.proofs.at.serve_afresh.Goals as goal
 
@@ -15,6 +16,6 @@ returns-in-Err g c =
 
 pub returns : goal.returns
 returns g c =
-    served_back (kinds g.H.Holds g.S.Stacks g.S.Reel.Reel) _ _ c.args.drives.now c.serve.new.drives c.args.seat c.in-Ok-new.session c.serve.new.session c.args.input.now
-    c.serve.new.input c.args.output.now c.serve.new.output c.serve.result c.into_seat.result c.ok-ending.result c.in-Ok-new.ensures.made c.serve.ensures.served c.serve.ensures.steady
-    c.serve.ensures.nothing c.into_seat.ensures c.ok-ending.ensures.value
+    served_back (kinds g.H.Holds g.S.Stacks g.S.Reel.Reel) _ _ c.args.drives.now c.serve-ending.new.drives c.args.seat c.in-Ok-new.session c.serve-ending.new.session c.args.input.now
+    c.serve-ending.new.input c.args.output.now c.serve-ending.new.output c.serve-ending.result c.into_seat.result c.map_err.result c.in-Ok-new.ensures.made c.serve-ending.ensures.served c.serve-ending.ensures.steady
+    c.serve-ending.ensures.nothing c.into_seat.ensures (of_stream _ _ c.map_err.ensures.cases)

@@ -2,8 +2,10 @@
 //! the serving.
 
 use super::table::serve_pairs;
-use rmtd_serve::{Connections, ErrorLog, Incoming, LineStart, MemoryServer, serve_connections};
-use std::alloc::Global;
+use rmtd_serve::{
+    Connections, ErrorLog, ExitStatus, Incoming, LineStart, MemoryServer, serve_connections,
+};
+use std::alloc::{AllocError, Global};
 use std::cell::Cell;
 use std::fmt::Display;
 use std::fs;
@@ -98,7 +100,7 @@ fn two_come(clock: &Waits<'_>, listener: &TcpListener) -> bool {
     let mut connections = Connections::new(clock, listener, 2, log);
     let first = connections.next().is_some() && connections.left == 1 && clock.time.get() == 300;
     let second = connections.next().is_some() && connections.left == 0 && clock.time.get() == 600;
-    let last = connections.next().is_none() && connections.status() == 0;
+    let last = connections.next().is_none() && connections.status() == ExitStatus::Ended;
     first && second && last && lines.count.get() == 4
 }
 
@@ -117,7 +119,7 @@ fn no_listener(rt: &HostRuntime) -> Result<TcpListener, Fail> {
 }
 
 /// Whether a listener that is not a socket ends at once, with one line in the log, no wait, and the
-/// status 1.
+/// status `Failed`.
 fn none_come(clock: &Waits<'_>, listener: &TcpListener) -> bool {
     let lines = Lines {
         count: Cell::new(0),
@@ -129,7 +131,7 @@ fn none_come(clock: &Waits<'_>, listener: &TcpListener) -> bool {
     };
     let mut connections = Connections::new(clock, listener, 2, log);
     let none = connections.next().is_none() && connections.left == 2;
-    let told = connections.broken == Some(88) && connections.status() == 1;
+    let told = connections.broken == Some(88) && connections.status() == ExitStatus::Failed;
     none && told && clock.count.get() == 0 && lines.count.get() == 1
 }
 
@@ -142,7 +144,11 @@ fn a_listener_that_is_none_has_no_connections(rt: HostRuntime) -> Result<(), Fai
 }
 
 /// Returns the status of a server in memory with this listener.
-fn status_in_memory(alloc: Global, clock: &Waits<'_>, listener: &TcpListener) -> Option<u8> {
+fn status_in_memory(
+    alloc: Global,
+    clock: &Waits<'_>,
+    listener: &TcpListener,
+) -> Result<ExitStatus, AllocError> {
     let mut server = MemoryServer::new(alloc, 1024)?;
     let lines = Lines {
         count: Cell::new(0),
@@ -153,14 +159,14 @@ fn status_in_memory(alloc: Global, clock: &Waits<'_>, listener: &TcpListener) ->
         start: LineStart::Time,
     };
     let connections = Connections::new(clock, listener, 2, log);
-    Some(serve_connections(&mut server, connections).status())
+    Ok(serve_connections(&mut server, connections).status())
 }
 
 #[test]
 fn a_server_in_memory_ends_with_its_listener(rt: HostRuntime) -> Result<(), Fail> {
     let listener = no_listener(&rt)?;
     let clock = Waits::new(&rt, None);
-    assert!(rt; status_in_memory(rt.alloc(), &clock, &listener) == Some(1));
+    assert!(rt; status_in_memory(rt.alloc(), &clock, &listener)? == ExitStatus::Failed);
     Ok(())
 }
 
@@ -178,6 +184,6 @@ fn a_server_of_threads_ends_with_its_listener(rt: HostRuntime) -> Result<(), Fai
     };
     let connections = Connections::new(&clock, &listener, 2, log);
     let connections = serve_pairs(&rt, rt.alloc(), connections)?;
-    assert!(rt; connections.status() == 1);
+    assert!(rt; connections.status() == ExitStatus::Failed);
     Ok(())
 }
