@@ -52,8 +52,7 @@ pub none_ends : {R W : Type 0} (remaining : R → Option (List ℕ)) (contents :
 none_ends remaining contents {output = output} i o = (
   record { spelled = refl; written = subst (λ x. Appends (contents output.inner) (contents x.inner) []) (sym o) (Appends-nil (contents output.inner)) },
   refl,
-  i,
-  o,
+  (i, o),
 )
 
 -- nothing was read or written

@@ -8,7 +8,7 @@ use Rattle.tape.specs.declared.reel.Reel.{Ghosts as ReelPromise}
 use Rattle.drives.specs.declared.stacks.Stacks.{Ghosts as StacksPromise}
 use Rattle.drives.specs.declared.fault.DriveFault.{DriveFault}
 use Rattle.drives.specs.declared.view.View.{View}
-use Rattle.drives.specs.Local.{Holders, holders}
+use Rattle.drives.specs.Local.{Holders, holders, IsSeatGiven}
 use Rattle.drives.specs.Opening.{Kinds, kinds, holder_after_open}
 use Rattle.drives.specs.contracts.local.LocalHoldsHolds.TheImpl.{ghosts as of_holds}
 use Rattle.rmt_server.specs.declared.access.Access.{Access}
@@ -155,9 +155,13 @@ pub ends_quiet : {H S Seat R : Type 0} {k : Kinds H Seat S R} {start last new : 
     → CarryRun k start done last → IsClosed k last new → SessionCanFail k new → SessionCanFail k start
 ends_quiet {k = k} {start = start} run c f = runs_quiet run (c.quiet f)
 
--- drives that no seat holds are held by none once one more seat was given
-pub seated_free : (holds new : Holders) → AllFree holds → {last : ℕ} → new ≡ holders holds.numbers last → AllFree new
-seated_free holds new free e = rw e free
+-- drives that no seat holds are held by none whatever number was given last
+numbered_free : (holds new : Holders) → AllFree holds → {last : ℕ} → new ≡ holders holds.numbers last → AllFree new
+numbered_free holds new free e = rw e free
+
+-- and once one more seat was given
+pub seated_free : (holds new : Holders) → AllFree holds → {given : Option View} {seat : View} → given ≡ Some seat → IsSeatGiven holds given new → AllFree new
+seated_free holds new free e given = let next = subst (λ g. IsSeatGiven holds g new) e given in numbered_free holds new free next.1
 
 -- and after a session of its own
 pub served_free : {S R In Out : Type 0} (s : StacksPromise S R) (r : ReelPromise R) {kind : StreamsKind In Out} {old new : Streams In Out}

@@ -11,7 +11,7 @@ pub invariant_of-self-2 : goal.invariant_of-self-2
 invariant_of-self-2 g c =
     let afresh = c.serve_afresh-ending.ensures in (
       subst AllFree (sym (ap (λ d. d.holds) afresh.drives_back))
-          (served_free g.S.Stacks g.S.Reel.Reel _ (seated_free c.self.inside.drives.holds _ c.self.invariant.0 c.in_ok-seat.ensures.next.1) afresh.serves),
+          (served_free g.S.Stacks g.S.Reel.Reel _ (seated_free c.self.inside.drives.holds _ c.self.invariant.0 c.in_ok-seat.ensures.ok_part c.seat.ensures.next) afresh.serves),
       search rules,
     )
 
@@ -20,4 +20,4 @@ returns g c =
     let afresh = c.serve_afresh-ending.ensures in
     stacks_served g.S.Stacks g.S.Reel.Reel g.R.Read.remaining g.W.Write.contents _ _ _ c.self.view_is
     (sym (ap (λ d. d.stacks) afresh.drives_back)) refl afresh.nothing
-    (seated_free c.self.inside.drives.holds _ c.self.invariant.0 c.in_ok-seat.ensures.next.1) afresh.serves
+    (seated_free c.self.inside.drives.holds _ c.self.invariant.0 c.in_ok-seat.ensures.ok_part c.seat.ensures.next) afresh.serves
