@@ -1,2 +1,2 @@
--- The exit statuses of `rdump`: Status.
+-- Status: the exit statuses of single commands.
 pub mod Status

@@ -1,10 +1,9 @@
 //! `rdump dates`.
 ghost use Rattle.rdump_commands.specs.Status.{IsDatesStatus};
 
-use crate::ClientSystem;
-use crate::fault::{FAILED, NO_DUMPDATES, print_fault, report, report_failures};
 use dumpdates::{Dates, DatesFault};
 use rdump_files::dates;
+use rdump_system::{ClientSystem, FAILED, NO_DUMPDATES, print_fault, report, report_failures};
 use rmt_wire::Counted;
 use std::alloc::Global;
 use std::{fs, io};

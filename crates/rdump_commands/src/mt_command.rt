@@ -2,12 +2,10 @@
 ghost use Rattle.rdump_commands.specs.Status.{IsMtStatus};
 ghost use Rattle.rdump_args.specs.Rdump.{IsMtLine};
 
-use crate::ClientSystem;
-use crate::fault::{ABNORMAL, report_failed, unwritten};
-use crate::shown::may_be_terminal;
 use printable::{PlainBytes, plain};
 use rdump_args::MtLine;
 use rdump_net::{SocketPeer, mt};
+use rdump_system::{ABNORMAL, ClientSystem, may_be_terminal, report_failed, report_unwritten};
 use rmt_wire::Counted;
 use std::io::{self, Write};
 
@@ -26,7 +24,7 @@ pub fn run_mt<R: ClientSystem>(rt: &R, line: MtLine<'_>) -> u8
         return report_unanswered(rt, line.to, peer.failure());
     }
     if print_answer(rt, &answer).is_err() {
-        return unwritten(rt, ABNORMAL);
+        return report_unwritten(rt, ABNORMAL);
     }
     status
 }

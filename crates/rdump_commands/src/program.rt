@@ -1,14 +1,17 @@
 //! The program: reads its arguments, and runs the command that they name.
 ghost use Rattle.std.specs.Prelude.{◌≡◌};
-ghost use Rattle.rdump_commands.specs.Status.{IsHelpStatus, IsStatus};
+ghost use Rattle.rdump_commands.specs.Status.{IsHelpStatus};
+ghost use Rattle.rdump_system.specs.Status.{IsStatus};
 
-use crate::fault::{FAILED, report, report_no_memory, unwritten};
-use crate::{ClientSystem, run_dates, run_dump, run_mt, run_read};
+use crate::{run_dates, run_mt};
 use clap::error::ErrorKind;
 use file_medium::reserve_std_fds;
 use printable::PlainLines;
 use rdump_args::{RdumpLine, rdump_args};
+use rdump_dump::run_dump;
 use rdump_list::run_ls;
+use rdump_read::run_read;
+use rdump_system::{ClientSystem, FAILED, report, report_no_memory, report_unwritten};
 use std::convert::AsStr;
 use std::env;
 use std::io::{self, Write};
@@ -73,14 +76,14 @@ fn refuse<R: ClientSystem>(rt: &R, error: clap::Error) -> u8
         return print_error(rt, &error);
     }
     if error.print(rt).is_err() {
-        return unwritten(rt, FAILED);
+        return report_unwritten(rt, FAILED);
     }
     0
 }
 
 /// Prints an error of the arguments on standard error, and returns the exit status. The error may
 /// quote the arguments, so control characters in it are printed as `?`.
-pub(crate) fn print_error<R: ClientSystem>(rt: &R, error: &clap::Error) -> u8
+fn print_error<R: ClientSystem>(rt: &R, error: &clap::Error) -> u8
     ensures { result ≡ 1 }
 {
     match format!(in rt.alloc(); "{error}") {

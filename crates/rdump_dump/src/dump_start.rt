@@ -1,12 +1,11 @@
 //! The data that a dump starts with besides its arguments.
 ghost use Rattle.std.specs.Prelude.{◌≡◌, IfSome};
 
-use crate::ClientSystem;
-use crate::fault::{FAILED, print_fault, report, report_no_memory};
 use dumpdates::{Dates, DatesFault};
 use printable::plain;
 use rdump_args::DumpLine;
 use rdump_files::{DumpFile, DumpFiles, PayloadLook, ReplacedFile, SameFile, open_payload};
+use rdump_system::{ClientSystem, FAILED, print_fault, report, report_no_memory};
 use std::alloc::Global;
 use std::fs::{File, Metadata};
 use std::io;

@@ -1,7 +1,6 @@
 //! The connection to the server of a dump, which reports failed attempts.
 ghost use Rattle.std.specs.Prelude.{◌≤◌, length};
 
-use crate::ClientSystem;
 use crate::last_reply::LastReply;
 use crate::protecting::{find_obstacle, refusal, report_held};
 use dump_client::AttemptFault;
@@ -13,6 +12,7 @@ use printable::plain;
 use rdump_args::DumpLine;
 use rdump_files::CLEAR;
 use rdump_net::{Peer, ReadFault, SocketPeer};
+use rdump_system::ClientSystem;
 use rmt_wire::errno::EIO;
 use std::io::{self, Write};
 

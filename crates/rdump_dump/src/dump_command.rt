@@ -1,13 +1,12 @@
 //! `rdump dump`, up to the client of the dump.
 ghost use Rattle.std.specs.Prelude.{◌≡◌, IfErr, IfSome};
-ghost use Rattle.rdump_commands.specs.Status.{IsStatus};
+ghost use Rattle.rdump_system.specs.Status.{IsStatus};
 
-use crate::ClientSystem;
 use crate::checkpoint_dump::dump_from;
 use crate::dump_end::report_end;
 use crate::dump_start::{DumpStart, refuse_files, refuse_unknown_new};
 use crate::dumping::run_printed;
-use crate::fault::{FAILED, NO_DUMPDATES, print_fault, refuse_run, report, report_no_memory};
+use crate::run_limit::refuse_run;
 use dump_client::{Blocks, Client};
 use dumpdates::DatesFault;
 use file_medium::FileMedium;
@@ -17,6 +16,7 @@ use rdump_files::{
     DumperFault, PayloadFile, ProgressLine, ReplacedFile, base_date, date_text, dumper,
     read_or_empty, read_steady, seconds_now,
 };
+use rdump_system::{ClientSystem, FAILED, NO_DUMPDATES, print_fault, report, report_no_memory};
 use rmt_wire::Counted;
 use std::fs::File;
 use std::io::{self, ErrorKind, Write};

@@ -1,8 +1,8 @@
 //! The connection to a server whose reels are read.
-use crate::ClientSystem;
 use crate::out_file::{BlockFault, OutFile};
 use dump_client::AttemptFault;
 use rdump_net::{Peer, SocketPeer};
+use rdump_system::ClientSystem;
 use std::cell::Cell;
 use std::io;
 

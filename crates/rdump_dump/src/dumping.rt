@@ -2,13 +2,11 @@
 ghost use Rattle.std.specs.Prelude.{◌≡◌, ◌⊎◌};
 ghost use Rattle.dump_client.specs.declared.stage.Stage.TheVariants.{Finished};
 ghost use Rattle.rdump_net.specs.declared.conclusion.Conclusion.TheVariants as ends;
-ghost use Rattle.rdump_commands.specs.Status.{IsDumpStatus, IsEndStatus};
+ghost use Rattle.rdump_dump.specs.Status.{IsDumpStatus, IsEndStatus};
 
-use crate::ClientSystem;
 use crate::asking::Asking;
 use crate::dump_end::report_end;
 use crate::dump_start::DumpStart;
-use crate::fault::{ABNORMAL, NO_DUMPDATES, report_failed, report_failures};
 use crate::reporting_peer::ReportingPeer;
 use dump_client::{Blocks, Client};
 use dumpdates::DatesFault;
@@ -17,6 +15,7 @@ use printable::plain;
 use rdump_args::DumpLine;
 use rdump_files::{Clearing, FileFailed, ReplacedFile, UpdateFault, dump_and_update, enter_dump};
 use rdump_net::{Conclusion, Peer, dump, dump_kept};
+use rdump_system::{ABNORMAL, ClientSystem, NO_DUMPDATES, report_failed, report_failures};
 use rmt_wire::Counted;
 use std::io::{self, Read, Write};
 

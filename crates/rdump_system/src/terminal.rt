@@ -9,7 +9,7 @@ const OUTPUT: &str = "/proc/self/fd/1";
 
 /// Whether standard output may be a terminal: it is a character device, as each terminal is, or the
 /// system does not report what it is.
-pub(crate) fn may_be_terminal<R: ClientSystem>(rt: &R) -> bool {
+pub fn may_be_terminal<R: ClientSystem>(rt: &R) -> bool {
     match fs::metadata(rt, OUTPUT) {
         Ok(found) => found.file_type().is_char_device(),
         Err(_) => true,

@@ -2,12 +2,9 @@
 ghost use Rattle.std.specs.Prelude.{◌≡◌};
 ghost use Rattle.rdump_args.specs.Rdump.{IsReadLine};
 
-use crate::ClientSystem;
-use crate::fault::{ABNORMAL, report_failed, unwritten};
 use crate::label_text::{LabelFilter, LabelKind, LabelText};
 use crate::out_file::{BlockFault, OutFile};
 use crate::reel_peer::{ReelPeer, ReelState};
-use crate::shown::may_be_terminal;
 use crate::volume_blocks::{BlockSizes, VolumeBlocks};
 use dump_run::VolumeLabel;
 use printable::plain;
@@ -15,6 +12,7 @@ use rdump_args::ReadLine;
 use rdump_net::{
     AfterVolume, ReadFault, ReelFront, SocketPeer, VolumeRequest, copy_volume, look_at_reel,
 };
+use rdump_system::{ABNORMAL, ClientSystem, may_be_terminal, report_failed, report_unwritten};
 use rmt_wire::Counted;
 use rmt_wire::errno::ENXIO;
 use std::cell::Cell;
@@ -266,14 +264,14 @@ fn end_of<R: ClientSystem>(
 ) -> ReadEnd {
     match (read, fault) {
         (Ok(()), None) => return ReadEnd::Whole,
-        (_, Some(fault)) => report_unwritten(rt, line, fault),
+        (_, Some(fault)) => report_block_fault(rt, line, fault),
         (Err(fault), None) => report_read(rt, line.to, fault, failure),
     }
     ReadEnd::Failed
 }
 
 /// Prints why a block was not written, or is not on disk.
-fn report_unwritten<R: ClientSystem>(rt: &R, line: &ReadLine<'_>, fault: &BlockFault) {
+fn report_block_fault<R: ClientSystem>(rt: &R, line: &ReadLine<'_>, fault: &BlockFault) {
     match fault {
         BlockFault::Failed(error) => {
             report_failed(rt, line.out, error, ABNORMAL);
@@ -291,7 +289,7 @@ fn report_unwritten<R: ClientSystem>(rt: &R, line: &ReadLine<'_>, fault: &BlockF
 fn report_read<R: ClientSystem>(rt: &R, to: &str, fault: ReadFault, failure: Option<&io::Error>) {
     match (fault, failure) {
         (ReadFault::OutputFailed, _) => {
-            unwritten(rt, ABNORMAL);
+            report_unwritten(rt, ABNORMAL);
         }
         (ReadFault::ConnectionEnded, Some(error)) => {
             report_failed(rt, to, error, ABNORMAL);

@@ -1,12 +1,12 @@
 //! Looks at a reel before each attempt of `rdump dump --protect`.
 
-use crate::ClientSystem;
 use dump_run::VolumeLabel;
 use printable::plain;
 use rdump_args::DumpLine;
 use rdump_net::{
     CallFault, LookFault, Peer, Protection, ReelFront, SocketPeer, find_protection, look_at_reel,
 };
+use rdump_system::ClientSystem;
 use rmt_wire::argument::is_device;
 use std::io;
 

@@ -1,5 +1,5 @@
-use Rattle.rdump_commands.proofs.Kept.{finished_at}
-use Rattle.rdump_commands.proofs.dumping.run_kept.Goals as goal
+use Rattle.rdump_dump.proofs.Kept.{finished_at}
+use Rattle.rdump_dump.proofs.dumping.run_kept.Goals as goal
 
 pub end_kept-status-requires : goal.end_kept-status-requires
 end_kept-status-requires g c = finished_at _ _ _ c.dump_kept-end.result c.dump_kept-end.ensures

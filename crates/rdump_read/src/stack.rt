@@ -1,16 +1,15 @@
 //! Reads back the volumes of a stack, one after the other.
-ghost use Rattle.rdump_commands.specs.Status.{IsReadStatus};
+ghost use Rattle.rdump_read.specs.Status.{IsReadStatus};
 ghost use Rattle.rdump_args.specs.Rdump.{IsReadLine};
 
-use crate::ClientSystem;
 use crate::blocks_read::{BlockRange, BlocksRead};
-use crate::fault::{ABNORMAL, report_no_memory};
 use crate::out_file::OutFile;
 use crate::read_command::finish_file;
 use crate::volume::{ReadEnd, VolumeRead, read_volume};
 use dump_run::VolumeLabel;
 use printable::plain;
 use rdump_args::ReadLine;
+use rdump_system::{ABNORMAL, ClientSystem, report_no_memory};
 
 /// Reads the volumes of a stack into a file, each to its place, as `rdump read --all` does. Returns
 /// the exit status.

@@ -1,6 +1,5 @@
 //! Prints what a restore needs, and whether the payload changed during the dump.
 
-use crate::ClientSystem;
 use crate::dump_start::DumpStart;
 use crate::shell_word::ShellWord;
 use dump_client::{Blocks, Client};
@@ -8,6 +7,7 @@ use dumpdates::LAST_SECOND;
 use printable::plain;
 use rdump_args::DumpLine;
 use rdump_files::{PayloadChange, PayloadLook, date_text};
+use rdump_system::ClientSystem;
 use std::io::{self, ErrorKind};
 use std::time::{SystemTime, UNIX_EPOCH};
 

@@ -1,17 +1,17 @@
 //! `rdump read`.
-ghost use Rattle.rdump_commands.specs.Status.{IsReadStatus, IsStatus};
+ghost use Rattle.rdump_read.specs.Status.{IsReadStatus};
+ghost use Rattle.rdump_system.specs.Status.{IsStatus};
 ghost use Rattle.rdump_args.specs.Rdump.{IsReadLine};
 
-use crate::ClientSystem;
-use crate::fault::{ABNORMAL, report, report_failed};
 use crate::out_file::OutFile;
 use crate::stack::read_stack;
 use crate::volume::{ReadEnd, read_volume};
 use rdump_args::ReadLine;
+use rdump_system::{ABNORMAL, ClientSystem, report, report_failed};
 use std::io;
 
 /// The exit status if everything was read.
-pub(crate) const WHOLE: u8 = 0;
+const WHOLE: u8 = 0;
 
 /// Reads a volume back into a file, as `rdump read` does, and prints its label.
 ///

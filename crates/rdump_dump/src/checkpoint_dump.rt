@@ -1,20 +1,20 @@
 //! Starts or resumes a dump with a checkpoint file, up to its client.
 ghost use Rattle.std.specs.Prelude.{◌≡◌};
-ghost use Rattle.rdump_commands.specs.Status.{IsStatus};
+ghost use Rattle.rdump_system.specs.Status.{IsStatus};
 ghost use Rattle.rdump_files.specs.Payload.{IsRunsPayload};
 
-use crate::ClientSystem;
 use crate::dump_command::{RunDates, dated, report_first};
 use crate::dump_end::report_younger;
 use crate::dump_start::{DumpStart, refuse_files, refuse_unknown_new};
 use crate::dumping::run_kept;
-use crate::fault::{FAILED, print_fault, refuse_run, report, report_failed, report_no_memory};
+use crate::run_limit::refuse_run;
 use dump_client::{Blocks, Client, ResumeFault, Run};
 use rdump_args::DumpLine;
 use rdump_files::{
     FileFailed, PayloadFile, ProgressLine, ReplacedFile, ResumedDumpFault, WholeFile, dumper_of,
     resume_dump, run_of,
 };
+use rdump_system::{ClientSystem, FAILED, print_fault, report, report_failed, report_no_memory};
 use std::io::{self, Write};
 use tape::Medium;
 

@@ -1,0 +1,2 @@
+-- Status: the exit status of a dump.
+pub mod Status

@@ -1,0 +1,66 @@
+//! Refuses a run whose limits the arguments violate.
+ghost use Rattle.std.specs.Prelude.{◌≡◌};
+
+use dump_client::RunFault;
+use rdump_args::{DumpLine, dump_error};
+use rdump_system::{ClientSystem, FAILED, report_no_memory};
+use std::alloc::{AllocError, Global};
+
+/// Prints which limit of a run the arguments violate, for a dump of this date, and returns the exit
+/// status.
+pub(crate) fn refuse_run<R: ClientSystem>(
+    rt: &R,
+    line: &DumpLine<'_>,
+    date: u64,
+    fault: RunFault,
+) -> u8
+    ensures { result ≡ 1 }
+{
+    let Ok(error) = error_of(rt.alloc(), line, date, fault) else {
+        return report_no_memory(rt);
+    };
+    let _ = error.print(rt);
+    FAILED
+}
+
+/// Returns the message for a limit that is violated, with the usage of the command.
+fn error_of(
+    alloc: Global,
+    line: &DumpLine<'_>,
+    date: u64,
+    fault: RunFault,
+) -> Result<clap::Error, AllocError> {
+    let limit = limit_of(alloc, line, date, fault)?;
+    let text = format!(in alloc; "{fault}: {limit}")?;
+    dump_error(alloc, text.as_str())
+}
+
+/// Returns the argument that violates a limit, and the limit.
+fn limit_of(
+    alloc: Global,
+    line: &DumpLine<'_>,
+    date: u64,
+    fault: RunFault,
+) -> Result<String, AllocError> {
+    let (level, block) = (line.level, line.block);
+    match fault {
+        RunFault::BadDevice => {
+            String::from_str(
+                alloc,
+                "--device <DEVICE>: a device is 1 to 255 bytes of one line",
+            )
+        }
+        RunFault::BadName => String::from_str(
+            alloc,
+            "--fs <NAME>: a name is 1 to 255 bytes of printable ASCII without a space",
+        ),
+        RunFault::BadLevel => format!(in alloc; "--level {level}: a level is 0 to 9"),
+        RunFault::BadDate => format!(in alloc; "--date {date}: a date is 0 to 253402300799"),
+        RunFault::BadBlockSize => format!(in alloc;
+            "--block {block}: a block is 1 to 262144 bytes"
+        ),
+        RunFault::TooManyBlocks => {
+            format!(in alloc; "--block {block}: a dump has at most 2147483647 blocks")
+        }
+    }
+}

@@ -1,0 +1,2 @@
+-- Status: the exit status of `rdump read`.
+pub mod Status

@@ -1,0 +1,17 @@
+//! The command `rdump read`: reads volumes back into a file.
+//!
+//! `run_read` is the whole command. It reads one volume, or each volume of a stack, over one
+//! connection a volume, and prints each label. The file is never written before it is known what is
+//! read, and a reel moves to the bin only after its blocks are on disk.
+#![tactic(auto)]
+
+mod blocks_read;
+mod label_text;
+mod out_file;
+mod read_command;
+mod reel_peer;
+mod stack;
+mod volume;
+mod volume_blocks;
+
+pub use read_command::run_read;

@@ -1,0 +1,2 @@
+-- Status: the exit statuses of `rdump`.
+pub mod Status
