@@ -6,7 +6,7 @@
 //! - the files of a dump: `rdump_files`.
 //! - its conversation over a connection: `rdump_net`.
 //! - lists of reels: `rdump_list`.
-//! - the commands of `rdump`: `rdump_commands`.
+//! - the commands of `rdump`: `rdump_commands`, and below it `rdump_read` and `rdump_dump`.
 //! - a peer in memory: `rmt_tools`.
 #![tactic(auto)]
 

@@ -30,11 +30,9 @@ pub fn report<R: Eprint + Print>(rt: &R, what: &str, error: io::Error) -> u8
 {
     if error.kind() == io::ErrorKind::OutOfMemory {
         let _ = println!(rt; "out of memory");
-    } else {
-        let what = plain(what);
-        let _ = eprintln!(rt; "rdump: {what}: {error}");
+        return FAILED;
     }
-    FAILED
+    report_failed(rt, what, &error, FAILED)
 }
 
 /// Prints that an allocation failed, and returns the exit status.
