@@ -1,8 +1,8 @@
 //! The command `rdump read`: reads volumes back into a file.
 //!
 //! `run_read` is the whole command. It reads one volume, or each volume of a stack, over one
-//! connection a volume, and prints each label. The file is never written before it is known what is
-//! read, and a reel moves to the bin only after its blocks are on disk.
+//! connection a volume, and prints each label. The file keeps its contents until a label or a block
+//! was read. A reel moves to the bin only after its blocks are on disk.
 #![tactic(auto)]
 
 mod blocks_read;
