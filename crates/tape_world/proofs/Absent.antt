@@ -8,17 +8,17 @@ use Rattle.drives.specs.TapeLibrary.{TapeLibrary, IsDriveNamed, latched_at}
 use Rattle.drives.specs.Arranging.{are_distinct, is_piled, may_arrange}
 use Rattle.world_model.specs.World.{World, Connection, numbered}
 use Rattle.world_model.specs.Changes.{connection_of}
-use Rattle.tape_world.specs.declared.conn.Connection.{Connection as RealConnection}
-use Rattle.tape_world.specs.Seen.{seen_connection}
-use Rattle.tape_world.proofs.Linked.{no_connection}
+use Rattle.world_connections.specs.declared.connection.Connection.{Connection as RealConnection}
+use Rattle.world_connections.specs.Connection.{plain_connection}
+use Rattle.world_connections.proofs.Linked.{no_connection}
 
-pub none_found : (w : World) (items xs : List RealConnection) (k : ℕ) (r : Option RealConnection) (x : Connection) → w.connections ≡ map seen_connection items → xs ≡ items
-    → option_map seen_connection r ≡ numbered (map seen_connection xs) k → r ≡ None → connection_of w k ≡ Some x → ⊥
+pub none_found : (w : World) (items xs : List RealConnection) (k : ℕ) (r : Option RealConnection) (x : Connection) → w.connections ≡ map plain_connection items → xs ≡ items
+    → option_map plain_connection r ≡ numbered (map plain_connection xs) k → r ≡ None → connection_of w k ≡ Some x → ⊥
 none_found w items xs k r x connections value is none at =
-    no_connection w k x (ap (λ ls. numbered ls k) (connections ∙ ap (map seen_connection) (sym value)) ∙ sym is ∙ ap (option_map seen_connection) none) at
+    no_connection w k x (ap (λ ls. numbered ls k) (connections ∙ ap (map plain_connection) (sym value)) ∙ sym is ∙ ap (option_map plain_connection) none) at
 
-pub connection_first : (xs : List RealConnection) (k : ℕ) (r : Option RealConnection) (l : RealConnection) → option_map seen_connection r ≡ numbered (map seen_connection xs) k → r ≡ Some l → 1 ≤ k
-connection_first xs zero r l is some = let clash : None ≡ Some (seen_connection l) = sym is ∙ ap (option_map seen_connection) some in absurd cc
+pub connection_first : (xs : List RealConnection) (k : ℕ) (r : Option RealConnection) (l : RealConnection) → option_map plain_connection r ≡ numbered (map plain_connection xs) k → r ≡ Some l → 1 ≤ k
+connection_first xs zero r l is some = let clash : None ≡ Some (plain_connection l) = sym is ∙ ap (option_map plain_connection) some in absurd cc
 connection_first xs (suc i) r l is some = omega arith
 
 pub some_found : {X : Type 0} (o : Option X) → is_some o ≡ true → (x : X) × (o ≡ Some x)

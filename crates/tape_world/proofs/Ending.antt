@@ -10,13 +10,14 @@ use Rattle.dump_client.specs.declared.fault.AttemptFault.{AttemptFault}
 use Rattle.world_model.specs.World.{World, Connection, Dumping, Caller, numbered}
 use Rattle.world_model.specs.Changes.{changed, changed_from, over_there, with_no_failure, other_left, given_up, came_to}
 use Rattle.world_model.specs.Steps.{caller, forgotten_from, SeesEnd}
-use Rattle.tape_world.specs.declared.conn.Connection.{Connection as RealConnection}
+use Rattle.world_connections.specs.declared.connection.Connection.{Connection as RealConnection}
 use Rattle.tape_world.specs.declared.caller.Begun.{Begun as RealBegun}
 use Rattle.tape_world.specs.declared.caller.Caller.{Caller as RealCaller}
-use Rattle.tape_world.specs.Seen.{seen_caller, seen_connection}
+use Rattle.tape_world.specs.Seen.{seen_caller}
+use Rattle.world_connections.specs.Connection.{plain_connection}
 use Rattle.tape_world.specs.Calling.{IsSameRun, ClientSeesEnd as SeesItsEnd, over_own, failure_of}
 use Rattle.tape_world.specs.Holding.{IsClients, IsOwned, IsSourced}
-use Rattle.tape_world.proofs.Linked.{connections_after, connections_same}
+use Rattle.world_connections.proofs.Linked.{connections_after, connections_same}
 
 -- a list of which one member is another now
 get_set : (xs : List Connection) (i : ℕ) (x y : Connection) → slice_get xs i ≡ Some x → slice_get (slice_set xs i y) i ≡ Some y
@@ -40,8 +41,8 @@ over_twice : (xs : List Connection) (k : ℕ) → changed over_there (changed ov
 over_twice xs k = over_from xs k (numbered xs k) refl
 
 -- what is seen of the connections in a vector, after the client's own is over
-pub connections_own : (o : Option ℕ) (n : ℕ) (items xs ws : List RealConnection) → n ≡ length items → xs ≡ items → map seen_connection ws ≡ over_own o (map seen_connection xs)
-    → map seen_connection (take n (ws ++ drop (length ws) items)) ≡ over_own o (map seen_connection items)
+pub connections_own : (o : Option ℕ) (n : ℕ) (items xs ws : List RealConnection) → n ≡ length items → xs ≡ items → map plain_connection ws ≡ over_own o (map plain_connection xs)
+    → map plain_connection (take n (ws ++ drop (length ws) items)) ≡ over_own o (map plain_connection items)
 connections_own None n items xs ws len value is = connections_same n items xs ws len value is
 connections_own (Some k) n items xs ws len value is = connections_after over_there n items xs ws k len value is
 

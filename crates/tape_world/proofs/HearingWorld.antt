@@ -11,14 +11,15 @@ use Rattle.dump_client.specs.declared.fault.AttemptFault.{AttemptFault}
 use Rattle.world_model.specs.World.{World, Connection, Dumping, Caller, Count, numbered}
 use Rattle.world_model.specs.Changes.{with_no_failure, changed, changed_from, over_there, reel_opened_by, counts_of, came_to}
 use Rattle.world_model.specs.Steps.{Hears, caller}
-use Rattle.tape_world.specs.declared.conn.Connection.{Connection as RealConnection}
+use Rattle.world_connections.specs.declared.connection.Connection.{Connection as RealConnection}
 use Rattle.tape_world.specs.declared.caller.Caller.{Caller as RealCaller}
 use Rattle.tape_world.specs.declared.history.Count.{Count as RealCount}
 use Rattle.tape_world.specs.declared.world_state.hearing.PieceHeard.{PieceHeard}
-use Rattle.tape_world.specs.Seen.{seen_caller, seen_count, seen_connection, name_at}
+use Rattle.tape_world.specs.Seen.{seen_caller, seen_count, name_at}
+use Rattle.world_connections.specs.Connection.{plain_connection, deliver_back}
 use Rattle.tape_world.specs.Holding.{is_in_attempt, IsClients, IsOwned}
 use Rattle.tape_world.specs.Calling.{failure_of}
-use Rattle.tape_world.specs.Hearing.{deliver_back, heard_on, own_after, is_over, IsAttempting, HasHeard, count_in}
+use Rattle.tape_world.specs.Hearing.{heard_on, own_after, is_over, IsAttempting, HasHeard, count_in}
 
 -- a number of a connection that is there is within
 get_within : (xs : List Connection) (i : ℕ) (x : Connection) → slice_get xs i ≡ Some x → suc i ≤ length xs
@@ -30,11 +31,11 @@ numbered_within : (xs : List Connection) (k : ℕ) (x : Connection) → numbered
 numbered_within xs zero x is = omega arith
 numbered_within xs (suc i) x is = get_within xs i x is
 
-pub connection_within : (xs ys : List RealConnection) (k : ℕ) (r : Option RealConnection) (l : RealConnection) → xs ≡ ys → option_map seen_connection r ≡ numbered (map seen_connection xs) k
+pub connection_within : (xs ys : List RealConnection) (k : ℕ) (r : Option RealConnection) (l : RealConnection) → xs ≡ ys → option_map plain_connection r ≡ numbered (map plain_connection xs) k
     → r ≡ Some l → k ≤ length ys
 connection_within xs ys k r l same is some =
-    let within = numbered_within (map seen_connection xs) k (seen_connection l) (sym is ∙ ap (option_map seen_connection) some) in
-    omega (arith, within, length-map xs seen_connection, ap length same)
+    let within = numbered_within (map plain_connection xs) k (plain_connection l) (sym is ∙ ap (option_map plain_connection) some) in
+    omega (arith, within, length-map xs plain_connection, ap length same)
 
 -- the client whose connection it is is in an attempt
 pub attempts : (w : World) (o : Option RealCaller) (k : ℕ) → w.caller ≡ option_map seen_caller o → IsOwned w → IsClients w k → IsAttempting o

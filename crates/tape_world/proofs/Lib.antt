@@ -1,4 +1,3 @@
-pub mod Linked
 pub mod Server
 pub mod Reached
 pub mod Clients

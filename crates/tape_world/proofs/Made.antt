@@ -20,10 +20,11 @@ use Rattle.rmt_server.specs.ServerState.{server}
 use Rattle.tape_host.specs.Servers.{Hosted, hosted}
 use Rattle.tape_host.specs.Lying.{Lie, StacksLie, AllLie}
 use Rattle.world_model.specs.First.{PlainDriveSpec, blank_drive, first_world}
-use Rattle.tape_world.specs.declared.conn.Connection.{Connection as RealConnection}
+use Rattle.world_connections.specs.declared.connection.Connection.{Connection as RealConnection}
 use Rattle.tape_world.specs.declared.caller.Begun.{Begun as RealBegun}
 use Rattle.tape_world.specs.declared.history.History.{History}
-use Rattle.tape_world.specs.Seen.{seen_connection, seen_begun, seen_count, seen_opening, seen_lists, seen_writing, seen_entered, book_names, world_of}
+use Rattle.tape_world.specs.Seen.{seen_begun, seen_count, seen_opening, seen_lists, seen_writing, seen_entered, book_names, world_of}
+use Rattle.world_connections.specs.Connection.{plain_connection}
 use Rattle.tape_world.specs.declared.drive_spec.DriveSpec.{DriveSpec}
 use Rattle.tape_world.specs.Serving.{IsLibraryKnown}
 use Rattle.tape_world.specs.Making.{plain_drive_spec, reels_of, blank_slots, laid_drive, laid_library, with_laid, with_slots}
@@ -132,7 +133,7 @@ pub made_world : (host : Hosted) (drives : List DriveSpec) (connections : List R
     → history.counts.items ≡ [] → history.opens.items ≡ [] → history.lists.items ≡ [] → history.writings.items ≡ [] → history.entered.items ≡ [] → history.failure ≡ None → dates ≡ []
     → world_of host.server connections begun None None None history dates ≡ first_world (map plain_drive_spec drives)
 made_world host drives connections begun history dates there no_connections no_runs no_counts no_opens no_lists no_writings no_entered no_failure no_dates =
-    let connections_none : map seen_connection connections ≡ [] = ap (map seen_connection) no_connections in
+    let connections_none : map plain_connection connections ≡ [] = ap (map plain_connection) no_connections in
     let begun_none : map seen_begun begun ≡ [] = ap (map seen_begun) no_runs in
     let counts_none : map (seen_count (book_names history)) history.counts.items ≡ [] = ap (map (seen_count (book_names history))) no_counts in
     let opens_none : map (seen_opening (book_names history)) history.opens.items ≡ [] = ap (map (seen_opening (book_names history))) no_opens in

@@ -28,7 +28,7 @@ use Rattle.tape_world.specs.Calling.{IsBegunWith}
 use Rattle.tape_world.specs.Holding.{IsBacked, IsSourced}
 use Rattle.tape_world.specs.Saving.{ResumesRunWith, IsEntryOf, IsKeptOf, MayKeep, kept_then}
 use Rattle.tape_world.specs.Seen.{seen_begun, seen_caller, seen_entered, seen_kept}
-use Rattle.tape_world.proofs.Linked.{numbered_at}
+use Rattle.world_connections.proofs.Linked.{numbered_at}
 
 -- a member of a list that has one more is that one, or stood there
 get_push : {X : Type 0} (xs : List X) (x : X) (i : ℕ) (y : X) → slice_get (xs ++ x ∷ []) i ≡ Some y → (slice_get xs i ≡ Some y) ⊎ (x ≡ y)

@@ -20,10 +20,11 @@ use Rattle.world_model.specs.Changes.{changed, over_there}
 use Rattle.world_model.specs.Events.PlainEvent.{Send}
 use Rattle.world_model.specs.Rows.{StandsIn}
 use Rattle.world_model.specs.Steps.{Happens, Sends, caller, is_failing}
-use Rattle.tape_world.specs.declared.conn.Connection.{Connection as RealConnection}
+use Rattle.world_connections.specs.declared.connection.Connection.{Connection as RealConnection}
 use Rattle.tape_world.specs.declared.caller.Begun.{Begun as RealBegun}
 use Rattle.tape_world.specs.declared.caller.Caller.{Caller as RealCaller}
-use Rattle.tape_world.specs.Seen.{seen_begun, seen_caller, seen_connection}
+use Rattle.tape_world.specs.Seen.{seen_begun, seen_caller}
+use Rattle.world_connections.specs.Connection.{plain_connection}
 use Rattle.tape_world.specs.Calling.{IsPlaced}
 use Rattle.tape_world.specs.Talking.{Asks, AskedOf, IsToSend, talked}
 use Rattle.tape_world.specs.Holding.{is_in_attempt, IsOwned, IsSourced}
@@ -59,13 +60,13 @@ numbered_within : (xs : List Connection) (k : ℕ) (x : Connection) → numbered
 numbered_within xs zero x at = absurd cc
 numbered_within xs (suc i) x at = (omega arith, get_below xs i x at)
 
-pub own_within : (w : World) (items : List RealConnection) (k : ℕ) → w.connections ≡ map seen_connection items → w.own ≡ Some k → IsOwned w → (1 ≤ k) × (k ≤ length items)
+pub own_within : (w : World) (items : List RealConnection) (k : ℕ) → w.connections ≡ map plain_connection items → w.own ≡ Some k → IsOwned w → (1 ≤ k) × (k ≤ length items)
 own_within w items k connections own o =
     let (l, d, at, other, dump) = (o.own k own).0 in
     let within = numbered_within w.connections k l at in
-    (within.0, subst (λ n. k ≤ n) (ap length connections ∙ length-map items seen_connection) within.1)
+    (within.0, subst (λ n. k ≤ n) (ap length connections ∙ length-map items plain_connection) within.1)
 
-pub own_placed : (w : World) (items : List RealConnection) (o : Option ℕ) → w.connections ≡ map seen_connection items → w.own ≡ o → IsOwned w → IsPlaced o (length items)
+pub own_placed : (w : World) (items : List RealConnection) (o : Option ℕ) → w.connections ≡ map plain_connection items → w.own ≡ o → IsOwned w → IsPlaced o (length items)
 own_placed w items None connections own owned = tt
 own_placed w items (Some k) connections own owned = own_within w items k connections own owned
 

@@ -23,35 +23,13 @@ use Rattle.tape_host.specs.Servers.{Hosted, hosted, side_at, ended}
 use Rattle.tape_host.specs.Turns.{sent_back, GivesNothing, carried_of, asked_of, answered_of, TurnsAt, TurnsSide, ServesAt, with_back}
 use Rattle.world_model.specs.World.{Connection, Dumping}
 use Rattle.world_model.specs.Changes.{changed, sent_on, noted, noted_by, noted_write, noted_marks, answered, over_here, opening}
-use Rattle.tape_world.specs.declared.conn.Connection.{Connection as RealConnection}
+use Rattle.world_connections.specs.declared.connection.Connection.{Connection as RealConnection}
 use Rattle.tape_world.specs.declared.history.Opening.{Opening as RealOpening}
-use Rattle.tape_world.specs.Seen.{seen_connection, seen_opening, name_at}
-use Rattle.tape_world.specs.Serving.{TurnServes, noted_record, noted_mark, noted_asked, noted_carried, noted_turn}
-use Rattle.tape_world.proofs.Linked.{put_connection}
-
--- ---- what is on the way back
-
--- a reply goes after what is left of the bytes
-behind : (start : ℕ) (lost : Bool) (back text : List ℕ) → start ≤ length back → drop start (sent_back lost back text) ≡ sent_back lost (drop start back) text
-behind start true back text fits = refl
-behind start false back text fits = drop-append-le start back text fits
-
-turned_side : (left : Hosted) (trouble : Trouble) (lost : Bool) (old : Hosted) (k : ℕ) (s : ServerConnection) (back : List ℕ) (turn : Turn) (new : Hosted) (back' : List ℕ) (start : ℕ)
-    → start ≤ length back → TurnsSide left trouble lost (with_back old back) k s turn (with_back new back') → TurnsSide left trouble lost (with_back old (drop start back)) k s turn (with_back new (drop start back'))
-turned_side left trouble lost old k s back turns.Nothing new back' start fits (none, same, is) = (none, same, ap (drop start) is)
-turned_side left trouble lost old k s back (turns.Carried c) new back' start fits (request, reply, carries, ready, told, is) =
-    (request, reply, carries, ready, told, ap (drop start) is ∙ behind start lost back (reply_text reply) fits)
-turned_side left trouble lost old k s back (turns.Broken fault) new back' start fits (gives, after, is) = (gives, after, ap (drop start) is)
-
-turned_at : (left : Hosted) (trouble : Trouble) (lost : Bool) (old : Hosted) (k : ℕ) (o : Option ServerConnection) (back : List ℕ) (turn : Turn) (new : Hosted) (back' : List ℕ) (start : ℕ)
-    → start ≤ length back → TurnsAt left trouble lost (with_back old back) k o turn (with_back new back') → TurnsAt left trouble lost (with_back old (drop start back)) k o turn (with_back new (drop start back'))
-turned_at left trouble lost old k None back turn new back' start fits (none, same, is) = (none, same, ap (drop start) is)
-turned_at left trouble lost old k (Some s) back turn new back' start fits t = turned_side left trouble lost old k s back turn new back' start fits t
-
-pub serves_behind : (trouble : Trouble) (lost : Bool) (old : Hosted) (k : ℕ) (back : List ℕ) (turn : Turn) (new : Hosted) (back' : List ℕ) (start : ℕ)
-    → start ≤ length back → ServesAt trouble lost old k back turn new back' → ServesAt trouble lost old k (drop start back) turn new (drop start back')
-serves_behind trouble lost old k back turn new back' start fits t =
-    turned_at (hosted (ended old.server k) old.ready) trouble lost old k (side_at old.server.sides k) back turn new back' start fits t
+use Rattle.tape_world.specs.Seen.{seen_opening, name_at}
+use Rattle.world_connections.specs.Connection.{plain_connection, noted_turn}
+use Rattle.tape_world.specs.Serving.{TurnServes}
+use Rattle.world_connections.specs.Attempt.{noted_record, noted_mark, noted_asked, noted_carried}
+use Rattle.world_connections.proofs.Linked.{put_connection}
 
 -- ---- what is noted of a request
 
@@ -133,8 +111,8 @@ serves_as trouble old new k (turns.Carried c) p q on (s, request, reply, live, c
 serves_as trouble old new k (turns.Broken fault) p q on (s, live, gives, after, is) = (s, live, gives, after, on over_here is)
 
 pub serves_connections : {E : Type 0} (trouble : Trouble) (old new : Hosted) (connections : List RealConnection) (k : ℕ) (x d : RealConnection) → 1 ≤ k → k ≤ length connections → (r : Result Turn E)
-    → IfOk r (λ turn. TurnServes trouble old k turn new (λ f. seen_connection x ≡ f (seen_connection (slice_index_or connections (k - 1) d))))
-    → IfOk r (λ turn. TurnServes trouble old k turn new (λ f. map seen_connection (slice_set connections (k - 1) x) ≡ changed f (map seen_connection connections) k))
+    → IfOk r (λ turn. TurnServes trouble old k turn new (λ f. plain_connection x ≡ f (plain_connection (slice_index_or connections (k - 1) d))))
+    → IfOk r (λ turn. TurnServes trouble old k turn new (λ f. map plain_connection (slice_set connections (k - 1) x) ≡ changed f (map plain_connection connections) k))
 serves_connections {E} trouble old new connections k x d first last (Ok turn) t = serves_as trouble old new k turn _ _ (λ f is. put_connection f connections k x d first last is) t
 serves_connections {E} trouble old new connections k x d first last (Err e) t = tt
 

@@ -35,16 +35,17 @@ use Rattle.world_model.specs.Rows.{Possible}
 use Rattle.world_model.specs.Steps.{Happens}
 use Rattle.world_model.specs.Standing.{AreHeld}
 use Rattle.world_model.specs.Kept.{IsWorldKept}
-use Rattle.tape_world.specs.declared.conn.Connection.{Connection as RealConnection}
+use Rattle.world_connections.specs.declared.connection.Connection.{Connection as RealConnection}
 use Rattle.tape_world.specs.declared.history.History.{History}
 use Rattle.tape_world.specs.declared.history.Count.{Count as RealCount}
 use Rattle.tape_world.specs.declared.history.Entered.{Entered as RealEntered}
 use Rattle.tape_world.specs.declared.caller.Begun.{Begun as RealBegun}
 use Rattle.tape_world.specs.declared.caller.Caller.{Caller as RealCaller}
 use Rattle.tape_world.specs.declared.caller.KeptRun.{KeptRun}
-use Rattle.tape_world.specs.Seen.{seen_connection, seen_caller, seen_count, seen_opening, seen_lists, seen_writing, seen_entered, book_names, world_of}
+use Rattle.tape_world.specs.Seen.{seen_caller, seen_count, seen_opening, seen_lists, seen_writing, seen_entered, book_names, world_of}
+use Rattle.world_connections.specs.Connection.{plain_connection}
 use Rattle.tape_world.specs.Serving.{TurnServes, IsSameHistory, IsNoted, IsLibraryKnown, IsOnlineIn, name_online, name_online_at, name_opened_by, opened_in, written_in}
-use Rattle.tape_world.proofs.Linked.{connections_after}
+use Rattle.world_connections.proofs.Linked.{connections_after}
 use Rattle.tape_world.proofs.Serving.{serves_as}
 use Rattle.tape_world.proofs.Server.{side_found, ended_is}
 use Rattle.tape_world.proofs.Reached.{put_side}
@@ -277,8 +278,8 @@ online_in h k held s drive access reel at online = held_there h held k drive s (
 -- ---- of the vectors in memory
 
 pub serves_world : (trouble : Trouble) (k : ℕ) (old new : Hosted) (turn : Turn) (n : ℕ) (items xs ws : List RealConnection) → n ≡ length items → xs ≡ items
-    → TurnServes trouble old k turn new (λ f. map seen_connection ws ≡ changed f (map seen_connection xs) k)
-    → TurnServes trouble old k turn new (λ f. map seen_connection (take n (ws ++ drop (length ws) items)) ≡ changed f (map seen_connection items) k)
+    → TurnServes trouble old k turn new (λ f. map plain_connection ws ≡ changed f (map plain_connection xs) k)
+    → TurnServes trouble old k turn new (λ f. map plain_connection (take n (ws ++ drop (length ws) items)) ≡ changed f (map plain_connection items) k)
 serves_world trouble k old new turn n items xs ws len value t = serves_as trouble old new k turn _ _ (λ f is. connections_after f n items xs ws k len value is) t
 
 -- the same names
@@ -311,7 +312,7 @@ pub noted_history : (h : ServerState) (connections : List RealConnection) (begun
     (old new : History) (list : List VolumeCount) (after : ServerState) (now : List RealConnection) (k : ℕ) (turn : Turn) → list ≡ list_in (option_map seen_caller caller)
     → IsNoted old list after k turn new
     → world_of after now begun caller own kept (record new { failure = None }) dates
-    ≡ turned (world_of h connections begun caller own kept old dates) k after turn (map seen_connection now)
+    ≡ turned (world_of h connections begun caller own kept old dates) k after turn (map plain_connection now)
 noted_history h connections begun caller own kept dates old new list after now k turn is s =
     let w = world_of h connections begun caller own kept old dates in
     let names = same_names old new s.names in

@@ -14,7 +14,7 @@ use Rattle.dump_client.specs.declared.stage.State.TheVariants as told
 use Rattle.dump_client.specs.declared.fault.StartFault.{StartFault}
 use Rattle.dump_client.specs.declared.fault.StartFault.TheVariants as refused
 use Rattle.rmt_wire.specs.ReplyReader.{ReplyHeld, ReplyUnread, reply_held}
-use Rattle.tape_world.specs.Parts.{new_dumping}
+use Rattle.world_connections.specs.Attempt.{new_dumping}
 use Rattle.tape_world.specs.declared.stop.EventStop.TheVariants.{OutOfMemory}
 use Rattle.world_model.specs.World.{World, Dumping, Begun, numbered}
 use Rattle.world_model.specs.Rows.{StandsIn}

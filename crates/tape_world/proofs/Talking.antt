@@ -3,9 +3,9 @@ use Rattle.std.proofs.Common.{◌≡◌, inl, inr, ◌≤◌, ℕ, Bool, true, f
 use Rattle.std.specs.Prelude.{Result, Ok, Err, IfOk, slice_set, slice_index_or, map, ◌-◌}
 use Rattle.world_model.specs.Changes.{changed}
 use Rattle.world_model.proofs.ToldSends.{small_number}
-use Rattle.tape_world.specs.declared.conn.Connection.{Connection as RealConnection}
-use Rattle.tape_world.specs.Seen.{seen_connection}
-use Rattle.tape_world.proofs.Linked.{put_connection}
+use Rattle.world_connections.specs.declared.connection.Connection.{Connection as RealConnection}
+use Rattle.world_connections.specs.Connection.{plain_connection}
+use Rattle.world_connections.proofs.Linked.{put_connection}
 use Rattle.std.proofs.lemmas.Fmt.{length-decimal-le}
 use Rattle.std.proofs.lemmas.Option.{same_Some}
 use Rattle.rmt_wire.specs.declared.limits.TheConstants.{READER_LIMIT}
@@ -177,7 +177,7 @@ asks o x d c1 c2 fails capacity out text r v (y, step, there, stage) is number r
 -- what was sent on the connection, as one of them all
 pub talks_own : {E : Type 0} (connections : List RealConnection) (k : ℕ) (x d : RealConnection) (o : Option RealCaller) (fails : Bool) (new : Option RealCaller) → 1 ≤ k → k ≤ length connections
     → (r : Result (Option (ℕ × AttemptFault)) E)
-    → IfOk r (λ failure. (text : List ℕ) × Asks o fails text failure new × (seen_connection x ≡ talked text failure (seen_connection (slice_index_or connections (k - 1) d))))
-    → IfOk r (λ failure. (text : List ℕ) × Asks o fails text failure new × (map seen_connection (slice_set connections (k - 1) x) ≡ changed (talked text failure) (map seen_connection connections) k))
+    → IfOk r (λ failure. (text : List ℕ) × Asks o fails text failure new × (plain_connection x ≡ talked text failure (plain_connection (slice_index_or connections (k - 1) d))))
+    → IfOk r (λ failure. (text : List ℕ) × Asks o fails text failure new × (map plain_connection (slice_set connections (k - 1) x) ≡ changed (talked text failure) (map plain_connection connections) k))
 talks_own {E} connections k x d o fails new first last (Ok failure) (text, asks, is) = (text, asks, put_connection (talked text failure) connections k x d first last is)
 talks_own {E} connections k x d o fails new first last (Err e) is = tt

@@ -17,7 +17,7 @@ use Rattle.tape_world.specs.declared.caller.Caller.{Caller as RealCaller}
 use Rattle.tape_world.specs.Holding.{IsBegun, IsSourced}
 use Rattle.tape_world.specs.Seen.{seen_begun, seen_caller}
 use Rattle.tape_world.specs.Telling.{IsGreatest, TellsPayload}
-use Rattle.tape_world.proofs.Linked.{same_connection}
+use Rattle.world_connections.proofs.Linked.{same_connection}
 
 -- so many bytes fit into the room of a live side
 within : (o : Option ServerConnection) (r : Option ℕ) (s : ServerConnection) (n : ℕ) → o ≡ Some s → HasRoom o r → (bytes : List ℕ) → Unread s.reached bytes → HasRoomFor s.reached n → n ≤ unwrap_or r 0

@@ -14,10 +14,6 @@ use Rattle.tape_world.specs.declared.history.Count.{Count}
 use Rattle.tape_world.specs.declared.caller.Caller.{Caller}
 use Rattle.tape_world.specs.declared.world_state.hearing.PieceHeard.{PieceHeard}
 
--- the connection after `n` bytes in transit to the peer arrived
-abbrev pub deliver_back : ℕ → Connection → Connection
-deliver_back n l = record l { back = drop n l.back }
-
 -- whether the attempt is over
 abbrev pub is_over : Progress → Bool
 is_over (Failed fault) = true

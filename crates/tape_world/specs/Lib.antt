@@ -1,8 +1,6 @@
 -- In reading order: Making, Running, Telling, Entries, Volumes; Seen, Parts, Holding, Linking,
 -- Calling, Talking, Hearing, Saving, Serving.
-pub mod Parts
 pub mod Seen
-pub mod Linking
 pub mod Holding
 pub mod Calling
 pub mod Talking

@@ -5,7 +5,7 @@ use Rattle.dumpdates.specs.Entry.{DatesEntry}
 use Rattle.rmt_server.specs.ServerState.{ServerState}
 use Rattle.dump_run.specs.declared.count.VolumeCount.{VolumeCount}
 use Rattle.world_model.specs.World.{Connection, Begun, Caller, Count, Opening, Writing, Entered, Kept, World}
-use Rattle.tape_world.specs.declared.conn.Connection.{Connection as RealConnection}
+use Rattle.world_connections.specs.declared.connection.Connection.{Connection as RealConnection}
 use Rattle.tape_world.specs.declared.caller.Begun.{Begun as RealBegun}
 use Rattle.tape_world.specs.declared.caller.Caller.{Caller as RealCaller}
 use Rattle.tape_world.specs.declared.caller.KeptRun.{KeptRun}
@@ -14,10 +14,6 @@ use Rattle.tape_world.specs.declared.history.Opening.{Opening as RealOpening}
 use Rattle.tape_world.specs.declared.history.Writing.{Writing as RealWriting}
 use Rattle.tape_world.specs.declared.history.Entered.{Entered as RealEntered}
 use Rattle.tape_world.specs.declared.history.History.{History}
-
--- a connection, as plain data
-abbrev pub seen_connection : RealConnection → Connection
-seen_connection l = record { toward = l.toward.way; back = l.back.way; cut = l.cut; other = l.other; dump = l.dump }
 
 -- a run that was begun, as plain data
 abbrev pub seen_begun : RealBegun → Begun
@@ -72,7 +68,7 @@ book_names b = map (λ name. name.items) b.names.items
 abbrev pub world_of : ServerState → List RealConnection → List RealBegun → Option RealCaller → Option ℕ → Option KeptRun → History → List DatesEntry → World
 world_of h connections begun caller own kept history dates = record {
   server = h;
-  connections = map seen_connection connections;
+  connections = map plain_connection connections;
   begun = map seen_begun begun;
   caller = option_map seen_caller caller;
   own = own;

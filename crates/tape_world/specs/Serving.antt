@@ -28,37 +28,6 @@ use Rattle.world_model.specs.Changes.{accepted, noted_error, answered, opening, 
 use Rattle.tape_world.specs.declared.history.History.{History}
 use Rattle.tape_world.specs.Seen.{seen_openings, seen_lists, seen_writings}
 
--- an attempt after the reply to a write of a record
-abbrev pub noted_record : Dumping → Answered → Dumping
-noted_record d (said.Number zero) = d
-noted_record d (said.Number (suc n)) = accepted d
-noted_record d said.Data = d
-noted_record d (said.Error n) = noted_error d n
-
--- an attempt after the reply to a write of marks
-abbrev pub noted_mark : Dumping → Answered → Dumping
-noted_mark d (said.Number n) = record d { mark = true }
-noted_mark d said.Data = d
-noted_mark d (said.Error n) = noted_error d n
-
--- the outcome of the attempt's writes after a request of this kind and its reply
-abbrev pub noted_asked : Dumping → RequestKind → Answered → Dumping
-noted_asked d (asked.Open writes) answer = d
-noted_asked d asked.Write answer = noted_record d answer
-noted_asked d asked.WriteDropped answer = d
-noted_asked d asked.Marks answer = noted_mark d answer
-noted_asked d asked.Other answer = d
-
--- an attempt after one of its requests was carried out
-abbrev pub noted_carried : Carried → Dumping → Dumping
-noted_carried c d = let d' = noted_asked d c.asked c.answered in record d' { carried = raised d'.carried }
-
--- the connection after a turn of the server's side, which a fault ends
-abbrev pub noted_turn : Turn → Connection → Connection
-noted_turn turns.Nothing l = l
-noted_turn (turns.Carried c) l = record l { dump = option_map (noted_carried c) l.dump }
-noted_turn (turns.Broken fault) l = over_here l
-
 -- The effect of a turn of connection `k`: on the server, and on the connection, which `becomes`
 -- describes.
 abbrev pub TurnServes : Trouble → Hosted → ℕ → Turn → Hosted → ((Connection → Connection) → Type 0) → Type 0

@@ -7,11 +7,8 @@
 #![tactic(auto)]
 
 mod caller;
-mod conn;
 mod counts;
-mod direction;
 mod drive_spec;
-mod dumping;
 mod event;
 mod fault;
 mod history;

@@ -13,12 +13,12 @@ mod serving;
 mod talk;
 
 use crate::caller::{Begun, Caller, KeptRun};
-use crate::conn::Connection;
 use crate::history::History;
 use dumpdates::Dates;
 use std::alloc::Global;
 use std::marker::Model;
 use tape_host::Host;
+use world_connections::Connection;
 
 /// A server with its drives, all connections that were ever made, and a client: the state that
 /// events change.

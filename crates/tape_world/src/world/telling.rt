@@ -7,12 +7,12 @@ ghost use Rattle.world_model.specs.Changes.{side_of};
 ghost use Rattle.tape_world.specs.Telling.{client_told, caller_told, TellsStack, TellsWay, TellsPayload};
 
 use super::World;
-use crate::conn::find;
 use crate::counts::Counts;
 use drives::{ListStacks, ListedReel, LocalHolds};
 use dump_client::{AttemptFault, Client, ListBlocks};
 use dumpdates::Dates;
 use rmt_server::Session;
+use world_connections::find;
 
 impl World {
     /// Returns all volumes that were counted, in order.

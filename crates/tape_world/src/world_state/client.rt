@@ -15,11 +15,10 @@ ghost use Rattle.tape_world.specs.declared.caller.Begun.{Begun as RealBegun};
 use super::WorldState;
 use super::saving::{change_kept, drop_kept};
 use crate::caller::{Begun, Caller};
-use crate::conn::{self, Connection, find};
-use crate::dumping::Dumping;
 use crate::stop::EventStop;
 use dump_client::{Answer, AttemptFault, Client, ListBlocks, Progress, Run, State};
 use std::alloc::{AllocError, Global};
+use world_connections::{Connection, Dumping, find};
 
 /// Copies the payload, as blocks of the run. Fails if an allocation fails.
 fn blocks_of(alloc: Global, run: &Run, payload: &[u8]) -> Result<ListBlocks, AllocError>
@@ -231,7 +230,7 @@ impl WorldState {
             return Err(EventStop::NotPossible);
         }
         let is_strangers = conn.dump.is_none();
-        conn::end_there(&mut self.connections, connection);
+        world_connections::end_there(&mut self.connections, connection);
         if is_strangers {
             self.history.failure = None;
             return Ok(());

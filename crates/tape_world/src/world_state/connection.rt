@@ -3,8 +3,8 @@ ghost use Rattle.world_model.specs.Events.PlainEvent.{Cut, Stranger, Says};
 ghost use Rattle.tape_world.specs.Holding.{IsEvent};
 
 use super::WorldState;
-use crate::conn::{self, Connection, find};
 use crate::stop::EventStop;
+use world_connections::{Connection, find};
 
 impl WorldState {
     /// Cuts the connection: from now on, what is sent on it is lost. Not possible if it was cut
@@ -18,7 +18,7 @@ impl WorldState {
         if conn.cut {
             return Err(EventStop::NotPossible);
         }
-        conn::cut(&mut self.connections, connection);
+        world_connections::cut(&mut self.connections, connection);
         self.history.failure = None;
         Ok(())
     }
@@ -47,7 +47,7 @@ impl WorldState {
         if !conn.other || conn.dump.is_some() {
             return Err(EventStop::NotPossible);
         }
-        conn::send(&mut self.connections, connection, bytes)?;
+        world_connections::send(&mut self.connections, connection, bytes)?;
         self.history.failure = None;
         Ok(())
     }

@@ -7,14 +7,15 @@ ghost use Rattle.world_model.specs.Kept.{IsWorldKept};
 ghost use Rattle.tape_world.specs.Calling.{failure_of};
 ghost use Rattle.tape_world.specs.Hearing.{HasHeard, IsAttempting, count_in, heard_on, is_over, own_after};
 ghost use Rattle.tape_world.specs.Holding.{IsEvent};
-ghost use Rattle.tape_world.specs.Seen.{name_at, book_names, seen_connection, seen_opening};
+ghost use Rattle.tape_world.specs.Seen.{name_at, book_names, seen_opening};
+ghost use Rattle.world_connections.specs.Connection.{plain_connection};
 
 use super::WorldState;
 use crate::caller::Caller;
-use crate::conn::{self, Connection, find};
 use crate::history::{Count, History, Opening};
 use crate::stop::EventStop;
 use dump_client::{AttemptFault, Client, ListBlocks, Progress, State, VolumeCount};
+use world_connections::{Connection, find};
 
 /// The outcome of bytes that the client heard.
 #[derive(Clone, Copy)]
@@ -121,14 +122,14 @@ fn settle(
 )
     requires first { 1 ≤ connection }
     requires last { connection ≤ length connections.old }
-    ensures connections { map seen_connection connections.new ≡ changed (heard_on is_over count) (map seen_connection connections.old) connection }
+    ensures connections { map plain_connection connections.new ≡ changed (heard_on is_over count) (map plain_connection connections.old) connection }
     ensures own { own.new ≡ own_after is_over own.old }
 {
     if !is_over {
-        conn::deliver_back(connections, connection, count);
+        world_connections::deliver_back(connections, connection, count);
         return;
     }
-    conn::end_there(connections, connection);
+    world_connections::end_there(connections, connection);
     *own = None;
 }
 
@@ -147,7 +148,7 @@ impl WorldState {
             return Err(EventStop::NotPossible);
         }
         if conn.dump.is_none() {
-            conn::deliver_back(&mut self.connections, connection, count);
+            world_connections::deliver_back(&mut self.connections, connection, count);
             self.history.failure = None;
             return Ok(());
         }

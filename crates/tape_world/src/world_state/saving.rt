@@ -7,18 +7,18 @@ ghost use Rattle.world_model.specs.Kept.{IsWorldKept};
 ghost use Rattle.tape_world.specs.Calling.{IsPlaced, over_own};
 ghost use Rattle.tape_world.specs.Holding.{IsBacked, IsEvent};
 ghost use Rattle.tape_world.specs.Saving.{ResumesRunWith, IsKeptOf, MayKeep, kept_then};
-ghost use Rattle.tape_world.specs.Seen.{seen_connection};
+ghost use Rattle.world_connections.specs.Connection.{plain_connection};
 
 use super::WorldState;
 use super::client::change_caller;
 use super::entering::has_entered;
 use crate::caller::{Begun, Caller, KeptRun};
-use crate::conn::{self, Connection};
 use crate::history::Entered;
 use crate::stop::EventStop;
 use dump_client::{Answer, Client, State};
 use dump_run::one_checkpoint;
 use std::alloc::{AllocError, Global};
+use world_connections::Connection;
 
 /// Replaces the saved run by this one, or by none.
 pub(super) fn change_kept(kept: &mut Option<KeptRun>, new: Option<KeptRun>)
@@ -94,10 +94,10 @@ fn resume_run(
 /// Removes the client from its own connection, if it has one.
 fn end_own(connections: &mut [Connection], own: Option<usize>)
     requires { IsPlaced own (length connections.old) }
-    ensures { map seen_connection connections.new ≡ over_own own (map seen_connection connections.old) }
+    ensures { map plain_connection connections.new ≡ over_own own (map plain_connection connections.old) }
 {
     if let Some(own) = own {
-        conn::end_there(connections, own);
+        world_connections::end_there(connections, own);
     }
 }
 

@@ -4,8 +4,8 @@ ghost use Rattle.world_model.specs.Kept.{IsWorldKept};
 ghost use Rattle.tape_world.specs.Holding.{IsEvent};
 
 use super::WorldState;
-use crate::conn::{self, find};
 use crate::stop::EventStop;
+use world_connections::find;
 use world_model::kept;
 
 impl WorldState {
@@ -26,7 +26,7 @@ impl WorldState {
             return Err(EventStop::NotPossible);
         }
         self.host.push(connection, &way[..count]);
-        conn::arrive(&mut self.connections, connection, count);
+        world_connections::arrive(&mut self.connections, connection, count);
         self.history.failure = None;
         Ok(())
     }
@@ -45,7 +45,7 @@ impl WorldState {
         }
         kept();
         self.host.end(connection);
-        conn::end_here(&mut self.connections, connection);
+        world_connections::end_here(&mut self.connections, connection);
         self.history.failure = None;
         Ok(())
     }
@@ -57,7 +57,7 @@ impl WorldState {
     {
         kept();
         self.host.restart();
-        conn::end_all_here(&mut self.connections);
+        world_connections::end_all_here(&mut self.connections);
         self.history.failure = None;
         Ok(())
     }

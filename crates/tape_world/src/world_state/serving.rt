@@ -9,12 +9,12 @@ ghost use Rattle.world_model.specs.Changes.{changed, first_name, list_in, openin
 ghost use Rattle.world_model.specs.Events.PlainEvent.{Serve};
 ghost use Rattle.world_model.specs.Kept.{IsWorldKept};
 ghost use Rattle.tape_world.specs.Holding.{IsEvent};
-ghost use Rattle.tape_world.specs.Seen.{book_names, seen_caller, seen_connection, seen_lists, seen_openings, seen_writings};
+ghost use Rattle.tape_world.specs.Seen.{book_names, seen_caller, seen_lists, seen_openings, seen_writings};
+ghost use Rattle.world_connections.specs.Connection.{plain_connection};
 ghost use Rattle.tape_world.specs.Serving.{HasRoom, IsNoted, IsOnlineIn, IsSameHistory, TurnServes, is_write, name_online_at, opened_in, written_in};
 
 use super::WorldState;
 use crate::caller::Caller;
-use crate::conn::{Connection, find};
 use crate::history::{History, Opening, Writing};
 use crate::stop::EventStop;
 use drives::ListedReel;
@@ -24,6 +24,7 @@ use rmt_wire::errno::{EACCES, EBADF};
 use std::alloc::{AllocError, Global};
 use tape::Trouble;
 use tape_host::{Answered, Carried, Host, RequestKind, Turn};
+use world_connections::{Connection, find};
 use world_model::kept;
 
 /// Takes one turn of the server's side of a connection, and notes it on the connection.
@@ -36,8 +37,8 @@ fn take_turn(
     trouble: Trouble,
 ) -> Result<Turn, AllocError>
     ensures taken { IfOk result (λ turn. TurnServes trouble host.old connection turn host.new
-        (λ f. seen_connection conn.new ≡ f (seen_connection conn.old))) }
-    ensures refused { OnErr result ((seen_connection conn.new ≡ seen_connection conn.old) × (host.new ≡ host.old)) }
+        (λ f. plain_connection conn.new ≡ f (plain_connection conn.old))) }
+    ensures refused { OnErr result ((plain_connection conn.new ≡ plain_connection conn.old) × (host.new ≡ host.old)) }
 {
     conn.back.reserve(READER_LIMIT)?;
     let turn = conn.back.take_reply(host, connection, trouble, conn.cut);
@@ -56,8 +57,8 @@ fn take_turn_at(
     requires first { 1 ≤ connection }
     requires last { connection ≤ length connections.old }
     ensures taken { IfOk result (λ turn. TurnServes trouble host.old connection turn host.new
-        (λ f. map seen_connection connections.new ≡ changed f (map seen_connection connections.old) connection)) }
-    ensures refused { OnErr result ((map seen_connection connections.new ≡ map seen_connection connections.old) × (host.new ≡ host.old)) }
+        (λ f. map plain_connection connections.new ≡ changed f (map plain_connection connections.old) connection)) }
+    ensures refused { OnErr result ((map plain_connection connections.new ≡ map plain_connection connections.old) × (host.new ≡ host.old)) }
 {
     take_turn(host, &mut connections[connection - 1], connection, trouble)
 }

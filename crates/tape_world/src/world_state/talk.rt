@@ -6,16 +6,16 @@ ghost use Rattle.world_model.specs.Changes.{changed};
 ghost use Rattle.world_model.specs.Events.PlainEvent.{Send};
 ghost use Rattle.world_model.specs.Kept.{IsWorldKept};
 ghost use Rattle.tape_world.specs.Holding.{IsEvent};
-ghost use Rattle.tape_world.specs.Seen.{seen_connection};
+ghost use Rattle.world_connections.specs.Connection.{plain_connection};
 ghost use Rattle.tape_world.specs.Talking.{Asks, IsToSend, talked};
 
 use super::WorldState;
 use crate::caller::Caller;
-use crate::conn::Connection;
 use crate::stop::EventStop;
 use dump_client::{AttemptFault, State};
 use rmt_wire::READER_LIMIT;
 use std::alloc::{AllocError, Global};
+use world_connections::Connection;
 
 /// Writes the next request of the client, which must be about to send one, to `out`. Returns the
 /// volume and the cause if that makes the attempt fail. `out` must be empty, with room for
@@ -54,8 +54,8 @@ fn send_on(
 ) -> Result<Option<(u32, AttemptFault)>, AllocError>
     requires { IsToSend caller.old }
     ensures sent { IfOk result (λ failure. (text : List ℕ) × Asks caller.old fails text failure caller.new
-        × (seen_connection conn.new ≡ talked text failure (seen_connection conn.old))) }
-    ensures refused { OnErr result ((seen_connection conn.new ≡ seen_connection conn.old) × (caller.new ≡ caller.old)) }
+        × (plain_connection conn.new ≡ talked text failure (plain_connection conn.old))) }
+    ensures refused { OnErr result ((plain_connection conn.new ≡ plain_connection conn.old) × (caller.new ≡ caller.old)) }
 {
     let mut request = Vec::with_capacity(alloc, READER_LIMIT)?;
     conn.reserve_request()?;
@@ -80,8 +80,8 @@ fn send_own(
     requires last { own ≤ length connections.old }
     requires sends { IsToSend caller.old }
     ensures sent { IfOk result (λ failure. (text : List ℕ) × Asks caller.old fails text failure caller.new
-        × (map seen_connection connections.new ≡ changed (talked text failure) (map seen_connection connections.old) own)) }
-    ensures refused { OnErr result ((map seen_connection connections.new ≡ map seen_connection connections.old) × (caller.new ≡ caller.old)) }
+        × (map plain_connection connections.new ≡ changed (talked text failure) (map plain_connection connections.old) own)) }
+    ensures refused { OnErr result ((map plain_connection connections.new ≡ map plain_connection connections.old) × (caller.new ≡ caller.old)) }
 {
     send_on(alloc, &mut connections[own - 1], caller, fails)
 }

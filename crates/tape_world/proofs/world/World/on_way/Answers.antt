@@ -4,10 +4,10 @@ use Rattle.tape_host.specs.Servers.{HasRoom}
 use Rattle.rmt_server.specs.ServerState.{ServerConnection}
 use Rattle.world_model.specs.World.{World}
 use Rattle.world_model.specs.First.{IsReadable}
-use Rattle.tape_world.specs.Seen.{seen_connection}
+use Rattle.world_connections.specs.Connection.{plain_connection}
 use Rattle.tape_world.specs.Telling.{TellsWay}
 use Rattle.tape_world.specs.contracts.world_state.WorldState.{the_view}
-use Rattle.tape_world.proofs.Linked.{connection_is}
+use Rattle.world_connections.proofs.Linked.{connection_is}
 use Rattle.tape_world.proofs.Server.{side_found}
 use Rattle.tape_world.proofs.Told.{can_arrive, can_come, cannot_come}
 use Rattle.tape_world.proofs.world.World.on_way.Goals as goal
@@ -15,7 +15,7 @@ use Rattle.tape_world.proofs.world.World.on_way.Goals as goal
 pub returns-then-not-conn : goal.returns-then-not-conn
 returns-then-not-conn c =
     let w = the_view c.self-inside.inside.0.0 in
-    let l = seen_connection c.in_ok-conn.conn.now in
+    let l = plain_connection c.in_ok-conn.conn.now in
     let is : option_copied c.find.result ≡ Some c.in_ok-conn.conn.now = search rules in
     let at = connection_is w c.self-inside.inside.0.0.connections.items c.deref.result.now c.args.connection (option_copied c.find.result) c.in_ok-conn.conn.now refl c.deref.ensures.value c.find.ensures is in
     let room = subst (λ (o : Option ServerConnection). HasRoom o c.room.result) (side_found w.server c.args.connection) c.room.ensures in
@@ -30,7 +30,7 @@ returns-then-not-conn c =
 pub returns : goal.returns
 returns c =
     let w = the_view c.self-inside.inside.0.0 in
-    let l = seen_connection c.in_ok-conn.conn.now in
+    let l = plain_connection c.in_ok-conn.conn.now in
     let is : option_copied c.find.result ≡ Some c.in_ok-conn.conn.now = search rules in
     let at = connection_is w c.self-inside.inside.0.0.connections.items c.deref.result.now c.args.connection (option_copied c.find.result) c.in_ok-conn.conn.now refl c.deref.ensures.value c.find.ensures is in
     let room = subst (λ (o : Option ServerConnection). HasRoom o c.room.result) (side_found w.server c.args.connection) c.room.ensures in

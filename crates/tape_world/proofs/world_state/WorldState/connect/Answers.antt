@@ -12,7 +12,8 @@ use Rattle.world_model.specs.Changes.{with_no_failure, new_connection}
 use Rattle.world_model.specs.Events.PlainEvent.{Connect}
 use Rattle.world_model.specs.Steps.{caller, client_connected, fresh}
 use Rattle.tape_world.specs.contracts.world_state.WorldState.{the_view}
-use Rattle.tape_world.specs.Seen.{seen_caller, seen_connection, world_of}
+use Rattle.tape_world.specs.Seen.{seen_caller, world_of}
+use Rattle.world_connections.specs.Connection.{plain_connection}
 use Rattle.tape_world.proofs.Clients.{sourced_same}
 use Rattle.tape_world.proofs.Starting.{stands_ready, started, started_caller}
 use Rattle.tape_world.proofs.Known.{known_same}
@@ -35,7 +36,7 @@ returns c =
     let stage = ap (λ (x : Caller). x.at.stage) (same_Some (seen_caller i.before) ready.0 (sym at ∙ ready.1)) ∙ ready.2 in
     let number : c.len.result ≡ length c.self.inside.connections.items + 1
     = omega (arith, c.len.ensures, c.push_reserved.ensures.len, c.in_ok-reserve.ensures.len, c.self.inside.connections.ok.0) in
-    let before = map seen_connection c.self.inside.connections.items in
+    let before = map plain_connection c.self.inside.connections.items in
     let V = the_view c.self.inside in
     let x = caller i.before.number (standing i.before.client.at.run i.before.client.at.counts (ToSend Open)) (reply_held None []) in (
       ready,
@@ -43,16 +44,16 @@ returns c =
         seen_caller i.before,
         at,
         stage,
-        ap (λ h. record (with_no_failure V) { server = h; connections = map seen_connection c.push_reserved.new.self.items; caller = option_map seen_caller c.start_attempt.new.caller; own = Some c.len.result })
+        ap (λ h. record (with_no_failure V) { server = h; connections = map plain_connection c.push_reserved.new.self.items; caller = option_map seen_caller c.start_attempt.new.caller; own = Some c.len.result })
             (ap (λ h. h.server) c.admit.ensures ∙ ap (λ h. joined h.server) c.in_ok-prepare.ensures)
             ∙ ap (λ ls. record (with_no_failure V) { server = joined V.server; connections = ls; caller = option_map seen_caller c.start_attempt.new.caller; own = Some c.len.result })
-            (ap (map seen_connection) (c.push_reserved.ensures.items ∙ ap (λ l. l ++ c.new.result ∷ []) c.in_ok-reserve.ensures.items)
-            ∙ map-append seen_connection c.self.inside.connections.items (c.new.result ∷ [])
+            (ap (map plain_connection) (c.push_reserved.ensures.items ∙ ap (λ l. l ++ c.new.result ∷ []) c.in_ok-reserve.ensures.items)
+            ∙ map-append plain_connection c.self.inside.connections.items (c.new.result ∷ [])
             ∙ ap (λ l. before ++ l ∷ []) (c.new.ensures ∙ ap (λ d. new_connection (Some d)) i.fresh))
             ∙ ap (λ y. record (with_no_failure V) { server = joined V.server; connections = before ++ new_connection (Some (fresh (seen_caller i.before))) ∷ []; caller = y; own = Some c.len.result })
             (started_caller c.self.inside.caller c.start_attempt.new.caller c.in_ok-dumping.dumping i)
             ∙ ap (λ n. record (with_no_failure V) { server = joined V.server; connections = before ++ new_connection (Some (fresh (seen_caller i.before))) ∷ []; caller = Some x; own = Some n })
-            (number ∙ ap (λ n. n + 1) (sym (length-map c.self.inside.connections.items seen_connection)))
+            (number ∙ ap (λ n. n + 1) (sym (length-map c.self.inside.connections.items plain_connection)))
             ∙ ap (λ (w : World). client_connected w (seen_caller i.before)) c.self.view_is,
       ),
     )
@@ -69,7 +70,7 @@ unstarted : (c : goal.After-from_residual-in_err-dumping) → world_of c.prepare
 unstarted c =
     let V = the_view c.self.inside in
     let client = option_map seen_caller c.start_attempt.new.caller in
-    ap (λ items. record V { server = c.prepare.new.self.server; connections = map seen_connection items; caller = client }) c.in_ok-reserve.ensures.items
+    ap (λ items. record V { server = c.prepare.new.self.server; connections = map plain_connection items; caller = client }) c.in_ok-reserve.ensures.items
     ∙ ap (λ h. record V { server = h.server; caller = client }) c.in_ok-prepare.ensures
     ∙ ap (λ x. record V { caller = x }) (unstarted_seen c.self.inside.caller c.start_attempt.new.caller c.in_err-dumping.field-0.0 c.in_err-dumping.ensures)
 
@@ -92,12 +93,12 @@ returns-then-not-stands_in c = (
 pub returns-in_err-reserve : goal.returns-in_err-reserve
 returns-in_err-reserve c =
     refused_event c.args.self.now _ Connect c.from_residual.result c.from_residual.ensures.1
-    (ap (λ items. record (the_view c.self.inside) { connections = map seen_connection items }) c.in_err-reserve.ensures.items ∙ c.self.view_is)
+    (ap (λ items. record (the_view c.self.inside) { connections = map plain_connection items }) c.in_err-reserve.ensures.items ∙ c.self.view_is)
 
 pub returns-in_err-prepare : goal.returns-in_err-prepare
 returns-in_err-prepare c =
     refused_event c.args.self.now _ Connect c.from_residual-in_err-prepare.result c.from_residual-in_err-prepare.ensures.1
-    (ap (λ items. record (the_view c.self.inside) { server = c.prepare.new.self.server; connections = map seen_connection items }) c.in_ok-reserve.ensures.items
+    (ap (λ items. record (the_view c.self.inside) { server = c.prepare.new.self.server; connections = map plain_connection items }) c.in_ok-reserve.ensures.items
     ∙ ap (λ h. record (the_view c.self.inside) { server = h.server }) c.in_err-prepare.ensures ∙ c.self.view_is)
 
 pub returns-in_err-dumping : goal.returns-in_err-dumping

@@ -3,9 +3,8 @@ use Rattle.std.specs.Option.{option_copied}
 use Rattle.world_model.specs.World.{World}
 use Rattle.world_model.specs.Changes.{changed, with_no_failure}
 use Rattle.tape_world.specs.contracts.world_state.WorldState.{the_view}
-use Rattle.tape_world.specs.Linking.{severed}
-use Rattle.tape_world.specs.Seen.{seen_connection}
-use Rattle.tape_world.proofs.Linked.{connections_after, connection_is, same_connection}
+use Rattle.world_connections.specs.Connection.{severed, plain_connection}
+use Rattle.world_connections.proofs.Linked.{connections_after, connection_is, same_connection}
 use Rattle.tape_world.proofs.Absent.{none_found, connection_first}
 use Rattle.tape_world.proofs.HearingWorld.{connection_within}
 use Rattle.tape_world.proofs.world_state.WorldState.cut.Goals as goal
@@ -17,14 +16,14 @@ returns-then-conn c = (
       let there
       = connection_is c.args.self.now c.self.inside.connections.items c.deref.result.now c.args.connection (option_copied c.find.result) c.in-Some.conn.now (ap (λ w. w.connections) (sym c.self.view_is))
       c.deref.ensures.value c.find.ensures (ap option_copied c.in-Some.is) in
-      let same = ap (λ l. l.cut) (same_connection c.args.self.now c.args.connection x (seen_connection c.in-Some.conn.now) at there) in
+      let same = ap (λ l. l.cut) (same_connection c.args.self.now c.args.connection x (plain_connection c.in-Some.conn.now) at there) in
       let shut = c.if-conn.true in absurd cc),
 )
 
 pub returns : goal.returns
 returns c = (
   (
-    seen_connection c.in-Some.conn.now,
+    plain_connection c.in-Some.conn.now,
     connection_is c.args.self.now c.self.inside.connections.items c.deref.result.now c.args.connection (option_copied c.find.result) c.in-Some.conn.now (ap (λ w. w.connections) (sym c.self.view_is))
         c.deref.ensures.value c.find.ensures (ap option_copied c.in-Some.is),
     c.if-conn.false,

@@ -4,8 +4,9 @@ use Rattle.world_model.specs.World.{World, Dumping}
 use Rattle.world_model.specs.Changes.{with_no_failure, other_left, over_there}
 use Rattle.tape_world.specs.Holding.{IsClients, IsOwned}
 use Rattle.tape_world.specs.contracts.world_state.WorldState.{the_view}
-use Rattle.tape_world.specs.Seen.{seen_connection, seen_caller}
-use Rattle.tape_world.proofs.Linked.{connections_after, connection_is}
+use Rattle.tape_world.specs.Seen.{seen_caller}
+use Rattle.world_connections.specs.Connection.{plain_connection}
+use Rattle.world_connections.proofs.Linked.{connections_after, connection_is}
 use Rattle.tape_world.proofs.Clients.{sourced_same}
 use Rattle.tape_world.proofs.Ending.{ended, ended_world, ended_step, strangers_step, clients_step}
 use Rattle.tape_world.proofs.Absent.{none_found, connection_first}
@@ -18,9 +19,9 @@ returns-then-is_strangers c =
     = connection_is c.args.self.now c.self.inside.connections.items c.deref.result.now c.args.connection (option_copied c.find.result) c.in-Some.conn.now
     (ap (λ w. w.connections) (sym c.self.view_is)) c.deref.ensures.value c.find.ensures (ap option_copied c.in-Some.is) in
     let none : c.in-Some.conn.now.dump ≡ None = search rules in (
-      (seen_connection c.in-Some.conn.now, (at, c.if-not-conn.false), c.if-not-conn-2.false),
+      (plain_connection c.in-Some.conn.now, (at, c.if-not-conn.false), c.if-not-conn-2.false),
       (
-        seen_connection c.in-Some.conn.now,
+        plain_connection c.in-Some.conn.now,
         at,
         strangers_step c.args.self.now _ c.args.connection c.in-Some.conn.now.dump none
             (ap (λ ls. record (with_no_failure (the_view c.self.inside)) { connections = ls })
@@ -35,7 +36,7 @@ invariant_of-self-2 c =
     let dump : (d : Dumping) × (c.in-Some.conn.now.dump ≡ Some d) = search rules in
     let at = connection_is (the_view c.self.inside) c.self.inside.connections.items c.deref.result.now c.args.connection (option_copied c.find.result) c.in-Some.conn.now refl
     c.deref.ensures.value c.find.ensures (ap option_copied c.in-Some.is) in
-    let clients : IsClients (the_view c.self.inside) c.args.connection = (seen_connection c.in-Some.conn.now, dump.0, at, c.if-not-conn.false, dump.1) in
+    let clients : IsClients (the_view c.self.inside) c.args.connection = (plain_connection c.in-Some.conn.now, dump.0, at, c.if-not-conn.false, dump.1) in
     let e = ended (the_view c.self.inside) c.self.inside.caller c.end_attempt-self-inside.new.caller c.end_attempt-self-inside.result c.args.connection refl
     (subst IsOwned (sym c.self.view_is) c.requires.owned) clients c.end_attempt-self-inside.ensures in (
       (sourced_same c.self.inside.begun.items c.self.inside.caller c.end_attempt-self-inside.new.caller e.before e.after e.was e.is e.same c.self.invariant.0.0, c.self.invariant.0.1),
@@ -47,15 +48,15 @@ returns c =
     let dump : (d : Dumping) × (c.in-Some.conn.now.dump ≡ Some d) = search rules in
     let here = connection_is (the_view c.self.inside) c.self.inside.connections.items c.deref.result.now c.args.connection (option_copied c.find.result) c.in-Some.conn.now refl
     c.deref.ensures.value c.find.ensures (ap option_copied c.in-Some.is) in
-    let clients : IsClients (the_view c.self.inside) c.args.connection = (seen_connection c.in-Some.conn.now, dump.0, here, c.if-not-conn.false, dump.1) in
+    let clients : IsClients (the_view c.self.inside) c.args.connection = (plain_connection c.in-Some.conn.now, dump.0, here, c.if-not-conn.false, dump.1) in
     let e = ended (the_view c.self.inside) c.self.inside.caller c.end_attempt-self-inside.new.caller c.end_attempt-self-inside.result c.args.connection refl
     (subst IsOwned (sym c.self.view_is) c.requires.owned) clients c.end_attempt-self-inside.ensures in
     let at
     = connection_is c.args.self.now c.self.inside.connections.items c.deref.result.now c.args.connection (option_copied c.find.result) c.in-Some.conn.now
     (ap (λ w. w.connections) (sym c.self.view_is)) c.deref.ensures.value c.find.ensures (ap option_copied c.in-Some.is) in (
-      (seen_connection c.in-Some.conn.now, (at, c.if-not-conn.false), c.if-not-conn-2.false),
+      (plain_connection c.in-Some.conn.now, (at, c.if-not-conn.false), c.if-not-conn-2.false),
       (
-        seen_connection c.in-Some.conn.now,
+        plain_connection c.in-Some.conn.now,
         at,
         clients_step c.args.self.now _ c.args.connection c.in-Some.conn.now.dump dump.0 dump.1
             (ended_step c.args.self.now _ c.args.connection dump.0 c.self.inside.caller c.end_attempt-self-inside.new.caller c.end_attempt-self-inside.result

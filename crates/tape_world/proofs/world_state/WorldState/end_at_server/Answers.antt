@@ -7,8 +7,8 @@ use Rattle.world_model.specs.Events.PlainEvent.{EndAtServer}
 use Rattle.world_model.specs.Rows.{Possible}
 use Rattle.world_model.specs.Kept.{IsWorldKept}
 use Rattle.tape_world.specs.contracts.world_state.WorldState.{the_view}
-use Rattle.tape_world.specs.Seen.{seen_connection}
-use Rattle.tape_world.proofs.Linked.{connections_after, connection_is}
+use Rattle.world_connections.specs.Connection.{plain_connection}
+use Rattle.world_connections.proofs.Linked.{connections_after, connection_is}
 use Rattle.tape_world.proofs.Server.{ended_is, side_found, room_live}
 use Rattle.tape_world.proofs.Known.{known_after}
 use Rattle.tape_world.proofs.Absent.{none_found, connection_first}
@@ -22,7 +22,7 @@ possible c =
     let w = the_view c.self.inside in
     let live = room_live _ c.room.result c.room.ensures c.if-is_none.ensures in (
       live.0,
-      seen_connection c.in-Some.conn.now,
+      plain_connection c.in-Some.conn.now,
       sym (side_found w.server c.args.connection) ∙ live.1,
       connection_is w c.self.inside.connections.items c.deref.result.now c.args.connection (option_copied c.find.result) c.in-Some.conn.now refl c.deref.ensures.value
           c.find.ensures (ap option_copied c.in-Some.is),

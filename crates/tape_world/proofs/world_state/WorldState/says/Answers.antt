@@ -4,9 +4,8 @@ use Rattle.world_model.specs.World.{World}
 use Rattle.world_model.specs.Events.PlainEvent.{Says}
 use Rattle.world_model.specs.Changes.{changed, with_no_failure}
 use Rattle.tape_world.specs.contracts.world_state.WorldState.{the_view}
-use Rattle.tape_world.specs.Linking.{said}
-use Rattle.tape_world.specs.Seen.{seen_connection}
-use Rattle.tape_world.proofs.Linked.{connections_after, connections_same, connection_is, same_connection}
+use Rattle.world_connections.specs.Connection.{said, plain_connection}
+use Rattle.world_connections.proofs.Linked.{connections_after, connections_same, connection_is, same_connection}
 use Rattle.tape_world.proofs.Absent.{none_found, connection_first}
 use Rattle.tape_world.proofs.HearingWorld.{connection_within}
 use Rattle.tape_world.proofs.Clients.{not_both}
@@ -26,7 +25,7 @@ returns-in_err-send c =
 pub returns : goal.returns
 returns c = (
   (
-    seen_connection c.in-Some.conn.now,
+    plain_connection c.in-Some.conn.now,
     (
       connection_is c.args.self.now c.self.inside.connections.items c.deref.result.now c.args.connection (option_copied c.find.result) c.in-Some.conn.now
           (ap (λ w. w.connections) (sym c.self.view_is)) c.deref.ensures.value c.find.ensures (ap option_copied c.in-Some.is),
@@ -62,7 +61,7 @@ returns-then-not-conn c =
     (ap (λ w. w.connections) (sym c.self.view_is)) c.deref.ensures.value c.find.ensures (ap option_copied c.in-Some.is) in (
       refl,
       λ (x, live, none). (
-          let same = same_connection c.args.self.now c.args.connection x (seen_connection c.in-Some.conn.now) live.0 there in
+          let same = same_connection c.args.self.now c.args.connection x (plain_connection c.in-Some.conn.now) live.0 there in
           let other = ap (λ l. l.other) same in
           let dump = ap (λ l. is_some l.dump) same in
           elim c.then-not-conn.branch [

@@ -10,7 +10,7 @@ use Rattle.tape_world.specs.Serving.{IsLibraryKnown}
 use Rattle.tape_world.specs.Holding.{IsBacked, IsOwned, IsSourced}
 use Rattle.tape_world.specs.Seen.{book_names, seen_caller, world_of}
 use Rattle.tape_world.specs.Talking.{talked}
-use Rattle.tape_world.proofs.Linked.{connections_after}
+use Rattle.world_connections.proofs.Linked.{connections_after}
 use Rattle.tape_world.proofs.Sending.{to_send, has_own, own_within, own_after, own_gone, own_stays, talked_sourced, talked_event, talked_world}
 use Rattle.std.proofs.lemmas.Bool.{false≢true}
 use Rattle.dump_client.specs.Standing.{state_of}

@@ -6,7 +6,8 @@ use Rattle.world_model.specs.Changes.{changed}
 use Rattle.world_model.specs.Events.PlainEvent.{Serve}
 use Rattle.world_model.specs.Steps.{Happens}
 use Rattle.tape_world.specs.contracts.world_state.WorldState.{the_view}
-use Rattle.tape_world.specs.Seen.{seen_connection, book_names, world_of}
+use Rattle.tape_world.specs.Seen.{book_names, world_of}
+use Rattle.world_connections.specs.Connection.{plain_connection}
 use Rattle.world_model.specs.Kept.{IsWorldKept}
 use Rattle.tape_world.specs.Serving.{TurnServes, IsLibraryKnown}
 use Rattle.tape_world.proofs.Known.{known_after, known_same}
@@ -19,7 +20,7 @@ use Rattle.tape_world.proofs.world_state.WorldState.serve.Goals as goal
 
 -- the connections after the turn
 abbrev connections_then : (c : In_ok-turn) → List Connection
-connections_then c = map seen_connection (take c.self.inside.connections.len (c.take_turn_at.new.connections ++ drop (length c.take_turn_at.new.connections) c.self.inside.connections.items))
+connections_then c = map plain_connection (take c.self.inside.connections.len (c.take_turn_at.new.connections ++ drop (length c.take_turn_at.new.connections) c.self.inside.connections.items))
 
 -- a request or a fault was served: the opening or the writing is to be noted
 happens : (c : In_ok-turn) → c.in_ok-turn.turn ≢ turns.Nothing → Happens (the_view c.self.inside) (Serve c.args.connection c.args.trouble)
@@ -80,7 +81,7 @@ returns-in-Nothing c =
     let w = the_view c.self.inside in
     let after = take c.self.inside.connections.len (c.take_turn_at.new.connections ++ drop (length c.take_turn_at.new.connections) c.self.inside.connections.items) in
     let t = subst (λ turn. TurnServes c.args.trouble c.self.inside.host c.args.connection turn c.take_turn_at.new.host
-    (λ f. map seen_connection after ≡ changed f w.connections c.args.connection)) c.in-Nothing.is
+    (λ f. map plain_connection after ≡ changed f w.connections c.args.connection)) c.in-Nothing.is
     (serves_world c.args.trouble c.args.connection c.self.inside.host c.take_turn_at.new.host c.in_ok-turn.turn c.self.inside.connections.len c.self.inside.connections.items
     c.deref_mut.result.now c.take_turn_at.new.connections c.self.inside.connections.ok.0 c.deref_mut.ensures.value c.in_ok-turn.ensures.taken) in (
       same_history c.take_turn_at.new.host.server after c.self.inside.begun.items c.self.inside.caller c.self.inside.own c.self.inside.kept c.self.inside.dates
@@ -125,7 +126,7 @@ returns c =
     c.in_ok-turn.turn c.in_ok-list.ensures c.note_turn.ensures in
     let same = same_history c.self.inside.host.server c.self.inside.connections.items c.self.inside.begun.items c.self.inside.caller c.self.inside.own
     c.self.inside.kept c.self.inside.dates c.self.inside.history c.reserve_notes.new.self c.in_ok-reserve_notes.ensures.same in
-    let now = noted ∙ ap (λ x. turned x c.args.connection server c.in_ok-turn.turn (map seen_connection after)) same in
+    let now = noted ∙ ap (λ x. turned x c.args.connection server c.in_ok-turn.turn (map plain_connection after)) same in
     subst (λ (v : World). Happens v (Serve c.args.connection c.args.trouble) (world_of server after c.self.inside.begun.items c.self.inside.caller
     c.self.inside.own c.self.inside.kept (record c.note_turn.new.self { failure = None }) c.self.inside.dates)) c.self.view_is
     (subst (Happens w (Serve c.args.connection c.args.trouble)) (sym now)

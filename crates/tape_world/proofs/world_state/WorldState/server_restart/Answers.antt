@@ -5,7 +5,7 @@ use Rattle.world_model.specs.Changes.{with_no_failure, restarted, over_here}
 use Rattle.world_model.specs.Events.PlainEvent.{ServerRestart}
 use Rattle.world_model.specs.Kept.{IsWorldKept}
 use Rattle.tape_world.specs.contracts.world_state.WorldState.{the_view}
-use Rattle.tape_world.proofs.Linked.{connections_over}
+use Rattle.world_connections.proofs.Linked.{connections_over}
 use Rattle.tape_world.proofs.Server.{all_ended_is}
 use Rattle.tape_world.proofs.Known.{known_after}
 use Rattle.tape_world.proofs.world_state.WorldState.server_restart.Goals as goal

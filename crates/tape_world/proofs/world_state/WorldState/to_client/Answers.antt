@@ -6,12 +6,13 @@ use Rattle.world_model.specs.Changes.{with_no_failure, changed}
 use Rattle.world_model.specs.Events.PlainEvent.{ToClient}
 use Rattle.world_model.specs.Steps.{Happens}
 use Rattle.tape_world.specs.contracts.world_state.WorldState.{the_view}
-use Rattle.tape_world.specs.Hearing.{deliver_back, heard_on, HasHeard}
+use Rattle.tape_world.specs.Hearing.{heard_on, HasHeard}
+use Rattle.world_connections.specs.Connection.{deliver_back, plain_connection}
 use Rattle.tape_world.specs.Holding.{IsOwned}
-use Rattle.tape_world.specs.Seen.{book_names, seen_caller, seen_count, seen_connection}
+use Rattle.tape_world.specs.Seen.{book_names, seen_caller, seen_count}
 use Rattle.tape_world.proofs.Clients.{sourced_same, not_both}
 use Rattle.tape_world.proofs.HearingWorld.{attempts, counts_kept, dropped_step, heard_step, heard_world, connection_within}
-use Rattle.tape_world.proofs.Linked.{connection_is, connections_after, same_connection}
+use Rattle.world_connections.proofs.Linked.{connection_is, connections_after, same_connection}
 use Rattle.tape_world.proofs.Absent.{none_found, connection_first, none_left, some_found}
 use Rattle.tape_world.proofs.Refused.{refused_event}
 use Rattle.tape_world.proofs.world_state.WorldState.to_client.Goals.{then-not-conn-via-then-not-conn, then-not-conn-via-else-not-conn+then-count-eq0, then-not-conn-via-else-not-conn+else-count-eq0+then-way-count}
@@ -20,7 +21,7 @@ use Rattle.tape_world.proofs.world_state.WorldState.to_client.Goals as goal
 pub returns-then-is_none : goal.returns-then-is_none
 returns-then-is_none c =
     let w = the_view c.self.inside in
-    let l = seen_connection c.in-Some.conn.now in
+    let l = plain_connection c.in-Some.conn.now in
     let there
     = connection_is w c.self.inside.connections.items c.deref.result.now c.args.connection (option_copied c.find.result) c.in-Some.conn.now refl c.deref.ensures.value
     c.find.ensures (ap option_copied c.in-Some.is) in
@@ -29,7 +30,7 @@ returns-then-is_none c =
     = connections_after (deliver_back c.args.count) c.self.inside.connections.len c.self.inside.connections.items c.deref_mut.result.now c.deliver_back.new.connections c.args.connection
     c.self.inside.connections.ok.0 c.deref_mut.ensures.value c.deliver_back.ensures in
     let u
-    = record (with_no_failure w) { connections = map seen_connection (take c.self.inside.connections.len (c.deliver_back.new.connections ++ drop (length c.deliver_back.new.connections) c.self.inside.connections.items)) } in
+    = record (with_no_failure w) { connections = map plain_connection (take c.self.inside.connections.len (c.deliver_back.new.connections ++ drop (length c.deliver_back.new.connections) c.self.inside.connections.items)) } in
     subst (λ (v : World). Happens v (ToClient c.args.connection c.args.count) u) c.self.view_is (
       (
         l,
@@ -47,7 +48,7 @@ hear-heard-requires c =
     = connection_is w c.self.inside.connections.items c.deref.result.now c.args.connection (option_copied c.find.result) c.in-Some.conn.now refl c.deref.ensures.value
     c.find.ensures (ap option_copied c.in-Some.is) in
     attempts w c.self.inside.caller c.args.connection refl (subst IsOwned (sym c.self.view_is) c.requires.owned)
-    (seen_connection c.in-Some.conn.now, some.0, there, c.if-not-conn.false, some.1)
+    (plain_connection c.in-Some.conn.now, some.0, there, c.if-not-conn.false, some.1)
 
 pub settle-requires-clause-last : goal.settle-requires-clause-last
 settle-requires-clause-last c =
@@ -64,7 +65,7 @@ invariant_of-self-2 c =
 pub returns : goal.returns
 returns c =
     let w = the_view c.self.inside in
-    let l = seen_connection c.in-Some.conn.now in
+    let l = plain_connection c.in-Some.conn.now in
     let some = some_found c.in-Some.conn.now.dump c.if-is_none.ensures in
     let there
     = connection_is w c.self.inside.connections.items c.deref.result.now c.args.connection (option_copied c.find.result) c.in-Some.conn.now refl c.deref.ensures.value
@@ -73,7 +74,7 @@ returns c =
     let caller = option_map seen_caller c.hear-heard.new.caller in
     let names = book_names c.self.inside.history in
     let kept = map (seen_count names) c.keep.new.counts.items in
-    let ls = map seen_connection (take c.self.inside.connections.len (c.settle.new.connections ++ drop (length c.settle.new.connections) c.self.inside.connections.items)) in
+    let ls = map plain_connection (take c.self.inside.connections.len (c.settle.new.connections ++ drop (length c.settle.new.connections) c.self.inside.connections.items)) in
     let u = record w { connections = ls; own = c.settle.new.own; caller = caller; counts = kept; failure = heard.failure } in
     let connections
     = connections_after (heard_on heard.is_over c.args.count) c.self.inside.connections.len c.self.inside.connections.items c.deref_mut-2.result.now c.settle.new.connections
@@ -130,7 +131,7 @@ returns-then-not-conn c =
     (ap (λ w. w.connections) (sym c.self.view_is)) c.deref.ensures.value c.find.ensures (ap option_copied c.in-Some.is) in (
       refl,
       λ (x, live, part). (
-          let same = same_connection c.args.self.now c.args.connection x (seen_connection c.in-Some.conn.now) live.0 there in
+          let same = same_connection c.args.self.now c.args.connection x (plain_connection c.in-Some.conn.now) live.0 there in
           let other = ap (λ l. l.other) same in
           let back = ap (λ l. length l.back) same in
           let way = ap length c.bytes-way.ensures in

@@ -9,9 +9,8 @@ use Rattle.world_model.specs.Events.PlainEvent.{ToServer}
 use Rattle.world_model.specs.Steps.{Happens}
 use Rattle.world_model.specs.First.{IsReadable}
 use Rattle.tape_world.specs.contracts.world_state.WorldState.{the_view}
-use Rattle.tape_world.specs.Linking.{arrived}
-use Rattle.tape_world.specs.Seen.{seen_connection}
-use Rattle.tape_world.proofs.Linked.{connections_after, connection_is}
+use Rattle.world_connections.specs.Connection.{arrived, plain_connection}
+use Rattle.world_connections.proofs.Linked.{connections_after, connection_is}
 use Rattle.tape_world.proofs.Reached.{reaches}
 use Rattle.tape_world.proofs.Known.{known_same}
 use Rattle.tape_world.proofs.Absent.{none_found, connection_first}
@@ -37,11 +36,11 @@ returns c =
     let there
     = connection_is w c.self.inside.connections.items c.deref.result.now c.args.connection (option_copied c.find.result) c.in-Some-find.conn.now refl c.deref.ensures.value c.find.ensures
     (ap option_copied c.in-Some-find.is) in
-    let l = seen_connection c.in-Some-find.conn.now in
+    let l = plain_connection c.in-Some-find.conn.now in
     let u
     = record (with_no_failure w) {
       server = c.push.new.self.server;
-      connections = map seen_connection (take c.self.inside.connections.len (c.arrive.new.connections ++ drop (length c.arrive.new.connections) c.self.inside.connections.items));
+      connections = map plain_connection (take c.self.inside.connections.len (c.arrive.new.connections ++ drop (length c.arrive.new.connections) c.self.inside.connections.items));
     } in
     subst (λ (v : World). Happens v (ToServer c.args.connection c.args.count) u) c.self.view_is (
       (push.side_is, l, push.live, there, (omega (arith, c.if-count-eq0.false), subst (λ b. c.args.count ≤ length b) c.bytes-way.ensures c.if-way-count.false), push.room),

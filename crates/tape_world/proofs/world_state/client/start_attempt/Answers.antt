@@ -1,5 +1,5 @@
 use Rattle.std.proofs.Common.{rules, refl, ap, ◌∙◌}
-use Rattle.tape_world.specs.Parts.{new_dumping}
+use Rattle.world_connections.specs.Attempt.{new_dumping}
 use Rattle.tape_world.proofs.Starting.{starts, refuses}
 use Rattle.tape_world.proofs.world_state.client.start_attempt.Goals as goal
 

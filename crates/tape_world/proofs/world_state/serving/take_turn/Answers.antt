@@ -1,12 +1,12 @@
 use Rattle.std.proofs.Common.{sym, subst}
 use Rattle.tape_host.specs.Turns.{ServesAt}
-use Rattle.tape_world.specs.Seen.{seen_connection}
+use Rattle.world_connections.specs.Connection.{plain_connection}
 use Rattle.tape_world.proofs.Serving.{serves_connection}
 use Rattle.tape_world.proofs.world_state.serving.take_turn.Goals as goal
 
 pub returns-clause-taken : goal.returns-clause-taken
 returns-clause-taken c =
-    serves_connection c.args.trouble c.args.host.now c.take_reply-turn.new.host c.args.connection c.take_reply-turn.result (seen_connection c.args.conn.now) (seen_connection c.note_turn.new.self)
+    serves_connection c.args.trouble c.args.host.now c.take_reply-turn.new.host c.args.connection c.take_reply-turn.result (plain_connection c.args.conn.now) (plain_connection c.note_turn.new.self)
     c.trim.new.self.way
     (subst (λ way. ServesAt c.args.trouble c.args.conn.now.cut c.args.host.now c.args.connection c.args.conn.now.back.way c.take_reply-turn.result c.take_reply-turn.new.host way)
     (sym c.trim.ensures)

@@ -1,5 +1,5 @@
 use Rattle.std.proofs.lemmas.Result.{on_err_weaker}
-use Rattle.tape_world.proofs.Linked.{put_same}
+use Rattle.world_connections.proofs.Linked.{put_same}
 use Rattle.tape_world.proofs.Serving.{serves_connections}
 use Rattle.tape_world.proofs.world_state.serving.take_turn_at.Goals as goal
 

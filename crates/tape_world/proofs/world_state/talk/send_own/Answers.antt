@@ -1,6 +1,6 @@
 use Rattle.std.proofs.lemmas.Result.{on_err_weaker}
 use Rattle.tape_world.proofs.Talking.{talks_own}
-use Rattle.tape_world.proofs.Linked.{put_same}
+use Rattle.world_connections.proofs.Linked.{put_same}
 use Rattle.tape_world.proofs.world_state.talk.send_own.Goals as goal
 
 pub returns-clause-sent : goal.returns-clause-sent

@@ -1,8 +1,0 @@
-use Rattle.std.proofs.Common.{refl}
-use Rattle.tape_world.specs.Linking.{severed}
-use Rattle.tape_world.proofs.Linked.{put_connection}
-use Rattle.tape_world.proofs.conn.cut.Goals as goal
-
--- src/link.rt:84:5
-pub returns : goal.returns
-returns c = put_connection severed c.args.connections.now c.args.connection _ c.index-connections-connection.result c.requires.first c.requires.last refl

@@ -1,6 +1,0 @@
-use Rattle.world_model.specs.Changes.{over_there}
-use Rattle.tape_world.proofs.Linked.{put_connection}
-use Rattle.tape_world.proofs.conn.end_there.Goals as goal
-
-pub returns : goal.returns
-returns c = put_connection over_there c.args.connections.now c.args.connection c.end_there.new.self c.index-connections-connection.result c.requires.first c.requires.last c.end_there.ensures

@@ -1,0 +1,4 @@
+-- In reading order: Direction, Attempt, Connection.
+pub mod Direction
+pub mod Attempt
+pub mod Connection
