@@ -8,6 +8,7 @@ use Rattle.dump_client.specs.declared.stage.Progress.{Progress}
 use Rattle.dump_client.specs.declared.stage.Progress.TheVariants.{Failed, Ended}
 use Rattle.world_model.specs.World.{Connection}
 use Rattle.world_model.specs.Changes.{over_there}
+use Rattle.world_connections.specs.Connection.{deliver_back}
 use Rattle.tape_world.specs.Holding.{is_in_attempt}
 use Rattle.tape_world.specs.Calling.{IsSameRun, failure_of}
 use Rattle.tape_world.specs.declared.history.Count.{Count}

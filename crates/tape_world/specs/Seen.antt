@@ -4,6 +4,7 @@ use Rattle.std.specs.Global.{Global}
 use Rattle.dumpdates.specs.Entry.{DatesEntry}
 use Rattle.rmt_server.specs.ServerState.{ServerState}
 use Rattle.dump_run.specs.declared.count.VolumeCount.{VolumeCount}
+use Rattle.world_connections.specs.Connection.{plain_connection}
 use Rattle.world_model.specs.World.{Connection, Begun, Caller, Count, Opening, Writing, Entered, Kept, World}
 use Rattle.world_connections.specs.declared.connection.Connection.{Connection as RealConnection}
 use Rattle.tape_world.specs.declared.caller.Begun.{Begun as RealBegun}
