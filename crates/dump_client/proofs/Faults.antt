@@ -1,7 +1,7 @@
 -- A fault of bytes is one of all that begin with them.
 use Rattle.std.proofs.Common.{◌≡◌, ◌⊎◌, inl, inr, ℕ, List, [], ◌∷◌, ◌++◌, Some, Err, refl, sym, ap, subst, ◌∙◌, append_assoc}
 use Rattle.rmt_wire.specs.Reply.{Wanted, SpellsReply}
-use Rattle.rmt_wire.specs.ReplyParts.{ReplyHasFault, ReplyHasNoSpelling, ReplyGives}
+use Rattle.rmt_wire.specs.ReplyParts.{ReplyHasFault, ReplyHasNoSpelling, ReplyParsesAs}
 use Rattle.rmt_wire.specs.declared.fault.WireFault.{WireFault}
 
 -- of two beginnings of one text, one begins the other
@@ -58,5 +58,5 @@ no_spelling_behind wanted bytes more fault f none text rest reply e s = neither 
     neither (inl w) = f.hopeless (w.0, reply, subst (λ t. SpellsReply t reply wanted) w.1 s)
     neither (inr w) = none text (w.0 ++ f.later) reply (whole ∙ ap (λ t. t ++ f.later) w.1 ∙ append_assoc text w.0 f.later) s
 
-pub stays_faulty : (wanted : Wanted) (bytes more rest : List ℕ) (fault : WireFault) → ReplyGives (Some wanted) bytes (Err fault) rest → ReplyGives (Some wanted) (bytes ++ more) (Err fault) (bytes ++ more)
+pub stays_faulty : (wanted : Wanted) (bytes more rest : List ℕ) (fault : WireFault) → ReplyParsesAs (Some wanted) bytes (Err fault) rest → ReplyParsesAs (Some wanted) (bytes ++ more) (Err fault) (bytes ++ more)
 stays_faulty wanted bytes more rest fault g = (fault_behind wanted bytes more fault g.0, no_spelling_behind wanted bytes more fault g.0 g.1, refl)

@@ -10,9 +10,9 @@ use Rattle.rmt_wire.specs.Reply.Wanted.{Number, DataUpTo}
 use Rattle.rmt_wire.specs.Lent.{plain_reply}
 use Rattle.rmt_wire.specs.declared.limits.TheConstants.{READER_LIMIT}
 use Rattle.rmt_wire.specs.Number.{SpellsNumber}
-use Rattle.rmt_wire.specs.ReplyParts.{ReplyGives, ReplyHasNoSpelling}
+use Rattle.rmt_wire.specs.ReplyParts.{ReplyParsesAs, ReplyHasNoSpelling}
 use Rattle.rmt_wire.specs.ReplyFront.{kept_of}
-use Rattle.rmt_wire.specs.ReplyReader.{ReplyHeld, ReplyUnread, reply_taken_of, reply_told, ReplyIsNext, ReplyStaysFaulty}
+use Rattle.rmt_wire.specs.ReplyReader.{ReplyHeld, ReplyUnread, reply_taken_of, plain_reply_result, ReplyIsNext, ReplyStaysFaulty}
 use Rattle.rmt_wire.specs.declared.reply.Reply.{Reply}
 use Rattle.rmt_wire.specs.declared.fault.WireFault.{WireFault}
 use Rattle.dump_run.specs.Run.{PlainRun}
@@ -47,24 +47,24 @@ rest_goes_on text at =
 
 module _ (run : PlainRun) (counts : List VolumeCount) (wanted : Wanted) where
   -- one call of `next`, by what it answered
-  pub next_none : (old new : ReplyHeld) (result : Result (Option Reply) WireFault) → ReplyIsNext old (reply_told result) new → result ≡ Ok None
+  pub next_none : (old new : ReplyHeld) (result : Result (Option Reply) WireFault) → ReplyIsNext old (plain_reply_result result) new → result ≡ Ok None
       → (bytes : List ℕ) → ReplyUnread old (Some wanted) bytes → IsReaderWaiting wanted new bytes
   next_none old new result n e bytes u =
-      let m = subst (λ a. ReplyIsNext old (reply_told a) new) e n in
+      let m = subst (λ a. ReplyIsNext old (plain_reply_result a) new) e n in
       let w = m.continues (Some wanted) bytes u in
       let held : ReplyUnread new (Some wanted) bytes = subst (ReplyUnread new (Some wanted)) w.2.2 w.1 in
       record { unread = held; begun = (w.2.0, w.2.1, refl); room = subst (λ l. length l < READER_LIMIT) (sym held.keeps) (m.room (Some wanted) bytes held) }
 
-  pub next_some : (old new : ReplyHeld) (result : Result (Option Reply) WireFault) (reply : Reply) → ReplyIsNext old (reply_told result) new
+  pub next_some : (old new : ReplyHeld) (result : Result (Option Reply) WireFault) (reply : Reply) → ReplyIsNext old (plain_reply_result result) new
       → result ≡ Ok (Some reply) → (bytes : List ℕ) → ReplyUnread old (Some wanted) bytes
-      → (rest : List ℕ) × ReplyUnread new None rest × ReplyGives (Some wanted) bytes (Ok (Some (plain_reply reply))) rest
-  next_some old new result reply n e bytes u = (subst (λ a. ReplyIsNext old (reply_told a) new) e n).continues (Some wanted) bytes u
+      → (rest : List ℕ) × ReplyUnread new None rest × ReplyParsesAs (Some wanted) bytes (Ok (Some (plain_reply reply))) rest
+  next_some old new result reply n e bytes u = (subst (λ a. ReplyIsNext old (plain_reply_result a) new) e n).continues (Some wanted) bytes u
 
   pub next_fault : (old new : ReplyHeld) (fault : WireFault) (result : Result (Option ReplySummary) WireFault) → ReplyStaysFaulty old (Err fault)
       → IsErrAnd result (λ e. e ≡ fault) → (bytes : List ℕ) → ReplyUnread old (Some wanted) bytes
       → IsReplyHeard run counts wanted bytes result new
   next_fault old new fault (Ok answer) stays is bytes u = absurd is
-  next_fault old new fault (Err e) stays is bytes u = λ more. subst (λ f. ReplyGives (Some wanted) (bytes ++ more) (Err f) (bytes ++ more)) (sym is) (stays (Some wanted) bytes more u)
+  next_fault old new fault (Err e) stays is bytes u = λ more. subst (λ f. ReplyParsesAs (Some wanted) (bytes ++ more) (Err f) (bytes ++ more)) (sym is) (stays (Some wanted) bytes more u)
 
   -- a reader that waits takes some of a piece that is not empty
   pub push_some : (h : ReplyHeld) (bytes : List ℕ) (count len : ℕ) → IsReaderWaiting wanted h bytes
@@ -115,7 +115,7 @@ module _ (run : PlainRun) (counts : List VolumeCount) (wanted : Wanted) where
       → IsFeedResult run counts wanted (bytes ++ text) feed_result.Noise new
   noise bytes text at result fault new h e =
       let f = subst (λ r. IsReplyHeard run counts wanted (bytes ++ take at text) r new) e h in
-      (fault, subst (λ b. ReplyGives (Some wanted) b (Err fault) b) (piece_all bytes text at) (f (drop at text)))
+      (fault, subst (λ b. ReplyParsesAs (Some wanted) b (Err fault) b) (piece_all bytes text at) (f (drop at text)))
 
 -- where nothing came yet
 kept_none : kept_of [] ≡ []

@@ -1,7 +1,7 @@
 -- What comes of bytes is the same however they are cut.
 use Rattle.std.proofs.Common.{◌≡◌, ◌≢◌, inl, inr, ℕ, Bool, true, false, List, [], ◌∷◌, ◌++◌, Option, Some, None, Result, Ok, Err, refl, sym, ap, subst, ◌∙◌, append_assoc}
 use Rattle.rmt_wire.specs.Reply.{PlainReply}
-use Rattle.rmt_wire.specs.ReplyParts.{ReplyGives}
+use Rattle.rmt_wire.specs.ReplyParts.{ReplyParsesAs}
 use Rattle.rmt_wire.specs.declared.fault.WireFault.{WireFault}
 use Rattle.dump_run.specs.Run.{PlainRun}
 use Rattle.dump_client.specs.Client.{unanswered}
@@ -108,13 +108,13 @@ Fed stage old bytes piece new = (whole : Progress) × FedAt stage old bytes piec
 
 waited : (old middle new : Standing) (step : Step) (bytes p q rest : List ℕ) (seen : Result (Option PlainReply) WireFault) (first later : Progress)
     → old.stage ≡ Waiting step
-    → ReplyGives (Some (wanted_of step)) (bytes ++ p) seen rest → Makes old step (bytes ++ p) seen rest first middle
+    → ReplyParsesAs (Some (wanted_of step)) (bytes ++ p) seen rest → Makes old step (bytes ++ p) seen rest first middle
     → IsFed (bytes ++ p) q later new middle → Fed (Waiting step) old bytes (p ++ q) new
 waited old middle new step bytes p q rest (Ok None) first later at g m f =
     let again : IsFed (bytes ++ p) q later new old = subst (IsFed (bytes ++ p) q later new) m.1 f in
     let here : FedAt (Waiting step) old (bytes ++ p) q later new = subst (λ s. FedAt s old (unanswered s (bytes ++ p)) q later new) at again in (
       later,
-      subst (λ l. (seen : Result (Option PlainReply) WireFault) × (rest : List ℕ) × ReplyGives (Some (wanted_of step)) l seen rest × Makes old step l seen rest later new) (append_assoc bytes p q) here,
+      subst (λ l. (seen : Result (Option PlainReply) WireFault) × (rest : List ℕ) × ReplyParsesAs (Some (wanted_of step)) l seen rest × Makes old step l seen rest later new) (append_assoc bytes p q) here,
     )
 waited old middle new step bytes p q rest (Ok (Some reply)) first later at g m f =
     let w = behind_reply old (outcome old.run old.counts (checkpoint_of old.counts).1 step (Reply reply)) rest (bytes ++ p) q first later middle new
@@ -126,7 +126,7 @@ waited old middle new step bytes p q rest (Err fault) first later at g m f = (
   (
     Err fault,
     bytes ++ (p ++ q),
-    subst (λ l. ReplyGives (Some (wanted_of step)) l (Err fault) l) (append_assoc bytes p q) (stays_faulty (wanted_of step) (bytes ++ p) q rest fault g),
+    subst (λ l. ReplyParsesAs (Some (wanted_of step)) l (Err fault) l) (append_assoc bytes p q) (stays_faulty (wanted_of step) (bytes ++ p) q rest fault g),
     behind_noise old step (bytes ++ p) q first later middle new m f,
   ),
 )

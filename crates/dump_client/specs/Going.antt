@@ -16,9 +16,9 @@ pub record GoesOnWith (old new : Standing) (more : List VolumeCount) : Type 0 wh
 
 -- The returned progress agrees with the stage: a request is to be sent, a reply is awaited, or
 -- there is no attempt. If it is `Idle`, there was no attempt before, and nothing changed.
-abbrev pub StandsAfter : Standing → Progress → Standing → Type 0
-StandsAfter old Send new = (step : Step) × (new.stage ≡ ToSend step)
-StandsAfter old Waiting new = (step : Step) × (new.stage ≡ Awaits step)
-StandsAfter old Ended new = (new.stage ≡ Finished) ⊎ (new.stage ≡ Ready)
-StandsAfter old (Failed fault) new = new.stage ≡ Asking
-StandsAfter old Idle new = (new ≡ old) × ((step : Step) → (old.stage ≢ ToSend step) × (old.stage ≢ Awaits step))
+abbrev pub AgreesWithProgress : Standing → Progress → Standing → Type 0
+AgreesWithProgress old Send new = (step : Step) × (new.stage ≡ ToSend step)
+AgreesWithProgress old Waiting new = (step : Step) × (new.stage ≡ Awaits step)
+AgreesWithProgress old Ended new = (new.stage ≡ Finished) ⊎ (new.stage ≡ Ready)
+AgreesWithProgress old (Failed fault) new = new.stage ≡ Asking
+AgreesWithProgress old Idle new = (new ≡ old) × ((step : Step) → (old.stage ≢ ToSend step) × (old.stage ≢ Awaits step))

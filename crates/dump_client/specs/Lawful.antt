@@ -24,13 +24,13 @@ abbrev pub IsRunLeft : PlainRun → List VolumeCount → Type 0
 IsRunLeft run counts = (counts ≡ []) ⊎ ((checkpoint_of counts).1 < run.blocks)
 
 -- the volume at the checkpoint can end before block `next`
-abbrev pub IsEnd : PlainRun → List VolumeCount → ℕ → Type 0
-IsEnd run counts next = ((checkpoint_of counts).1 ≤ next) × IsCount run (checkpoint_of counts).1 (next - (checkpoint_of counts).1)
+abbrev pub CanVolumeEnd : PlainRun → List VolumeCount → ℕ → Type 0
+CanVolumeEnd run counts next = ((checkpoint_of counts).1 ≤ next) × IsCount run (checkpoint_of counts).1 (next - (checkpoint_of counts).1)
 
 -- the mark and MTOFFL carry a block before which the volume can end
 abbrev pub OpFits : PlainRun → List VolumeCount → TapeOp → Type 0
-OpFits run counts (Mark next) = IsEnd run counts next
-OpFits run counts (Unload next) = IsEnd run counts next
+OpFits run counts (Mark next) = CanVolumeEnd run counts next
+OpFits run counts (Unload next) = CanVolumeEnd run counts next
 OpFits run counts op = Unit {0}
 
 -- the step is one of the volume at the checkpoint; the close comes after a count

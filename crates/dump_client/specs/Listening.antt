@@ -4,7 +4,7 @@ use Rattle.std.specs.Prelude.{◌≡◌, ℕ, ◌<◌, Bool, true, false, List, 
 use Rattle.rmt_wire.specs.Reply.{PlainReply, Wanted}
 use Rattle.rmt_wire.specs.Reply.PlainReply.{Done, Data, Error}
 use Rattle.rmt_wire.specs.declared.limits.TheConstants.{READER_LIMIT}
-use Rattle.rmt_wire.specs.ReplyParts.{ReplyGives}
+use Rattle.rmt_wire.specs.ReplyParts.{ReplyParsesAs}
 use Rattle.rmt_wire.specs.ReplyReader.{ReplyHeld, ReplyUnread}
 use Rattle.rmt_wire.specs.declared.fault.WireFault.{WireFault}
 use Rattle.dump_run.specs.Run.{PlainRun}
@@ -19,7 +19,7 @@ use Rattle.dump_client.specs.declared.listen.FeedResult.TheVariants.{Waits, Repl
 -- the rest
 pub record IsReaderWaiting (wanted : Wanted) (h : ReplyHeld) (bytes : List ℕ) : Type 0 where
   pub unread : ReplyUnread h (Some wanted) bytes
-  pub begun : ReplyGives (Some wanted) bytes (Ok None) bytes
+  pub begun : ReplyParsesAs (Some wanted) bytes (Ok None) bytes
   pub room : length h.kept < READER_LIMIT
 
 -- the summary of a reply: without its text, and with the counted volume whose label its bytes are
@@ -39,9 +39,9 @@ is_more (b ∷ bytes) = true
 abbrev pub IsReplyHeard : PlainRun → List VolumeCount → Wanted → List ℕ → Result (Option ReplySummary) WireFault → ReplyHeld → Type 0
 IsReplyHeard run counts wanted bytes (Ok None) new = IsReaderWaiting wanted new bytes
 IsReplyHeard run counts wanted bytes (Ok (Some s)) new =
-    (reply : PlainReply) × (rest : List ℕ) × ReplyGives (Some wanted) bytes (Ok (Some reply)) rest
+    (reply : PlainReply) × (rest : List ℕ) × ReplyParsesAs (Some wanted) bytes (Ok (Some reply)) rest
     × IsSummary run counts reply s × ReplyUnread new None rest
-IsReplyHeard run counts wanted bytes (Err fault) new = (more : List ℕ) → ReplyGives (Some wanted) (bytes ++ more) (Err fault) (bytes ++ more)
+IsReplyHeard run counts wanted bytes (Err fault) new = (more : List ℕ) → ReplyParsesAs (Some wanted) (bytes ++ more) (Err fault) (bytes ++ more)
 
 -- The result for all bytes since a reply was awaited, and the reader's state afterwards. The bytes
 -- begin a reply; or a reply comes first, and if no more bytes follow none is unread; or they begin
@@ -49,6 +49,6 @@ IsReplyHeard run counts wanted bytes (Err fault) new = (more : List ℕ) → Rep
 abbrev pub IsFeedResult : PlainRun → List VolumeCount → Wanted → List ℕ → FeedResult → ReplyHeld → Type 0
 IsFeedResult run counts wanted bytes Waits new = IsReaderWaiting wanted new bytes
 IsFeedResult run counts wanted bytes (Reply s more) new =
-    (reply : PlainReply) × (rest : List ℕ) × ReplyGives (Some wanted) bytes (Ok (Some reply)) rest × IsSummary run counts reply s × (more ≡ is_more rest)
+    (reply : PlainReply) × (rest : List ℕ) × ReplyParsesAs (Some wanted) bytes (Ok (Some reply)) rest × IsSummary run counts reply s × (more ≡ is_more rest)
     × (more ≡ false → ReplyUnread new None [])
-IsFeedResult run counts wanted bytes Noise new = (fault : WireFault) × ReplyGives (Some wanted) bytes (Err fault) bytes
+IsFeedResult run counts wanted bytes Noise new = (fault : WireFault) × ReplyParsesAs (Some wanted) bytes (Err fault) bytes

@@ -2,7 +2,7 @@
 -- contracts cite it.
 use Rattle.std.specs.Prelude.{◌≡◌, ◌≢◌, ◌⊎◌, ℕ, ◌-◌, Bool, true, false, List, [], ◌∷◌, ◌++◌, Option, Some, None, Result, Ok, Err}
 use Rattle.rmt_wire.specs.Reply.{PlainReply}
-use Rattle.rmt_wire.specs.ReplyParts.{ReplyGives}
+use Rattle.rmt_wire.specs.ReplyParts.{ReplyParsesAs}
 use Rattle.rmt_wire.specs.declared.fault.WireFault.{WireFault}
 use Rattle.dump_run.specs.Run.{PlainRun}
 pub use Rattle.dump_run.specs.Counts.{checkpoint_after, checkpoint_of}
@@ -102,7 +102,7 @@ FedAt (ToSend step) old bytes piece progress new =
     ((piece ≡ []) × (progress ≡ moved.Send) × (new ≡ old))
     ⊎ ((piece ≢ []) × ReceivesAt old step Noise false progress new)
 FedAt (Waiting step) old bytes piece progress new =
-    (seen : Result (Option PlainReply) WireFault) × (rest : List ℕ) × ReplyGives (Some (wanted_of step)) (bytes ++ piece) seen rest
+    (seen : Result (Option PlainReply) WireFault) × (rest : List ℕ) × ReplyParsesAs (Some (wanted_of step)) (bytes ++ piece) seen rest
     × Makes old step (bytes ++ piece) seen rest progress new
 FedAt stage old bytes piece progress new = (progress ≡ moved.Idle) × (new ≡ old)
 

@@ -16,7 +16,7 @@ ghost use Rattle.dump_client.specs.Position.{RepliesFollow, Received, IsWantedAt
 ghost use Rattle.dump_client.specs.Position.Received.{Noise, End};
 ghost use Rattle.dump_client.specs.Standing.{Standing, Feeds, CutAt, IsOver};
 ghost use Rattle.dump_client.specs.Client.{FeedsNext, IsShapedAs};
-ghost use Rattle.dump_client.specs.Going.{GoesOnWith, StandsAfter};
+ghost use Rattle.dump_client.specs.Going.{GoesOnWith, AgreesWithProgress};
 ghost use Rattle.dump_client.specs.declared.step.Step.{Step};
 ghost use Rattle.dump_client.specs.Lawful.{IsLawful, StandsAt, sent_before, AsksAtCheckpoint, SendsNext, SendsLast};
 ghost use Rattle.dump_client.specs.Replies.{GrantedOnTheWay, GrantedAtTheCount};
@@ -151,8 +151,8 @@ pub fn same_run()
     ensures fed_lawful { (old new : Standing) (bytes piece : List ℕ) (progress : Progress) → IsLawful old →
         Feeds old bytes piece progress new → IsLawful new }
     ensures fed_stands { (old new : Standing) (bytes piece : List ℕ) (progress : Progress) → Feeds old bytes piece progress new →
-        StandsAfter old progress new }
-    ensures cut_stands { (old new : Standing) (progress : Progress) → CutAt old.stage old progress new → StandsAfter old progress new }
+        AgreesWithProgress old progress new }
+    ensures cut_stands { (old new : Standing) (progress : Progress) → CutAt old.stage old progress new → AgreesWithProgress old progress new }
     ensures cut_lawful { (old new : Standing) (progress : Progress) → IsLawful old → CutAt old.stage old progress new → IsLawful new }
     ensures over_lawful { (run : PlainRun) (counts : List VolumeCount) (at : Standing) → IsRun run → AreVolumes run 1 0 counts →
         IsOver run counts at → IsLawful at }

@@ -15,25 +15,25 @@ use Rattle.drives.specs.declared.view.StepKind.TheVariants.{Take, Give, Look}
 use Rattle.drives.specs.Holding.{has, last_step, newcomer, taken, given, looked}
 use Rattle.hold_table.specs.declared.rule.Seated.{Seated}
 use Rattle.hold_table.specs.Rule.{seated}
-use Rattle.hold_table.specs.Keeping.{WasHeld, Company, Sat, IsAlone, IsPair, first_of, second_of, settled, following, stepped, IsTableKept, Lies, IsSpread, KeepsRule, TakesAt, GivesAt, LooksAt, ComparesAt, EntersAt}
+use Rattle.hold_table.specs.Keeping.{WasHeld, SeatGroup, AtomicSeat, IsAlone, IsPair, first_of, second_of, settled, following, stepped, IsTableKept, IsInGroup, AreGrouped, KeepsRule, TakesAt, GivesAt, LooksAt, ComparesAt, EntersAt}
 use Rattle.hold_table.proofs.Keeps.{in_words, told, finds_as, found_holder, stays, takes_free, gives_held, not_mine, deals_one, opens_one}
 use Rattle.hold_table.proofs.Spread.{spread_moved, spread_more, spread_joined, spread_entered, spread_split, spread_first}
 
 -- the table as the kit has it
 abbrev St : Type 0
-St = State (Unit {0}) Company
+St = State (Unit {0}) SeatGroup
 
 abbrev Rule : ℕ → St → Type 0
 Rule drives s = KeepsRule drives s.words s.views
 
-pub alone_of : (m : Sat) (x : Seated) → m ≡ (x ∷ [], []) → IsAlone m
-alone_of m x e = e ∙ ap (λ (z : Seated). (z ∷ [], [])) (sym (ap (λ (n : Sat). first_of n.0) e))
+pub alone_of : (m : AtomicSeat) (x : Seated) → m ≡ (x ∷ [], []) → IsAlone m
+alone_of m x e = e ∙ ap (λ (z : Seated). (z ∷ [], [])) (sym (ap (λ (n : AtomicSeat). first_of n.0) e))
 
-pub pair_of : (m a b : Sat) → m ≡ (a.0 ++ b.0, b.1) → IsAlone a → IsAlone b → IsPair m
+pub pair_of : (m a b : AtomicSeat) → m ≡ (a.0 ++ b.0, b.1) → IsAlone a → IsAlone b → IsPair m
 pair_of m a b e one two =
-    let is : m ≡ (first_of a.0 ∷ first_of b.0 ∷ [], []) = e ∙ ap (λ (n : Sat). (n.0 ++ b.0, b.1)) one ∙ ap (λ (n : Sat). (first_of a.0 ∷ n.0, n.1)) two in
-    is ∙ ap (λ (z : Seated). (z ∷ first_of b.0 ∷ [], [])) (sym (ap (λ (n : Sat). first_of n.0) is))
-    ∙ ap (λ (z : Seated). (first_of m.0 ∷ z ∷ [], [])) (sym (ap (λ (n : Sat). second_of n.0) is))
+    let is : m ≡ (first_of a.0 ∷ first_of b.0 ∷ [], []) = e ∙ ap (λ (n : AtomicSeat). (n.0 ++ b.0, b.1)) one ∙ ap (λ (n : AtomicSeat). (first_of a.0 ∷ n.0, n.1)) two in
+    is ∙ ap (λ (z : Seated). (z ∷ first_of b.0 ∷ [], [])) (sym (ap (λ (n : AtomicSeat). first_of n.0) is))
+    ∙ ap (λ (z : Seated). (first_of m.0 ∷ z ∷ [], [])) (sym (ap (λ (n : AtomicSeat). second_of n.0) is))
 
 module _ (drives : ℕ) (s : St) (rs : Rule drives s) (id : ℕ) (x : Seated) (at : get_elem? s.views id ≡ some (x ∷ [])) where
   here : get_elem? rs.seats (x.view.number - 1) ≡ some x
@@ -49,11 +49,11 @@ module _ (drives : ℕ) (s : St) (rs : Rule drives s) (id : ℕ) (x : Seated) (a
     spread = spread_moved rs.seats s.views rs.spread (λ k u e. (rs.kept.numbered k u e).number) id x w same at;
   }
 
-pub takes : (drives slots id : ℕ) (me : Sat) (d n : ℕ) → d < drives → IsAlone me → (first_of me.0).view.number ≡ n
+pub takes : (drives slots id : ℕ) (me : AtomicSeat) (d n : ℕ) → d < drives → IsAlone me → (first_of me.0).view.number ≡ n
     → Allows (Rule drives) slots id me d (λ f. either (eqb f 0) n f) (TakesAt (step slots d 0 n none) me)
 takes drives slots id me d n small alone is s rs _ at _ =
     let r = rs.kept in let f : ℕ = get_or s.words d 0 in let x : Seated = first_of me.0 in let p : ℕ = x.view.number - 1 in
-    let lies : get_elem? s.views id ≡ some (x ∷ []) = at ∙ ap (λ (m : Sat). some m.0) alone in
+    let lies : get_elem? s.views id ≡ some (x ∷ []) = at ∙ ap (λ (m : AtomicSeat). some m.0) alone in
     let mine = here drives s rs id x lies in
     let size = r.size in let inside : d < length s.words = omega arith in let few = r.few in let known = r.known d in
     let was = told drives s.words rs.seats r d in
@@ -69,7 +69,7 @@ takes drives slots id me d n small alone is s rs _ at _ =
       tt,
       moves drives s rs id x lies (set s.words d (either (eqb f 0) n f)) w refl (subst kept same all),
       (
-        (ap (λ (m : Sat). (w ∷ [], m.1)) alone, refl),
+        (ap (λ (m : AtomicSeat). (w ∷ [], m.1)) alone, refl),
         omega arith,
         λ free. (
           not_mine drives s.words rs.seats r p x mine d inside free,
@@ -90,11 +90,11 @@ takes drives slots id me d n small alone is s rs _ at _ =
       ),
     )
 
-pub gives : (drives slots id : ℕ) (me : Sat) (d : ℕ) → d < drives → IsAlone me → has (first_of me.0).view d ≡ true
+pub gives : (drives slots id : ℕ) (me : AtomicSeat) (d : ℕ) → d < drives → IsAlone me → has (first_of me.0).view d ≡ true
     → Allows (Rule drives) slots id me d (λ _. 0) (λ _. GivesAt (step slots d 0 0 none) me 0)
 gives drives slots id me d small alone holds s rs _ at _ =
     let r = rs.kept in let x : Seated = first_of me.0 in let p : ℕ = x.view.number - 1 in
-    let lies : get_elem? s.views id ≡ some (x ∷ []) = at ∙ ap (λ (m : Sat). some m.0) alone in
+    let lies : get_elem? s.views id ≡ some (x ∷ []) = at ∙ ap (λ (m : AtomicSeat). some m.0) alone in
     let mine = here drives s rs id x lies in let w : Seated = stepped x (given x.view d) in
     let size = r.size in let inside : d < length s.words = omega arith in
     let own : get_or s.words d 0 ≡ x.view.number = eqb-true (get_or s.words d 0) x.view.number (sym (r.held p x d mine) ∙ holds) in
@@ -105,7 +105,7 @@ gives drives slots id me d small alone holds s rs _ at _ =
       tt,
       moves drives s rs id x lies (set s.words d 0) w refl all,
       (
-        (ap (λ (m : Sat). (w ∷ [], m.1)) alone, refl),
+        (ap (λ (m : AtomicSeat). (w ∷ [], m.1)) alone, refl),
         record {
           words = s.words;
           seats = rs.seats;
@@ -120,11 +120,11 @@ gives drives slots id me d small alone holds s rs _ at _ =
       ),
     )
 
-pub looks : (drives slots id : ℕ) (me : Sat) (d : ℕ) → d < drives → IsAlone me
+pub looks : (drives slots id : ℕ) (me : AtomicSeat) (d : ℕ) → d < drives → IsAlone me
     → Allows (Rule drives) slots id me d (λ f. f) (LooksAt (step slots d 0 0 none) me)
 looks drives slots id me d small alone s rs _ at _ =
     let r = rs.kept in let f : ℕ = get_or s.words d 0 in let x : Seated = first_of me.0 in let p : ℕ = x.view.number - 1 in
-    let lies : get_elem? s.views id ≡ some (x ∷ []) = at ∙ ap (λ (m : Sat). some m.0) alone in
+    let lies : get_elem? s.views id ≡ some (x ∷ []) = at ∙ ap (λ (m : AtomicSeat). some m.0) alone in
     let mine = here drives s rs id x lies in let w : Seated = stepped x (looked x.view d f) in
     let size = r.size in let inside : d < length s.words = omega arith in let few = r.few in let known = r.known d in
     let all : IsTableKept drives (set s.words d f) (set rs.seats p w) = stays drives s.words rs.seats r p x mine x.view.held (last_step Look d f) (told drives s.words rs.seats r d) d inside refl in (
@@ -133,7 +133,7 @@ looks drives slots id me d small alone s rs _ at _ =
       tt,
       moves drives s rs id x lies (set s.words d f) w refl all,
       (
-        (ap (λ (m : Sat). (w ∷ [], m.1)) alone, refl),
+        (ap (λ (m : AtomicSeat). (w ∷ [], m.1)) alone, refl),
         omega arith,
         sym (r.held p x d mine),
         record {
@@ -150,7 +150,7 @@ looks drives slots id me d small alone s rs _ at _ =
       ),
     )
 
-pub deals : (drives id : ℕ) (c : Company) (x : Seated) → c ≡ x ∷ [] → 0 < x.spare → Splits (Rule drives) id c (settled x ∷ []) (following x ∷ [])
+pub deals : (drives id : ℕ) (c : SeatGroup) (x : Seated) → c ≡ x ∷ [] → 0 < x.spare → Splits (Rule drives) id c (settled x ∷ []) (following x ∷ [])
 deals drives id c x alone more s rs at =
     let r = rs.kept in let p : ℕ = x.view.number - 1 in
     let lies : get_elem? s.views id ≡ some (x ∷ []) = at ∙ ap some alone in let mine = here drives s rs id x lies in
@@ -187,18 +187,18 @@ enters drives slots d s rs _ _ = (
 )
 
 -- a company takes in one seat more
-pub joins : (drives id other : ℕ) (c w : Company) (y : Seated) → w ≡ y ∷ [] → Joins (Rule drives) id c other w (w ++ c) []
+pub joins : (drives id other : ℕ) (c w : SeatGroup) (y : Seated) → w ≡ y ∷ [] → Joins (Rule drives) id c other w (w ++ c) []
 joins drives id other c w y alone s rs at apart bt =
     let lies : get_elem? s.views other ≡ some (y ∷ []) = sym (set_else s.views id other (w ++ c) apart) ∙ bt ∙ ap some alone in record {
       seats = rs.seats;
       kept = rs.kept;
       rule = rs.rule;
-      spread = subst (λ (l : Company). IsSpread rs.seats (set (set s.views id (l ++ c)) other [])) (sym alone)
+      spread = subst (λ (l : SeatGroup). AreGrouped rs.seats (set (set s.views id (l ++ c)) other [])) (sym alone)
           (spread_joined rs.seats s.views rs.spread id other c y apart at lies);
     }
 
 -- the second of two seats goes out again
-pub parts : (drives id : ℕ) (c : Company) (x y : Seated) → c ≡ x ∷ y ∷ [] → Splits (Rule drives) id c (x ∷ []) (y ∷ [])
+pub parts : (drives id : ℕ) (c : SeatGroup) (x y : Seated) → c ≡ x ∷ y ∷ [] → Splits (Rule drives) id c (x ∷ []) (y ∷ [])
 parts drives id c x y pair s rs at = record {
   seats = rs.seats;
   kept = rs.kept;
@@ -207,12 +207,12 @@ parts drives id c x y pair s rs at = record {
 }
 
 -- two seats that lie at two places are apart, and the word is that of who holds the drive
-pub compares : (drives slots id : ℕ) (me : Sat) (d : ℕ) → IsPair me
+pub compares : (drives slots id : ℕ) (me : AtomicSeat) (d : ℕ) → IsPair me
     → Allows (Rule drives) slots id me d (λ f. f) (ComparesAt (step slots d 0 0 none) me)
 compares drives slots id me d pair s rs _ at _ =
     let r = rs.kept in let x : Seated = first_of me.0 in let y : Seated = second_of me.0 in
-    let both : get_elem? s.views id ≡ some (x ∷ y ∷ []) = at ∙ ap (λ (m : Sat). some m.0) pair in
-    let one : Lies s.views id 0 x = (x ∷ y ∷ [], both, refl) in let two : Lies s.views id 1 y = (x ∷ y ∷ [], both, refl) in
+    let both : get_elem? s.views id ≡ some (x ∷ y ∷ []) = at ∙ ap (λ (m : AtomicSeat). some m.0) pair in
+    let one : IsInGroup s.views id 0 x = (x ∷ y ∷ [], both, refl) in let two : IsInGroup s.views id 1 y = (x ∷ y ∷ [], both, refl) in
     let a = rs.spread.known id 0 x one in let b = rs.spread.known id 1 y two in
     let differ : x.view.number ≢ y.view.number = λ e. let same = (rs.spread.once id 0 x id 1 y one two e).1 in absurd (omega arith) in
     let few = r.few in let known = r.known d in let finds = finds_as drives s.words rs.seats r in
@@ -221,7 +221,7 @@ compares drives slots id me d pair s rs _ at _ =
       me.0,
       keeps,
       tt,
-      subst (λ (ws : List ℕ). KeepsRule drives ws (set s.views id me.0)) (sym wrote) (subst (λ (vs : List Company). KeepsRule drives s.words vs) (sym stood) rs),
+      subst (λ (ws : List ℕ). KeepsRule drives ws (set s.views id me.0)) (sym wrote) (subst (λ (vs : List SeatGroup). KeepsRule drives s.words vs) (sym stood) rs),
       (
         refl,
         omega arith,

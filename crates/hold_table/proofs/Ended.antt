@@ -13,12 +13,12 @@ use Rattle.drives.specs.Holding.{has}
 use Rattle.hold_table.specs.declared.table.TheConstants.{SEAT_LIMIT}
 use Rattle.hold_table.specs.declared.rule.Seated.{Seated}
 use Rattle.hold_table.specs.Closing.{IsClosing}
-use Rattle.hold_table.specs.Keeping.{Company, Lies, KeepsRule, nobody, shown}
+use Rattle.hold_table.specs.Keeping.{SeatGroup, IsInGroup, KeepsRule, nobody, shown}
 use Rattle.hold_table.specs.Seats.{TableSeat, table_seat}
 use Rattle.hold_table.proofs.Lists.{at_below, there, at_image, at_next, length_image, reads}
 
 -- a company has a seat numbered n, or none
-numbered_in : (c : Company) (n : ℕ) → ((k : ℕ) × (x : Seated) × (get_elem? c k ≡ some x) × (x.view.number ≡ n))
+numbered_in : (c : SeatGroup) (n : ℕ) → ((k : ℕ) × (x : Seated) × (get_elem? c k ≡ some x) × (x.view.number ≡ n))
     ⊎ ((k : ℕ) (x : Seated) → get_elem? c k ≡ some x → x.view.number ≢ n)
 numbered_in [] n = inr (λ k x e. absurd (let b = at_below [] k x e in omega arith))
 numbered_in (y ∷ ys) n = dite (ℕ_discrete y.view.number n)
@@ -28,13 +28,13 @@ numbered_in (y ∷ ys) n = dite (ℕ_discrete y.view.number n)
     (λ none. inr (λ k x e. elsewhere y ys n differs none k x e))
     (numbered_in ys n))
   where
-    elsewhere : (z : Seated) (zs : Company) (m : ℕ) → z.view.number ≢ m → ((k : ℕ) (x : Seated) → get_elem? zs k ≡ some x → x.view.number ≢ m)
+    elsewhere : (z : Seated) (zs : SeatGroup) (m : ℕ) → z.view.number ≢ m → ((k : ℕ) (x : Seated) → get_elem? zs k ≡ some x → x.view.number ≢ m)
         → (k : ℕ) (x : Seated) → get_elem? (z ∷ zs) k ≡ some x → x.view.number ≢ m
     elsewhere z zs m differs none zero x e same = differs (ap (λ (a : Seated). a.view.number) (some-injective z x e) ∙ same)
     elsewhere z zs m differs none (suc k) x e same = none k x e same
 
 -- with as many seats of distinct numbers as there are numbers, each number is that of one of them
-every_number : (c : Company) (n : ℕ) → length c ≡ SEAT_LIMIT → 1 ≤ n → n ≤ SEAT_LIMIT
+every_number : (c : SeatGroup) (n : ℕ) → length c ≡ SEAT_LIMIT → 1 ≤ n → n ≤ SEAT_LIMIT
     → ((k : ℕ) (x : Seated) → get_elem? c k ≡ some x → (1 ≤ x.view.number) × (x.view.number ≤ SEAT_LIMIT))
     → ((j k : ℕ) (x y : Seated) → get_elem? c j ≡ some x → get_elem? c k ≡ some y → x.view.number ≡ y.view.number → j ≡ k)
     → ((k : ℕ) (x : Seated) → get_elem? c k ≡ some x → x.view.number ≢ n) → ⊥
@@ -61,11 +61,11 @@ every_number c n all from to ranged distinct none =
     (λ jn. let t = seat j (omega arith) in let q = (ranged j t.0 t.1).0 in let w = t.2 in distinct i j s.0 t.0 s.1 t.1 (omega arith)))) in omega arith)
 
 -- the words of a table at its end
-pub ends : (drives id : ℕ) (t : TableId) (c : Company) (words : List ℕ) (s : State (Unit {0}) Company) → KeepsRule drives s.words s.views
+pub ends : (drives id : ℕ) (t : TableId) (c : SeatGroup) (words : List ℕ) (s : State (Unit {0}) SeatGroup) → KeepsRule drives s.words s.views
     → get_elem? s.views id ≡ some c → ((d : ℕ) → get_or words d 0 ≡ get_or s.words d 0) → IsClosing words (shown t c)
 ends drives id t c words s rs at is =
     let f : Seated → TableSeat = λ x. table_seat t x.view x.made in let r = rs.kept in
-    let lies : (k : ℕ) (x : Seated) → get_elem? c k ≡ some x → Lies s.views id k x = λ k x e. (c, at, e) in
+    let lies : (k : ℕ) (x : Seated) → get_elem? c k ≡ some x → IsInGroup s.views id k x = λ k x e. (c, at, e) in
     let ranged : (k : ℕ) (x : Seated) → get_elem? c k ≡ some x → (1 ≤ x.view.number) × (x.view.number ≤ SEAT_LIMIT) = λ k x e.
     rs.rule.ranged (x.view.number - 1) x (rs.spread.known id k x (lies k x e)) in
     let distinct : (j k : ℕ) (x y : Seated) → get_elem? c j ≡ some x → get_elem? c k ≡ some y → x.view.number ≡ y.view.number → j ≡ k =

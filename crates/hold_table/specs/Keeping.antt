@@ -20,27 +20,27 @@ nobody = seated (newcomer 0) 0 0
 
 -- The seats that one seat of `atomic_table` represents. That is one seat, except inside
 -- `HoldTable::apart` and `HoldTable::close`.
-abbrev pub Company : Type 0
-Company = List Seated
+abbrev pub SeatGroup : Type 0
+SeatGroup = List Seated
 
 -- the first seat of a company
-abbrev pub first_of : Company → Seated
+abbrev pub first_of : SeatGroup → Seated
 first_of c = slice_index_or c 0 nobody
 
 -- the second seat of a company
-abbrev pub second_of : Company → Seated
+abbrev pub second_of : SeatGroup → Seated
 second_of c = slice_index_or c 1 nobody
 
 -- a seat of `atomic_table`, which has no slots
-abbrev pub Sat : Type 0
-Sat = Me (Unit {0}) Company
+abbrev pub AtomicSeat : Type 0
+AtomicSeat = Me (Unit {0}) SeatGroup
 
 -- it represents one seat
-abbrev pub IsAlone : Sat → Type 0
+abbrev pub IsAlone : AtomicSeat → Type 0
 IsAlone me = me ≡ (first_of me.0 ∷ [], [])
 
 -- it represents two seats
-abbrev pub IsPair : Sat → Type 0
+abbrev pub IsPair : AtomicSeat → Type 0
 IsPair me = me ≡ (first_of me.0 ∷ second_of me.0 ∷ [], [])
 
 -- a seat after it has passed its spare numbers on
@@ -83,29 +83,29 @@ pub record IsTableKept (drives : ℕ) (words : List ℕ) (seats : List Seated) :
   pub found : (k : ℕ) (x : Seated) (step : LastStep) → get_elem? seats k ≡ some x → x.view.last ≡ Some step → WasHeld seats step.drive step.found
 
 -- the company at index k has the seat x at index j
-abbrev pub Lies : List Company → ℕ → ℕ → Seated → Type 0
-Lies companies k j x = (c : Company) × (get_elem? companies k ≡ some c) × (get_elem? c j ≡ some x)
+abbrev pub IsInGroup : List SeatGroup → ℕ → ℕ → Seated → Type 0
+IsInGroup companies k j x = (c : SeatGroup) × (get_elem? companies k ≡ some c) × (get_elem? c j ≡ some x)
 
 -- each seat of a company is the one in `seats` with its number, and no number is at two places
-pub record IsSpread (seats : List Seated) (companies : List Company) : Type 0 where
-  pub known : (k j : ℕ) (x : Seated) → Lies companies k j x → get_elem? seats (x.view.number - 1) ≡ some x
-  pub once : (k j : ℕ) (x : Seated) (m i : ℕ) (y : Seated) → Lies companies k j x → Lies companies m i y
+pub record AreGrouped (seats : List Seated) (companies : List SeatGroup) : Type 0 where
+  pub known : (k j : ℕ) (x : Seated) → IsInGroup companies k j x → get_elem? seats (x.view.number - 1) ≡ some x
+  pub once : (k j : ℕ) (x : Seated) (m i : ℕ) (y : Seated) → IsInGroup companies k j x → IsInGroup companies m i y
       → x.view.number ≡ y.view.number → (k ≡ m) × (j ≡ i)
 
 -- what the table keeps between steps: the rule for its words and seats, the hold rule, and which
 -- company has which seat
-pub record KeepsRule (drives : ℕ) (words : List ℕ) (companies : List Company) : Type 0 where
+pub record KeepsRule (drives : ℕ) (words : List ℕ) (companies : List SeatGroup) : Type 0 where
   pub seats : List Seated
   pub kept : IsTableKept drives words seats
   pub rule : HoldRule words seats
-  pub spread : IsSpread seats companies
+  pub spread : AreGrouped seats companies
 
 -- after a step by one seat, that seat is x
-abbrev pub StepsTo : Sat → Seated → Type 0
+abbrev pub StepsTo : AtomicSeat → Seated → Type 0
 StepsTo me' x = IsAlone me' × (first_of me'.0 ≡ x)
 
 -- a take that found `found`
-abbrev pub TakesAt : Step (Unit {0}) → Sat → ℕ → Sat → Type 0
+abbrev pub TakesAt : Step (Unit {0}) → AtomicSeat → ℕ → AtomicSeat → Type 0
 TakesAt s me found me' =
     StepsTo me' (stepped (first_of me.0) (taken (first_of me.0).view s.word found))
     × (found ≤ SEAT_LIMIT)
@@ -114,13 +114,13 @@ TakesAt s me found me' =
     (cond (found == 0) (first_of me.0).view.number found) (first_of me'.0).view
 
 -- a give
-abbrev pub GivesAt : Step (Unit {0}) → Sat → ℕ → Sat → Type 0
+abbrev pub GivesAt : Step (Unit {0}) → AtomicSeat → ℕ → AtomicSeat → Type 0
 GivesAt s me stored me' =
     StepsTo me' (stepped (first_of me.0) (given (first_of me.0).view s.word))
     × IsRuledStep s.word (first_of me.0).view (first_of me.0).made (first_of me.0).view.number 0 (first_of me'.0).view
 
 -- a look that found `found`
-abbrev pub LooksAt : Step (Unit {0}) → Sat → ℕ → Sat → Type 0
+abbrev pub LooksAt : Step (Unit {0}) → AtomicSeat → ℕ → AtomicSeat → Type 0
 LooksAt s me found me' =
     StepsTo me' (stepped (first_of me.0) (looked (first_of me.0).view s.word found))
     × (found ≤ SEAT_LIMIT)
@@ -142,7 +142,7 @@ AreApart x y =
 
 -- A look by a company of two seats that found `found`. It changes neither seat, and shows that they
 -- are apart.
-abbrev pub ComparesAt : Step (Unit {0}) → Sat → ℕ → Sat → Type 0
+abbrev pub ComparesAt : Step (Unit {0}) → AtomicSeat → ℕ → AtomicSeat → Type 0
 ComparesAt s me found me' =
     (me' ≡ me)
     × (found ≤ SEAT_LIMIT)
@@ -151,9 +151,9 @@ ComparesAt s me found me' =
     × AreApart (first_of me.0) (second_of me.0)
 
 -- a new company represents no seat
-abbrev pub EntersAt : Step (Unit {0}) → Sat → ℕ → Sat → Type 0
+abbrev pub EntersAt : Step (Unit {0}) → AtomicSeat → ℕ → AtomicSeat → Type 0
 EntersAt s me found me' = me'.0 ≡ []
 
 -- the seats of a company, as contracts see them
-abbrev pub shown : TableId → Company → List TableSeat
+abbrev pub shown : TableId → SeatGroup → List TableSeat
 shown t c = map (λ x. table_seat t x.view x.made) c

@@ -17,12 +17,12 @@ pub struct Seated {
 
 /// The seats that one seat of `atomic_table` represents. That is one seat, except inside
 /// `HoldTable::apart` and `HoldTable::close`.
-pub(crate) type Company = LinkedList<Seated>;
+pub(crate) type SeatGroup = LinkedList<Seated>;
 
 /// The rule of the table. Its key is the number of drives.
 pub struct HoldLaw;
 
-impl TableRule<(), Company, usize> for HoldLaw {
+impl TableRule<(), SeatGroup, usize> for HoldLaw {
     ghost use Rattle.std.specs.Prelude.{◌-◌, [], ◌∷◌};
     ghost use Rattle.drives.specs.Holding.{newcomer};
     ghost use Rattle.hold_table.specs.declared.table.TheConstants.{SEAT_LIMIT};
@@ -37,7 +37,7 @@ impl TableRule<(), Company, usize> for HoldLaw {
 /// A seat passes its spare numbers on to a new seat.
 pub(crate) struct Deal;
 
-impl Split<Company> for Deal {
+impl Split<SeatGroup> for Deal {
     ghost use Rattle.std.specs.Prelude.{[], ◌∷◌};
     ghost use Rattle.hold_table.specs.Keeping.{first_of, settled, following};
 
@@ -49,7 +49,7 @@ impl Split<Company> for Deal {
 /// One take.
 pub(crate) struct Takes;
 
-impl Play<(), Company> for Takes {
+impl Play<(), SeatGroup> for Takes {
     ghost use Rattle.hold_table.specs.Keeping.{TakesAt};
 
     ghost then = { TakesAt };
@@ -58,7 +58,7 @@ impl Play<(), Company> for Takes {
 /// One give.
 pub(crate) struct Gives;
 
-impl Play<(), Company> for Gives {
+impl Play<(), SeatGroup> for Gives {
     ghost use Rattle.hold_table.specs.Keeping.{GivesAt};
 
     ghost then = { GivesAt };
@@ -67,7 +67,7 @@ impl Play<(), Company> for Gives {
 /// One look.
 pub(crate) struct Looks;
 
-impl Play<(), Company> for Looks {
+impl Play<(), SeatGroup> for Looks {
     ghost use Rattle.hold_table.specs.Keeping.{LooksAt};
 
     ghost then = { LooksAt };
@@ -76,7 +76,7 @@ impl Play<(), Company> for Looks {
 /// A company adds the seats of another before its own.
 pub(crate) struct Gather;
 
-impl Join<Company> for Gather {
+impl Join<SeatGroup> for Gather {
     ghost use Rattle.std.specs.Prelude.{[], ◌++◌};
 
     ghost both = { λ c d. d ++ c };
@@ -87,7 +87,7 @@ impl Join<Company> for Gather {
 /// A company of two seats splits into two of one seat each.
 pub(crate) struct Part;
 
-impl Split<Company> for Part {
+impl Split<SeatGroup> for Part {
     ghost use Rattle.std.specs.Prelude.{[], ◌∷◌};
     ghost use Rattle.hold_table.specs.Keeping.{first_of, second_of};
 
@@ -99,7 +99,7 @@ impl Split<Company> for Part {
 /// One look by a company of two seats.
 pub(crate) struct Compares;
 
-impl Play<(), Company> for Compares {
+impl Play<(), SeatGroup> for Compares {
     ghost use Rattle.hold_table.specs.Keeping.{ComparesAt};
 
     ghost then = { ComparesAt };
@@ -108,7 +108,7 @@ impl Play<(), Company> for Compares {
 /// A company of no seats is made.
 pub(crate) struct Enters;
 
-impl Play<(), Company> for Enters {
+impl Play<(), SeatGroup> for Enters {
     ghost use Rattle.hold_table.specs.Keeping.{EntersAt};
 
     ghost then = { EntersAt };

@@ -2,7 +2,7 @@
 ghost use Rattle.std.specs.Prelude.{◌≡◌};
 ghost use Rattle.hold_table.specs.Seats.{table_seat};
 
-use crate::rule::Company;
+use crate::rule::SeatGroup;
 use atomic_table::Seat;
 use std::marker::Model;
 
@@ -11,7 +11,7 @@ use std::marker::Model;
 /// Contracts see which table it belongs to, what it knows, and how many steps it has made.
 #[derive(Drop)]
 pub struct HoldSeat {
-    pub(crate) seat: Seat<(), Company>,
+    pub(crate) seat: Seat<(), SeatGroup>,
     pub(crate) number: u64,
 }
 

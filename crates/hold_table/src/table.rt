@@ -5,7 +5,7 @@ ghost use Rattle.drives.specs.Holding.{has, newcomer, taken, given, looked, foun
 ghost use Rattle.hold_table.specs.Rule.{seated, IsRuledStep};
 ghost use Rattle.hold_table.specs.Seats.{next, dealt, IsSeatAt};
 
-use crate::rule::{Company, Deal, HoldLaw};
+use crate::rule::{Deal, HoldLaw, SeatGroup};
 use crate::seat::HoldSeat;
 use atomic_table::{Seat, Table};
 use drives::Taken;
@@ -23,7 +23,7 @@ pub const SEAT_LIMIT: usize = 32;
 /// which table it is.
 #[derive(Drop)]
 pub struct HoldTable {
-    pub(crate) table: Table<(), Company, usize, HoldLaw, Global>,
+    pub(crate) table: Table<(), SeatGroup, usize, HoldLaw, Global>,
 }
 
 impl Model for HoldTable {
@@ -58,7 +58,7 @@ impl HoldTable {
 
     // Makes a table of that many drives, none of them held. Returns it with its first seat, which
     // has all further numbers to pass on.
-    fn laid(alloc: Global, drives: usize) -> Result<(HoldTable, Seat<(), Company>), AllocError>
+    fn laid(alloc: Global, drives: usize) -> Result<(HoldTable, Seat<(), SeatGroup>), AllocError>
         requires some { 1 ≤ drives }
         requires few { drives ≤ DRIVE_LIMIT }
         ensures drives { IfOk result (λ made. made.0.words ≡ drives) }
@@ -72,7 +72,7 @@ impl HoldTable {
 
     // Returns the seats of a new table in the order of their numbers. Each passes the numbers that
     // are left on to the next.
-    fn deal(&self, alloc: Global, first: Seat<(), Company>) -> Result<Vec<HoldSeat>, AllocError>
+    fn deal(&self, alloc: Global, first: Seat<(), SeatGroup>) -> Result<Vec<HoldSeat>, AllocError>
         requires same { first.table_id ≡ self.now }
         requires first { first.me ≡ (seated (newcomer 1) 0 (SEAT_LIMIT - 1) ∷ [], []) }
         ensures seats { IfOk result (λ seats. seats.items ≡ dealt self.now SEAT_LIMIT) }

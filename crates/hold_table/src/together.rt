@@ -6,7 +6,7 @@ ghost use Rattle.hold_table.specs.Keeping.{shown};
 ghost use Rattle.hold_table.specs.Seats.{IsSeatAt, FoundHolder};
 ghost use Rattle.hold_table.specs.declared.table.TheConstants.{SEAT_LIMIT};
 
-use crate::rule::{Company, Compares, Enters, Gather, Part};
+use crate::rule::{Compares, Enters, Gather, Part, SeatGroup};
 use crate::seat::HoldSeat;
 use crate::table::HoldTable;
 use atomic_table::{Closed, Seat};
@@ -59,7 +59,7 @@ impl HoldTable {
     }
 
     // Adds the seat to the company, before the company's own seats.
-    fn gather(&self, company: &mut Seat<(), Company>, next: HoldSeat)
+    fn add_seat(&self, company: &mut Seat<(), SeatGroup>, next: HoldSeat)
         requires company { company.old.table_id ≡ self.now }
         requires next { IsSeatAt self.now next }
         ensures same { company.new.table_id ≡ self.now }
@@ -70,14 +70,14 @@ impl HoldTable {
     }
 
     // Returns one company of all these seats, in their order.
-    fn gathered(&self, mut seats: Vec<HoldSeat>) -> Seat<(), Company>
+    fn gathered(&self, mut seats: Vec<HoldSeat>) -> Seat<(), SeatGroup>
         requires seats { All (λ s. IsSeatAt self.now s) seats.items }
         ensures same { result.table_id ≡ self.now }
         ensures gathered { shown self.now result.me.0 ≡ seats.items }
     {
         let (_, mut company) = self.table.shared.load_new_seat::<Enters>(0);
         while let Some(next) = seats.pop() {
-            self.gather(&mut company, next);
+            self.add_seat(&mut company, next);
         }
         company
     }

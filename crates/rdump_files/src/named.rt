@@ -19,7 +19,7 @@ pub fn named_file<R: Files<File = File>>(rt: &R, alloc: Global, path: &str) -> i
     let mut named = PathBuf::from_str(alloc, path)?;
     for _ in 0..MOST_LINKS {
         match fs::symlink_metadata(rt, &named) {
-            Ok(found) if found.is_symlink() => named = led_to(rt, alloc, named.as_path())?,
+            Ok(found) if found.is_symlink() => named = link_target(rt, alloc, named.as_path())?,
             Ok(found) if found.is_file() => return Ok(named),
             Ok(_) => return Err(no_plain_file()),
             Err(error) if error.kind() == ErrorKind::NotFound => return Ok(named),
@@ -38,7 +38,11 @@ pub(crate) fn folder_of(path: Path<'_>) -> Path<'_> {
 }
 
 /// Returns the path that a link leads to, resolved from the folder that contains the link.
-fn led_to<R: Files<File = File>>(rt: &R, alloc: Global, link: Path<'_>) -> io::Result<PathBuf> {
+fn link_target<R: Files<File = File>>(
+    rt: &R,
+    alloc: Global,
+    link: Path<'_>,
+) -> io::Result<PathBuf> {
     let target = rt.read_link(alloc, link.as_str())?;
     let folder = link.parent().unwrap_or(Path::new(""));
     Ok(folder.join(alloc, &target)?)

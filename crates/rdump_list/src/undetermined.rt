@@ -34,7 +34,7 @@ impl Undetermined {
                 text.extend_from_slice(b"no record is read, and spacing is refused")
             }
             Undetermined::Refused { asked, number } => {
-                text.extend_from_slice(verdict_of(asked))?;
+                text.extend_from_slice(request_name(asked))?;
                 push_count(text, b" was answered with E", u64::from(number), b"")
             }
             Undetermined::TooManyRecords => text.extend_from_slice(b"it has too many records"),
@@ -43,7 +43,7 @@ impl Undetermined {
 }
 
 /// Returns the name of a request for the line.
-fn verdict_of(asked: DriveRequest) -> &'static [u8] {
+fn request_name(asked: DriveRequest) -> &'static [u8] {
     match asked {
         DriveRequest::Rewind => b"the rewind",
         DriveRequest::Read => b"a read",

@@ -8,9 +8,9 @@ use Rattle.rmt_wire.specs.Reply.Wanted.{Number, DataUpTo}
 use Rattle.rmt_wire.specs.Lent.{plain_reply}
 use Rattle.rmt_wire.specs.declared.limits.TheConstants.{READER_LIMIT}
 use Rattle.rmt_wire.specs.Number.{SpellsNumber}
-use Rattle.rmt_wire.specs.ReplyParts.{ReplyGives, ReplyHasNoSpelling}
+use Rattle.rmt_wire.specs.ReplyParts.{ReplyParsesAs, ReplyHasNoSpelling}
 use Rattle.rmt_wire.specs.ReplyFront.{kept_of}
-use Rattle.rmt_wire.specs.ReplyReader.{ReplyHeld, ReplyUnread, reply_taken_of, reply_told, ReplyIsNext}
+use Rattle.rmt_wire.specs.ReplyReader.{ReplyHeld, ReplyUnread, reply_taken_of, plain_reply_result, ReplyIsNext}
 use Rattle.rmt_wire.specs.declared.reply.Reply.{Reply}
 use Rattle.rmt_wire.specs.declared.fault.WireFault.{WireFault}
 use Rattle.rdump_net.specs.KeptReply.{plain_kept}
@@ -20,18 +20,18 @@ use Rattle.rdump_net.specs.declared.fault.CallFault.{CallFault}
 use Rattle.rdump_net.specs.declared.fault.CallFault.TheVariants.{ConnectionEnded, Botched, OutOfMemory}
 
 -- one call of `next`, by what it answered
-pub next_none : (old new : ReplyHeld) (result : Result (Option Reply) WireFault) → ReplyIsNext old (reply_told result) new → result ≡ Ok None
+pub next_none : (old new : ReplyHeld) (result : Result (Option Reply) WireFault) → ReplyIsNext old (plain_reply_result result) new → result ≡ Ok None
     → (wanted : Wanted) (bytes : List ℕ) → ReplyUnread old (Some wanted) bytes → IsReplyAwaited wanted new bytes
 next_none old new result n e wanted bytes u =
-    let m = subst (λ a. ReplyIsNext old (reply_told a) new) e n in
+    let m = subst (λ a. ReplyIsNext old (plain_reply_result a) new) e n in
     let w = m.continues (Some wanted) bytes u in
     let held : ReplyUnread new (Some wanted) bytes = subst (ReplyUnread new (Some wanted)) w.2.2 w.1 in
     record { unread = held; begun = (w.2.0, w.2.1, refl); room = subst (λ l. length l < READER_LIMIT) (sym held.keeps) (m.room (Some wanted) bytes held) }
 
-pub next_some : (old new : ReplyHeld) (result : Result (Option Reply) WireFault) (reply : Reply) → ReplyIsNext old (reply_told result) new → result ≡ Ok (Some reply)
+pub next_some : (old new : ReplyHeld) (result : Result (Option Reply) WireFault) (reply : Reply) → ReplyIsNext old (plain_reply_result result) new → result ≡ Ok (Some reply)
     → (wanted : Wanted) (bytes : List ℕ) → ReplyUnread old (Some wanted) bytes
-    → (rest : List ℕ) × ReplyUnread new None rest × ReplyGives (Some wanted) bytes (Ok (Some (plain_reply reply))) rest
-next_some old new result reply n e wanted bytes u = (subst (λ a. ReplyIsNext old (reply_told a) new) e n).continues (Some wanted) bytes u
+    → (rest : List ℕ) × ReplyUnread new None rest × ReplyParsesAs (Some wanted) bytes (Ok (Some (plain_reply reply))) rest
+next_some old new result reply n e wanted bytes u = (subst (λ a. ReplyIsNext old (plain_reply_result a) new) e n).continues (Some wanted) bytes u
 
 -- a reader that waits takes some of a piece that is not empty
 pub push_some : (wanted : Wanted) (h : ReplyHeld) (bytes : List ℕ) (count len : ℕ) → IsReplyAwaited wanted h bytes
@@ -57,8 +57,8 @@ pub none_yet : (wanted : Wanted) (bytes : List ℕ) (result : Result (Option Kep
 none_yet wanted bytes result new h e = subst (λ r. IsFront wanted bytes r new) e h
 
 -- a reply comes, and then this rest
-given_all : (wanted : Wanted) (bytes text : List ℕ) (at : ℕ) (reply : PlainReply) (rest : List ℕ) → ReplyGives (Some wanted) (bytes ++ take at text) (Ok (Some reply)) rest
-    → ReplyGives (Some wanted) (bytes ++ text) (Ok (Some reply)) (rest ++ drop at text)
+given_all : (wanted : Wanted) (bytes text : List ℕ) (at : ℕ) (reply : PlainReply) (rest : List ℕ) → ReplyParsesAs (Some wanted) (bytes ++ take at text) (Ok (Some reply)) rest
+    → ReplyParsesAs (Some wanted) (bytes ++ text) (Ok (Some reply)) (rest ++ drop at text)
 given_all wanted bytes text at reply rest w =
     (w.0, w.1, sym (piece_all bytes text at) ∙ ap (λ l. l ++ drop at text) w.2 ∙ append_assoc w.0 rest (drop at text))
 
@@ -82,7 +82,7 @@ pub fault_then : (wanted : Wanted) (bytes text : List ℕ) (at : ℕ) (fault : C
     → IsFront wanted (bytes ++ take at text) (Err fault) new → IsTaken wanted (bytes ++ text) (Err fault) other
 fault_then wanted bytes text at ConnectionEnded new other h = h
 fault_then wanted bytes text at Botched new other h =
-    inl (h.0, subst (λ b. ReplyGives (Some wanted) b (Err h.0) b) (piece_all bytes text at) (h.1 (drop at text)))
+    inl (h.0, subst (λ b. ReplyParsesAs (Some wanted) b (Err h.0) b) (piece_all bytes text at) (h.1 (drop at text)))
 fault_then wanted bytes text at OutOfMemory new other h = (h.0, h.1 ++ drop at text, given_all wanted bytes text at h.0 h.1 h.2)
 
 -- where nothing came yet

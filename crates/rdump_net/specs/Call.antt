@@ -3,7 +3,7 @@ use Rattle.std.specs.Prelude.{◌≡◌, ◌≢◌, ◌⊎◌, ◌≤◌, ◌<�
 use Rattle.rmt_wire.specs.declared.limits.TheConstants.{READER_LIMIT}
 use Rattle.rmt_wire.specs.Reply.{PlainReply, Wanted, SpellsReply}
 use Rattle.rmt_wire.specs.Reply.Wanted.{Number, DataUpTo}
-use Rattle.rmt_wire.specs.ReplyParts.{ReplyGives}
+use Rattle.rmt_wire.specs.ReplyParts.{ReplyParsesAs}
 use Rattle.rmt_wire.specs.ReplyReader.{ReplyHeld, ReplyUnread}
 use Rattle.rmt_wire.specs.Request.{PlainRequest, request_text}
 use Rattle.rmt_wire.specs.Request.PlainRequest.{Open, Close, Write, WriteDropped, Read, Op}
@@ -29,19 +29,19 @@ wanted_by (Op op count) = Number
 -- bytes or more hold no whole reply
 abbrev pub IsNoReply : Wanted → List ℕ → Type 0
 IsNoReply wanted bytes =
-    ((fault : WireFault) × ReplyGives (Some wanted) bytes (Err fault) bytes)
-    ⊎ ((reply : PlainReply) × (rest : List ℕ) × ReplyGives (Some wanted) bytes (Ok (Some reply)) rest × (rest ≢ []))
-    ⊎ (ReplyGives (Some wanted) bytes (Ok None) bytes × (2 ^ 64 - 1 ≤ length bytes))
+    ((fault : WireFault) × ReplyParsesAs (Some wanted) bytes (Err fault) bytes)
+    ⊎ ((reply : PlainReply) × (rest : List ℕ) × ReplyParsesAs (Some wanted) bytes (Ok (Some reply)) rest × (rest ≢ []))
+    ⊎ (ReplyParsesAs (Some wanted) bytes (Ok None) bytes × (2 ^ 64 - 1 ≤ length bytes))
 
 -- What a peer sends while a reply is awaited: that reply alone, a part of one before the connection
 -- ends, bytes that are no reply, or a reply for which an allocation fails.
 abbrev pub Brings : Wanted → Result PlainReply CallFault → List Passed → Type 0
 Brings wanted (Ok reply) passed = (bytes : List ℕ) × SpellsReply bytes reply wanted × (passed ≡ map Given bytes)
 Brings wanted (Err ConnectionEnded) passed =
-    (bytes : List ℕ) × ReplyGives (Some wanted) bytes (Ok None) bytes × (passed ≡ map Given bytes ++ Ended ∷ [])
+    (bytes : List ℕ) × ReplyParsesAs (Some wanted) bytes (Ok None) bytes × (passed ≡ map Given bytes ++ Ended ∷ [])
 Brings wanted (Err Botched) passed = (bytes : List ℕ) × IsNoReply wanted bytes × (passed ≡ map Given bytes)
 Brings wanted (Err OutOfMemory) passed =
-    (bytes : List ℕ) × (reply : PlainReply) × (rest : List ℕ) × ReplyGives (Some wanted) bytes (Ok (Some reply)) rest
+    (bytes : List ℕ) × (reply : PlainReply) × (rest : List ℕ) × ReplyParsesAs (Some wanted) bytes (Ok (Some reply)) rest
     × (passed ≡ map Given bytes)
 
 -- What passes in a call: the request is sent once, and then the peer's bytes come. Or the
@@ -64,7 +64,7 @@ IsCalled tells request result p p' = (passed : List Passed) × IsPeerCall reques
 -- is room for the rest
 pub record IsReplyAwaited (wanted : Wanted) (h : ReplyHeld) (bytes : List ℕ) : Type 0 where
   pub unread : ReplyUnread h (Some wanted) bytes
-  pub begun : ReplyGives (Some wanted) bytes (Ok None) bytes
+  pub begun : ReplyParsesAs (Some wanted) bytes (Ok None) bytes
   pub room : length h.kept < READER_LIMIT
 
 -- What a reader returns of the bytes that it holds, and its state then. A fault stays, whatever
@@ -72,11 +72,11 @@ pub record IsReplyAwaited (wanted : Wanted) (h : ReplyHeld) (bytes : List ℕ) :
 abbrev pub IsFront : Wanted → List ℕ → Result (Option KeptReply) CallFault → ReplyHeld → Type 0
 IsFront wanted bytes (Ok None) new = IsReplyAwaited wanted new bytes
 IsFront wanted bytes (Ok (Some answer)) new =
-    (rest : List ℕ) × ReplyGives (Some wanted) bytes (Ok (Some (plain_kept answer))) rest × ReplyUnread new None rest
+    (rest : List ℕ) × ReplyParsesAs (Some wanted) bytes (Ok (Some (plain_kept answer))) rest × ReplyUnread new None rest
 IsFront wanted bytes (Err Botched) new =
-    (fault : WireFault) × ((more : List ℕ) → ReplyGives (Some wanted) (bytes ++ more) (Err fault) (bytes ++ more))
+    (fault : WireFault) × ((more : List ℕ) → ReplyParsesAs (Some wanted) (bytes ++ more) (Err fault) (bytes ++ more))
 IsFront wanted bytes (Err OutOfMemory) new =
-    (reply : PlainReply) × (rest : List ℕ) × ReplyGives (Some wanted) bytes (Ok (Some reply)) rest
+    (reply : PlainReply) × (rest : List ℕ) × ReplyParsesAs (Some wanted) bytes (Ok (Some reply)) rest
 IsFront wanted bytes (Err ConnectionEnded) new = ⊥
 
 -- the bytes are the beginning of a reply, or exactly one reply, or neither
@@ -85,5 +85,5 @@ IsTaken wanted bytes (Ok None) new = IsReplyAwaited wanted new bytes
 IsTaken wanted bytes (Ok (Some answer)) new = SpellsReply bytes (plain_kept answer) wanted
 IsTaken wanted bytes (Err Botched) new = IsNoReply wanted bytes
 IsTaken wanted bytes (Err OutOfMemory) new =
-    (reply : PlainReply) × (rest : List ℕ) × ReplyGives (Some wanted) bytes (Ok (Some reply)) rest
+    (reply : PlainReply) × (rest : List ℕ) × ReplyParsesAs (Some wanted) bytes (Ok (Some reply)) rest
 IsTaken wanted bytes (Err ConnectionEnded) new = ⊥

@@ -33,7 +33,7 @@ pub(crate) enum LabelFilter<'a> {
 /// standard output may be a terminal, control characters in a text that is not a label are printed
 /// as `?`.
 #[derive(Drop)]
-pub(crate) struct LabelText<'a, W> {
+pub(crate) struct LabelPrinter<'a, W> {
     out: W,
     is_shown: bool,
     wanted: LabelFilter<'a>,
@@ -41,7 +41,7 @@ pub(crate) struct LabelText<'a, W> {
     found: LabelKind,
 }
 
-impl<'a, W: Write + Drop> LabelText<'a, W> {
+impl<'a, W: Write + Drop> LabelPrinter<'a, W> {
     /// Makes a writer that has received no text. `is_shown` is whether `out` may be a terminal.
     pub(crate) fn new(
         out: W,
@@ -49,7 +49,7 @@ impl<'a, W: Write + Drop> LabelText<'a, W> {
         wanted: LabelFilter<'a>,
         first: &'a Cell<Option<u32>>,
     ) -> Self {
-        LabelText {
+        LabelPrinter {
             out,
             is_shown,
             wanted,
@@ -64,7 +64,7 @@ impl<'a, W: Write + Drop> LabelText<'a, W> {
     }
 }
 
-impl<'a, W: Write> Write for LabelText<'a, W> {
+impl<'a, W: Write> Write for LabelPrinter<'a, W> {
     /// Accepts the whole text, or fails if it is not wanted or cannot be printed.
     fn write(&mut self, buf: &[u8]) -> io::Result<usize> {
         self.found = look(buf, self.wanted);

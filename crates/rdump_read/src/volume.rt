@@ -2,7 +2,7 @@
 ghost use Rattle.std.specs.Prelude.{◌≡◌};
 ghost use Rattle.rdump_args.specs.Rdump.{IsReadLine};
 
-use crate::label_text::{LabelFilter, LabelKind, LabelText};
+use crate::label_text::{LabelFilter, LabelKind, LabelPrinter};
 use crate::out_file::{BlockFault, OutFile};
 use crate::reel_peer::{ReelPeer, ReelState};
 use crate::volume_blocks::{BlockSizes, VolumeBlocks};
@@ -68,7 +68,7 @@ pub(crate) fn read_volume<R: ClientSystem>(
     let mut peer = ReelPeer::new(rt, line.to, file, &first);
     let mut blocks = Counted::new(VolumeBlocks::new(file, &first));
     let (is_shown, wanted) = (may_be_terminal(rt), wanted_of(line, dump));
-    let mut out = Counted::new(LabelText::new(io::writer(rt), is_shown, wanted, &first));
+    let mut out = Counted::new(LabelPrinter::new(io::writer(rt), is_shown, wanted, &first));
     let device = line.device.as_bytes();
     let after = after_of(line);
     let read = copy_volume(rt.alloc(), &mut peer, device, after, &mut blocks, &mut out);

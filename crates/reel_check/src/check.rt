@@ -5,7 +5,7 @@ ghost use Rattle.tape.specs.Tape.{PlainEntry};
 ghost use Rattle.tape.specs.Failures.{HasRisen, Steps};
 ghost use Rattle.tape.specs.RecordFile.{SpellsReel, medium_kind_of};
 ghost use Rattle.dump_run.specs.Label.{label_bytes};
-ghost use Rattle.tape.specs.FileSteps.{IsMediumRun};
+ghost use Rattle.tape.specs.FileSteps.{AreMediumCalls};
 ghost use Rattle.reel_check.specs.Contents.{IsContents};
 ghost use Rattle.reel_check.specs.Finding.{AddsEntry, AddsRecord, IsTallyOfFile};
 
@@ -42,7 +42,7 @@ pub fn check_reel<M: Medium>(medium: &mut M, room: &mut [u8]) -> Result<ReelCont
 
 /// Returns the tally of the entries of a record file, and the offset of their end.
 fn add_entries<M: Medium>(medium: &mut M, room: &mut [u8]) -> Result<(ReelTally, u64), MediumFailed>
-    ensures { IsMediumRun (medium_kind_of M.Medium)
+    ensures { AreMediumCalls (medium_kind_of M.Medium)
         (λ old new. (new ≡ old) × IfOk result (λ p. IsTallyOfFile old p.1 p.0)) 0 (IsErr result) medium.old medium.new }
 {
     let mut tally = ReelTally::new();
@@ -63,7 +63,7 @@ fn add_entry<M: Medium>(
     tally: &mut ReelTally,
 ) -> Result<(), MediumFailed>
     requires { at + length + 4 < 2 ^ 64 }
-    ensures { IsMediumRun (medium_kind_of M.Medium)
+    ensures { AreMediumCalls (medium_kind_of M.Medium)
         (λ old new. (new ≡ old) × IfOk result (λ _. AddsEntry (drop at old) length tally.old tally.new)) 0 (IsErr result)
         medium.old medium.new }
 {
@@ -85,7 +85,7 @@ fn add_record<M: Medium>(
     tally: &mut ReelTally,
 ) -> Result<(), MediumFailed>
     requires { at + length < 2 ^ 64 }
-    ensures { IsMediumRun (medium_kind_of M.Medium)
+    ensures { AreMediumCalls (medium_kind_of M.Medium)
         (λ old new. (new ≡ old) × IfOk result (λ _. AddsRecord (drop at old) length tally.old tally.new)) 0 (IsErr result)
         medium.old medium.new }
 {
@@ -99,7 +99,7 @@ fn add_record<M: Medium>(
 
 /// Adds the record of a label's length to the tally. Its bytes begin at offset `at`.
 fn add_label<M: Medium>(medium: &mut M, at: u64, tally: &mut ReelTally) -> Result<(), MediumFailed>
-    ensures { IsMediumRun (medium_kind_of M.Medium)
+    ensures { AreMediumCalls (medium_kind_of M.Medium)
         (λ old new. (new ≡ old) × IfOk result (λ _. AddsRecord (drop at old) label_bytes tally.old tally.new)) 0 (IsErr result)
         medium.old medium.new }
 {
@@ -118,7 +118,7 @@ fn pass_bytes<M: Medium>(
     room: &mut [u8],
 ) -> Result<(), MediumFailed>
     requires { at + length < 2 ^ 64 }
-    ensures { IsMediumRun (medium_kind_of M.Medium) (λ old new. new ≡ old) 0 (IsErr result) medium.old medium.new }
+    ensures { AreMediumCalls (medium_kind_of M.Medium) (λ old new. new ≡ old) 0 (IsErr result) medium.old medium.new }
 {
     if room.is_empty() {
         return Ok(());

@@ -12,7 +12,7 @@ use Rattle.std.specs.Result.{IsErr, IsErrAnd}
 use Rattle.rmt_wire.specs.Counted.{Counting, HasRisen}
 use Rattle.rmt_wire.specs.declared.reply.writer.OutputFault.{OutputFault}
 use Rattle.rmt_wire.specs.Lent.{plain_request}
-use Rattle.rmt_wire.specs.RequestReader.{RequestHeld, Unread, IsNext, dropped_line, told}
+use Rattle.rmt_wire.specs.RequestReader.{RequestHeld, Unread, IsNext, dropped_line, plain_next_result}
 use Rattle.rmt_wire.specs.declared.request.Request.{Request}
 use Rattle.rmt_wire.specs.declared.fault.WireFault.{WireFault}
 use Rattle.drives.specs.Opening.{Kinds}
@@ -147,18 +147,18 @@ cut_as contents (Ok x) output output' wire bytes done rest e c r = absurd (cc)
 cut_as contents (Err failed) output output' wire bytes done rest e c r = (c, r)
 
 -- One call of `next`, by what it answered.
-pub next_none : (old new : RequestHeld) (result : Result (Option Request) WireFault) → IsNext old (told result) new → result ≡ Ok None → (bytes : List ℕ) → Unread old bytes → IsSettled new bytes
+pub next_none : (old new : RequestHeld) (result : Result (Option Request) WireFault) → IsNext old (plain_next_result result) new → result ≡ Ok None → (bytes : List ℕ) → Unread old bytes → IsSettled new bytes
 next_none old new result n e bytes u =
-    let m = subst (λ a. IsNext old (told a) new) e n in
+    let m = subst (λ a. IsNext old (plain_next_result a) new) e n in
     let w = m.continues bytes u in
     let same = w.2.2 in
     let held : Unread new bytes = subst (Unread new) same w.1 in
     record { unread = held; begins = w.2.0; none = w.2.1; room = m.room bytes held }
 
-pub next_some : (old new : RequestHeld) (result : Result (Option Request) WireFault) (request : Request) → IsNext old (told result) new → result ≡ Ok (Some request) → (bytes : List ℕ) → Unread old bytes
+pub next_some : (old new : RequestHeld) (result : Result (Option Request) WireFault) (request : Request) → IsNext old (plain_next_result result) new → result ≡ Ok (Some request) → (bytes : List ℕ) → Unread old bytes
     → (rest : List ℕ) × Unread new rest × (text : List ℕ) × SpellsRequest text (plain_request request) × (bytes ≡ text ++ rest)
 next_some old new result request n e bytes u =
-    let m = subst (λ a. IsNext old (told a) new) e n in
+    let m = subst (λ a. IsNext old (plain_next_result a) new) e n in
     let w = m.continues bytes u in
     (w.0, w.1, w.2.0, w.2.1, w.2.2)
 

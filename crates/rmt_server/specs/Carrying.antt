@@ -15,7 +15,7 @@ use Rattle.rmt_server.specs.declared.refusal.Refusal.TheVariants.{Busy}
 use Rattle.rmt_server.specs.Refusals.{refused}
 use Rattle.rmt_server.specs.Session.{SessionView, is_offline, ServeStep}
 use Rattle.rmt_server.specs.State.{State, drive_of, reel_of, IsAt, HasView, SessionCanFail, KeepsDrives}
-use Rattle.rmt_server.specs.Opening.{Closes, OpensAnew, view_after_close, holder_after_close}
+use Rattle.rmt_server.specs.Opening.{Closes, OpensDevice, view_after_close, holder_after_close}
 use Rattle.rmt_server.specs.Moving.{MovesOff}
 use Rattle.rmt_server.specs.Serving.{Serves}
 
@@ -28,7 +28,7 @@ Operates k false old op count reply new = Serves k old (Op op count) reply new
 -- What each request does, even if contents are unspecified.
 abbrev pub CarriesOut : {H S Seat R : Type 0} → Kinds H Seat S R → State H S Seat R → PlainRequest → PlainReply
     → State H S Seat R → Type 0
-CarriesOut k old (Open device mode) reply new = OpensAnew k old device mode reply new
+CarriesOut k old (Open device mode) reply new = OpensDevice k old device mode reply new
 CarriesOut k old Close reply new = Closes k old reply new
 CarriesOut k old (Op op count) reply new = Operates k (is_offline op) old op count reply new
 CarriesOut k old request reply new = Serves k old request reply new

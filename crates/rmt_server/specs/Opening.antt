@@ -90,7 +90,7 @@ OpensFor {R = R} k old device (Some access) reply new =
     (result : Result (ℕ × R) DriveFault) × (reply ≡ open_reply result) × IsOpenedFor k old device access result new
 
 -- An open. The session first closes the device that it has open, if any.
-abbrev pub OpensAnew : {H S Seat R : Type 0} → Kinds H Seat S R → State H S Seat R → List ℕ → ℕ → PlainReply
+abbrev pub OpensDevice : {H S Seat R : Type 0} → Kinds H Seat S R → State H S Seat R → List ℕ → ℕ → PlainReply
     → State H S Seat R → Type 0
-OpensAnew {H} {S} {Seat} {R} k old device mode reply new =
+OpensDevice {H} {S} {Seat} {R} k old device mode reply new =
     (between : State H S Seat R) × IsClosed k old between × OpensFor k between device (access_of mode) reply new

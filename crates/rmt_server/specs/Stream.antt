@@ -6,7 +6,7 @@ use Rattle.std.specs.declared.io.traits.Read.{Ghosts as ReadPromise}
 use Rattle.std.specs.declared.io.traits.Write.{Ghosts as WritePromise}
 use Rattle.rmt_wire.specs.Request.{PlainRequest}
 use Rattle.rmt_wire.specs.Reply.{PlainReply, ReplyHasSpelling, reply_text}
-use Rattle.rmt_wire.specs.RequestParts.{IsOpen, HasNoSpelling, Spelled, HasFault}
+use Rattle.rmt_wire.specs.RequestParts.{IsRequestPrefix, HasNoSpelling, Spelled, HasFault}
 use Rattle.rmt_wire.specs.Counted.{Counting, HasRisen}
 use Rattle.rmt_wire.specs.RequestReader.{RequestHeld, Unread, taken_of}
 use Rattle.rmt_wire.specs.declared.limits.TheConstants.{READER_LIMIT}
@@ -71,7 +71,7 @@ pub record Advances {H S Seat R : Type 0} (k : Kinds H Seat S R) (old new : Stat
 -- it.
 pub record IsSettled (wire : RequestHeld) (rest : List ℕ) : Type 0 where
   pub unread : Unread wire rest
-  pub begins : IsOpen rest
+  pub begins : IsRequestPrefix rest
   pub none : HasNoSpelling rest
   pub room : taken_of rest < READER_LIMIT
 
@@ -125,12 +125,12 @@ EndsAs kind (Ok End) old new read done rest =
     AreAnswered kind old new read done rest × (rest ≡ []) × IsAtEnd (kind.remaining new.input.inner)
 EndsAs kind (Ok Truncated) old new read done rest =
     AreAnswered kind old new read done rest
-    × (rest ≢ []) × IsOpen rest × HasNoSpelling rest × IsAtEnd (kind.remaining new.input.inner)
+    × (rest ≢ []) × IsRequestPrefix rest × HasNoSpelling rest × IsAtEnd (kind.remaining new.input.inner)
 EndsAs kind (Ok (Broken fault)) old new read done rest =
     AreAnswered kind old new read done rest × HasFault rest fault × HasNoSpelling rest
 EndsAs kind (Err Input) old new read done rest =
     AreAnswered kind old new read done rest
-    × IsOpen rest × HasNoSpelling rest × HasRisen old.input.failures new.input.failures
+    × IsRequestPrefix rest × HasNoSpelling rest × HasRisen old.input.failures new.input.failures
 EndsAs kind (Err Output) old new read done rest =
     IsCutOff (kind.contents old.output.inner) (kind.contents new.output.inner) read done rest
     × HasRisen old.output.failures new.output.failures

@@ -6,10 +6,10 @@ use Rattle.rmt_wire.specs.Number.{SpellsNumber, line_feed}
 use Rattle.rmt_wire.specs.declared.limits.TheConstants.{READER_LIMIT}
 use Rattle.rmt_wire.specs.declared.limits.TheConstants.{RECORD_LIMIT}
 use Rattle.rmt_wire.specs.Request.PlainRequest.{WriteDropped}
-use Rattle.rmt_wire.specs.Seen.{Seen, number_front}
+use Rattle.rmt_wire.specs.Parsed.{Parsed, number_front}
 use Rattle.rmt_wire.specs.RequestFront.{front_of}
-use Rattle.rmt_wire.specs.RequestReader.{dropped_if_long, dropped_line, RequestHeld, held, IsDropped, UnreadAt, Unread, gone_at, taken_at, taken_of}
-use Rattle.rmt_wire.specs.RequestParts.{Gives, IsDroppedLine}
+use Rattle.rmt_wire.specs.RequestReader.{dropped_if_long, dropped_line, RequestHeld, held, IsDropped, UnreadAt, Unread, discardable_at, taken_at, taken_of}
+use Rattle.rmt_wire.specs.RequestParts.{ParsesAs, IsDroppedLine}
 use Rattle.rmt_wire.specs.declared.number.Place.TheVariants as places
 use Rattle.rmt_wire.proofs.Numbers.{NumberView, number_view}
 use Rattle.rmt_wire.proofs.Spellings.{number_is_seen, length_line, write_seen, written_less}
@@ -23,7 +23,7 @@ chosen false x y z e = inr (refl, e)
 pub some_same : {A : Type 0} (x y : A) → Some x ≡ Some y → x ≡ y
 some_same x y e = cc
 
-long_write : (bytes : List ℕ) (seen : Seen (ℕ × ℕ)) (line : ℕ × ℕ) → NumberView places.Line 0 0 bytes seen → dropped_if_long seen ≡ Some line → IsDroppedLine (87 ∷ bytes) line.0 line.1
+long_write : (bytes : List ℕ) (seen : Parsed (ℕ × ℕ)) (line : ℕ × ℕ) → NumberView places.Line 0 0 bytes seen → dropped_if_long seen ≡ Some line → IsDroppedLine (87 ∷ bytes) line.0 line.1
 long_write bytes (Ok None) line v e = absurd (cc)
 long_write bytes (Ok (Some p)) line v e =
     ⊎_elim
@@ -97,16 +97,16 @@ line_stays bytes line e more =
 
 -- what a reader that holds this line has to do with: its line, the data that are gone, and the rest
 pub record Behind (kept : List ℕ) (dropped : ℕ) (bytes : List ℕ) (line : ℕ × ℕ) : Type 0 where
-  pub gone : List ℕ
-  pub gone_size : length gone ≡ dropped
+  pub discardable : List ℕ
+  pub gone_size : length discardable ≡ dropped
   pub within : dropped ≤ line.1
-  pub is : bytes ≡ take line.0 kept ++ (gone ++ drop line.0 kept)
+  pub is : bytes ≡ take line.0 kept ++ (discardable ++ drop line.0 kept)
 
 unread_some : (o : Option (ℕ × ℕ)) (h : RequestHeld) (bytes : List ℕ) (line : ℕ × ℕ) → o ≡ Some line → UnreadAt o h bytes → Behind h.kept h.dropped bytes line
 unread_some None h bytes line e u = absurd (cc)
 unread_some (Some p) h bytes line e u =
     let same : p ≡ line = some_same p line e in
-    subst (Behind h.kept h.dropped bytes) same (record { gone = u.0; gone_size = u.1; within = u.2; is = u.3 })
+    subst (Behind h.kept h.dropped bytes) same (record { discardable = u.0; gone_size = u.1; within = u.2; is = u.3 })
 
 unread_none : (o : Option (ℕ × ℕ)) (h : RequestHeld) (bytes : List ℕ) → o ≡ None → UnreadAt o h bytes → (h.dropped ≡ 0) × (bytes ≡ h.kept)
 unread_none None h bytes e u = u
@@ -117,7 +117,7 @@ some_unread None h bytes line e b = absurd (cc)
 some_unread (Some p) h bytes line e b =
     let same : line ≡ p = sym (some_same p line e) in
     let c = subst (Behind h.kept h.dropped bytes) same b in
-    (c.gone, c.gone_size, c.within, c.is)
+    (c.discardable, c.gone_size, c.within, c.is)
 
 none_unread : (o : Option (ℕ × ℕ)) (h : RequestHeld) (bytes : List ℕ) → o ≡ None → h.dropped ≡ 0 → bytes ≡ h.kept → UnreadAt o h bytes
 none_unread None h bytes e d b = (d, b)
@@ -134,30 +134,30 @@ unread_whole kept =
     at_option (dropped_line kept) (Unread (held kept 0) kept)
     (λ e. none_unread (dropped_line kept) (held kept 0) kept e refl refl)
     (λ line e. some_unread (dropped_line kept) (held kept 0) kept line e
-    (record { gone = []; gone_size = refl; within = omega arith; is = sym (take-append-drop line.0 kept) }))
+    (record { discardable = []; gone_size = refl; within = omega arith; is = sym (take-append-drop line.0 kept) }))
 
 -- what is pushed takes the room that is kept, but for the data that can go
-pub taken_kept : (kept : List ℕ) (dropped : ℕ) (bytes : List ℕ) → Unread (held kept dropped) bytes → taken_of bytes + gone_at (dropped_line kept) (length kept) dropped ≡ length kept
+pub taken_kept : (kept : List ℕ) (dropped : ℕ) (bytes : List ℕ) → Unread (held kept dropped) bytes → taken_of bytes + discardable_at (dropped_line kept) (length kept) dropped ≡ length kept
 taken_kept kept dropped bytes u =
-    at_option (dropped_line kept) (taken_of bytes + gone_at (dropped_line kept) (length kept) dropped ≡ length kept)
+    at_option (dropped_line kept) (taken_of bytes + discardable_at (dropped_line kept) (length kept) dropped ≡ length kept)
     (λ e.
     let n = unread_none (dropped_line kept) (held kept dropped) bytes e u in
     let plain : taken_at (dropped_line bytes) bytes ≡ length kept = ap (λ b. taken_at (dropped_line b) b) n.1 ∙ ap (λ o. taken_at o kept) e in
-    let none : gone_at (dropped_line kept) (length kept) dropped ≡ 0 = ap (λ o. gone_at o (length kept) dropped) e in
+    let none : discardable_at (dropped_line kept) (length kept) dropped ≡ 0 = ap (λ o. discardable_at o (length kept) dropped) e in
     omega (arith, plain, none))
     (λ line e.
     let b = unread_some (dropped_line kept) (held kept dropped) bytes line e u in
     let d = dropped_found kept line e in
     let s = line_split kept line d in
-    let there : dropped_line bytes ≡ Some line = ap dropped_line b.is ∙ line_stays kept line e (b.gone ++ drop line.0 kept) in
+    let there : dropped_line bytes ≡ Some line = ap dropped_line b.is ∙ line_stays kept line e (b.discardable ++ drop line.0 kept) in
     let taken : taken_at (dropped_line bytes) bytes ≡ line.0 + (length bytes - (line.0 + line.1)) = ap (λ o. taken_at o bytes) there in
-    let some : gone_at (dropped_line kept) (length kept) dropped ≡ min (length kept - line.0) (line.1 - dropped) = ap (λ o. gone_at o (length kept) dropped) e in
+    let some : discardable_at (dropped_line kept) (length kept) dropped ≡ min (length kept - line.0) (line.1 - dropped) = ap (λ o. discardable_at o (length kept) dropped) e in
     let all = ap (length {A = ℕ}) b.is in
-    let parts = length-append (take line.0 kept) (b.gone ++ drop line.0 kept) in
-    let inner = length-append b.gone (drop line.0 kept) in
+    let parts = length-append (take line.0 kept) (b.discardable ++ drop line.0 kept) in
+    let inner = length-append b.discardable (drop line.0 kept) in
     let front = length-take-le line.0 kept s.2 in
     let back = length-drop line.0 kept in
-    let gone = b.gone_size in
+    let discardable = b.gone_size in
     let within = b.within in
     omega (arith, taken, some, all))
 
@@ -171,20 +171,20 @@ let_go_unread kept dropped more line bytes e room within u =
     let front = length-take-le line.0 kept s.2 in
     let back = length-drop line.0 kept in
     let there : dropped_line kept' ≡ Some line = line_stays kept line e (drop (line.0 + more) kept) in
-    let size : length (b.gone ++ take more (drop line.0 kept)) ≡ dropped + more = omega (arith, length-append b.gone (take more (drop line.0 kept)), b.gone_size, length-take-le more (drop line.0 kept) (omega arith)) in
+    let size : length (b.discardable ++ take more (drop line.0 kept)) ≡ dropped + more = omega (arith, length-append b.discardable (take more (drop line.0 kept)), b.gone_size, length-take-le more (drop line.0 kept) (omega arith)) in
     let new_front : take line.0 kept' ≡ take line.0 kept = take_at (take line.0 kept) (drop (line.0 + more) kept) line.0 front in
     let new_back : drop line.0 kept' ≡ drop (line.0 + more) kept = drop_at (take line.0 kept) (drop (line.0 + more) kept) line.0 front in
     let again : drop (line.0 + more) kept ≡ drop more (drop line.0 kept) = sym (drop-drop more line.0 kept) in
-    let data_parts : b.gone ++ drop line.0 kept ≡ (b.gone ++ take more (drop line.0 kept)) ++ drop (line.0 + more) kept =
-    ap (λ l. b.gone ++ l) (sym (take-append-drop more (drop line.0 kept))) ∙ sym (append_assoc b.gone (take more (drop line.0 kept)) (drop more (drop line.0 kept)))
-    ∙ ap (λ l. (b.gone ++ take more (drop line.0 kept)) ++ l) (sym again) in
+    let data_parts : b.discardable ++ drop line.0 kept ≡ (b.discardable ++ take more (drop line.0 kept)) ++ drop (line.0 + more) kept =
+    ap (λ l. b.discardable ++ l) (sym (take-append-drop more (drop line.0 kept))) ∙ sym (append_assoc b.discardable (take more (drop line.0 kept)) (drop more (drop line.0 kept)))
+    ∙ ap (λ l. (b.discardable ++ take more (drop line.0 kept)) ++ l) (sym again) in
     some_unread (dropped_line kept') (held kept' (dropped + more)) bytes line there
     (record {
-      gone = b.gone ++ take more (drop line.0 kept);
+      discardable = b.discardable ++ take more (drop line.0 kept);
       gone_size = size;
       within = within;
-      is = b.is ∙ ap (λ l. take line.0 kept ++ l) data_parts ∙ ap (λ l. l ++ ((b.gone ++ take more (drop line.0 kept)) ++ drop (line.0 + more) kept)) (sym new_front)
-          ∙ ap (λ l. take line.0 kept' ++ ((b.gone ++ take more (drop line.0 kept)) ++ l)) (sym new_back);
+      is = b.is ∙ ap (λ l. take line.0 kept ++ l) data_parts ∙ ap (λ l. l ++ ((b.discardable ++ take more (drop line.0 kept)) ++ drop (line.0 + more) kept)) (sym new_front)
+          ∙ ap (λ l. take line.0 kept' ++ ((b.discardable ++ take more (drop line.0 kept)) ++ l)) (sym new_back);
     })
 
 -- a line that is found stays when more is pushed
@@ -205,14 +205,14 @@ push_unread kept piece dropped bytes u =
     let s = line_split kept line (dropped_found kept line e) in
     some_unread (dropped_line (kept ++ piece)) (held (kept ++ piece) dropped) (bytes ++ piece) line (line_pushed kept piece line e)
     (record {
-      gone = b.gone;
+      discardable = b.discardable;
       gone_size = b.gone_size;
       within = b.within;
       is = ap (λ l. l ++ piece) b.is
-          ∙ append_assoc (take line.0 kept) (b.gone ++ drop line.0 kept) piece
-          ∙ ap (λ l. take line.0 kept ++ l) (append_assoc b.gone (drop line.0 kept) piece)
-          ∙ ap (λ l. take line.0 kept ++ (b.gone ++ l)) (sym (drop-append-le line.0 kept piece s.2))
-          ∙ ap (λ l. l ++ (b.gone ++ drop line.0 (kept ++ piece))) (sym (take-append-le line.0 kept piece s.2));
+          ∙ append_assoc (take line.0 kept) (b.discardable ++ drop line.0 kept) piece
+          ∙ ap (λ l. take line.0 kept ++ l) (append_assoc b.discardable (drop line.0 kept) piece)
+          ∙ ap (λ l. take line.0 kept ++ (b.discardable ++ l)) (sym (drop-append-le line.0 kept piece s.2))
+          ∙ ap (λ l. l ++ (b.discardable ++ drop line.0 (kept ++ piece))) (sym (take-append-le line.0 kept piece s.2));
     }))
 
 is_dropped_at : (o : Option (ℕ × ℕ)) (n : ℕ) → n ≡ 0 → IsDropped o n
@@ -256,15 +256,15 @@ empty_unread h bytes u =
     let d = dropped_found h.kept line e in
     let s = line_split h.kept line d in (
       λ k. absurd (no_cons 87 (d.number ++ line_feed ∷ d.rest) (sym d.split ∙ k)),
-      λ z. absurd (no_cons 87 (d.number ++ line_feed ∷ (b.gone ++ drop line.0 h.kept)) (sym (b.is ∙ s.1 (b.gone ++ drop line.0 h.kept)) ∙ z)),
+      λ z. absurd (no_cons 87 (d.number ++ line_feed ∷ (b.discardable ++ drop line.0 h.kept)) (sym (b.is ∙ s.1 (b.discardable ++ drop line.0 h.kept)) ∙ z)),
     ))
 
-gives_none : (bytes : List ℕ) → front_of bytes ≡ Ok None → Gives bytes (Ok None) bytes
-gives_none bytes e = subst (λ s. Gives bytes (answer_to s) (rest_behind s bytes)) e (gives bytes)
+gives_none : (bytes : List ℕ) → front_of bytes ≡ Ok None → ParsesAs bytes (Ok None) bytes
+gives_none bytes e = subst (λ s. ParsesAs bytes (answer_to s) (rest_behind s bytes)) e (gives bytes)
 
 -- a dropped write is given once all of its data were pushed
 pub whole_given : (kept : List ℕ) (dropped : ℕ) (line : ℕ × ℕ) (bytes : List ℕ) → dropped_line kept ≡ Some line → line.1 ≤ dropped + (length kept - line.0)
-    → Unread (held kept dropped) bytes → Gives bytes (Ok (Some (WriteDropped line.1))) (drop (line.0 + (line.1 - dropped)) kept)
+    → Unread (held kept dropped) bytes → ParsesAs bytes (Ok (Some (WriteDropped line.1))) (drop (line.0 + (line.1 - dropped)) kept)
 whole_given kept dropped line bytes e enough u =
     let b = unread_some (dropped_line kept) (held kept dropped) bytes line e u in
     let d = dropped_found kept line e in
@@ -274,14 +274,14 @@ whole_given kept dropped line bytes e enough u =
     let back = length-drop line.0 kept in
     let within = b.within in
     let size = b.gone_size in
-    let data_size : length (b.gone ++ take more behind) ≡ line.1 = omega (arith, length-append b.gone (take more behind), length-take-le more behind (omega arith)) in
+    let data_size : length (b.discardable ++ take more behind) ≡ line.1 = omega (arith, length-append b.discardable (take more behind), length-take-le more behind (omega arith)) in
     let again : drop (line.0 + more) kept ≡ drop more behind = sym (drop-drop more line.0 kept) in
-    let parts : b.gone ++ behind ≡ (b.gone ++ take more behind) ++ drop (line.0 + more) kept =
-    ap (λ l. b.gone ++ l) (sym (take-append-drop more behind)) ∙ sym (append_assoc b.gone (take more behind) (drop more behind)) ∙ ap (λ l. (b.gone ++ take more behind) ++ l) (sym again) in (
-      87 ∷ (d.number ++ line_feed ∷ (b.gone ++ take more behind)),
-      (d.number, b.gone ++ take more behind, d.spelled, d.large, data_size, refl),
-      b.is ∙ s.1 (b.gone ++ behind) ∙ ap (λ l. 87 ∷ (d.number ++ line_feed ∷ l)) parts
-          ∙ ap (λ l. 87 ∷ l) (sym (append_assoc d.number (line_feed ∷ (b.gone ++ take more behind)) (drop (line.0 + more) kept))),
+    let parts : b.discardable ++ behind ≡ (b.discardable ++ take more behind) ++ drop (line.0 + more) kept =
+    ap (λ l. b.discardable ++ l) (sym (take-append-drop more behind)) ∙ sym (append_assoc b.discardable (take more behind) (drop more behind)) ∙ ap (λ l. (b.discardable ++ take more behind) ++ l) (sym again) in (
+      87 ∷ (d.number ++ line_feed ∷ (b.discardable ++ take more behind)),
+      (d.number, b.discardable ++ take more behind, d.spelled, d.large, data_size, refl),
+      b.is ∙ s.1 (b.discardable ++ behind) ∙ ap (λ l. 87 ∷ (d.number ++ line_feed ∷ l)) parts
+          ∙ ap (λ l. 87 ∷ l) (sym (append_assoc d.number (line_feed ∷ (b.discardable ++ take more behind)) (drop (line.0 + more) kept))),
     )
 
 less_seen : (kept : List ℕ) (dropped : ℕ) (line : ℕ × ℕ) (bytes : List ℕ) → dropped_line kept ≡ Some line → dropped + (length kept - line.0) < line.1
@@ -290,12 +290,12 @@ less_seen kept dropped line bytes e less u =
     let b = unread_some (dropped_line kept) (held kept dropped) bytes line e u in
     let d = dropped_found kept line e in
     let s = line_split kept line d in
-    let size : length (b.gone ++ drop line.0 kept) < line.1 = omega (arith, length-append b.gone (drop line.0 kept), length-drop line.0 kept, b.gone_size) in
-    ap front_of (b.is ∙ s.1 (b.gone ++ drop line.0 kept)) ∙ write_seen d.number (b.gone ++ drop line.0 kept) line.1 d.spelled ∙ written_less d.number (b.gone ++ drop line.0 kept) line.1 size
+    let size : length (b.discardable ++ drop line.0 kept) < line.1 = omega (arith, length-append b.discardable (drop line.0 kept), length-drop line.0 kept, b.gone_size) in
+    ap front_of (b.is ∙ s.1 (b.discardable ++ drop line.0 kept)) ∙ write_seen d.number (b.discardable ++ drop line.0 kept) line.1 d.spelled ∙ written_less d.number (b.discardable ++ drop line.0 kept) line.1 size
 
 -- until then none is
 pub less_given : (kept : List ℕ) (dropped : ℕ) (line : ℕ × ℕ) (bytes : List ℕ) → dropped_line kept ≡ Some line → dropped + (length kept - line.0) < line.1
-    → Unread (held kept dropped) bytes → Gives bytes (Ok None) bytes × (taken_of bytes < READER_LIMIT)
+    → Unread (held kept dropped) bytes → ParsesAs bytes (Ok None) bytes × (taken_of bytes < READER_LIMIT)
 less_given kept dropped line bytes e less u =
     let n = less_seen kept dropped line bytes e less u in
     (gives_none bytes n, room bytes n)

@@ -4,7 +4,7 @@ use Rattle.std.proofs.lemmas.List.{nil_from_length}
 use Rattle.std.specs.Io.KnownBytes.{Consumes, Keeps}
 use Rattle.rmt_wire.specs.Request.{PlainRequest}
 use Rattle.rmt_wire.specs.RequestReader.{RequestHeld, held, dropped_line, IsDropped, Unread, IsGiven, taken_of}
-use Rattle.rmt_wire.specs.RequestKept.{idle, IsKnown, HasRoom, HasLetGo}
+use Rattle.rmt_wire.specs.RequestKept.{idle, IsKnown, HasRoom, HasDiscarded}
 use Rattle.rmt_wire.specs.declared.limits.TheConstants.{READER_LIMIT}
 use Rattle.rmt_wire.specs.RequestFill.{IsFilled}
 use Rattle.rmt_wire.proofs.Dropped.{push_dropped, push_unread, taken_kept}
@@ -19,9 +19,9 @@ module _ (kept piece items : List ℕ) (dropped : ℕ) (is : items ≡ kept ++ p
   pub more_known : (known : Option (ℕ × ℕ)) → IsKnown known kept → IsKnown known items
   more_known known k = subst (IsKnown known) (sym is) (known_pushed known kept piece k)
 
-  module _ (new : RequestHeld) (gone : HasLetGo (held items dropped) new) where
+  module _ (new : RequestHeld) (discardable : HasDiscarded (held items dropped) new) where
     pub more_unread : (bytes : List ℕ) → Unread (held kept dropped) bytes → Unread new (bytes ++ piece)
-    more_unread bytes u = gone.unread (bytes ++ piece) (subst (λ l. Unread (held l dropped) (bytes ++ piece)) (sym is) (push_unread kept piece dropped bytes u))
+    more_unread bytes u = discardable.unread (bytes ++ piece) (subst (λ l. Unread (held l dropped) (bytes ++ piece)) (sym is) (push_unread kept piece dropped bytes u))
 
     pub more_given : (pushed : List ℕ) (requests : List PlainRequest) → IsGiven (held kept dropped) pushed requests → IsGiven new (pushed ++ piece) requests
     more_given pushed requests g = (g.0 ++ piece, more_unread g.0 g.1, spelled_more pushed g.0 piece requests g.2)
@@ -63,7 +63,7 @@ filled_with_none left left' old new came count same z long consumed =
     })
 
 -- with data that can be let go there is room, and without them there is as much as the bytes unread leave
-room_at : (gone size taken : ℕ) → taken + gone ≡ size → (0 < gone → size < READER_LIMIT) → taken < READER_LIMIT → size < READER_LIMIT
+room_at : (discardable size taken : ℕ) → taken + discardable ≡ size → (0 < discardable → size < READER_LIMIT) → taken < READER_LIMIT → size < READER_LIMIT
 room_at zero size taken e h less = omega arith
 room_at (suc n) size taken e h less = h (omega arith)
 

@@ -9,8 +9,8 @@ use Rattle.rmt_wire.specs.Request.{PlainRequest, SpellsRequest}
 use Rattle.rmt_wire.specs.declared.limits.TheConstants.{READER_LIMIT}
 use Rattle.rmt_wire.specs.declared.limits.TheConstants.{RECORD_LIMIT}
 use Rattle.rmt_wire.specs.Request.PlainRequest.{Write, WriteDropped, Read, Op}
-use Rattle.rmt_wire.specs.RequestParts.{IsOpen, IsCause}
-use Rattle.rmt_wire.specs.Seen.{Seen, after, ends_number, number_front}
+use Rattle.rmt_wire.specs.RequestParts.{IsRequestPrefix, IsCause}
+use Rattle.rmt_wire.specs.Parsed.{Parsed, after, ends_number, number_front}
 use Rattle.rmt_wire.specs.RequestFront.{write_head, read_head, count_head, op_head, letter_head, head_of, written_at, request_at, front_of}
 use Rattle.rmt_wire.specs.RequestReader.{dropped_line, taken_at, taken_of}
 use Rattle.rmt_wire.specs.declared.fault.WireFault.{WireFault}
@@ -23,11 +23,11 @@ use Rattle.rmt_wire.proofs.Spellings.{drop_past, length_line, drop_line, number_
 
 -- What the bytes begin with: a beginning of a spelling, for which there is room; a spelling; or bytes that a byte
 -- rules out, whatever follows it
-abbrev pub FrontView : List ℕ → Seen (PlainRequest × ℕ) → Type 0
-FrontView bytes (Ok None) = IsOpen bytes × (taken_of bytes < READER_LIMIT)
+abbrev pub FrontView : List ℕ → Parsed (PlainRequest × ℕ) → Type 0
+FrontView bytes (Ok None) = IsRequestPrefix bytes × (taken_of bytes < READER_LIMIT)
 FrontView bytes (Ok (Some p)) = (text rest : List ℕ) × (bytes ≡ text ++ rest) × SpellsRequest text p.0 × (p.1 ≡ length text)
 FrontView bytes (Err fault) =
-    (seen later : List ℕ) × (byte : ℕ) × (bytes ≡ seen ++ byte ∷ later) × IsOpen seen × IsCause seen byte fault
+    (seen later : List ℕ) × (byte : ℕ) × (bytes ≡ seen ++ byte ∷ later) × IsRequestPrefix seen × IsCause seen byte fault
     × ((more : List ℕ) → front_of (seen ++ byte ∷ more) ≡ Err fault)
 
 -- digits are a number, or become one
@@ -58,12 +58,12 @@ end_feed stop h = grind (arith, nat_tests)
 pub end_mode : (stop : ℕ) → ends_number places.Mode stop ≡ true → stop ≢ line_feed → stop ≡ space
 end_mode stop h other = grind (arith, nat_tests)
 
-open_read : (digits : List ℕ) → AreDigits places.Line 0 0 digits → IsOpen (82 ∷ digits)
+open_read : (digits : List ℕ) → AreDigits places.Line 0 0 digits → IsRequestPrefix (82 ∷ digits)
 open_read digits d =
     let f = number_done digits d in
     (f.0 ++ line_feed ∷ [], Read f.1, (digits ++ f.0, f.2, ap (λ t. 82 ∷ t) (sym (append_assoc digits f.0 (line_feed ∷ [])))))
 
-open_write : (digits : List ℕ) → AreDigits places.Line 0 0 digits → IsOpen (87 ∷ digits)
+open_write : (digits : List ℕ) → AreDigits places.Line 0 0 digits → IsRequestPrefix (87 ∷ digits)
 open_write digits d =
     let f = number_done digits d in
     let w = some_write (digits ++ f.0) (replicate f.1 0) f.1 f.2 (length-replicate f.1 0) in
@@ -82,7 +82,7 @@ pub taken_plain : (letter : ℕ) (bytes : List ℕ) → eqb letter 87 ≡ false 
 unfolding dropped_line
 taken_plain letter bytes other = rw other refl
 
-pub read_view : (bytes : List ℕ) (seen : Seen (ℕ × ℕ)) → NumberView places.Line 0 0 bytes seen
+pub read_view : (bytes : List ℕ) (seen : Parsed (ℕ × ℕ)) → NumberView places.Line 0 0 bytes seen
     → FrontView (82 ∷ bytes) (after (after seen (λ count. Ok (Some (head.Read count.0 (count.1 + 2))))) (request_at (82 ∷ bytes)))
 read_view bytes (Ok None) v = (open_read bytes v, (let few = v.few in let t = taken_plain 82 bytes refl in omega arith))
 read_view bytes (Ok (Some p)) v =
@@ -142,7 +142,7 @@ write_line_view number rest n s =
     subst (λ l. FrontView bytes (Ok (Some (Write l, length number + 2 + n)))) (ap (take n) (sym behind))
     (87 ∷ (number ++ line_feed ∷ take n rest), drop n rest, split room, (number, (rw size s), (rw size fits), refl), long)))
 
-pub write_view : (bytes : List ℕ) (seen : Seen (ℕ × ℕ)) → number_front places.Line bytes ≡ seen → NumberView places.Line 0 0 bytes seen
+pub write_view : (bytes : List ℕ) (seen : Parsed (ℕ × ℕ)) → number_front places.Line bytes ≡ seen → NumberView places.Line 0 0 bytes seen
     → FrontView (87 ∷ bytes) (after (after seen (λ count. Ok (Some (head.Write count.0 (count.1 + 2))))) (request_at (87 ∷ bytes)))
 write_view bytes (Ok None) e v = (open_write bytes v, (let few = v.few in let t = taken_short bytes e in omega arith))
 write_view bytes (Ok (Some p)) e v =
@@ -157,7 +157,7 @@ write_view bytes (Err fault) e v =
     subst (λ f. FrontView (87 ∷ bytes) (Err f)) (sym bad)
     (87 ∷ v.0, v.1, v.2, ap (λ l. 87 ∷ l) v.4, open_write v.0 v.3, (v.0, v.3.each, few_digits v.0 v.3, inl refl), λ more. write_faulty (v.0 ++ v.2 ∷ more) BadNumber (v.6 more ∙ ap Err bad))
 
-open_first : (digits : List ℕ) → AreDigits places.Line 0 0 digits → IsOpen (73 ∷ digits)
+open_first : (digits : List ℕ) → AreDigits places.Line 0 0 digits → IsRequestPrefix (73 ∷ digits)
 open_first digits d =
     let f = number_done digits d in
     let zero : SpellsNumber (48 ∷ []) 0 = record { digits = (omega arith, (omega arith, tt)); few = omega arith; value = refl; small = omega arith } in (
@@ -170,7 +170,7 @@ open_first digits d =
 pub behind : (letter : ℕ) (first a b : List ℕ) → letter ∷ (first ++ line_feed ∷ (a ++ b)) ≡ letter ∷ (first ++ line_feed ∷ a) ++ b
 behind letter first a b = ap (λ t. letter ∷ t) (sym (append_assoc first (line_feed ∷ a) b))
 
-open_second : (first digits : List ℕ) (op : ℕ) → SpellsNumber first op → AreDigits places.Line 0 0 digits → IsOpen (73 ∷ (first ++ line_feed ∷ digits))
+open_second : (first digits : List ℕ) (op : ℕ) → SpellsNumber first op → AreDigits places.Line 0 0 digits → IsRequestPrefix (73 ∷ (first ++ line_feed ∷ digits))
 open_second first digits op s d =
     let f = number_done digits d in (
       f.0 ++ line_feed ∷ [],
@@ -195,7 +195,7 @@ second_faulty first rest op fault s e =
     second_seen first rest op s
     ∙ ap (λ s. after (after s (λ count. Ok (Some (head.Op op count.0 (length first + count.1 + 3))))) (request_at (73 ∷ (first ++ line_feed ∷ rest)))) e
 
-second_view : (first rest : List ℕ) (op : ℕ) (seen : Seen (ℕ × ℕ)) → SpellsNumber first op → NumberView places.Line 0 0 rest seen
+second_view : (first rest : List ℕ) (op : ℕ) (seen : Parsed (ℕ × ℕ)) → SpellsNumber first op → NumberView places.Line 0 0 rest seen
     → FrontView (73 ∷ (first ++ line_feed ∷ rest)) (after (after seen (λ count. Ok (Some (head.Op op count.0 (length first + count.1 + 3))))) (request_at (73 ∷ (first ++ line_feed ∷ rest))))
 second_view first rest op (Ok None) s v =
     let few = v.few in
@@ -226,7 +226,7 @@ second_view first rest op (Err fault) s v =
       λ more. ap front_of (sym (behind 73 first v.0 (v.2 ∷ more))) ∙ second_faulty first (v.0 ++ v.2 ∷ more) op BadNumber s (v.6 more ∙ ap Err bad),
     )
 
-pub op_view : (bytes : List ℕ) (seen : Seen (ℕ × ℕ)) → NumberView places.Line 0 0 bytes seen
+pub op_view : (bytes : List ℕ) (seen : Parsed (ℕ × ℕ)) → NumberView places.Line 0 0 bytes seen
     → FrontView (73 ∷ bytes) (after (after seen (λ op. count_head op (drop (op.1 + 1) bytes))) (request_at (73 ∷ bytes)))
 unfolding count_head
 op_view bytes (Ok None) v =

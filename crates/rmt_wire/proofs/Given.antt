@@ -8,8 +8,8 @@ use Rattle.std.specs.Io.KnownBytes.{Appends}
 use Rattle.rmt_wire.specs.ReplyWriter.{AppendsBeginning}
 use Rattle.rmt_wire.specs.declared.request.Request.{Request}
 use Rattle.rmt_wire.specs.Request.{PlainRequest}
-use Rattle.rmt_wire.specs.RequestParts.{Spelled, IsOpen, HasFault, HasNoSpelling}
-use Rattle.rmt_wire.specs.RequestReader.{RequestHeld, Continues, LeavesRoom, Shrinks, StaysUnlessGiven, GivesOn, IsNext, told}
+use Rattle.rmt_wire.specs.RequestParts.{Spelled, IsRequestPrefix, HasFault, HasNoSpelling}
+use Rattle.rmt_wire.specs.RequestReader.{RequestHeld, Continues, LeavesRoom, Shrinks, StaysUnlessGiven, GivesOn, IsNext, plain_next_result}
 use Rattle.rmt_wire.specs.declared.fault.WireFault.{WireFault}
 
 -- more bytes change no whole request
@@ -38,8 +38,8 @@ module _ (answer : PlainRequest → List ℕ) (known now after : Option (List �
       (length first + w.0, subst (Appends known after) (sym (take-append-add first (answer request) w.0)) (Appends-trans known now after _ _ a w.1))
 
 -- one call of `next`, by what it answered
-pub next_is : (old new : RequestHeld) (result answer : Result (Option Request) WireFault) → IsNext old (told result) new → result ≡ answer → IsNext old (told answer) new
-next_is old new result answer n e = subst (λ r. IsNext old (told r) new) e n
+pub next_is : (old new : RequestHeld) (result answer : Result (Option Request) WireFault) → IsNext old (plain_next_result result) new → result ≡ answer → IsNext old (plain_next_result answer) new
+next_is old new result answer n e = subst (λ r. IsNext old (plain_next_result r) new) e n
 
 -- a reader that goes on in what is unread gives on
 gives_on : (old new : RequestHeld) (answer : Result (Option PlainRequest) WireFault) → Continues old answer new → GivesOn old answer new
@@ -49,7 +49,7 @@ gives_on old new (Ok (Some request)) c = λ pushed requests g.
 gives_on old new (Ok None) c = λ pushed requests g.
     let w = c g.0 g.1 in
     let same = sym w.2.2 in
-    (w.0, w.1, subst (Spelled pushed requests) same g.2, subst IsOpen same w.2.0, subst HasNoSpelling same w.2.1)
+    (w.0, w.1, subst (Spelled pushed requests) same g.2, subst IsRequestPrefix same w.2.0, subst HasNoSpelling same w.2.1)
 gives_on old new (Err fault) c = λ pushed requests g.
     let w = c g.0 g.1 in
     let same = sym w.2.2 in

@@ -2,7 +2,7 @@
 use Rattle.std.proofs.Common.{◌≡◌, ◌≢◌, ℕ, suc, ◌+◌, ◌≤◌, false, eqb, List, [], ◌∷◌, ◌++◌, length, Some, None, Ok, Err, refl, sym, ap, arith, add-zero}
 use Rattle.std.proofs.lemmas.Bool.Decides.{nat_tests}
 use Rattle.rmt_wire.specs.Number.{HasNoLineFeed, line_feed}
-use Rattle.rmt_wire.specs.Seen.{Seen}
+use Rattle.rmt_wire.specs.Parsed.{Parsed}
 use Rattle.rmt_wire.specs.RequestFront.{line_from}
 use Rattle.rmt_wire.specs.declared.fault.WireFault.TheVariants.{LineTooLong}
 use Rattle.rmt_wire.proofs.Numbers.{by_test}
@@ -24,7 +24,7 @@ line_seen c (b ∷ line) more l =
     rw (no_end, room, same) (line_seen (c + 1) line more (record { each = l.each.1; few = omega arith }))
 
 -- What is seen of a line: no line feed yet; a line feed; or a 256th byte, whatever follows it.
-abbrev pub LineView : ℕ → List ℕ → Seen ℕ → Type 0
+abbrev pub LineView : ℕ → List ℕ → Parsed ℕ → Type 0
 LineView c bytes (Ok None) = AreOfLine c bytes
 LineView c bytes (Ok (Some n)) =
     (line rest : List ℕ) × AreOfLine c line × (bytes ≡ line ++ line_feed ∷ rest) × (n ≡ c + length line)
@@ -39,7 +39,7 @@ one_more : (c b : ℕ) (line : List ℕ) → eqb b line_feed ≡ false → AreOf
 one_more c b line other l = let few = l.few in record { each = (grind (arith, nat_tests), l.each); few = omega arith }
 
 -- a byte in front of what is seen after it
-byte_view : (c b : ℕ) (bytes : List ℕ) (seen : Seen ℕ) → eqb b line_feed ≡ false → eqb c 255 ≡ false → LineView (c + 1) bytes seen → LineView c (b ∷ bytes) seen
+byte_view : (c b : ℕ) (bytes : List ℕ) (seen : Parsed ℕ) → eqb b line_feed ≡ false → eqb c 255 ≡ false → LineView (c + 1) bytes seen → LineView c (b ∷ bytes) seen
 byte_view c b bytes (Ok None) other room view = one_more c b bytes other view
 byte_view c b bytes (Ok (Some n)) other room view = (b ∷ view.0, view.1, one_more c b view.0 other view.2, ap (λ l. b ∷ l) view.3, (let e = view.4 in omega arith))
 byte_view c b bytes (Err fault) other room view = (

@@ -4,13 +4,13 @@ use Rattle.std.proofs.lemmas.Bool.Decides.{nat_tests}
 use Rattle.std.proofs.lemmas.List.{take_all, take_rest, nil_from_length, length-append, length-drop, length-take-le, drop-append-le, drop-take, drop-drop}
 use Rattle.rmt_wire.specs.Request.{PlainRequest, SpellsRequest}
 use Rattle.rmt_wire.specs.Request.PlainRequest.{Open, Close, Write, WriteDropped, Read, Op}
-use Rattle.rmt_wire.specs.RequestParts.{Gives}
-use Rattle.rmt_wire.specs.Seen.{Seen}
+use Rattle.rmt_wire.specs.RequestParts.{ParsesAs}
+use Rattle.rmt_wire.specs.Parsed.{Parsed}
 use Rattle.rmt_wire.specs.RequestFront.{front_of}
 use Rattle.rmt_wire.specs.Lent.{plain_request, lent_front}
 use Rattle.rmt_wire.specs.declared.limits.TheConstants.{READER_LIMIT}
-use Rattle.rmt_wire.specs.RequestReader.{dropped_line, held, IsDropped, Unread, gone_at, taken_of, IsNext, StaysFaulty, told_front, held_after}
-use Rattle.rmt_wire.specs.RequestKept.{HasLetGo}
+use Rattle.rmt_wire.specs.RequestReader.{dropped_line, held, IsDropped, Unread, discardable_at, taken_of, IsNext, StaysFaulty, plain_front_result, held_after}
+use Rattle.rmt_wire.specs.RequestKept.{HasDiscarded}
 use Rattle.rmt_wire.specs.declared.request.Request.{Request}
 use Rattle.rmt_wire.specs.declared.fault.WireFault.{WireFault}
 use Rattle.rmt_wire.proofs.Fronts.{FrontView}
@@ -29,7 +29,7 @@ spelled_some text (Read count) s = rw s.2 (omega arith)
 spelled_some text (Op op count) s = rw s.4 (omega arith)
 
 -- what is given is let go
-pub given_shrinks : (bytes rest : List ℕ) (request : PlainRequest) → Gives bytes (Ok (Some request)) rest → length rest < length bytes
+pub given_shrinks : (bytes rest : List ℕ) (request : PlainRequest) → ParsesAs bytes (Ok (Some request)) rest → length rest < length bytes
 given_shrinks bytes rest request g =
     let some = spelled_some g.0 request g.1 in
     let all = ap (length {A = ℕ}) g.2 in
@@ -37,7 +37,7 @@ given_shrinks bytes rest request g =
     omega arith
 
 -- a fault is seen whatever follows
-always_at : (bytes : List ℕ) (seen : Seen (PlainRequest × ℕ)) (fault : WireFault) (more : List ℕ) → seen ≡ Err fault → FrontView bytes seen → front_of (bytes ++ more) ≡ Err fault
+always_at : (bytes : List ℕ) (seen : Parsed (PlainRequest × ℕ)) (fault : WireFault) (more : List ℕ) → seen ≡ Err fault → FrontView bytes seen → front_of (bytes ++ more) ≡ Err fault
 always_at bytes (Ok None) fault more e v = absurd (cc)
 always_at bytes (Ok (Some p)) fault more e v = absurd (cc)
 always_at bytes (Err other) fault more e v = ap front_of (fault_stays v.0 v.1 more v.2 bytes v.3) ∙ v.6 (v.1 ++ more) ∙ e
@@ -45,12 +45,12 @@ always_at bytes (Err other) fault more e v = ap front_of (fault_stays v.0 v.1 mo
 pub faulty_always : (bytes : List ℕ) (fault : WireFault) (more : List ℕ) → front_of bytes ≡ Err fault → front_of (bytes ++ more) ≡ Err fault
 faulty_always bytes fault more e = always_at bytes (front_of bytes) fault more e (front_view bytes)
 
-gives_of : (bytes : List ℕ) (seen : Seen (PlainRequest × ℕ)) → front_of bytes ≡ seen → Gives bytes (answer_to seen) (rest_behind seen bytes)
-gives_of bytes seen e = subst (λ s. Gives bytes (answer_to s) (rest_behind s bytes)) e (gives bytes)
+gives_of : (bytes : List ℕ) (seen : Parsed (PlainRequest × ℕ)) → front_of bytes ≡ seen → ParsesAs bytes (answer_to seen) (rest_behind seen bytes)
+gives_of bytes seen e = subst (λ s. ParsesAs bytes (answer_to s) (rest_behind s bytes)) e (gives bytes)
 
 -- with no dropped write at the front, what is seen of the bytes kept is given
 pub plain_next : (kept : List ℕ) (dropped : ℕ) (found : Result (Option (Request × ℕ)) WireFault) → dropped_line kept ≡ None → lent_front found ≡ front_of kept
-    → IsNext (held kept dropped) (told_front found) (held_after found (held kept dropped))
+    → IsNext (held kept dropped) (plain_front_result found) (held_after found (held kept dropped))
 plain_next kept dropped (Ok None) none e = is_next _ _ _
     (λ bytes u.
     let same = plain_unread kept dropped bytes none u in
@@ -65,7 +65,7 @@ plain_next kept dropped (Ok (Some f)) none e =
     is_next _ _ _
     (λ bytes u.
     let same = plain_unread kept dropped bytes none u in
-    (drop f.1 kept, unread_whole (drop f.1 kept), subst (λ b. Gives b (Ok (Some (plain_request f.0))) (drop f.1 kept)) (sym same) g))
+    (drop f.1 kept, unread_whole (drop f.1 kept), subst (λ b. ParsesAs b (Ok (Some (plain_request f.0))) (drop f.1 kept)) (sym same) g))
     (tt)
     (given_shrinks kept (drop f.1 kept) (plain_request f.0) g)
     tt
@@ -78,7 +78,7 @@ plain_next kept dropped (Err fault) none e = is_next _ _ _
     refl
 
 pub plain_faulty : (kept : List ℕ) (dropped : ℕ) (found : Result (Option (Request × ℕ)) WireFault) → dropped_line kept ≡ None → lent_front found ≡ front_of kept
-    → StaysFaulty (held kept dropped) (told_front found)
+    → StaysFaulty (held kept dropped) (plain_front_result found)
 plain_faulty kept dropped (Ok None) none e = tt
 plain_faulty kept dropped (Ok (Some f)) none e = tt
 plain_faulty kept dropped (Err fault) none e = λ bytes more u.
@@ -145,55 +145,55 @@ all_given items start dropped len e within at_line t =
     subst (λ l. Unread (held l dropped) []) (sym none) (none_dropped, refl)
 
 -- the room is what the bytes pushed do not take
-pub room_at : (items : List ℕ) (start dropped : ℕ) (bytes : List ℕ) (all : List ℕ) (gone : ℕ) → all ≡ items → length items ≤ READER_LIMIT → start ≤ length items
-    → gone ≡ gone_at (dropped_line (take (length all - start) (drop start all))) (length (take (length all - start) (drop start all))) dropped
-    → Unread (held (drop start items) dropped) bytes → READER_LIMIT - (length (take (length all - start) (drop start all)) - gone) + taken_of bytes ≡ READER_LIMIT
-room_at items start dropped bytes all gone e most within g u =
+pub room_at : (items : List ℕ) (start dropped : ℕ) (bytes : List ℕ) (all : List ℕ) (discardable : ℕ) → all ≡ items → length items ≤ READER_LIMIT → start ≤ length items
+    → discardable ≡ discardable_at (dropped_line (take (length all - start) (drop start all))) (length (take (length all - start) (drop start all))) dropped
+    → Unread (held (drop start items) dropped) bytes → READER_LIMIT - (length (take (length all - start) (drop start all)) - discardable) + taken_of bytes ≡ READER_LIMIT
+room_at items start dropped bytes all discardable e most within g u =
     let t = taken_kept (drop start items) dropped bytes u in
     let same : take (length all - start) (drop start all) ≡ drop start items = take_rest all start ∙ ap (drop start) e in
-    let g' : gone ≡ gone_at (dropped_line (drop start items)) (length (drop start items)) dropped = g ∙ ap (λ l. gone_at (dropped_line l) (length l) dropped) same in
+    let g' : discardable ≡ discardable_at (dropped_line (drop start items)) (length (drop start items)) dropped = g ∙ ap (λ l. discardable_at (dropped_line l) (length l) dropped) same in
     let size = length-drop start items in
     rw same (omega arith)
 
 -- what is kept once the data of a dropped write that can go are taken out after its line
-module _ (old items : List ℕ) (start dropped gone : ℕ) (line : ℕ × ℕ) (within : start ≤ length old) (found : dropped_line (drop start old) ≡ Some line)
-    (few : dropped ≤ line.1) (amount : gone ≡ min (length (drop start old) - line.0) (line.1 - dropped)) (is : items ≡ take (start + line.0) old ++ drop (start + line.0 + gone) old) where
+module _ (old items : List ℕ) (start dropped discardable : ℕ) (line : ℕ × ℕ) (within : start ≤ length old) (found : dropped_line (drop start old) ≡ Some line)
+    (few : dropped ≤ line.1) (amount : discardable ≡ min (length (drop start old) - line.0) (line.1 - dropped)) (is : items ≡ take (start + line.0) old ++ drop (start + line.0 + discardable) old) where
   some : (0 < line.0) × (line.0 ≤ length (drop start old))
   some = line_some (drop start old) line found
 
   -- the line, and what is after the data that are gone
-  pub left_behind : drop start items ≡ take line.0 (drop start old) ++ drop (line.0 + gone) (drop start old)
-  left_behind = ap (drop start) is ∙ taken_out old start line.0 gone (let size = length-drop start old in omega (arith, some.1))
+  pub left_behind : drop start items ≡ take line.0 (drop start old) ++ drop (line.0 + discardable) (drop start old)
+  left_behind = ap (drop start) is ∙ taken_out old start line.0 discardable (let size = length-drop start old in omega (arith, some.1))
 
-  new_size : length (drop start items) + gone ≡ length (drop start old)
+  new_size : length (drop start items) + discardable ≡ length (drop start old)
   new_size = omega (
     arith,
     ap (length {A = ℕ}) left_behind,
-    length-append (take line.0 (drop start old)) (drop (line.0 + gone) (drop start old)),
+    length-append (take line.0 (drop start old)) (drop (line.0 + discardable) (drop start old)),
     length-take-le line.0 (drop start old) some.1,
-    length-drop (line.0 + gone) (drop start old),
+    length-drop (line.0 + discardable) (drop start old),
     some.1,
   )
 
-  pub has_let_go : HasLetGo (held (drop start old) dropped) (held (drop start items) (dropped + gone))
-  has_let_go =
+  pub has_discarded : HasDiscarded (held (drop start old) dropped) (held (drop start items) (dropped + discardable))
+  has_discarded =
       let kept : List ℕ = drop start old in
-      let there : dropped_line (drop start items) ≡ Some line = ap dropped_line left_behind ∙ line_stays kept line found (drop (line.0 + gone) kept) in
-      let unread : (bytes : List ℕ) → Unread (held kept dropped) bytes → Unread (held (drop start items) (dropped + gone)) bytes = λ bytes u.
-      subst (λ l. Unread (held l (dropped + gone)) bytes) (sym left_behind) (let_go_unread kept dropped gone line bytes found (omega (arith, some.1)) (omega arith) u) in
-      let none : gone_at (dropped_line (drop start items)) (length (drop start items)) (dropped + gone) ≡ 0 =
-      ap (λ o. gone_at o (length (drop start items)) (dropped + gone)) there ∙ omega (arith, new_size, some.1) in
+      let there : dropped_line (drop start items) ≡ Some line = ap dropped_line left_behind ∙ line_stays kept line found (drop (line.0 + discardable) kept) in
+      let unread : (bytes : List ℕ) → Unread (held kept dropped) bytes → Unread (held (drop start items) (dropped + discardable)) bytes = λ bytes u.
+      subst (λ l. Unread (held l (dropped + discardable)) bytes) (sym left_behind) (let_go_unread kept dropped discardable line bytes found (omega (arith, some.1)) (omega arith) u) in
+      let none : discardable_at (dropped_line (drop start items)) (length (drop start items)) (dropped + discardable) ≡ 0 =
+      ap (λ o. discardable_at o (length (drop start items)) (dropped + discardable)) there ∙ omega (arith, new_size, some.1) in
       record {
-        at_line = subst (λ l. IsDropped (dropped_line l) (dropped + gone)) (sym left_behind) (let_go_dropped kept dropped gone line found (omega arith));
+        at_line = subst (λ l. IsDropped (dropped_line l) (dropped + discardable)) (sym left_behind) (let_go_dropped kept dropped discardable line found (omega arith));
         none_idle = none;
         unread = unread;
-        taken = λ bytes u. (let t = taken_kept (drop start items) (dropped + gone) bytes (unread bytes u) in omega (arith, none));
+        taken = λ bytes u. (let t = taken_kept (drop start items) (dropped + discardable) bytes (unread bytes u) in omega (arith, none));
       }
 
 -- with no dropped write at the front, nothing can be let go
-pub none_let_go : (kept : List ℕ) (dropped : ℕ) → dropped_line kept ≡ None → IsDropped (dropped_line kept) dropped → HasLetGo (held kept dropped) (held kept dropped)
+pub none_let_go : (kept : List ℕ) (dropped : ℕ) → dropped_line kept ≡ None → IsDropped (dropped_line kept) dropped → HasDiscarded (held kept dropped) (held kept dropped)
 none_let_go kept dropped e at_line =
-    let none : gone_at (dropped_line kept) (length kept) dropped ≡ 0 = ap (λ o. gone_at o (length kept) dropped) e in
+    let none : discardable_at (dropped_line kept) (length kept) dropped ≡ 0 = ap (λ o. discardable_at o (length kept) dropped) e in
     record {
       at_line = at_line;
       none_idle = none;

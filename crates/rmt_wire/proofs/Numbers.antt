@@ -5,7 +5,7 @@ use Rattle.std.proofs.lemmas.Str.Parse.{digit_from_value}
 use Rattle.std.specs.Prelude.{◌&&◌, ◌||◌}
 use Rattle.std.specs.Char.{digit_value}
 use Rattle.std.specs.Str.Parse.{AllDigits, digits_value_after}
-use Rattle.rmt_wire.specs.Seen.{Seen, is_digit, ends_number, is_too_much, number_from, number_front}
+use Rattle.rmt_wire.specs.Parsed.{Parsed, is_digit, ends_number, is_too_much, number_from, number_front}
 use Rattle.rmt_wire.specs.declared.fault.WireFault.{WireFault}
 use Rattle.rmt_wire.specs.declared.fault.WireFault.TheVariants.{UnknownCommand, BadNumber, LineTooLong, NotAReply, TooMuchData}
 use Rattle.rmt_wire.specs.declared.number.Place.{Place}
@@ -98,7 +98,7 @@ bad_number place digits byte TooMuchData never h = let none = never (digits_valu
 
 -- What is seen of a number, told by its digits: none yet ends them; a byte ends them; or a byte rules a number out,
 -- whatever follows it.
-abbrev pub NumberView : Place → ℕ → ℕ → List ℕ → Seen (ℕ × ℕ) → Type 0
+abbrev pub NumberView : Place → ℕ → ℕ → List ℕ → Parsed (ℕ × ℕ) → Type 0
 NumberView place v c bytes (Ok None) = AreDigits place v c bytes
 NumberView place v c bytes (Ok (Some p)) =
     (digits rest : List ℕ) × (stop : ℕ) × AreDigits place v c digits × (bytes ≡ digits ++ stop ∷ rest) × (ends_number place stop ≡ true)
@@ -139,7 +139,7 @@ later_fault place v b digits byte NotAReply digit h = h
 later_fault place v b digits byte TooMuchData digit h = too_much_later place v b digits byte digit h
 
 -- a digit in front of what is seen after it
-digit_view : (place : Place) (v c b : ℕ) (bytes : List ℕ) (seen : Seen (ℕ × ℕ)) → is_digit b ≡ true → is_too_much place (v * 10 + (b - 48)) ≡ false
+digit_view : (place : Place) (v c b : ℕ) (bytes : List ℕ) (seen : Parsed (ℕ × ℕ)) → is_digit b ≡ true → is_too_much place (v * 10 + (b - 48)) ≡ false
     → eqb c 10 || ltb 2147483647 (v * 10 + (b - 48)) ≡ false → NumberView place (v * 10 + (b - 48)) (c + 1) bytes seen → NumberView place v c (b ∷ bytes) seen
 digit_view place v c b bytes (Ok None) digit wanted fits view = one_more place v c b bytes digit view
 digit_view place v c b bytes (Ok (Some p)) digit wanted fits view = (

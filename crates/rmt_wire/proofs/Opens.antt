@@ -7,8 +7,8 @@ use Rattle.std.specs.Str.Parse.{digits_value}
 use Rattle.rmt_wire.specs.Number.{SpellsNumber, IsLine, line_feed}
 use Rattle.rmt_wire.specs.Request.{PlainRequest, SpellsMode, SpellsRequest}
 use Rattle.rmt_wire.specs.Request.PlainRequest.{Open, Close}
-use Rattle.rmt_wire.specs.RequestParts.{IsOpen}
-use Rattle.rmt_wire.specs.Seen.{Seen, after, ends_number, number_front}
+use Rattle.rmt_wire.specs.RequestParts.{IsRequestPrefix}
+use Rattle.rmt_wire.specs.Parsed.{Parsed, after, ends_number, number_front}
 use Rattle.rmt_wire.specs.RequestFront.{line_front, mode_head, open_head, close_head, write_head, read_head, op_head, letter_head, head_of, request_at, front_of}
 use Rattle.rmt_wire.specs.declared.limits.TheConstants.{READER_LIMIT}
 use Rattle.rmt_wire.specs.RequestReader.{taken_of, dropped_line}
@@ -25,14 +25,14 @@ use Rattle.rmt_wire.proofs.Fronts.{FrontView, digits_spell, number_done, few_dig
 line_of : (line : List ℕ) → AreOfLine 0 line → IsLine line
 line_of line l = let few = l.few in (omega arith, l.each)
 
-open_close : (line : List ℕ) → AreOfLine 0 line → IsOpen (67 ∷ line)
+open_close : (line : List ℕ) → AreOfLine 0 line → IsRequestPrefix (67 ∷ line)
 open_close line l = (line_feed ∷ [], Close, (line, line_of line l, refl))
 
 close_faulty : (bytes : List ℕ) (fault : WireFault) → line_front bytes ≡ Err fault → front_of (67 ∷ bytes) ≡ Err fault
 unfolding front_of head_of letter_head close_head
 close_faulty bytes fault e = ap (λ s. after (after s (λ len. Ok (Some (head.Close (len + 2))))) (request_at (67 ∷ bytes))) e
 
-close_view : (bytes : List ℕ) (seen : Seen ℕ) → LineView 0 bytes seen
+close_view : (bytes : List ℕ) (seen : Parsed ℕ) → LineView 0 bytes seen
     → FrontView (67 ∷ bytes) (after (after seen (λ len. Ok (Some (head.Close (len + 2))))) (request_at (67 ∷ bytes)))
 close_view bytes (Ok None) v = (open_close bytes v, (let few = v.few in let t = taken_plain 67 bytes refl in omega arith))
 close_view bytes (Ok (Some n)) v =
@@ -62,11 +62,11 @@ zero_number = record { digits = (omega arith, (omega arith, tt)); few = omega ar
 number_mode : (number : List ℕ) (n : ℕ) → SpellsNumber number n → SpellsMode number n
 number_mode number n s = let few = s.few in ((omega arith, digits_no_feed number s.digits.1), inl s)
 
-open_device : (line : List ℕ) → AreOfLine 0 line → IsOpen (79 ∷ line)
+open_device : (line : List ℕ) → AreOfLine 0 line → IsRequestPrefix (79 ∷ line)
 open_device line l =
     (line_feed ∷ (48 ∷ line_feed ∷ []), Open line 0, (48 ∷ [], line_of line l, number_mode (48 ∷ []) 0 zero_number, refl))
 
-open_number : (device digits : List ℕ) → IsLine device → AreDigits places.Mode 0 0 digits → IsOpen (79 ∷ (device ++ line_feed ∷ digits))
+open_number : (device digits : List ℕ) → IsLine device → AreDigits places.Mode 0 0 digits → IsRequestPrefix (79 ∷ (device ++ line_feed ∷ digits))
 open_number device digits l d =
     let f = number_done digits d in (
       f.0 ++ line_feed ∷ [],
@@ -79,7 +79,7 @@ open_number device digits l d =
       ),
     )
 
-open_mode : (device line : List ℕ) (mode : ℕ) → IsLine device → SpellsMode line mode → IsOpen (79 ∷ (device ++ line_feed ∷ line))
+open_mode : (device line : List ℕ) (mode : ℕ) → IsLine device → SpellsMode line mode → IsRequestPrefix (79 ∷ (device ++ line_feed ∷ line))
 open_mode device line mode l s = (line_feed ∷ [], Open device mode, (line, l, s, sym (behind 79 device line (line_feed ∷ []))))
 
 -- A number with its end, within a line that has no line feed: the end is a space
@@ -122,7 +122,7 @@ mode_seen device rest l =
     ∙ ap (λ t. after (mode_head (length device) t) (request_at (79 ∷ (device ++ line_feed ∷ rest)))) (drop_past device rest line_feed)
 
 -- what is seen of a request after a number in its mode line
-abbrev after_mode : List ℕ → List ℕ → ℕ → Seen ℕ → Seen (PlainRequest × ℕ)
+abbrev after_mode : List ℕ → List ℕ → ℕ → Parsed ℕ → Parsed (PlainRequest × ℕ)
 after_mode device rest mode seen =
     after (after seen (λ len. Ok (Some (head.Open (length device) mode (length device + len + 3))))) (request_at (79 ∷ (device ++ line_feed ∷ rest)))
 
@@ -141,7 +141,7 @@ line_faulty device rest mode fault l n e =
     ∙ ap (after_mode device rest mode.0) e
 
 -- the number in front of a mode line that ends after it, told by its digits
-line_view_in_mode : (device rest digits later : List ℕ) (stop : ℕ) (seen : Seen ℕ) → IsLine device → AreDigits places.Mode 0 0 digits → 0 < 0 + length digits → ends_number places.Mode stop ≡ true
+line_view_in_mode : (device rest digits later : List ℕ) (stop : ℕ) (seen : Parsed ℕ) → IsLine device → AreDigits places.Mode 0 0 digits → 0 < 0 + length digits → ends_number places.Mode stop ≡ true
     → rest ≡ digits ++ stop ∷ later → LineView 0 rest seen → FrontView (79 ∷ (device ++ line_feed ∷ rest)) (after_mode device rest (digits_value 10 digits) seen)
 line_view_in_mode device rest digits later stop (Ok None) l d some ends e v =
     let few = v.few in
@@ -182,7 +182,7 @@ line_view_in_mode device rest digits later stop (Err fault) l d some ends e v =
           (ap (number_front places.Mode) again ∙ number_seen places.Mode 0 0 digits stop (w.0 ++ v.2 ∷ more) d some ends) (v.8 more),
     )
 
-mode_view : (device rest : List ℕ) (seen : Seen (ℕ × ℕ)) → IsLine device → NumberView places.Mode 0 0 rest seen
+mode_view : (device rest : List ℕ) (seen : Parsed (ℕ × ℕ)) → IsLine device → NumberView places.Mode 0 0 rest seen
     → FrontView (79 ∷ (device ++ line_feed ∷ rest))
     (after (after seen (λ mode. after (line_front rest) (λ len. Ok (Some (head.Open (length device) mode.0 (length device + len + 3)))))) (request_at (79 ∷ (device ++ line_feed ∷ rest))))
 mode_view device rest (Ok None) l v =
@@ -206,7 +206,7 @@ mode_view device rest (Err fault) l v =
       λ more. ap front_of (sym (behind 79 device v.0 (v.2 ∷ more))) ∙ mode_faulty device (v.0 ++ v.2 ∷ more) BadNumber l (v.6 more ∙ ap Err bad),
     )
 
-open_view : (bytes : List ℕ) (seen : Seen ℕ) → LineView 0 bytes seen
+open_view : (bytes : List ℕ) (seen : Parsed ℕ) → LineView 0 bytes seen
     → FrontView (79 ∷ bytes) (after (after seen (λ device. mode_head device (drop (device + 1) bytes))) (request_at (79 ∷ bytes)))
 unfolding mode_head
 open_view bytes (Ok None) v = (open_device bytes v, (let few = v.few in let t = taken_plain 79 bytes refl in omega arith))
@@ -267,7 +267,7 @@ op_at : (bytes : List ℕ) → FrontView (73 ∷ bytes) (front_of (73 ∷ bytes)
 unfolding front_of head_of letter_head op_head
 op_at bytes = op_view bytes (number_front places.Line bytes) (number_view places.Line bytes)
 
-nothing_open : IsOpen []
+nothing_open : IsRequestPrefix []
 nothing_open = (67 ∷ line_feed ∷ [], Close, ([], (omega arith, tt), refl))
 
 nothing_taken : taken_of [] < READER_LIMIT

@@ -4,8 +4,8 @@ use Rattle.std.proofs.lemmas.Bool.{cases_lt}
 use Rattle.std.proofs.lemmas.List.{length-append, drop_at}
 use Rattle.rmt_wire.specs.Number.{HasNoLineFeed, line_feed}
 use Rattle.rmt_wire.specs.Request.{PlainRequest, SpellsRequest}
-use Rattle.rmt_wire.specs.RequestParts.{IsOpen, Spelled, Parts, EndsInNumber, EndsInFullLine, IsCause, HasFault, Gives}
-use Rattle.rmt_wire.specs.Seen.{Seen}
+use Rattle.rmt_wire.specs.RequestParts.{IsRequestPrefix, Spelled, Parts, EndsInNumber, EndsInFullLine, IsCause, HasFault, ParsesAs}
+use Rattle.rmt_wire.specs.Parsed.{Parsed}
 use Rattle.rmt_wire.specs.RequestFront.{front_of}
 use Rattle.rmt_wire.specs.declared.fault.WireFault.{WireFault}
 use Rattle.rmt_wire.specs.declared.fault.WireFault.TheVariants.{UnknownCommand, BadNumber, LineTooLong, NotAReply, TooMuchData}
@@ -19,10 +19,10 @@ seen_of bytes text rest request e s = ap front_of e ∙ request_seen text rest r
 rest_is : (bytes text rest : List ℕ) → bytes ≡ text ++ rest → drop (length text) bytes ≡ rest
 rest_is bytes text rest e = ap (drop (length text)) e ∙ drop_at text rest (length text) refl
 
-found_same : (p q : PlainRequest × ℕ) → ◌≡◌ {A = Seen (PlainRequest × ℕ)} (Ok (Some p)) (Ok (Some q)) → p ≡ q
+found_same : (p q : PlainRequest × ℕ) → ◌≡◌ {A = Parsed (PlainRequest × ℕ)} (Ok (Some p)) (Ok (Some q)) → p ≡ q
 found_same p q e = cc
 
-same_pair : (a b : PlainRequest) (m n : ℕ) → ◌≡◌ {A = Seen (PlainRequest × ℕ)} (Ok (Some (a, m))) (Ok (Some (b, n))) → (a ≡ b) × (m ≡ n)
+same_pair : (a b : PlainRequest) (m n : ℕ) → ◌≡◌ {A = Parsed (PlainRequest × ℕ)} (Ok (Some (a, m))) (Ok (Some (b, n))) → (a ≡ b) × (m ≡ n)
 same_pair a b m n e =
     let f = found_same (a, m) (b, n) e in
     (ap (λ p. p.0) f, ap (λ p. p.1) f)
@@ -31,7 +31,7 @@ same_pair a b m n e =
 first_same : (bytes text rest text' rest' : List ℕ) (r r' : PlainRequest) → bytes ≡ text ++ rest → SpellsRequest text r → bytes ≡ text' ++ rest' → SpellsRequest text' r'
     → (r ≡ r') × (rest ≡ rest')
 first_same bytes text rest text' rest' r r' e s e' s' =
-    let same : ◌≡◌ {A = Seen (PlainRequest × ℕ)} (Ok (Some (r, length text))) (Ok (Some (r', length text'))) = sym (seen_of bytes text rest r e s) ∙ seen_of bytes text' rest' r' e' s' in
+    let same : ◌≡◌ {A = Parsed (PlainRequest × ℕ)} (Ok (Some (r, length text))) (Ok (Some (r', length text'))) = sym (seen_of bytes text rest r e s) ∙ seen_of bytes text' rest' r' e' s' in
     let pair = same_pair r r' (length text) (length text') same in
     (pair.0, sym (rest_is bytes text rest e) ∙ ap (λ n. drop n bytes) pair.1 ∙ rest_is bytes text' rest' e')
 
@@ -154,16 +154,16 @@ fault_same bytes f g a b =
     (cases_lt (length b.seen) (length a.seen)))
     (cases_lt (length a.seen) (length b.seen))
 
-some_answer : (a b : PlainRequest) → a ≡ b → ◌≡◌ {A = Seen PlainRequest} (Ok (Some a)) (Ok (Some b))
+some_answer : (a b : PlainRequest) → a ≡ b → ◌≡◌ {A = Parsed PlainRequest} (Ok (Some a)) (Ok (Some b))
 some_answer a b e = cc
 
-fault_answer : (f g : WireFault) → f ≡ g → ◌≡◌ {A = Seen PlainRequest} (Err f) (Err g)
+fault_answer : (f g : WireFault) → f ≡ g → ◌≡◌ {A = Parsed PlainRequest} (Err f) (Err g)
 fault_answer f g e = cc
 
-open_or_fault : (bytes : List ℕ) (fault : WireFault) → IsOpen bytes → HasFault bytes fault → ⊥
-open_or_fault bytes fault o f = never_open bytes fault f [] (subst IsOpen (sym (append-nil bytes)) o)
+open_or_fault : (bytes : List ℕ) (fault : WireFault) → IsRequestPrefix bytes → HasFault bytes fault → ⊥
+open_or_fault bytes fault o f = never_open bytes fault f [] (subst IsRequestPrefix (sym (append-nil bytes)) o)
 
-pub one_answer : (bytes rest other : List ℕ) (answer another : Result (Option PlainRequest) WireFault) → Gives bytes answer rest → Gives bytes another other → (answer ≡ another) × (rest ≡ other)
+pub one_answer : (bytes rest other : List ℕ) (answer another : Result (Option PlainRequest) WireFault) → ParsesAs bytes answer rest → ParsesAs bytes another other → (answer ≡ another) × (rest ≡ other)
 one_answer bytes rest other (Ok (Some r)) (Ok (Some r')) p q =
     let w = first_same bytes p.0 rest q.0 other r r' p.2 p.1 q.2 q.1 in
     (some_answer r r' w.0, w.1)

@@ -8,10 +8,10 @@ use Rattle.rmt_wire.specs.Number.{SpellsNumber, HasNoLineFeed, line_feed}
 use Rattle.rmt_wire.specs.Reply.{PlainReply, Wanted, SpellsReply}
 use Rattle.rmt_wire.specs.Reply.PlainReply.{Done, Data, Error}
 use Rattle.rmt_wire.specs.Reply.Wanted.{Number, DataUpTo}
-use Rattle.rmt_wire.specs.ReplyParts.{ReplyIsOpen, IsTooMuch, ReplyIsCause}
+use Rattle.rmt_wire.specs.ReplyParts.{IsReplyPrefix, IsTooMuch, ReplyIsCause}
 use Rattle.rmt_wire.specs.declared.limits.TheConstants.{READER_LIMIT}
 use Rattle.rmt_wire.specs.ReplyReader.{IsWithin}
-use Rattle.rmt_wire.specs.Seen.{Seen, after, number_front}
+use Rattle.rmt_wire.specs.Parsed.{Parsed, after, number_front}
 use Rattle.rmt_wire.specs.ReplyFront.{text_len, kept_text, error_at, data_at, done_front, error_front, reply_front, kept_behind, kept_of}
 use Rattle.rmt_wire.specs.declared.fault.WireFault.{WireFault}
 use Rattle.rmt_wire.specs.declared.fault.WireFault.TheVariants.{UnknownCommand, BadNumber, LineTooLong, NotAReply, TooMuchData}
@@ -116,15 +116,15 @@ kept_error number text n s =
 
 -- What the bytes begin with: a beginning of a reply, for which there is room; a reply; or bytes that a byte rules out,
 -- whatever follows it
-abbrev pub ReplyView : Wanted → List ℕ → Seen (PlainReply × ℕ) → Type 0
-ReplyView wanted bytes (Ok None) = ReplyIsOpen wanted bytes × (IsWithin wanted → length (kept_of bytes) < READER_LIMIT)
+abbrev pub ReplyView : Wanted → List ℕ → Parsed (PlainReply × ℕ) → Type 0
+ReplyView wanted bytes (Ok None) = IsReplyPrefix wanted bytes × (IsWithin wanted → length (kept_of bytes) < READER_LIMIT)
 ReplyView wanted bytes (Ok (Some p)) = (text rest : List ℕ) × (bytes ≡ text ++ rest) × SpellsReply text p.0 wanted × (p.1 ≡ length text)
 ReplyView wanted bytes (Err fault) =
-    (seen later : List ℕ) × (byte : ℕ) × (bytes ≡ seen ++ byte ∷ later) × ReplyIsOpen wanted seen × ReplyIsCause wanted seen byte fault
+    (seen later : List ℕ) × (byte : ℕ) × (bytes ≡ seen ++ byte ∷ later) × IsReplyPrefix wanted seen × ReplyIsCause wanted seen byte fault
     × ((more : List ℕ) → reply_front wanted (seen ++ byte ∷ more) ≡ Err fault)
 
 -- beginnings of replies
-open_error : (wanted : Wanted) (digits : List ℕ) → AreDigits places.Line 0 0 digits → ReplyIsOpen wanted (69 ∷ digits)
+open_error : (wanted : Wanted) (digits : List ℕ) → AreDigits places.Line 0 0 digits → IsReplyPrefix wanted (69 ∷ digits)
 open_error wanted digits d =
     let f = number_done digits d in (
       f.0 ++ line_feed ∷ line_feed ∷ [],
@@ -132,11 +132,11 @@ open_error wanted digits d =
       (digits ++ f.0, [], f.2, tt, refl, ap (λ t. 69 ∷ t) (sym (append_assoc digits f.0 (line_feed ∷ line_feed ∷ [])))),
     )
 
-open_text : (wanted : Wanted) (number line : List ℕ) (n : ℕ) → SpellsNumber number n → HasNoLineFeed line → ReplyIsOpen wanted (69 ∷ (number ++ line_feed ∷ line))
+open_text : (wanted : Wanted) (number line : List ℕ) (n : ℕ) → SpellsNumber number n → HasNoLineFeed line → IsReplyPrefix wanted (69 ∷ (number ++ line_feed ∷ line))
 open_text wanted number line n s h =
     (line_feed ∷ [], Error n (take 255 line), (number, line, s, h, refl, ap (λ t. 69 ∷ t) (append_assoc number (line_feed ∷ line) (line_feed ∷ []))))
 
-open_number : (digits : List ℕ) → AreDigits places.Line 0 0 digits → ReplyIsOpen Number (65 ∷ digits)
+open_number : (digits : List ℕ) → AreDigits places.Line 0 0 digits → IsReplyPrefix Number (65 ∷ digits)
 open_number digits d =
     let f = number_done digits d in
     (f.0 ++ line_feed ∷ [], Done f.1, (digits ++ f.0, f.2, ap (λ t. 65 ∷ t) (sym (append_assoc digits f.0 (line_feed ∷ [])))))
@@ -153,7 +153,7 @@ count_done most (b ∷ digits) d = ([], digits_value 10 (b ∷ digits), (rw appe
 some_data : (most : ℕ) (number given : List ℕ) (n : ℕ) → SpellsNumber number n → n ≤ most → length given ≡ n → SpellsReply (65 ∷ (number ++ line_feed ∷ given)) (Data given) (DataUpTo most)
 some_data most number given n s within long = (number, subst (SpellsNumber number) (sym long) s, subst (λ k. k ≤ most) (sym long) within, refl)
 
-open_count : (most : ℕ) (digits : List ℕ) → AreDigits (places.Data most) 0 0 digits → ReplyIsOpen (DataUpTo most) (65 ∷ digits)
+open_count : (most : ℕ) (digits : List ℕ) → AreDigits (places.Data most) 0 0 digits → IsReplyPrefix (DataUpTo most) (65 ∷ digits)
 open_count most digits d =
     let f = count_done most digits d in
     let given : List ℕ = replicate f.1 0 in (
@@ -207,7 +207,7 @@ text_at_view wanted number text n s v =
     ))
     v
 
-error_view : (wanted : Wanted) (bytes : List ℕ) (seen : Seen (ℕ × ℕ)) → number_front places.Line bytes ≡ seen → NumberView places.Line 0 0 bytes seen
+error_view : (wanted : Wanted) (bytes : List ℕ) (seen : Parsed (ℕ × ℕ)) → number_front places.Line bytes ≡ seen → NumberView places.Line 0 0 bytes seen
     → ReplyView wanted (69 ∷ bytes) (after seen (λ m. error_at m.0 (m.1 + 2) (drop (m.1 + 1) bytes)))
 error_view wanted bytes (Ok None) e v = (open_error wanted bytes v, λ within. (let few = v.few in omega (arith, ap (length {A = ℕ}) (kept_unended bytes e))))
 error_view wanted bytes (Ok (Some p)) e v =
@@ -232,7 +232,7 @@ error_view wanted bytes (Err fault) e v =
       λ more. error_number_faulty wanted (v.0 ++ v.2 ∷ more) BadNumber (v.6 more ∙ ap Err bad),
     )
 
-number_view_of : (bytes : List ℕ) (seen : Seen (ℕ × ℕ)) → NumberView places.Line 0 0 bytes seen → ReplyView Number (65 ∷ bytes) (after seen (λ m. Ok (Some (Done m.0, m.1 + 2))))
+number_view_of : (bytes : List ℕ) (seen : Parsed (ℕ × ℕ)) → NumberView places.Line 0 0 bytes seen → ReplyView Number (65 ∷ bytes) (after seen (λ m. Ok (Some (Done m.0, m.1 + 2))))
 number_view_of bytes (Ok None) v = (open_number bytes v, λ within. (let few = v.few in omega (arith, ap (length {A = ℕ}) (kept_letter 65 bytes refl))))
 number_view_of bytes (Ok (Some p)) v =
     let digits = v.0 in
@@ -309,7 +309,7 @@ count_cause most digits byte TooMuchData d h =
     let much : most < digits_value 10 (digits ++ byte ∷ []) = (let test = h.1 in grind (arith, nat_tests)) in
     (digits, refl, digits_and digits byte d.each h.0, much)
 
-count_view_of : (most : ℕ) (bytes : List ℕ) (seen : Seen (ℕ × ℕ)) → NumberView (places.Data most) 0 0 bytes seen
+count_view_of : (most : ℕ) (bytes : List ℕ) (seen : Parsed (ℕ × ℕ)) → NumberView (places.Data most) 0 0 bytes seen
     → ReplyView (DataUpTo most) (65 ∷ bytes) (after seen (λ m. data_at m.0 (m.1 + 2) (drop (m.1 + 1) bytes)))
 count_view_of most bytes (Ok None) v = (open_count most bytes v, λ within. (let few = v.few in omega (arith, ap (length {A = ℕ}) (kept_letter 65 bytes refl))))
 count_view_of most bytes (Ok (Some p)) v =
@@ -348,7 +348,7 @@ error_view_of wanted bytes = error_view wanted bytes (number_front places.Line b
 zero_text : SpellsNumber (48 ∷ []) 0
 zero_text = record { digits = (omega arith, (omega arith, tt)); few = omega arith; value = refl; small = omega arith }
 
-open_none : (wanted : Wanted) → ReplyIsOpen wanted []
+open_none : (wanted : Wanted) → IsReplyPrefix wanted []
 open_none wanted = (69 ∷ 48 ∷ line_feed ∷ line_feed ∷ [], Error 0 [], (48 ∷ [], [], zero_text, tt, refl, refl))
 
 letter_faulty : (wanted : Wanted) (letter : ℕ) (bytes : List ℕ) → eqb letter 65 ≡ false → eqb letter 69 ≡ false → reply_front wanted (letter ∷ bytes) ≡ Err NotAReply

@@ -4,8 +4,8 @@ use Rattle.std.proofs.lemmas.Bool.{cases_lt}
 use Rattle.std.proofs.lemmas.List.{drop_at}
 use Rattle.rmt_wire.specs.Reply.{PlainReply, Wanted, SpellsReply}
 use Rattle.rmt_wire.specs.Reply.Wanted.{Number, DataUpTo}
-use Rattle.rmt_wire.specs.ReplyParts.{ReplyIsOpen, ReplyHasNoSpelling, ReplyHasFault, ReplyEndsInNumber, IsTooMuch, ReplyIsCause, ReplyGives}
-use Rattle.rmt_wire.specs.Seen.{Seen}
+use Rattle.rmt_wire.specs.ReplyParts.{IsReplyPrefix, ReplyHasNoSpelling, ReplyHasFault, ReplyEndsInNumber, IsTooMuch, ReplyIsCause, ReplyParsesAs}
+use Rattle.rmt_wire.specs.Parsed.{Parsed}
 use Rattle.rmt_wire.specs.ReplyFront.{reply_front}
 use Rattle.rmt_wire.specs.declared.fault.WireFault.{WireFault}
 use Rattle.rmt_wire.specs.declared.fault.WireFault.TheVariants.{UnknownCommand, BadNumber, LineTooLong, NotAReply, TooMuchData}
@@ -14,12 +14,12 @@ use Rattle.rmt_wire.proofs.Giving.{fault_stays}
 use Rattle.rmt_wire.proofs.ReplyFronts.{ReplyView, reply_seen, reply_view}
 
 -- what a reader answers to what is seen, and what is left after it
-abbrev pub answer_to : Seen (PlainReply × ℕ) → Result (Option PlainReply) WireFault
+abbrev pub answer_to : Parsed (PlainReply × ℕ) → Result (Option PlainReply) WireFault
 answer_to (Ok None) = Ok None
 answer_to (Ok (Some p)) = Ok (Some p.0)
 answer_to (Err fault) = Err fault
 
-abbrev pub rest_behind : Seen (PlainReply × ℕ) → List ℕ → List ℕ
+abbrev pub rest_behind : Parsed (PlainReply × ℕ) → List ℕ → List ℕ
 rest_behind (Ok None) bytes = bytes
 rest_behind (Ok (Some p)) bytes = drop p.1 bytes
 rest_behind (Err fault) bytes = bytes
@@ -36,14 +36,14 @@ no_spelling_in_fault : (wanted : Wanted) (bytes : List ℕ) (fault : WireFault) 
 no_spelling_in_fault wanted bytes fault n text rest reply e s = let h = spelled_seen wanted bytes text rest reply e s in cc
 
 -- bytes that are a fault whatever follows are no beginning of a spelling
-not_open : (wanted : Wanted) (bytes : List ℕ) (fault : WireFault) → ((more : List ℕ) → reply_front wanted (bytes ++ more) ≡ Err fault) → ¬ ReplyIsOpen wanted bytes
+not_open : (wanted : Wanted) (bytes : List ℕ) (fault : WireFault) → ((more : List ℕ) → reply_front wanted (bytes ++ more) ≡ Err fault) → ¬ IsReplyPrefix wanted bytes
 not_open wanted bytes fault always o =
     let h = spelled_seen wanted (bytes ++ o.0) (bytes ++ o.0) [] o.1 (sym (append-nil (bytes ++ o.0))) o.2 in
     let k = always o.0 in
     cc
 
-gives_at : (wanted : Wanted) (bytes : List ℕ) (seen : Seen (PlainReply × ℕ)) → reply_front wanted bytes ≡ seen → ReplyView wanted bytes seen
-    → ReplyGives (Some wanted) bytes (answer_to seen) (rest_behind seen bytes)
+gives_at : (wanted : Wanted) (bytes : List ℕ) (seen : Parsed (PlainReply × ℕ)) → reply_front wanted bytes ≡ seen → ReplyView wanted bytes seen
+    → ReplyParsesAs (Some wanted) bytes (answer_to seen) (rest_behind seen bytes)
 gives_at wanted bytes (Ok None) e v = (v.0, no_spelling_in_none wanted bytes e, refl)
 gives_at wanted bytes (Ok (Some p)) e v =
     (v.0, v.3, v.2 ∙ ap (λ t. v.0 ++ t) (sym (ap (λ n. drop n bytes) v.4 ∙ ap (drop (length v.0)) v.2 ∙ drop_at v.0 v.1 (length v.0) refl)))
@@ -62,12 +62,12 @@ gives_at wanted bytes (Err fault) e v = (
 )
 
 -- what is seen of the bytes is what a reader is to give of them
-pub gives_of : (wanted : Wanted) (bytes : List ℕ) (seen : Seen (PlainReply × ℕ)) → reply_front wanted bytes ≡ seen
-    → ReplyGives (Some wanted) bytes (answer_to seen) (rest_behind seen bytes)
+pub gives_of : (wanted : Wanted) (bytes : List ℕ) (seen : Parsed (PlainReply × ℕ)) → reply_front wanted bytes ≡ seen
+    → ReplyParsesAs (Some wanted) bytes (answer_to seen) (rest_behind seen bytes)
 gives_of wanted bytes seen e = gives_at wanted bytes seen e (subst (ReplyView wanted bytes) e (reply_view wanted bytes))
 
 -- an open beginning is not a fault
-never_open : (wanted : Wanted) (bytes : List ℕ) (fault : WireFault) → ReplyHasFault wanted bytes fault → (more : List ℕ) → ¬ ReplyIsOpen wanted (bytes ++ more)
+never_open : (wanted : Wanted) (bytes : List ℕ) (fault : WireFault) → ReplyHasFault wanted bytes fault → (more : List ℕ) → ¬ IsReplyPrefix wanted (bytes ++ more)
 never_open wanted bytes fault f more o =
     f.hopeless (
       (f.later ++ more) ++ o.0,
@@ -79,13 +79,13 @@ never_open wanted bytes fault f more o =
           o.2,
     )
 
-open_or_fault : (wanted : Wanted) (bytes : List ℕ) (fault : WireFault) → ReplyIsOpen wanted bytes → ReplyHasFault wanted bytes fault → ⊥
-open_or_fault wanted bytes fault o f = never_open wanted bytes fault f [] (subst (ReplyIsOpen wanted) (sym (append-nil bytes)) o)
+open_or_fault : (wanted : Wanted) (bytes : List ℕ) (fault : WireFault) → IsReplyPrefix wanted bytes → ReplyHasFault wanted bytes fault → ⊥
+open_or_fault wanted bytes fault o f = never_open wanted bytes fault f [] (subst (IsReplyPrefix wanted) (sym (append-nil bytes)) o)
 
-found_same : (p q : PlainReply × ℕ) → ◌≡◌ {A = Seen (PlainReply × ℕ)} (Ok (Some p)) (Ok (Some q)) → p ≡ q
+found_same : (p q : PlainReply × ℕ) → ◌≡◌ {A = Parsed (PlainReply × ℕ)} (Ok (Some p)) (Ok (Some q)) → p ≡ q
 found_same p q e = cc
 
-same_pair : (a b : PlainReply) (m n : ℕ) → ◌≡◌ {A = Seen (PlainReply × ℕ)} (Ok (Some (a, m))) (Ok (Some (b, n))) → (a ≡ b) × (m ≡ n)
+same_pair : (a b : PlainReply) (m n : ℕ) → ◌≡◌ {A = Parsed (PlainReply × ℕ)} (Ok (Some (a, m))) (Ok (Some (b, n))) → (a ≡ b) × (m ≡ n)
 same_pair a b m n e =
     let f = found_same (a, m) (b, n) e in
     (ap (λ p. p.0) f, ap (λ p. p.1) f)
@@ -94,7 +94,7 @@ same_pair a b m n e =
 first_same : (wanted : Wanted) (bytes text rest text' rest' : List ℕ) (r r' : PlainReply) → bytes ≡ text ++ rest → SpellsReply text r wanted → bytes ≡ text' ++ rest'
     → SpellsReply text' r' wanted → (r ≡ r') × (rest ≡ rest')
 first_same wanted bytes text rest text' rest' r r' e s e' s' =
-    let same : ◌≡◌ {A = Seen (PlainReply × ℕ)} (Ok (Some (r, length text))) (Ok (Some (r', length text'))) =
+    let same : ◌≡◌ {A = Parsed (PlainReply × ℕ)} (Ok (Some (r, length text))) (Ok (Some (r', length text'))) =
     sym (spelled_seen wanted bytes text rest r e s) ∙ spelled_seen wanted bytes text' rest' r' e' s' in
     let pair = same_pair r r' (length text) (length text') same in
     let long : length text ≡ length text' = pair.1 in (
@@ -164,15 +164,15 @@ fault_same wanted bytes f g a b =
     (cases_lt (length b.seen) (length a.seen)))
     (cases_lt (length a.seen) (length b.seen))
 
-some_answer : (a b : PlainReply) → a ≡ b → ◌≡◌ {A = Seen PlainReply} (Ok (Some a)) (Ok (Some b))
+some_answer : (a b : PlainReply) → a ≡ b → ◌≡◌ {A = Parsed PlainReply} (Ok (Some a)) (Ok (Some b))
 some_answer a b e = ap (λ r. Ok (Some r)) e
 
-fault_answer : (f g : WireFault) → f ≡ g → ◌≡◌ {A = Seen PlainReply} (Err f) (Err g)
+fault_answer : (f g : WireFault) → f ≡ g → ◌≡◌ {A = Parsed PlainReply} (Err f) (Err g)
 fault_answer f g e = ap Err e
 
 -- at each place a reader can give one thing only
-pub one_answer : (wanted : Option Wanted) (bytes rest other : List ℕ) (answer another : Result (Option PlainReply) WireFault) → ReplyGives wanted bytes answer rest
-    → ReplyGives wanted bytes another other → (answer ≡ another) × (rest ≡ other)
+pub one_answer : (wanted : Option Wanted) (bytes rest other : List ℕ) (answer another : Result (Option PlainReply) WireFault) → ReplyParsesAs wanted bytes answer rest
+    → ReplyParsesAs wanted bytes another other → (answer ≡ another) × (rest ≡ other)
 one_answer None bytes rest other (Ok (Some r)) another p q = absurd p
 one_answer None bytes rest other (Ok None) (Ok (Some r)) p q = absurd q
 one_answer None bytes rest other (Ok None) (Ok None) p q = (refl, p.1 ∙ sym q.1)
@@ -193,11 +193,11 @@ one_answer (Some wanted) bytes rest other (Err f) (Ok None) p q = absurd (open_o
 one_answer (Some wanted) bytes rest other (Err f) (Err g) p q = (fault_answer f g (fault_same wanted bytes f g p.0 q.0), p.2 ∙ sym q.2)
 
 -- and one thing there is
-some_of_none : (bytes : List ℕ) → (answer : Result (Option PlainReply) WireFault) × (rest : List ℕ) × ReplyGives None bytes answer rest
+some_of_none : (bytes : List ℕ) → (answer : Result (Option PlainReply) WireFault) × (rest : List ℕ) × ReplyParsesAs None bytes answer rest
 some_of_none [] = (Ok None, [], (refl, refl))
 some_of_none (b ∷ bytes) = (Err TooMuchData, b ∷ bytes, ((λ e. let h : b ∷ bytes ≡ [] = e in cc), refl, refl))
 
-pub some_answer_of : (wanted : Option Wanted) (bytes : List ℕ) → (answer : Result (Option PlainReply) WireFault) × (rest : List ℕ) × ReplyGives wanted bytes answer rest
+pub some_answer_of : (wanted : Option Wanted) (bytes : List ℕ) → (answer : Result (Option PlainReply) WireFault) × (rest : List ℕ) × ReplyParsesAs wanted bytes answer rest
 some_answer_of None bytes = some_of_none bytes
 some_answer_of (Some wanted) bytes =
     let seen = reply_front wanted bytes in

@@ -7,11 +7,11 @@ use Rattle.std.specs.Option.{is_some}
 use Rattle.rmt_wire.specs.Number.{SpellsNumber, HasNoLineFeed, line_feed}
 use Rattle.rmt_wire.specs.Reply.{PlainReply, Wanted}
 use Rattle.rmt_wire.specs.Reply.PlainReply.{Error}
-use Rattle.rmt_wire.specs.ReplyParts.{ReplyGives, wanted_after}
-use Rattle.rmt_wire.specs.Seen.{Seen, number_front}
+use Rattle.rmt_wire.specs.ReplyParts.{ReplyParsesAs, wanted_after}
+use Rattle.rmt_wire.specs.Parsed.{Parsed, number_front}
 use Rattle.rmt_wire.specs.ReplyFront.{reply_front, text_len, kept_text, kept_behind, kept_of}
 use Rattle.rmt_wire.specs.declared.limits.TheConstants.{READER_LIMIT}
-use Rattle.rmt_wire.specs.ReplyReader.{reply_held, IsWithin, kept_while, ReplyUnread, reply_taken_of, ReplyIsNext, ReplyStaysFaulty, reply_told_front, reply_held_after, IsErrorText}
+use Rattle.rmt_wire.specs.ReplyReader.{reply_held, IsWithin, kept_while, ReplyUnread, reply_taken_of, ReplyIsNext, ReplyStaysFaulty, plain_reply_front_result, reply_held_after, IsErrorText}
 use Rattle.rmt_wire.specs.Lent.{plain_reply, lent_reply, plain_wanted, plain_wanted_if_some}
 use Rattle.rmt_wire.specs.declared.reply.Reply.{Reply}
 use Rattle.rmt_wire.specs.declared.reply.wanted.Wanted as declared
@@ -35,7 +35,7 @@ pub record HasText (bytes : List ℕ) : Type 0 where
   pub spelled : SpellsNumber number value
   pub split : bytes ≡ 69 ∷ (number ++ line_feed ∷ text)
 
-text_after : (bytes : List ℕ) (seen : Seen (ℕ × ℕ)) → NumberView places.Line 0 0 bytes seen → HasText (69 ∷ bytes) ⊎ (kept_behind seen bytes ≡ bytes)
+text_after : (bytes : List ℕ) (seen : Parsed (ℕ × ℕ)) → NumberView places.Line 0 0 bytes seen → HasText (69 ∷ bytes) ⊎ (kept_behind seen bytes ≡ bytes)
 text_after bytes (Ok None) v = inr refl
 text_after bytes (Ok (Some p)) v =
     inl (record {
@@ -79,12 +79,12 @@ pushed bytes piece =
     (text_or_all bytes)
 
 -- What is seen of the bytes where this is seen of those that are kept
-abbrev pub SameSeen : Wanted → List ℕ → Seen (PlainReply × ℕ) → Type 0
+abbrev pub SameSeen : Wanted → List ℕ → Parsed (PlainReply × ℕ) → Type 0
 SameSeen wanted bytes (Ok None) = reply_front wanted bytes ≡ Ok None
 SameSeen wanted bytes (Ok (Some p)) = (len : ℕ) × (reply_front wanted bytes ≡ Ok (Some (p.0, len))) × (drop p.1 (kept_of bytes) ≡ drop len bytes)
 SameSeen wanted bytes (Err fault) = reply_front wanted bytes ≡ Err fault
 
-same_all : (wanted : Wanted) (bytes : List ℕ) (seen : Seen (PlainReply × ℕ)) → kept_of bytes ≡ bytes → reply_front wanted (kept_of bytes) ≡ seen → SameSeen wanted bytes seen
+same_all : (wanted : Wanted) (bytes : List ℕ) (seen : Parsed (PlainReply × ℕ)) → kept_of bytes ≡ bytes → reply_front wanted (kept_of bytes) ≡ seen → SameSeen wanted bytes seen
 same_all wanted bytes (Ok None) k e = sym (ap (reply_front wanted) k) ∙ e
 same_all wanted bytes (Ok (Some p)) k e = (p.1, sym (ap (reply_front wanted) k) ∙ e, ap (drop p.1) k)
 same_all wanted bytes (Err fault) k e = sym (ap (reply_front wanted) k) ∙ e
@@ -98,7 +98,7 @@ behind_error number line rest =
     let size : length front ≡ length number + 2 + length line + 1 = omega (arith, length_line 69 number (line ++ line_feed ∷ []), length-append line (line_feed ∷ [])) in
     ap (drop (length number + 2 + length line + 1)) whole ∙ drop_at front rest (length number + 2 + length line + 1) size
 
-same_ended : (wanted : Wanted) (bytes number line rest : List ℕ) (n : ℕ) (seen : Seen (PlainReply × ℕ)) → SpellsNumber number n → HasNoLineFeed line
+same_ended : (wanted : Wanted) (bytes number line rest : List ℕ) (n : ℕ) (seen : Parsed (PlainReply × ℕ)) → SpellsNumber number n → HasNoLineFeed line
     → bytes ≡ 69 ∷ (number ++ line_feed ∷ (line ++ line_feed ∷ rest)) → kept_of bytes ≡ 69 ∷ (number ++ line_feed ∷ (take 255 line ++ line_feed ∷ rest))
     → seen ≡ Ok (Some (Error n (take 255 line), length number + 2 + length (take 255 line) + 1)) → SameSeen wanted bytes seen
 same_ended wanted bytes number line rest n seen s h split kept e =
@@ -108,10 +108,10 @@ same_ended wanted bytes number line rest n seen s h split kept e =
       ap (drop (length number + 2 + length (take 255 line) + 1)) kept ∙ behind_error number (take 255 line) rest ∙ sym (ap (drop (length number + 2 + length line + 1)) split ∙ behind_error number line rest),
     )
 
-same_open : (wanted : Wanted) (bytes : List ℕ) (seen : Seen (PlainReply × ℕ)) → reply_front wanted bytes ≡ Ok None → seen ≡ Ok None → SameSeen wanted bytes seen
+same_open : (wanted : Wanted) (bytes : List ℕ) (seen : Parsed (PlainReply × ℕ)) → reply_front wanted bytes ≡ Ok None → seen ≡ Ok None → SameSeen wanted bytes seen
 same_open wanted bytes seen o e = subst (SameSeen wanted bytes) (sym e) o
 
-pub same_seen : (wanted : Wanted) (bytes : List ℕ) (seen : Seen (PlainReply × ℕ)) → reply_front wanted (kept_of bytes) ≡ seen → SameSeen wanted bytes seen
+pub same_seen : (wanted : Wanted) (bytes : List ℕ) (seen : Parsed (PlainReply × ℕ)) → reply_front wanted (kept_of bytes) ≡ seen → SameSeen wanted bytes seen
 same_seen wanted bytes seen e =
     ⊎_elim
     (λ t.
@@ -135,7 +135,7 @@ same_seen wanted bytes seen e =
 -- what is given of the bytes, where this is found in those that are kept
 abbrev Given : Wanted → List ℕ → List ℕ → Result (Option (Reply × ℕ)) WireFault → Type 0
 Given wanted kept bytes found =
-    (rest : List ℕ) × ReplyUnread (reply_held_after found (reply_held (Some wanted) kept)) (wanted_after (Some wanted) (reply_told_front found)) rest × ReplyGives (Some wanted) bytes (reply_told_front found) rest
+    (rest : List ℕ) × ReplyUnread (reply_held_after found (reply_held (Some wanted) kept)) (wanted_after (Some wanted) (plain_reply_front_result found)) rest × ReplyParsesAs (Some wanted) bytes (plain_reply_front_result found) rest
 
 given : (wanted : Wanted) (kept bytes : List ℕ) (found : Result (Option (Reply × ℕ)) WireFault) → kept ≡ kept_of bytes → lent_reply found ≡ reply_front wanted kept
     → Given wanted kept bytes found
@@ -155,15 +155,15 @@ some_same a b e = cc
 -- whatever is waited for and was pushed, as the reader tells it
 continues_at : (old : Wanted) (kept : List ℕ) (found : Result (Option (Reply × ℕ)) WireFault) (wanted : Option Wanted) (bytes : List ℕ) → lent_reply found ≡ reply_front old kept
     → ReplyUnread (reply_held (Some old) kept) wanted bytes
-    → (rest : List ℕ) × ReplyUnread (reply_held_after found (reply_held (Some old) kept)) (wanted_after wanted (reply_told_front found)) rest × ReplyGives wanted bytes (reply_told_front found) rest
+    → (rest : List ℕ) × ReplyUnread (reply_held_after found (reply_held (Some old) kept)) (wanted_after wanted (plain_reply_front_result found)) rest × ReplyParsesAs wanted bytes (plain_reply_front_result found) rest
 continues_at old kept found None bytes e u = let h = u.waits in absurd (cc)
 continues_at old kept found (Some wanted) bytes e u =
     let same : old ≡ wanted = some_same old wanted u.waits in
     let g = given old kept bytes found u.keeps e in
-    subst (λ w. (rest : List ℕ) × ReplyUnread (reply_held_after found (reply_held (Some old) kept)) (wanted_after (Some w) (reply_told_front found)) rest × ReplyGives (Some w) bytes (reply_told_front found) rest) same g
+    subst (λ w. (rest : List ℕ) × ReplyUnread (reply_held_after found (reply_held (Some old) kept)) (wanted_after (Some w) (plain_reply_front_result found)) rest × ReplyParsesAs (Some w) bytes (plain_reply_front_result found) rest) same g
 
 -- where a beginning is all that there is, there is room for more
-room_at : (wanted : Wanted) (bytes : List ℕ) (seen : Seen (PlainReply × ℕ)) → seen ≡ Ok None → IsWithin wanted → ReplyView wanted bytes seen → length (kept_of bytes) < READER_LIMIT
+room_at : (wanted : Wanted) (bytes : List ℕ) (seen : Parsed (PlainReply × ℕ)) → seen ≡ Ok None → IsWithin wanted → ReplyView wanted bytes seen → length (kept_of bytes) < READER_LIMIT
 room_at wanted bytes (Ok None) e within v = v.1 within
 room_at wanted bytes (Ok (Some p)) e within v = absurd (cc)
 room_at wanted bytes (Err fault) e within v = absurd (cc)
@@ -178,7 +178,7 @@ room_of old kept (Some wanted) bytes within e u =
     room_at old bytes (reply_front old bytes) none within (reply_view old bytes)
 
 pub some_next : (old : Wanted) (kept : List ℕ) (found : Result (Option (Reply × ℕ)) WireFault) → IsWithin old → lent_reply found ≡ reply_front old kept
-    → ReplyIsNext (reply_held (Some old) kept) (reply_told_front found) (reply_held_after found (reply_held (Some old) kept))
+    → ReplyIsNext (reply_held (Some old) kept) (plain_reply_front_result found) (reply_held_after found (reply_held (Some old) kept))
 some_next old kept (Ok None) within e = record {
   continues = λ wanted bytes u. continues_at old kept (Ok None) wanted bytes e u;
   room = λ wanted bytes u. room_of old kept wanted bytes within (sym e) u;
@@ -196,23 +196,23 @@ some_next old kept (Err fault) within e = record {
 }
 
 -- a fault is seen whatever follows
-always_at : (wanted : Wanted) (bytes : List ℕ) (seen : Seen (PlainReply × ℕ)) (fault : WireFault) (more : List ℕ) → seen ≡ Err fault → ReplyView wanted bytes seen
+always_at : (wanted : Wanted) (bytes : List ℕ) (seen : Parsed (PlainReply × ℕ)) (fault : WireFault) (more : List ℕ) → seen ≡ Err fault → ReplyView wanted bytes seen
     → reply_front wanted (bytes ++ more) ≡ Err fault
 always_at wanted bytes (Ok None) fault more e v = absurd (cc)
 always_at wanted bytes (Ok (Some p)) fault more e v = absurd (cc)
 always_at wanted bytes (Err other) fault more e v = ap (reply_front wanted) (fault_stays v.0 v.1 more v.2 bytes v.3) ∙ v.6 (v.1 ++ more) ∙ e
 
 faulty_at : (old : Wanted) (kept : List ℕ) (fault : WireFault) (wanted : Option Wanted) (bytes more : List ℕ) → reply_front old kept ≡ Err fault → ReplyUnread (reply_held (Some old) kept) wanted bytes
-    → ReplyGives wanted (bytes ++ more) (Err fault) (bytes ++ more)
+    → ReplyParsesAs wanted (bytes ++ more) (Err fault) (bytes ++ more)
 faulty_at old kept fault None bytes more e u = let h = u.waits in absurd (cc)
 faulty_at old kept fault (Some wanted) bytes more e u =
     let same : old ≡ wanted = some_same old wanted u.waits in
     let here : reply_front old bytes ≡ Err fault = same_seen old bytes (Err fault) (sym (ap (reply_front old) u.keeps) ∙ e) in
     let later = always_at old bytes (reply_front old bytes) fault more here (reply_view old bytes) in
-    subst (λ w. ReplyGives (Some w) (bytes ++ more) (Err fault) (bytes ++ more)) same (gives_of old (bytes ++ more) (Err fault) later)
+    subst (λ w. ReplyParsesAs (Some w) (bytes ++ more) (Err fault) (bytes ++ more)) same (gives_of old (bytes ++ more) (Err fault) later)
 
 pub some_faulty : (old : Wanted) (kept : List ℕ) (found : Result (Option (Reply × ℕ)) WireFault) → lent_reply found ≡ reply_front old kept
-    → ReplyStaysFaulty (reply_held (Some old) kept) (reply_told_front found)
+    → ReplyStaysFaulty (reply_held (Some old) kept) (plain_reply_front_result found)
 some_faulty old kept (Ok None) e = tt
 some_faulty old kept (Ok (Some f)) e = tt
 some_faulty old kept (Err fault) e = λ wanted bytes more u. faulty_at old kept fault wanted bytes more (sym e) u
@@ -230,7 +230,7 @@ pub none_faulty : (kept : List ℕ) → kept ≢ [] → ReplyStaysFaulty (reply_
 none_faulty kept some = λ wanted bytes more u.
     let n = none_at kept wanted bytes u in
     let here : bytes ≢ [] = λ e. some (n.1 ∙ e) in
-    subst (λ w. ReplyGives w (bytes ++ more) (Err TooMuchData) (bytes ++ more)) (sym n.0) (some_more bytes more here, refl, refl)
+    subst (λ w. ReplyParsesAs w (bytes ++ more) (Err TooMuchData) (bytes ++ more)) (sym n.0) (some_more bytes more here, refl, refl)
 
 -- a test says whether bytes are kept
 pub some_kept : (kept : List ℕ) (test : Bool) → test ≡ eqb (length kept) 0 → test ≡ false → kept ≢ []
@@ -286,18 +286,18 @@ some_wanted None wanted t e = absurd (cc)
 some_wanted (Some o) wanted t e = (plain_wanted o, sym e)
 
 -- what is kept once a piece was pushed, and the text let go that is too long
-pub push_kept : (o : Option declared.Wanted) (kept mid new all piece bytes : List ℕ) (wanted : Option Wanted) (start at gone : ℕ) → is_some o ≡ true
+pub push_kept : (o : Option declared.Wanted) (kept mid new all piece bytes : List ℕ) (wanted : Option Wanted) (start at discardable : ℕ) → is_some o ≡ true
     → drop start mid ≡ kept ++ piece → start ≤ length mid → all ≡ mid
-    → kept_of (take (length all - start) (drop start all)) ≡ take at (take (length all - start) (drop start all)) ++ drop (at + gone) (take (length all - start) (drop start all))
-    → at + gone ≤ length (take (length all - start) (drop start all)) → new ≡ take (start + at) mid ++ drop (start + at + gone) mid
+    → kept_of (take (length all - start) (drop start all)) ≡ take at (take (length all - start) (drop start all)) ++ drop (at + discardable) (take (length all - start) (drop start all))
+    → at + discardable ≤ length (take (length all - start) (drop start all)) → new ≡ take (start + at) mid ++ drop (start + at + discardable) mid
     → ReplyUnread (reply_held (plain_wanted_if_some o) kept) wanted bytes → ReplyUnread (reply_held (plain_wanted_if_some o) (drop start new)) wanted (bytes ++ piece)
-push_kept o kept mid new all piece bytes wanted start at gone some behind within same cut short is u =
+push_kept o kept mid new all piece bytes wanted start at discardable some behind within same cut short is u =
     let w = some_wanted o wanted some u.waits in
     let view : take (length all - start) (drop start all) ≡ drop start mid = take_rest all start ∙ ap (drop start) same in
-    let cut' : kept_of (drop start mid) ≡ take at (drop start mid) ++ drop (at + gone) (drop start mid) = subst (λ l. kept_of l ≡ take at l ++ drop (at + gone) l) view cut in
-    let size : at + gone ≤ length (drop start mid) = subst (λ l. at + gone ≤ length l) view short in
+    let cut' : kept_of (drop start mid) ≡ take at (drop start mid) ++ drop (at + discardable) (drop start mid) = subst (λ l. kept_of l ≡ take at l ++ drop (at + discardable) l) view cut in
+    let size : at + discardable ≤ length (drop start mid) = subst (λ l. at + discardable ≤ length l) view short in
     let new_kept : drop start new ≡ kept_of (kept ++ piece) =
-    ap (drop start) is ∙ taken_out mid start at gone (omega (arith, length-drop start mid)) ∙ sym cut' ∙ ap kept_of behind in
+    ap (drop start) is ∙ taken_out mid start at discardable (omega (arith, length-drop start mid)) ∙ sym cut' ∙ ap kept_of behind in
     let old_kept : kept ≡ kept_of bytes = u.keeps ∙ ap (λ o. kept_while o bytes) w.1 in
     record {
       waits = u.waits;
@@ -325,25 +325,25 @@ cut_behind bytes p size kept e s k =
     ∙ cut_at bytes (p.1 + 1) size kept k
 
 -- and with it
-cut_letter : (rest : List ℕ) (at gone : ℕ) → kept_behind (number_front places.Line rest) rest ≡ take at rest ++ drop (at + gone) rest
-    → kept_of (69 ∷ rest) ≡ take (at + 1) (69 ∷ rest) ++ drop (at + 1 + gone) (69 ∷ rest)
+cut_letter : (rest : List ℕ) (at discardable : ℕ) → kept_behind (number_front places.Line rest) rest ≡ take at rest ++ drop (at + discardable) rest
+    → kept_of (69 ∷ rest) ≡ take (at + 1) (69 ∷ rest) ++ drop (at + 1 + discardable) (69 ∷ rest)
 unfolding kept_of
-cut_letter rest at gone e =
+cut_letter rest at discardable e =
     let first : suc at ≡ at + 1 = omega arith in
-    let second : suc (at + gone) ≡ at + 1 + gone = omega arith in
+    let second : suc (at + discardable) ≡ at + 1 + discardable = omega arith in
     subst (λ n. kept_of (69 ∷ rest) ≡ take (at + 1) (69 ∷ rest) ++ drop n (69 ∷ rest)) second
-    (subst (λ n. kept_of (69 ∷ rest) ≡ take n (69 ∷ rest) ++ drop (suc (at + gone)) (69 ∷ rest)) first (ap (λ l. 69 ∷ l) e))
+    (subst (λ n. kept_of (69 ∷ rest) ≡ take n (69 ∷ rest) ++ drop (suc (at + discardable)) (69 ∷ rest)) first (ap (λ l. 69 ∷ l) e))
 
-pub cut_error : (bytes : List ℕ) (at gone : ℕ) → 1 ≤ length bytes → get_or bytes 0 0 ≡ 69
+pub cut_error : (bytes : List ℕ) (at discardable : ℕ) → 1 ≤ length bytes → get_or bytes 0 0 ≡ 69
     → kept_behind (number_front places.Line (take (length bytes - 1) (drop 1 bytes))) (take (length bytes - 1) (drop 1 bytes))
-    ≡ take at (take (length bytes - 1) (drop 1 bytes)) ++ drop (at + gone) (take (length bytes - 1) (drop 1 bytes))
-    → kept_of bytes ≡ take (at + 1) bytes ++ drop (at + 1 + gone) bytes
-cut_error [] at gone some is cut = absurd (omega arith)
-cut_error (b ∷ rest) at gone some is cut =
+    ≡ take at (take (length bytes - 1) (drop 1 bytes)) ++ drop (at + discardable) (take (length bytes - 1) (drop 1 bytes))
+    → kept_of bytes ≡ take (at + 1) bytes ++ drop (at + 1 + discardable) bytes
+cut_error [] at discardable some is cut = absurd (omega arith)
+cut_error (b ∷ rest) at discardable some is cut =
     let all : take (length (b ∷ rest) - 1) (drop 1 (b ∷ rest)) ≡ rest = take_rest (b ∷ rest) 1 in
     let here : 69 ≡ b = sym is in
-    subst (λ x. kept_of (x ∷ rest) ≡ take (at + 1) (x ∷ rest) ++ drop (at + 1 + gone) (x ∷ rest)) here
-    (cut_letter rest at gone (subst (λ l. kept_behind (number_front places.Line l) l ≡ take at l ++ drop (at + gone) l) all cut))
+    subst (λ x. kept_of (x ∷ rest) ≡ take (at + 1) (x ∷ rest) ++ drop (at + 1 + discardable) (x ∷ rest)) here
+    (cut_letter rest at discardable (subst (λ l. kept_behind (number_front places.Line l) l ≡ take at l ++ drop (at + discardable) l) all cut))
 
 -- what is kept, by the grammar
 pub text_begun : (bytes number line : List ℕ) → IsErrorText bytes number line → HasNoLineFeed line → kept_of bytes ≡ 69 ∷ (number ++ line_feed ∷ take 255 line)

@@ -7,7 +7,7 @@ use Rattle.rmt_wire.specs.Number.{SpellsNumber, IsLine, line_feed, space}
 use Rattle.rmt_wire.specs.Request.{PlainRequest, SpellsMode, SpellsRequest}
 use Rattle.rmt_wire.specs.declared.limits.TheConstants.{RECORD_LIMIT}
 use Rattle.rmt_wire.specs.Request.PlainRequest.{Open, Close, Write, WriteDropped, Read, Op}
-use Rattle.rmt_wire.specs.Seen.{after, ends_number, is_too_much, number_front}
+use Rattle.rmt_wire.specs.Parsed.{after, ends_number, is_too_much, number_front}
 use Rattle.rmt_wire.specs.RequestFront.{line_front, mode_head, open_head, close_head, write_head, read_head, count_head, op_head, letter_head, head_of, written_at, request_at, front_of}
 use Rattle.rmt_wire.specs.declared.request.head.Head.TheVariants as head
 use Rattle.rmt_wire.specs.declared.number.Place.{Place}
@@ -107,12 +107,12 @@ written_whole number written rest n long short =
     let small : ltb RECORD_LIMIT n ≡ false = grind (arith, nat_tests) in
     rw (enough, small) (ap (λ l. Ok (Some (Write (take n l), length number + 2 + n))) (drop_line 87 number (written ++ rest)) ∙ ap (λ l. Ok (Some (Write l, length number + 2 + n))) (take_at written rest n long))
 
-pub dropped_whole : (number gone rest : List ℕ) (n : ℕ) → length gone ≡ n → RECORD_LIMIT < n
-    → written_at n (length number + 2) (87 ∷ (number ++ line_feed ∷ (gone ++ rest))) ≡ Ok (Some (WriteDropped n, length number + 2 + n))
-dropped_whole number gone rest n long great =
-    let all = length_line 87 number (gone ++ rest) in
-    let parts = length-append gone rest in
-    let enough : ltb (length (87 ∷ (number ++ line_feed ∷ (gone ++ rest)))) (length number + 2 + n) ≡ false = grind (arith, nat_tests) in
+pub dropped_whole : (number discardable rest : List ℕ) (n : ℕ) → length discardable ≡ n → RECORD_LIMIT < n
+    → written_at n (length number + 2) (87 ∷ (number ++ line_feed ∷ (discardable ++ rest))) ≡ Ok (Some (WriteDropped n, length number + 2 + n))
+dropped_whole number discardable rest n long great =
+    let all = length_line 87 number (discardable ++ rest) in
+    let parts = length-append discardable rest in
+    let enough : ltb (length (87 ∷ (number ++ line_feed ∷ (discardable ++ rest)))) (length number + 2 + n) ≡ false = grind (arith, nat_tests) in
     let large : ltb RECORD_LIMIT n ≡ true = grind (arith, nat_tests) in
     rw (enough, large) refl
 
@@ -144,11 +144,11 @@ request_seen text rest (Write written) s =
     ap front_of here ∙ write_seen number (written ++ rest) (length written) s.1 ∙ written_whole number written rest (length written) refl s.2 ∙ ap (λ n. Ok (Some (Write written, n))) long
 request_seen text rest (WriteDropped count) s =
     let number = s.0 in
-    let gone = s.1 in
-    let here : text ++ rest ≡ 87 ∷ (number ++ line_feed ∷ (gone ++ rest)) = ap (λ t. t ++ rest) s.5 ∙ ap (λ t. 87 ∷ t) (append_assoc number (line_feed ∷ gone) rest) in
+    let discardable = s.1 in
+    let here : text ++ rest ≡ 87 ∷ (number ++ line_feed ∷ (discardable ++ rest)) = ap (λ t. t ++ rest) s.5 ∙ ap (λ t. 87 ∷ t) (append_assoc number (line_feed ∷ discardable) rest) in
     let size = s.4 in
-    let long : length number + 2 + count ≡ length text = omega (arith, ap (length {A = ℕ}) s.5, length_line 87 number gone) in
-    ap front_of here ∙ write_seen number (gone ++ rest) count s.2 ∙ dropped_whole number gone rest count s.4 s.3 ∙ ap (λ n. Ok (Some (WriteDropped count, n))) long
+    let long : length number + 2 + count ≡ length text = omega (arith, ap (length {A = ℕ}) s.5, length_line 87 number discardable) in
+    ap front_of here ∙ write_seen number (discardable ++ rest) count s.2 ∙ dropped_whole number discardable rest count s.4 s.3 ∙ ap (λ n. Ok (Some (WriteDropped count, n))) long
 request_seen text rest (Read count) s =
     let number = s.0 in
     let here : text ++ rest ≡ 82 ∷ (number ++ line_feed ∷ rest) = ap (λ t. t ++ rest) s.2 ∙ ap (λ t. 82 ∷ t) (append_assoc number (line_feed ∷ []) rest) in

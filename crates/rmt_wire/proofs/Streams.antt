@@ -3,10 +3,10 @@ use Rattle.std.proofs.Common.{◌≡◌, ℕ, Bool, false, not, is_some, ◌+◌
 use Rattle.std.specs.Io.KnownBytes.{Consumes}
 use Rattle.std.proofs.KnownBytes.{Consumes-nil, Consumes-trans, Consumes-kept}
 use Rattle.rmt_wire.specs.Request.{PlainRequest}
-use Rattle.rmt_wire.specs.RequestParts.{IsOpen, HasNoSpelling}
-use Rattle.rmt_wire.specs.RequestReader.{RequestHeld, Unread, IsGiven, IsNext, told, told_front}
+use Rattle.rmt_wire.specs.RequestParts.{IsRequestPrefix, HasNoSpelling}
+use Rattle.rmt_wire.specs.RequestReader.{RequestHeld, Unread, IsGiven, IsNext, plain_next_result, plain_front_result}
 use Rattle.rmt_wire.specs.RequestFill.{IsFilled, IsNotFilled}
-use Rattle.rmt_wire.specs.RequestStream.{IsReadNext, CountsNext, EndsAs, IsGivenWhole, GivesNext, IsSpelledIfSome, FallsIfSome, HasAnswered, GoesOn, most_left, told_next}
+use Rattle.rmt_wire.specs.RequestStream.{IsReadNext, CountsNext, EndsAs, IsGivenWhole, GivesNext, IsSpelledIfSome, FallsIfSome, HasAnswered, GoesOn, most_left, plain_read_next_result}
 use Rattle.rmt_wire.specs.declared.limits.TheConstants.{READER_LIMIT}
 use Rattle.rmt_wire.specs.declared.request.Request.{Request}
 use Rattle.rmt_wire.specs.declared.fault.WireFault.{WireFault}
@@ -16,11 +16,11 @@ use Rattle.rmt_wire.proofs.Giving.{never_open}
 use Rattle.rmt_wire.proofs.Given.{answered, answer_begun}
 
 -- bytes with a fault are no beginning of a request
-pub no_wait : (old new : RequestHeld) (fault : WireFault) (bytes : List ℕ) → IsNext old (Err fault) new → Unread old bytes → IsOpen bytes → ⊥
-no_wait old new fault bytes n u o = never_open bytes fault (n.continues bytes u).2.0 [] (subst IsOpen (sym (append-nil bytes)) o)
+pub no_wait : (old new : RequestHeld) (fault : WireFault) (bytes : List ℕ) → IsNext old (Err fault) new → Unread old bytes → IsRequestPrefix bytes → ⊥
+no_wait old new fault bytes n u o = never_open bytes fault (n.continues bytes u).2.0 [] (subst IsRequestPrefix (sym (append-nil bytes)) o)
 
 -- nor are those with a request
-pub no_wait_unless_none : (old new : RequestHeld) (found : Option (Request × ℕ)) (b : Bool) (bytes : List ℕ) → IsNext old (told_front (Ok found)) new → is_some found ≡ not b → b ≡ false
+pub no_wait_unless_none : (old new : RequestHeld) (found : Option (Request × ℕ)) (b : Bool) (bytes : List ℕ) → IsNext old (plain_front_result (Ok found)) new → is_some found ≡ not b → b ≡ false
     → Unread old bytes → HasNoSpelling bytes → ⊥
 no_wait_unless_none old new None b bytes n e f u h = absurd (cc)
 no_wait_unless_none old new (Some found) b bytes n e f u h = let g = n.continues bytes u in h g.2.0 g.0 _ g.2.2 g.2.1
@@ -129,8 +129,8 @@ module _ (left mid : Option (List ℕ)) (reads reads' : ℕ) (old now : RequestH
     pub failed : (fault : StreamFault) → ((rest : List ℕ) → Unread now rest → EndsAs (Err fault) left' rest) → IsReadNext left left' reads reads'' old (Err fault) new
     failed fault ends = is_read_next _ _ _ _ _ _ h.came _ first (Consumes-kept _ _ _ h.came h.consumed n.0) (given_whole (Err fault) ends) tt tt
 
-  pub next_given : (given : Option Request) (new : RequestHeld) → ((rest : List ℕ) → Unread now rest → ¬ (IsOpen rest × HasNoSpelling rest)) → IsNext now (told (Ok given)) new
-      → IsReadNext left mid reads reads' old (told_next (Ok given)) new
+  pub next_given : (given : Option Request) (new : RequestHeld) → ((rest : List ℕ) → Unread now rest → ¬ (IsRequestPrefix rest × HasNoSpelling rest)) → IsNext now (plain_next_result (Ok given)) new
+      → IsReadNext left mid reads reads' old (plain_read_next_result (Ok given)) new
   next_given None new enough n =
       let rest = unread_now in
       let open_rest = n.continues rest.0 rest.1 in
@@ -142,7 +142,7 @@ module _ (left mid : Option (List ℕ)) (reads reads' : ℕ) (old now : RequestH
       let before = h.falls in
       is_read_next _ _ _ _ _ _ h.came _ first h.consumed (λ pushed requests g. n.gives_on (pushed ++ h.came) requests (h.given pushed requests g)) (given.2.0, given.2.1) (omega arith)
 
-  pub next_broken : (fault : WireFault) (new : RequestHeld) → IsNext now (told (Err fault)) new → IsReadNext left mid reads reads' old (Err (Broken fault)) new
+  pub next_broken : (fault : WireFault) (new : RequestHeld) → IsNext now (plain_next_result (Err fault)) new → IsReadNext left mid reads reads' old (Err (Broken fault)) new
   next_broken fault new n = is_read_next _ _ _ _ _ _ h.came _ first h.consumed
       (λ pushed requests g.
       let w = n.gives_on (pushed ++ h.came) requests (h.given pushed requests g) in
@@ -150,6 +150,6 @@ module _ (left mid : Option (List ℕ)) (reads reads' : ℕ) (old now : RequestH
       tt tt
 
 -- what is no failed read counts no failure
-pub counts_none : (given : Option Request) (failures failures' : ℕ) → failures' ≡ failures → CountsNext (told_next (Ok given)) failures failures'
+pub counts_none : (given : Option Request) (failures failures' : ℕ) → failures' ≡ failures → CountsNext (plain_read_next_result (Ok given)) failures failures'
 counts_none None failures failures' same = same
 counts_none (Some request) failures failures' same = same

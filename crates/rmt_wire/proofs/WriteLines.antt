@@ -3,7 +3,7 @@ use Rattle.std.proofs.Common.{◌≡◌, ℕ, ◌+◌, ◌<◌, ◌≤◌, Bool,
 use Rattle.std.proofs.lemmas.Bool.Decides.{nat_tests}
 use Rattle.std.specs.Prelude.{IfSome}
 use Rattle.rmt_wire.specs.Number.{SpellsNumber, line_feed}
-use Rattle.rmt_wire.specs.Seen.{Seen, number_front}
+use Rattle.rmt_wire.specs.Parsed.{Parsed, number_front}
 use Rattle.rmt_wire.specs.RequestFront.{front_of, written_at}
 use Rattle.rmt_wire.specs.RequestReader.{dropped_if_long, dropped_line}
 use Rattle.rmt_wire.specs.RequestKept.{line_if_seen, write_line, if_dropped, IsKnown}
@@ -22,7 +22,7 @@ record IsWriteLine (bytes : List ℕ) (line : ℕ × ℕ) : Type 0 where
   split : bytes ≡ 87 ∷ (number ++ line_feed ∷ rest)
   long : line.0 ≡ length number + 2
 
-seen_write : (bytes : List ℕ) (seen : Seen (ℕ × ℕ)) (line : ℕ × ℕ) → NumberView places.Line 0 0 bytes seen → line_if_seen seen ≡ Some line → IsWriteLine (87 ∷ bytes) line
+seen_write : (bytes : List ℕ) (seen : Parsed (ℕ × ℕ)) (line : ℕ × ℕ) → NumberView places.Line 0 0 bytes seen → line_if_seen seen ≡ Some line → IsWriteLine (87 ∷ bytes) line
 seen_write bytes (Ok None) line v e = absurd (cc)
 seen_write bytes (Ok (Some p)) line v e =
     let same : (p.1 + 2, p.0) ≡ line = some_same (p.1 + 2, p.0) line e in
@@ -90,7 +90,7 @@ chosen_none : {A B : Type 0} (f : Option A → Option B) (b : Bool) (x : Option 
 chosen_none f true x e = refl
 chosen_none f false x e = e
 
-long_seen : (seen : Seen (ℕ × ℕ)) → dropped_if_long seen ≡ if_dropped (line_if_seen seen)
+long_seen : (seen : Parsed (ℕ × ℕ)) → dropped_if_long seen ≡ if_dropped (line_if_seen seen)
 long_seen (Ok None) = refl
 long_seen (Ok (Some p)) = refl
 long_seen (Err fault) = refl

@@ -1,9 +1,9 @@
 -- In reading order. The grammar: Number, Request, Reply, RequestParts, ReplyParts. Reading and
--- writing it: Counted, Lent, Seen, RequestReader, RequestFill, RequestStream, ReplyFront,
+-- writing it: Counted, Lent, Parsed, RequestReader, RequestFill, RequestStream, ReplyFront,
 -- ReplyReader, ReplyWriter. Inside the code: RequestFront, RequestKept. For programs: Print,
 -- Argument.
 pub mod Number
-pub mod Seen
+pub mod Parsed
 pub mod Request
 pub mod Reply
 pub mod Lent

@@ -2,7 +2,7 @@
 -- the same by whole texts. Public contracts cite it.
 use Rattle.std.specs.Prelude.{ℕ, suc, ◌+◌, ◌==◌, if◌then◌else◌, nat_lt, min, List, [], ◌∷◌, ◌++◌, length, take, drop, Some, None, Ok, Err}
 use Rattle.rmt_wire.specs.Number.{line_feed}
-use Rattle.rmt_wire.specs.Seen.{Seen, after, number_front}
+use Rattle.rmt_wire.specs.Parsed.{Parsed, after, number_front}
 use Rattle.rmt_wire.specs.Reply.{PlainReply, Wanted}
 use Rattle.rmt_wire.specs.Reply.PlainReply.{Done, Data, Error}
 use Rattle.rmt_wire.specs.Reply.Wanted.{Number, DataUpTo}
@@ -21,7 +21,7 @@ kept_text text = take (min 255 (text_len text)) text ++ drop (text_len text) tex
 
 -- the error with this number and its length, once its text has a line feed; its first line has
 -- `len` bytes
-abbrev pub error_at : ℕ → ℕ → List ℕ → Seen (PlainReply × ℕ)
+abbrev pub error_at : ℕ → ℕ → List ℕ → Parsed (PlainReply × ℕ)
 error_at number len text =
     if nat_lt (text_len text) (length text)
     then Ok (Some (Error number (take (min 255 (text_len text)) text), len + text_len text + 1))
@@ -29,20 +29,20 @@ error_at number len text =
 
 -- the data and the length of the reply, once `count` bytes are there; the reply's line has `len`
 -- bytes
-abbrev pub data_at : ℕ → ℕ → List ℕ → Seen (PlainReply × ℕ)
+abbrev pub data_at : ℕ → ℕ → List ℕ → Parsed (PlainReply × ℕ)
 data_at count len bytes = if nat_lt (length bytes) count then Ok None else Ok (Some (Data (take count bytes), len + count))
 
 -- the reply of the wanted kind, and its length, read from the bytes after its `A`
-unfoldable pub done_front : Wanted → List ℕ → Seen (PlainReply × ℕ)
+unfoldable pub done_front : Wanted → List ℕ → Parsed (PlainReply × ℕ)
 done_front Number bytes = after (number_front places.Line bytes) (λ n. Ok (Some (Done n.0, n.1 + 2)))
 done_front (DataUpTo most) bytes = after (number_front (places.Data most) bytes) (λ n. data_at n.0 (n.1 + 2) (drop (n.1 + 1) bytes))
 
 -- the error, and its length, read from the bytes after its `E`
-unfoldable pub error_front : List ℕ → Seen (PlainReply × ℕ)
+unfoldable pub error_front : List ℕ → Parsed (PlainReply × ℕ)
 error_front bytes = after (number_front places.Line bytes) (λ n. error_at n.0 (n.1 + 2) (drop (n.1 + 1) bytes))
 
 -- the reply that the bytes begin with, and its length
-unfoldable pub reply_front : Wanted → List ℕ → Seen (PlainReply × ℕ)
+unfoldable pub reply_front : Wanted → List ℕ → Parsed (PlainReply × ℕ)
 reply_front wanted [] = Ok None
 reply_front wanted (letter ∷ bytes) =
     if letter == 65 then done_front wanted bytes
@@ -51,7 +51,7 @@ reply_front wanted (letter ∷ bytes) =
 
 -- what is kept of the bytes after `E`: the surplus of the text is dropped once the number is
 -- complete
-abbrev pub kept_behind : Seen (ℕ × ℕ) → List ℕ → List ℕ
+abbrev pub kept_behind : Parsed (ℕ × ℕ) → List ℕ → List ℕ
 kept_behind (Ok (Some n)) bytes = take (n.1 + 1) bytes ++ kept_text (drop (n.1 + 1) bytes)
 kept_behind (Ok None) bytes = bytes
 kept_behind (Err fault) bytes = bytes

@@ -8,8 +8,8 @@ use Rattle.rmt_wire.specs.declared.fault.WireFault.{WireFault}
 use Rattle.rmt_wire.specs.declared.fault.WireFault.TheVariants.{UnknownCommand, BadNumber, LineTooLong, NotAReply, TooMuchData}
 
 -- more bytes can follow that make a reply of the wanted kind, or an error
-abbrev pub ReplyIsOpen : Wanted → List ℕ → Type 0
-ReplyIsOpen wanted bytes = (more : List ℕ) × (reply : PlainReply) × SpellsReply (bytes ++ more) reply wanted
+abbrev pub IsReplyPrefix : Wanted → List ℕ → Type 0
+IsReplyPrefix wanted bytes = (more : List ℕ) × (reply : PlainReply) × SpellsReply (bytes ++ more) reply wanted
 
 -- no beginning of the bytes is a reply of the wanted kind, or an error
 abbrev pub ReplyHasNoSpelling : Wanted → List ℕ → Type 0
@@ -41,21 +41,21 @@ pub record ReplyHasFault (wanted : Wanted) (bytes : List ℕ) (fault : WireFault
   pub byte : ℕ
   pub later : List ℕ
   pub split : bytes ≡ seen ++ byte ∷ later
-  pub open_before : ReplyIsOpen wanted seen
-  pub hopeless : ¬ ReplyIsOpen wanted (seen ++ byte ∷ [])
+  pub open_before : IsReplyPrefix wanted seen
+  pub hopeless : ¬ IsReplyPrefix wanted (seen ++ byte ∷ [])
   pub cause : ReplyIsCause wanted seen byte fault
 
 -- What a reader returns for the bytes that came since it waits for this, and the bytes that it
 -- leaves. It returns the reply, or None if the bytes are a beginning of one. Otherwise it fails
 -- with the fault of the first byte that rules out every reply. If no reply is waited for, any byte
 -- is `TooMuchData`.
-abbrev pub ReplyGives : Option Wanted → List ℕ → Result (Option PlainReply) WireFault → List ℕ → Type 0
-ReplyGives (Some wanted) bytes (Ok (Some reply)) rest = (text : List ℕ) × SpellsReply text reply wanted × (bytes ≡ text ++ rest)
-ReplyGives (Some wanted) bytes (Ok None) rest = ReplyIsOpen wanted bytes × ReplyHasNoSpelling wanted bytes × (rest ≡ bytes)
-ReplyGives (Some wanted) bytes (Err fault) rest = ReplyHasFault wanted bytes fault × ReplyHasNoSpelling wanted bytes × (rest ≡ bytes)
-ReplyGives None bytes (Ok (Some reply)) rest = ⊥
-ReplyGives None bytes (Ok None) rest = (bytes ≡ []) × (rest ≡ bytes)
-ReplyGives None bytes (Err fault) rest = (bytes ≢ []) × (fault ≡ TooMuchData) × (rest ≡ bytes)
+abbrev pub ReplyParsesAs : Option Wanted → List ℕ → Result (Option PlainReply) WireFault → List ℕ → Type 0
+ReplyParsesAs (Some wanted) bytes (Ok (Some reply)) rest = (text : List ℕ) × SpellsReply text reply wanted × (bytes ≡ text ++ rest)
+ReplyParsesAs (Some wanted) bytes (Ok None) rest = IsReplyPrefix wanted bytes × ReplyHasNoSpelling wanted bytes × (rest ≡ bytes)
+ReplyParsesAs (Some wanted) bytes (Err fault) rest = ReplyHasFault wanted bytes fault × ReplyHasNoSpelling wanted bytes × (rest ≡ bytes)
+ReplyParsesAs None bytes (Ok (Some reply)) rest = ⊥
+ReplyParsesAs None bytes (Ok None) rest = (bytes ≡ []) × (rest ≡ bytes)
+ReplyParsesAs None bytes (Err fault) rest = (bytes ≢ []) × (fault ≡ TooMuchData) × (rest ≡ bytes)
 
 -- what is waited for after this result: nothing, once a reply was returned
 abbrev pub wanted_after : Option Wanted → Result (Option PlainReply) WireFault → Option Wanted
@@ -67,4 +67,4 @@ wanted_after wanted (Err fault) = wanted
 abbrev pub ReplyIsDecided : Option Wanted → List ℕ → Type 0
 ReplyIsDecided wanted bytes =
     (rest other : List ℕ) (answer another : Result (Option PlainReply) WireFault) →
-    ReplyGives wanted bytes answer rest → ReplyGives wanted bytes another other → (answer ≡ another) × (rest ≡ other)
+    ReplyParsesAs wanted bytes answer rest → ReplyParsesAs wanted bytes another other → (answer ≡ another) × (rest ≡ other)

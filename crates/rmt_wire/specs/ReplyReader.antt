@@ -5,7 +5,7 @@ use Rattle.rmt_wire.specs.declared.limits.TheConstants.{READER_LIMIT}
 use Rattle.rmt_wire.specs.declared.limits.TheConstants.{RECORD_LIMIT}
 use Rattle.rmt_wire.specs.Reply.{PlainReply, Wanted}
 use Rattle.rmt_wire.specs.Reply.Wanted.{Number, DataUpTo}
-use Rattle.rmt_wire.specs.ReplyParts.{ReplyGives, wanted_after}
+use Rattle.rmt_wire.specs.ReplyParts.{ReplyParsesAs, wanted_after}
 use Rattle.rmt_wire.specs.ReplyFront.{kept_of}
 use Rattle.rmt_wire.specs.Lent.{plain_reply}
 use Rattle.rmt_wire.specs.declared.reply.Reply.{Reply}
@@ -46,10 +46,10 @@ abbrev pub reply_taken_of : Option Wanted → List ℕ → ℕ
 reply_taken_of wanted bytes = length (kept_while wanted bytes)
 
 -- the result of `next`, with the plain value of its reply
-abbrev pub reply_told : Result (Option Reply) WireFault → Result (Option PlainReply) WireFault
-reply_told (Ok None) = Ok None
-reply_told (Ok (Some reply)) = Ok (Some (plain_reply reply))
-reply_told (Err fault) = Err fault
+abbrev pub plain_reply_result : Result (Option Reply) WireFault → Result (Option PlainReply) WireFault
+plain_reply_result (Ok None) = Ok None
+plain_reply_result (Ok (Some reply)) = Ok (Some (plain_reply reply))
+plain_reply_result (Err fault) = Err fault
 
 -- From `old` the reader returns `answer`, and then it is `new`. From the bytes that were pushed and
 -- not yet returned, it returns what is waited for and holds the rest. After a reply it waits for
@@ -57,7 +57,7 @@ reply_told (Err fault) = Err fault
 abbrev pub ReplyContinues : ReplyHeld → Result (Option PlainReply) WireFault → ReplyHeld → Type 0
 ReplyContinues old answer new =
     (wanted : Option Wanted) (bytes : List ℕ) → ReplyUnread old wanted bytes
-    → (rest : List ℕ) × ReplyUnread new (wanted_after wanted answer) rest × ReplyGives wanted bytes answer rest
+    → (rest : List ℕ) × ReplyUnread new (wanted_after wanted answer) rest × ReplyParsesAs wanted bytes answer rest
 
 -- after None there is room for one byte or more
 abbrev pub ReplyLeavesRoom : Result (Option PlainReply) WireFault → ReplyHeld → Type 0
@@ -82,14 +82,14 @@ pub record ReplyIsNext (old : ReplyHeld) (answer : Result (Option PlainReply) Wi
 abbrev pub ReplyStaysFaulty : ReplyHeld → Result (Option PlainReply) WireFault → Type 0
 ReplyStaysFaulty old (Err fault) =
     (wanted : Option Wanted) (bytes more : List ℕ) → ReplyUnread old wanted bytes
-    → ReplyGives wanted (bytes ++ more) (Err fault) (bytes ++ more)
+    → ReplyParsesAs wanted (bytes ++ more) (Err fault) (bytes ++ more)
 ReplyStaysFaulty old (Ok answer) = Unit {0}
 
 -- the same for a reply that was found at the front with its length
-abbrev pub reply_told_front : Result (Option (Reply × ℕ)) WireFault → Result (Option PlainReply) WireFault
-reply_told_front (Ok None) = Ok None
-reply_told_front (Ok (Some found)) = Ok (Some (plain_reply found.0))
-reply_told_front (Err fault) = Err fault
+abbrev pub plain_reply_front_result : Result (Option (Reply × ℕ)) WireFault → Result (Option PlainReply) WireFault
+plain_reply_front_result (Ok None) = Ok None
+plain_reply_front_result (Ok (Some found)) = Ok (Some (plain_reply found.0))
+plain_reply_front_result (Err fault) = Err fault
 
 -- the state of the reader once the reply that was found, if any, was returned
 abbrev pub reply_held_after : Result (Option (Reply × ℕ)) WireFault → ReplyHeld → ReplyHeld

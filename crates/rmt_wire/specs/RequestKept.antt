@@ -3,12 +3,12 @@ use Rattle.std.specs.Prelude.{◌≡◌, ◌<◌, ◌+◌, ◌==◌, if◌then�
 use Rattle.rmt_wire.specs.declared.limits.TheConstants.{READER_LIMIT}
 use Rattle.rmt_wire.specs.declared.limits.TheConstants.{RECORD_LIMIT}
 use Rattle.rmt_wire.specs.declared.number.Place.TheVariants as places
-use Rattle.rmt_wire.specs.Seen.{Seen, number_front}
-use Rattle.rmt_wire.specs.RequestReader.{RequestHeld, dropped_line, IsDropped, gone_at, Unread, taken_of}
+use Rattle.rmt_wire.specs.Parsed.{Parsed, number_front}
+use Rattle.rmt_wire.specs.RequestReader.{RequestHeld, dropped_line, IsDropped, discardable_at, Unread, taken_of}
 
 -- the length of a write's line with its letter and line feed, and its count, if the line is
 -- complete
-abbrev pub line_if_seen : Seen (ℕ × ℕ) → Option (ℕ × ℕ)
+abbrev pub line_if_seen : Parsed (ℕ × ℕ) → Option (ℕ × ℕ)
 line_if_seen (Ok (Some count)) = Some (count.1 + 2, count.0)
 line_if_seen (Ok None) = None
 line_if_seen (Err fault) = None
@@ -30,14 +30,14 @@ IsKnown (Some line) bytes = write_line bytes ≡ Some line
 
 -- how many of the bytes kept are data of a dropped write that can be discarded
 abbrev pub idle : RequestHeld → ℕ
-idle h = gone_at (dropped_line h.kept) (length h.kept) h.dropped
+idle h = discardable_at (dropped_line h.kept) (length h.kept) h.dropped
 
 -- if bytes can be discarded, the reader is not full, so that there is room before they are
 abbrev pub HasRoom : RequestHeld → Type 0
 HasRoom h = 0 < idle h → length h.kept < READER_LIMIT
 
 -- all bytes that could be discarded were, and the unread bytes are the same
-pub record HasLetGo (old new : RequestHeld) : Type 0 where
+pub record HasDiscarded (old new : RequestHeld) : Type 0 where
   pub at_line : IsDropped (dropped_line new.kept) new.dropped
   pub none_idle : idle new ≡ 0
   pub unread : (bytes : List ℕ) → Unread old bytes → Unread new bytes

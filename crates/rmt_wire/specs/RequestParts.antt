@@ -9,8 +9,8 @@ use Rattle.rmt_wire.specs.declared.fault.WireFault.{WireFault}
 use Rattle.rmt_wire.specs.declared.fault.WireFault.TheVariants.{UnknownCommand, BadNumber, LineTooLong, NotAReply, TooMuchData}
 
 -- more bytes can follow that make a request
-abbrev pub IsOpen : List ℕ → Type 0
-IsOpen bytes = (more : List ℕ) × (request : PlainRequest) × SpellsRequest (bytes ++ more) request
+abbrev pub IsRequestPrefix : List ℕ → Type 0
+IsRequestPrefix bytes = (more : List ℕ) × (request : PlainRequest) × SpellsRequest (bytes ++ more) request
 
 -- no beginning of the bytes spells a request
 abbrev pub HasNoSpelling : List ℕ → Type 0
@@ -57,17 +57,17 @@ pub record HasFault (bytes : List ℕ) (fault : WireFault) : Type 0 where
   pub byte : ℕ
   pub later : List ℕ
   pub split : bytes ≡ seen ++ byte ∷ later
-  pub open_before : IsOpen seen
-  pub hopeless : ¬ IsOpen (seen ++ byte ∷ [])
+  pub open_before : IsRequestPrefix seen
+  pub hopeless : ¬ IsRequestPrefix (seen ++ byte ∷ [])
   pub cause : IsCause seen byte fault
 
 -- What a reader returns for these bytes, and the bytes that it leaves. It returns the first
 -- request, or None if the bytes are a beginning of one. Otherwise it fails with the fault of the
 -- first byte that rules out every request.
-abbrev pub Gives : List ℕ → Result (Option PlainRequest) WireFault → List ℕ → Type 0
-Gives bytes (Ok (Some request)) rest = (text : List ℕ) × SpellsRequest text request × (bytes ≡ text ++ rest)
-Gives bytes (Ok None) rest = IsOpen bytes × HasNoSpelling bytes × (rest ≡ bytes)
-Gives bytes (Err fault) rest = HasFault bytes fault × HasNoSpelling bytes × (rest ≡ bytes)
+abbrev pub ParsesAs : List ℕ → Result (Option PlainRequest) WireFault → List ℕ → Type 0
+ParsesAs bytes (Ok (Some request)) rest = (text : List ℕ) × SpellsRequest text request × (bytes ≡ text ++ rest)
+ParsesAs bytes (Ok None) rest = IsRequestPrefix bytes × HasNoSpelling bytes × (rest ≡ bytes)
+ParsesAs bytes (Err fault) rest = HasFault bytes fault × HasNoSpelling bytes × (rest ≡ bytes)
 
 -- the bytes begin with a line of `len` bytes, line feed included; it is that of a write of `count`
 -- bytes, too many to keep

@@ -3,15 +3,15 @@ use Rattle.std.specs.Prelude.{◌≡◌, ◌≤◌, ℕ, ◌+◌, ◌-◌, ◌==
 use Rattle.rmt_wire.specs.Request.{PlainRequest}
 use Rattle.rmt_wire.specs.declared.limits.TheConstants.{READER_LIMIT}
 use Rattle.rmt_wire.specs.declared.limits.TheConstants.{RECORD_LIMIT}
-use Rattle.rmt_wire.specs.RequestParts.{Gives, IsOpen, HasNoSpelling, HasFault, Spelled}
-use Rattle.rmt_wire.specs.Seen.{Seen, number_front}
+use Rattle.rmt_wire.specs.RequestParts.{ParsesAs, IsRequestPrefix, HasNoSpelling, HasFault, Spelled}
+use Rattle.rmt_wire.specs.Parsed.{Parsed, number_front}
 use Rattle.rmt_wire.specs.Lent.{plain_request}
 use Rattle.rmt_wire.specs.declared.request.Request.{Request}
 use Rattle.rmt_wire.specs.declared.fault.WireFault.{WireFault}
 use Rattle.rmt_wire.specs.declared.number.Place.TheVariants as places
 
 -- the length of a write's line and its count, if the write is to be dropped
-abbrev pub dropped_if_long : Seen (ℕ × ℕ) → Option (ℕ × ℕ)
+abbrev pub dropped_if_long : Parsed (ℕ × ℕ) → Option (ℕ × ℕ)
 dropped_if_long (Ok (Some count)) = if nat_lt RECORD_LIMIT count.0 then Some (count.1 + 2, count.0) else None
 dropped_if_long (Ok None) = None
 dropped_if_long (Err fault) = None
@@ -41,13 +41,13 @@ IsDropped (Some line) dropped = dropped ≤ line.1
 abbrev pub UnreadAt : Option (ℕ × ℕ) → RequestHeld → List ℕ → Type 0
 UnreadAt None h bytes = (h.dropped ≡ 0) × (bytes ≡ h.kept)
 UnreadAt (Some line) h bytes =
-    (gone : List ℕ) × (length gone ≡ h.dropped) × (h.dropped ≤ line.1)
-    × (bytes ≡ take line.0 h.kept ++ (gone ++ drop line.0 h.kept))
+    (discardable : List ℕ) × (length discardable ≡ h.dropped) × (h.dropped ≤ line.1)
+    × (bytes ≡ take line.0 h.kept ++ (discardable ++ drop line.0 h.kept))
 
 -- how many of the bytes kept are data that can be discarded
-abbrev pub gone_at : Option (ℕ × ℕ) → ℕ → ℕ → ℕ
-gone_at None len dropped = 0
-gone_at (Some line) len dropped = min (len - line.0) (line.1 - dropped)
+abbrev pub discardable_at : Option (ℕ × ℕ) → ℕ → ℕ → ℕ
+discardable_at None len dropped = 0
+discardable_at (Some line) len dropped = min (len - line.0) (line.1 - dropped)
 
 -- these bytes were pushed and not yet returned
 abbrev pub Unread : RequestHeld → List ℕ → Type 0
@@ -63,15 +63,15 @@ abbrev pub taken_of : List ℕ → ℕ
 taken_of bytes = taken_at (dropped_line bytes) bytes
 
 -- the result of `next`, with the plain value of its request
-abbrev pub told : Result (Option Request) WireFault → Result (Option PlainRequest) WireFault
-told (Ok None) = Ok None
-told (Ok (Some request)) = Ok (Some (plain_request request))
-told (Err fault) = Err fault
+abbrev pub plain_next_result : Result (Option Request) WireFault → Result (Option PlainRequest) WireFault
+plain_next_result (Ok None) = Ok None
+plain_next_result (Ok (Some request)) = Ok (Some (plain_request request))
+plain_next_result (Err fault) = Err fault
 
 -- From `old` the reader returns `answer`, and then it is `new`. From the bytes that were pushed and
 -- not yet returned, it returns what they begin with and holds the rest.
 abbrev pub Continues : RequestHeld → Result (Option PlainRequest) WireFault → RequestHeld → Type 0
-Continues old answer new = (bytes : List ℕ) → Unread old bytes → (rest : List ℕ) × Unread new rest × Gives bytes answer rest
+Continues old answer new = (bytes : List ℕ) → Unread old bytes → (rest : List ℕ) × Unread new rest × ParsesAs bytes answer rest
 
 -- after None there is room for one byte or more
 abbrev pub LeavesRoom : Result (Option PlainRequest) WireFault → RequestHeld → Type 0
@@ -100,7 +100,7 @@ IsGiven held pushed requests = (rest : List ℕ) × Unread held rest × Spelled 
 abbrev pub GivesMore : Result (Option PlainRequest) WireFault → RequestHeld → List ℕ → List PlainRequest → Type 0
 GivesMore (Ok (Some request)) new pushed requests = IsGiven new pushed (requests ++ request ∷ [])
 GivesMore (Ok None) new pushed requests =
-    (rest : List ℕ) × Unread new rest × Spelled pushed requests rest × IsOpen rest × HasNoSpelling rest
+    (rest : List ℕ) × Unread new rest × Spelled pushed requests rest × IsRequestPrefix rest × HasNoSpelling rest
 GivesMore (Err fault) new pushed requests =
     (rest : List ℕ) × Unread new rest × Spelled pushed requests rest × HasFault rest fault × HasNoSpelling rest
 
@@ -119,14 +119,14 @@ pub record IsNext (old : RequestHeld) (answer : Result (Option PlainRequest) Wir
 
 -- once a fault was returned, it is returned at each later call, whatever is pushed
 abbrev pub StaysFaulty : RequestHeld → Result (Option PlainRequest) WireFault → Type 0
-StaysFaulty old (Err fault) = (bytes more : List ℕ) → Unread old bytes → Gives (bytes ++ more) (Err fault) (bytes ++ more)
+StaysFaulty old (Err fault) = (bytes more : List ℕ) → Unread old bytes → ParsesAs (bytes ++ more) (Err fault) (bytes ++ more)
 StaysFaulty old (Ok answer) = Unit {0}
 
 -- the same for a request that was found at the front with its length
-abbrev pub told_front : Result (Option (Request × ℕ)) WireFault → Result (Option PlainRequest) WireFault
-told_front (Ok None) = Ok None
-told_front (Ok (Some found)) = Ok (Some (plain_request found.0))
-told_front (Err fault) = Err fault
+abbrev pub plain_front_result : Result (Option (Request × ℕ)) WireFault → Result (Option PlainRequest) WireFault
+plain_front_result (Ok None) = Ok None
+plain_front_result (Ok (Some found)) = Ok (Some (plain_request found.0))
+plain_front_result (Err fault) = Err fault
 
 -- the state of the reader once the request that was found, if any, was returned
 abbrev pub held_after : Result (Option (Request × ℕ)) WireFault → RequestHeld → RequestHeld

@@ -5,7 +5,7 @@ use Rattle.std.specs.List.{flat_map}
 use Rattle.std.specs.Io.KnownBytes.{Appends, Consumes, IsAtEnd}
 use Rattle.rmt_wire.specs.Counted.{raised}
 use Rattle.rmt_wire.specs.Request.{PlainRequest, SpellsRequest}
-use Rattle.rmt_wire.specs.RequestParts.{IsOpen, HasNoSpelling, HasFault, Spelled}
+use Rattle.rmt_wire.specs.RequestParts.{IsRequestPrefix, HasNoSpelling, HasFault, Spelled}
 use Rattle.rmt_wire.specs.RequestReader.{RequestHeld, Unread, IsGiven}
 use Rattle.rmt_wire.specs.ReplyWriter.{AppendsBeginning}
 use Rattle.rmt_wire.specs.Lent.{plain_request}
@@ -15,19 +15,19 @@ use Rattle.rmt_wire.specs.declared.request.reader.stream.StreamFault.{StreamFaul
 use Rattle.rmt_wire.specs.declared.request.reader.stream.StreamFault.TheVariants.{Truncated, Broken, Input}
 
 -- the result of `read_next`, with the plain value of its request
-abbrev pub told_next : Result (Option Request) StreamFault → Result (Option PlainRequest) StreamFault
-told_next (Ok None) = Ok None
-told_next (Ok (Some request)) = Ok (Some (plain_request request))
-told_next (Err fault) = Err fault
+abbrev pub plain_read_next_result : Result (Option Request) StreamFault → Result (Option PlainRequest) StreamFault
+plain_read_next_result (Ok None) = Ok None
+plain_read_next_result (Ok (Some request)) = Ok (Some (plain_request request))
+plain_read_next_result (Err fault) = Err fault
 
 -- Why a stream has no further request, by the rest after the last complete one. At the end of the
 -- stream the rest is empty, or with `Truncated` a beginning of a request. With `Broken` it is no
 -- request. With `Input`, after a failed read, it is a beginning of a request, perhaps empty.
 abbrev pub EndsAs : Result Unit StreamFault → Option (List ℕ) → List ℕ → Type 0
 EndsAs (Ok done) left rest = (rest ≡ []) × IsAtEnd left
-EndsAs (Err Truncated) left rest = (rest ≢ []) × IsOpen rest × HasNoSpelling rest × IsAtEnd left
+EndsAs (Err Truncated) left rest = (rest ≢ []) × IsRequestPrefix rest × HasNoSpelling rest × IsAtEnd left
 EndsAs (Err (Broken fault)) left rest = HasFault rest fault × HasNoSpelling rest
-EndsAs (Err Input) left rest = IsOpen rest × HasNoSpelling rest
+EndsAs (Err Input) left rest = IsRequestPrefix rest × HasNoSpelling rest
 
 -- of all bytes pushed these requests were returned, and the stream has no further one
 abbrev pub IsGivenWhole : Result Unit StreamFault → Option (List ℕ) → RequestHeld → List ℕ → List PlainRequest → Type 0

@@ -4,10 +4,10 @@ ghost use Rattle.std.specs.Prelude.{◌≡◌, ◌⊎◌, ◌↔◌, ◌≤◌, 
 ghost use Rattle.rmt_wire.specs.Number.{HasNoLineFeed, line_feed};
 ghost use Rattle.rmt_wire.specs.Request.{PlainRequest};
 ghost use Rattle.rmt_wire.specs.Reply.{PlainReply, Wanted, AnswersTo, ReplyHasSpelling, SpellsReply, data_length, reply_text};
-ghost use Rattle.rmt_wire.specs.RequestParts.{IsOpen, HasFault, Parts, Gives, IsDroppedLine};
+ghost use Rattle.rmt_wire.specs.RequestParts.{IsRequestPrefix, HasFault, Parts, ParsesAs, IsDroppedLine};
 ghost use Rattle.rmt_wire.specs.RequestReader.{dropped_line};
 ghost use Rattle.rmt_wire.specs.ReplyFront.{kept_of};
-ghost use Rattle.rmt_wire.specs.ReplyParts.{ReplyGives, ReplyIsDecided};
+ghost use Rattle.rmt_wire.specs.ReplyParts.{ReplyParsesAs, ReplyIsDecided};
 ghost use Rattle.rmt_wire.specs.ReplyReader.{IsErrorText, IsWithin, error_bytes};
 ghost use Rattle.rmt_wire.specs.declared.fault.WireFault.{WireFault};
 
@@ -21,9 +21,9 @@ pub fn one_reading()
     ensures parts { (bytes rest other : List ℕ) (requests others : List PlainRequest) →
         Parts bytes requests rest → Parts bytes others other → (requests ≡ others) × (rest ≡ other) }
     ensures some_parts { (bytes : List ℕ) → (requests : List PlainRequest) × (rest : List ℕ) × Parts bytes requests rest
-        × (IsOpen rest ⊎ ((fault : WireFault) × HasFault rest fault)) }
+        × (IsRequestPrefix rest ⊎ ((fault : WireFault) × HasFault rest fault)) }
     ensures answers { (bytes rest other : List ℕ) (answer another : Result (Option PlainRequest) WireFault) →
-        Gives bytes answer rest → Gives bytes another other → (answer ≡ another) × (rest ≡ other) }
+        ParsesAs bytes answer rest → ParsesAs bytes another other → (answer ≡ another) × (rest ≡ other) }
 {}
 
 /// `dropped_line` finds a write to be dropped if and only if the bytes begin with `W`, a number
@@ -51,7 +51,7 @@ pub fn one_reply()
 pub fn one_reply_reading()
     ensures answers { (wanted : Option Wanted) (bytes : List ℕ) → ReplyIsDecided wanted bytes }
     ensures some_answer { (wanted : Option Wanted) (bytes : List ℕ) →
-        (answer : Result (Option PlainReply) WireFault) × (rest : List ℕ) × ReplyGives wanted bytes answer rest }
+        (answer : Result (Option PlainReply) WireFault) × (rest : List ℕ) × ReplyParsesAs wanted bytes answer rest }
 {}
 
 /// A reply is written as at most `READER_LIMIT` bytes if its data, if any, are at most

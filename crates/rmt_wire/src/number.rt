@@ -1,7 +1,7 @@
 //! Reads the number that bytes begin with.
 
 ghost use Rattle.std.specs.Prelude.{◌≡◌, ◌<◌, length, IfOk, IfSome};
-ghost use Rattle.rmt_wire.specs.Seen as spec;
+ghost use Rattle.rmt_wire.specs.Parsed as spec;
 
 use crate::fault::WireFault;
 use crate::limits::NUMBER_LIMIT;

@@ -5,7 +5,7 @@ ghost use Rattle.std.specs.List.{list_any, All};
 ghost use Rattle.std.specs.Str.{bytes_eq};
 ghost use Rattle.rmtd_args.specs.Drive.{drives_given, plain_drive, split_of, HaveOwnDevices, IsDrive, KeepsDriveRules};
 
-use crate::wrong::Wrong;
+use crate::broken_rule::BrokenRule;
 use rmt_wire::argument::is_device;
 use std::alloc::{AllocError, Global};
 
@@ -59,7 +59,10 @@ fn is_drive(argument: &str) -> bool
 /// Checks these arguments against the rules for drives. Fails with the first of these that applies:
 /// drives without a bin; more than 64 drives; the first argument that names no drive; the first
 /// whose device an earlier one names.
-pub(crate) fn check_drives<'a>(arguments: &[&'a str], bin: Option<&str>) -> Result<(), Wrong<'a>>
+pub(crate) fn check_drives<'a>(
+    arguments: &[&'a str],
+    bin: Option<&str>,
+) -> Result<(), BrokenRule<'a>>
     ensures { MatchResult result
         (λ _. KeepsDriveRules (option_map (λ s. s.now) bin.entry) (drives_given arguments.now))
         (λ _. ¬ (KeepsDriveRules (option_map (λ s. s.now) bin.entry) (drives_given arguments.now))) }
@@ -67,16 +70,16 @@ pub(crate) fn check_drives<'a>(arguments: &[&'a str], bin: Option<&str>) -> Resu
     if let Some(argument) = arguments.first()
         && bin.is_none()
     {
-        return Err(Wrong::NoBin(argument));
+        return Err(BrokenRule::NoBin(argument));
     }
     if arguments.len() > DRIVES {
-        return Err(Wrong::TooMany(arguments[DRIVES]));
+        return Err(BrokenRule::TooMany(arguments[DRIVES]));
     }
     if let Some(argument) = not_drive(arguments) {
-        return Err(Wrong::Drive(argument));
+        return Err(BrokenRule::Drive(argument));
     }
     match named_again(arguments) {
-        Some(argument) => Err(Wrong::Again(argument)),
+        Some(argument) => Err(BrokenRule::Again(argument)),
         None => Ok(()),
     }
 }

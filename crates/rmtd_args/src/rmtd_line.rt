@@ -5,8 +5,8 @@ ghost use Rattle.clap.specs.Words.{App, HasKind, app_of, first_of, found_of, kin
 ghost use Rattle.rmtd_args.specs.Drive.{plain_drive, split_of};
 ghost use Rattle.rmtd_args.specs.Rmtd.{app, app_with_limits, app_with_ways, arguments_in, arguments_rule, faults_in, flag_rule, has_stdio, matches_in, option_rule, with_version, AreBadArguments, AskToBeShown, IsLineIn, IsLineOf, IsShown, KeepsRules, ReadsCapacity, ReadsConnections, IsNumberIfGiven};
 
+use crate::broken_rule::BrokenRule;
 use crate::drive_argument::{DriveArgument, check_drives, drives_of};
-use crate::wrong::Wrong;
 use clap::error::ErrorKind;
 use clap::{Arg, ArgAction, ArgMatches, Command, Error};
 use rmt_wire::argument::number_of;
@@ -83,13 +83,13 @@ pub fn server_line<'a>(alloc: Global, arguments: &'a [&'a str]) -> Result<Server
         → HasKind (faults_in (map (λ s. s.now) arguments.entry.now)) e) }
 {
     match command(alloc) {
-        Ok(mut rmtd) => line_by(alloc, &mut rmtd, arguments),
+        Ok(mut rmtd) => line_with(alloc, &mut rmtd, arguments),
         Err(refused) => Err(refused.into()),
     }
 }
 
 /// Returns the line that the arguments give to this command. Fails with clap's error for the user.
-fn line_by<'a>(
+fn line_with<'a>(
     alloc: Global,
     rmtd: &mut Command<'a>,
     arguments: &'a [&'a str],
@@ -115,7 +115,7 @@ fn line_or_refusal<'a>(
     ensures refused { IfErr result (λ e. ¬ (kind_of e ≡ ErrorKind.OutOfMemory) → ¬ (KeepsRules (rows_of (found_of matches.now)))) }
     ensures plain { IfErr result (λ e. ¬ (IsShown (kind_of e))) }
 {
-    match line_of(alloc, matches)? {
+    match line_from_matches(alloc, matches)? {
         Ok(line) => Ok(line),
         Err(wrong) => Err(refusal(alloc, rmtd, wrong)?),
     }
@@ -135,7 +135,11 @@ fn matched<'a>(rmtd: &mut Command<'a>, arguments: &'a [&'a str]) -> Result<ArgMa
 
 /// Returns the error for the user if clap accepts the arguments but they break a rule. Fails if an
 /// allocation fails.
-fn refusal(alloc: Global, rmtd: &mut Command<'_>, wrong: Wrong<'_>) -> Result<Error, AllocError>
+fn refusal(
+    alloc: Global,
+    rmtd: &mut Command<'_>,
+    wrong: BrokenRule<'_>,
+) -> Result<Error, AllocError>
     ensures { IfOk result (λ e. ¬ (IsShown (kind_of e))) }
 {
     let text = format!(in alloc; "{wrong}")?;
@@ -153,25 +157,25 @@ fn fault_from(error: &Error) -> LineFault
 }
 
 /// Returns the line in clap's matches, or the rule that they break. Fails if an allocation fails.
-fn line_of<'a>(
+fn line_from_matches<'a>(
     alloc: Global,
     matches: &ArgMatches<'a>,
-) -> Result<Result<ServerLine<'a>, Wrong<'a>>, AllocError>
+) -> Result<Result<ServerLine<'a>, BrokenRule<'a>>, AllocError>
     ensures { IfOk result (λ read. MatchResult read (IsLineIn (rows_of (found_of matches.now)))
         (λ _. ¬ (KeepsRules (rows_of (found_of matches.now))))) }
 {
     let given = drive_arguments(alloc, matches)?;
     let drives = drives_of(alloc, given.as_slice())?;
-    Ok(line_in(matches, given.as_slice(), drives))
+    Ok(checked_line(matches, given.as_slice(), drives))
 }
 
 /// Returns the line in clap's matches, or the rule that they break. `given` are the arguments that
 /// are not options, and `drives` are the drives that these give.
-fn line_in<'a>(
+fn checked_line<'a>(
     matches: &ArgMatches<'a>,
     given: &[&'a str],
     drives: Vec<DriveArgument<'a>>,
-) -> Result<ServerLine<'a>, Wrong<'a>>
+) -> Result<ServerLine<'a>, BrokenRule<'a>>
     requires given { map (λ s. s.now) given.now ≡ arguments_in (rows_of (found_of matches.now)) }
     requires drives { map plain_drive drives.items ≡ map split_of (map (λ s. s.now) given.now) }
     ensures { MatchResult result (IsLineIn (rows_of (found_of matches.now))) (λ _. ¬ (KeepsRules (rows_of (found_of matches.now)))) }
@@ -179,13 +183,13 @@ fn line_in<'a>(
     let stdio = stdio_of(matches);
     let listen = text_of(matches, "listen");
     if stdio == listen.is_some() {
-        return Err(Wrong::Ways);
+        return Err(BrokenRule::StdioOrListen);
     }
     let Some(capacity) = capacity_of(text_of(matches, "capacity")) else {
-        return Err(Wrong::Capacity);
+        return Err(BrokenRule::Capacity);
     };
     let Ok(connections) = connections_of(text_of(matches, "connections")) else {
-        return Err(Wrong::Connections);
+        return Err(BrokenRule::Connections);
     };
     let bin = text_of(matches, "bin");
     if let Err(wrong) = check_drives(given, bin) {
@@ -242,7 +246,7 @@ fn capacity_of(text: Option<&str>) -> Option<u64>
 
 /// Returns the number of connections that this text gives, if there is a text. Fails if it is not a
 /// number.
-fn connections_of(text: Option<&str>) -> Result<Option<u64>, Wrong<'static>>
+fn connections_of(text: Option<&str>) -> Result<Option<u64>, BrokenRule<'static>>
     ensures { MatchResult result (ReadsConnections (option_map (λ s. s.now) text.entry))
         (λ _. ¬ (IsNumberIfGiven (option_map (λ s. s.now) text.entry))) }
 {
@@ -251,7 +255,7 @@ fn connections_of(text: Option<&str>) -> Result<Option<u64>, Wrong<'static>>
     };
     match number_of(text) {
         Some(number) => Ok(Some(number)),
-        None => Err(Wrong::Connections),
+        None => Err(BrokenRule::Connections),
     }
 }
 

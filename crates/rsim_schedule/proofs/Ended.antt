@@ -11,7 +11,7 @@ use Rattle.world_model.specs.World.{World}
 use Rattle.world_model.specs.First.{PlainDriveSpec, AreGoodDrives, first_world}
 use Rattle.rsim_schedule.specs.Playing.{IsPlayed, is_whole}
 use Rattle.rsim_schedule.specs.Report.{report_text}
-use Rattle.rsim_schedule.specs.Ending.{IsPlay, IsScheduleRun, IsHaltTold, IsScheduled, halt_line, halt_status}
+use Rattle.rsim_schedule.specs.Ending.{IsPlay, IsScheduleRun, IsHaltPrinted, IsScheduled, halt_line, halt_status}
 use Rattle.rsim_schedule.specs.declared.halt.Halt.{Halt}
 use Rattle.rsim_schedule.specs.declared.halt.Halt.TheVariants.{BadLine, NotPossible, OutOfMemory, StreamFailed}
 
@@ -85,7 +85,7 @@ module _ {W : Type 0} (contents : W → Option (List ℕ)) where
 
   -- a schedule that ends early
   pub not_all_run : (n : ℕ) (halt : Halt) (a b c : Counting W) (status : ExitStatus) → 1 ≤ n → IsScheduleRun contents a (Err halt) b
-      → IsHaltTold contents n halt b status c → IsScheduled contents a status c
+      → IsHaltPrinted contents n halt b status c → IsScheduled contents a status c
   not_all_run n BadLine a b c status first run line =
       told n BadLine run.0 line.0 a b c status first (λ e. cc) run.1 run.2 line.1 line.2
   not_all_run n NotPossible a b c status first run line =

@@ -14,7 +14,7 @@ use Rattle.drives.specs.TapeLibrary.{KeptReel, ReelSlot, Drive, drive_with, Tape
 use Rattle.drives.specs.ListLibrary.{rest_slot}
 use Rattle.world_model.specs.World.{World, Count}
 use Rattle.tape_world.specs.Entries.{entry_on, entries_on}
-use Rattle.tape_world.specs.Telling.{TellsStack}
+use Rattle.tape_world.specs.Telling.{IsStackOf}
 use Rattle.rsim_schedule.specs.Report.{stack_of, entry_text, length_text, entries_of_reel}
 
 passed_by : (r : Drive KeptReel) (drives : List (Drive KeptReel)) (name : List ℕ) (b : Bool) → bytes_eq name r.name ≡ b → r.name ≢ name
@@ -45,7 +45,7 @@ stack_found (r ∷ drives) name (suc d) inside is first =
     ∙ stack_found drives name d (omega (arith, inside)) is (λ k below. first (suc k) (omega (arith, below)))
 
 -- the reels that are told of a drive
-pub told_stack : (name : List ℕ) (s : TapeLibrary) (told : Option (List (ReelSlot KeptReel))) → TellsStack name s told → stack_of s.drives name ≡ unwrap_or told []
+pub told_stack : (name : List ℕ) (s : TapeLibrary) (told : Option (List (ReelSlot KeptReel))) → IsStackOf name s told → stack_of s.drives name ≡ unwrap_or told []
 told_stack name s None tells = stack_none s.drives name tells
 told_stack name s (Some reels) tells =
     stack_found s.drives name tells.0 tells.1.0 tells.1.1 tells.1.2 ∙ sym tells.2
@@ -55,7 +55,7 @@ names_at_rest [] = refl
 names_at_rest (x ∷ slots) = ap (λ names. x.name ∷ names) (names_at_rest slots)
 
 -- the names of a stack, as they are told
-pub told_names : (name : List ℕ) (s : TapeLibrary) (told : Option (List (ReelSlot KeptReel))) (slots : List (ReelSlot TroubledTape)) → TellsStack name s told
+pub told_names : (name : List ℕ) (s : TapeLibrary) (told : Option (List (ReelSlot KeptReel))) (slots : List (ReelSlot TroubledTape)) → IsStackOf name s told
     → map rest_slot slots ≡ unwrap_or told [] → names_of slots ≡ names_of (stack_of s.drives name)
 told_names name s told slots tells e = sym (names_at_rest slots) ∙ ap (λ l. names_of l) (e ∙ sym (told_stack name s told tells))
 

@@ -28,9 +28,9 @@ halt_status StreamFailed = Abnormal
 -- The line for this halt was printed, and `status` is its exit status, or `Abnormal` if that write
 -- failed.
 -- For `StreamFailed` nothing is printed.
-abbrev pub IsHaltTold : {W : Type 0} → (W → Option (List ℕ)) → ℕ → Halt → Counting W → ExitStatus → Counting W → Type 0
-IsHaltTold contents n StreamFailed out status out' = (out' ≡ out) × (status ≡ Abnormal)
-IsHaltTold contents n halt out status out' =
+abbrev pub IsHaltPrinted : {W : Type 0} → (W → Option (List ℕ)) → ℕ → Halt → Counting W → ExitStatus → Counting W → Type 0
+IsHaltPrinted contents n StreamFailed out status out' = (out' ≡ out) × (status ≡ Abnormal)
+IsHaltPrinted contents n halt out status out' =
     (whole : Bool) × IsPrinted contents (halt_line n halt) out out' whole × (status ≡ (if whole then halt_status halt else Abnormal))
 
 -- events led from the first world of these good drives to this world, and printed this text

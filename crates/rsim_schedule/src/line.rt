@@ -35,14 +35,14 @@ pub(crate) enum ScheduleLine<'a> {
         text: HexText<'a>,
     },
     /// Any other command.
-    Act {
-        act: Act,
+    Action {
+        act: Action,
     },
 }
 
 /// A command that has no device and no bytes.
 #[derive(Clone, Copy)]
-pub(crate) enum Act {
+pub(crate) enum Action {
     /// Bytes on the way reach one end of a connection.
     Arrives {
         end: End,
@@ -85,7 +85,7 @@ fn read_words<'a>(fields: &mut LineFields<'a>) -> Option<ScheduleLine<'a>> {
         "arrange" => read_arrange(fields),
         "says" => read_says(fields),
         command => match read_act(command, fields) {
-            Some(act) => Some(ScheduleLine::Act { act }),
+            Some(act) => Some(ScheduleLine::Action { act }),
             None => None,
         },
     }
@@ -141,7 +141,7 @@ fn read_says<'a>(fields: &mut LineFields<'a>) -> Option<ScheduleLine<'a>> {
 }
 
 /// Reads the fields of a command that has no device and no bytes.
-fn read_act(command: &str, fields: &mut LineFields<'_>) -> Option<Act> {
+fn read_act(command: &str, fields: &mut LineFields<'_>) -> Option<Action> {
     match command {
         "to-server" => read_arrival(End::Server, fields),
         "to-client" => read_arrival(End::Client, fields),
@@ -152,10 +152,10 @@ fn read_act(command: &str, fields: &mut LineFields<'_>) -> Option<Act> {
 }
 
 /// Reads a connection and a count.
-fn read_arrival(end: End, fields: &mut LineFields<'_>) -> Option<Act> {
+fn read_arrival(end: End, fields: &mut LineFields<'_>) -> Option<Action> {
     let connection = fields.connection()?;
     let count = fields.count()?;
-    Some(Act::Arrives {
+    Some(Action::Arrives {
         end,
         connection,
         count,
@@ -163,25 +163,25 @@ fn read_arrival(end: End, fields: &mut LineFields<'_>) -> Option<Act> {
 }
 
 /// Reads a connection and a number of rounds.
-fn read_pump(fields: &mut LineFields<'_>) -> Option<Act> {
+fn read_pump(fields: &mut LineFields<'_>) -> Option<Action> {
     let connection = fields.connection()?;
     let rounds = fields.number()?;
-    Some(Act::Pump { connection, rounds })
+    Some(Action::Pump { connection, rounds })
 }
 
 /// Reads a connection and, if there are more fields, an injected fault.
-fn read_serve(fields: &mut LineFields<'_>) -> Option<Act> {
+fn read_serve(fields: &mut LineFields<'_>) -> Option<Action> {
     let connection = fields.connection()?;
     let trouble = read_trouble(fields)?;
     let event = Event::Serve {
         connection,
         trouble,
     };
-    Some(Act::Event { event })
+    Some(Action::Event { event })
 }
 
 /// Reads a command that takes nothing, a connection, or `fault`.
-fn read_event(command: &str, fields: &mut LineFields<'_>) -> Option<Act> {
+fn read_event(command: &str, fields: &mut LineFields<'_>) -> Option<Action> {
     if fields.is_over() {
         return event_of(command);
     }
@@ -192,7 +192,7 @@ fn read_event(command: &str, fields: &mut LineFields<'_>) -> Option<Act> {
 }
 
 /// Returns the event of a command that takes nothing.
-fn event_of(command: &str) -> Option<Act> {
+fn event_of(command: &str) -> Option<Action> {
     let event = match command {
         "connect" => Event::Connect,
         "send" => Event::Send { fails: false },
@@ -203,38 +203,38 @@ fn event_of(command: &str) -> Option<Act> {
         "save" => Event::Save,
         _ => return answer_of(command),
     };
-    Some(Act::Event { event })
+    Some(Action::Event { event })
 }
 
 /// Returns the operator's answer for a command.
-fn answer_of(command: &str) -> Option<Act> {
+fn answer_of(command: &str) -> Option<Action> {
     let answer = match command {
         "retry" => Answer::Retry,
         "abandon" => Answer::Abandon,
         _ => return None,
     };
     let event = Event::Respond { answer };
-    Some(Act::Event { event })
+    Some(Action::Event { event })
 }
 
 /// Reads `fault`: the client sends, and the read of the block fails.
-fn read_send(fields: &mut LineFields<'_>) -> Option<Act> {
+fn read_send(fields: &mut LineFields<'_>) -> Option<Action> {
     if fields.text_field()? != "fault" {
         return None;
     }
     let event = Event::Send { fails: true };
-    Some(Act::Event { event })
+    Some(Action::Event { event })
 }
 
 /// Returns the event of a command that takes only a connection.
-fn event_at(command: &str, connection: usize) -> Option<Act> {
+fn event_at(command: &str, connection: usize) -> Option<Action> {
     let event = match command {
         "cut" => Event::Cut { connection },
         "end-server" => Event::EndAtServer { connection },
         "end-client" => Event::EndAtClient { connection },
         _ => return None,
     };
-    Some(Act::Event { event })
+    Some(Action::Event { event })
 }
 
 /// Reads an injected fault. After the last field it returns `Trouble::None`.

@@ -39,7 +39,7 @@ fn print_failed<W: Write>(world: &World, out: &mut Counted<W>) -> Result<(), Hal
 }
 
 /// Runs an event as `make` does, if it is possible. Returns whether it was.
-fn make_if_possible<W: Write>(
+fn run_if_possible<W: Write>(
     world: &mut World,
     event: Event<'_>,
     out: &mut Counted<W>,
@@ -64,7 +64,7 @@ pub(crate) fn pump<W: Write>(
     ensures { IsPlayed W.contents world.old out.old (is_whole result) world.new out.new }
 {
     for _ in 0..rounds {
-        if !make_round(world, connection, out)? {
+        if !run_round(world, connection, out)? {
             return Ok(());
         }
     }
@@ -75,7 +75,7 @@ pub(crate) fn pump<W: Write>(
 ///
 /// The client sends its next request, if the connection is its own. The server receives what it has
 /// room for and serves once. The other end receives all that was sent.
-fn make_round<W: Write>(
+fn run_round<W: Write>(
     world: &mut World,
     connection: usize,
     out: &mut Counted<W>,
@@ -101,7 +101,7 @@ fn send_own<W: Write>(
     if world.own() != Some(connection) {
         return Ok(false);
     }
-    make_if_possible(world, Event::Send { fails: false }, out)
+    run_if_possible(world, Event::Send { fails: false }, out)
 }
 
 /// Has the server serve once, if that is possible. Returns whether it was.
@@ -109,7 +109,7 @@ fn serve<W: Write>(world: &mut World, connection: usize, out: &mut Counted<W>) -
     ensures { IsPlayed W.contents world.old out.old (is_whole result) world.new out.new }
 {
     let trouble = Trouble::None;
-    make_if_possible(
+    run_if_possible(
         world,
         Event::Serve {
             connection,
@@ -129,7 +129,7 @@ fn arrive<W: Write>(
     ensures { IsPlayed W.contents world.old out.old (is_whole result) world.new out.new }
 {
     let event = arrival(world, end, connection, ByteCount::All);
-    make_if_possible(world, event, out)
+    run_if_possible(world, event, out)
 }
 
 /// Returns the event in which bytes on the way reach this end. `ByteCount::All` is as many as can

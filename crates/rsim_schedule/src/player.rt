@@ -4,7 +4,7 @@ ghost use Rattle.rsim_schedule.specs.Playing.{IsPlayed, is_whole};
 use crate::byte_count::ByteCount;
 use crate::halt::Halt;
 use crate::hex_text::HexText;
-use crate::line::{Act, End, ScheduleLine, read_command};
+use crate::line::{Action, End, ScheduleLine, read_command};
 use crate::lines::ScheduleLines;
 use crate::making::{arrival, make, pump};
 use crate::names::Names;
@@ -50,22 +50,22 @@ fn play<W: Write>(
         ) => begin_run(alloc, world, device, name, numbers, out),
         Some(ScheduleLine::Arrange { device, reels }) => arrange(alloc, world, device, reels, out),
         Some(ScheduleLine::Says { connection, text }) => say(alloc, world, connection, text, out),
-        Some(ScheduleLine::Act { act }) => play_act(world, act, out),
+        Some(ScheduleLine::Action { act }) => play_act(world, act, out),
     }
 }
 
 /// Runs a command that has no device and no bytes.
-fn play_act<W: Write>(world: &mut World, act: Act, out: &mut Counted<W>) -> Result<(), Halt>
+fn play_act<W: Write>(world: &mut World, act: Action, out: &mut Counted<W>) -> Result<(), Halt>
     ensures { IsPlayed W.contents world.old out.old (is_whole result) world.new out.new }
 {
     match act {
-        Act::Arrives {
+        Action::Arrives {
             end,
             connection,
             count,
         } => arrive(world, end, connection, count, out),
-        Act::Pump { connection, rounds } => pump(world, connection, rounds, out),
-        Act::Event { event } => make(world, event, out),
+        Action::Pump { connection, rounds } => pump(world, connection, rounds, out),
+        Action::Event { event } => make(world, event, out),
     }
 }
 

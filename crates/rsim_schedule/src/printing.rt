@@ -4,7 +4,7 @@ ghost use Rattle.exit_status.specs.declared.status.ExitStatus.TheVariants.{Abnor
 ghost use Rattle.rdump_net.specs.Lines.{failure_line as line_of};
 ghost use Rattle.rmt_wire.specs.Print.{IsPrinted};
 ghost use Rattle.rsim_schedule.specs.Playing.{is_whole};
-ghost use Rattle.rsim_schedule.specs.Ending.{IsHaltTold};
+ghost use Rattle.rsim_schedule.specs.Ending.{IsHaltPrinted};
 ghost use Rattle.rsim_schedule.specs.declared.halt.Halt.TheVariants.{StreamFailed};
 
 use crate::halt::Halt;
@@ -41,7 +41,7 @@ pub(crate) fn print_all<W: Write>(text: &[u8], out: &mut Counted<W>) -> Result<(
 /// Prints why the schedule ends at line `number`, and returns the exit status. After a failed write
 /// it prints nothing.
 pub(crate) fn print_halt<W: Write>(number: usize, halt: Halt, out: &mut Counted<W>) -> ExitStatus
-    ensures { IsHaltTold W.contents number halt out.old result out.new }
+    ensures { IsHaltPrinted W.contents number halt out.old result out.new }
 {
     match halt {
         Halt::BadLine => print_last(number, ": bad line\n", ExitStatus::StartupError, out),

@@ -3,7 +3,7 @@ ghost use Rattle.std.specs.Prelude.{◌≡◌, ◌++◌, [], codes, decimal, map
 ghost use Rattle.std.specs.List.{flat_map};
 ghost use Rattle.drives.specs.TapeLibrary.{names_of};
 ghost use Rattle.dumpdates.specs.Text.{written};
-ghost use Rattle.tape_world.specs.Telling.{told_count};
+ghost use Rattle.tape_world.specs.Telling.{plain_count};
 ghost use Rattle.rsim_schedule.specs.Drives.{plain_line};
 ghost use Rattle.rsim_schedule.specs.Report.{report_text, reel_line, stack_line, count_line, names_text, length_text, entry_text, entries_of_reel};
 
@@ -11,7 +11,7 @@ use crate::drive_line::DriveLine;
 use drives::ListedReel;
 use itoa::Buffer;
 use std::alloc::{AllocError, Global};
-use tape_world::{CountTold, World};
+use tape_world::{CountedVolume, World};
 
 /// Returns the report of a world: the entries of each reel of these drives, their stacks, the bin,
 /// the counted volumes, and dumpdates. Fails if an allocation fails.
@@ -162,8 +162,8 @@ fn push_counts(text: &mut Vec<u8>, world: &World) -> Result<(), AllocError>
 }
 
 /// Appends the line of a volume that was counted.
-fn push_count(text: &mut Vec<u8>, count: CountTold<'_>) -> Result<(), AllocError>
-    ensures { OnOk result (text.new.items ≡ text.old.items ++ count_line (told_count count.entry)) }
+fn push_count(text: &mut Vec<u8>, count: CountedVolume<'_>) -> Result<(), AllocError>
+    ensures { OnOk result (text.new.items ≡ text.old.items ++ count_line (plain_count count.entry)) }
 {
     push_number(text, "counted ", count.run as u64)?;
     push_number(text, " ", u64::from(count.volume))?;

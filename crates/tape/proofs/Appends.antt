@@ -3,7 +3,7 @@ use Rattle.std.proofs.Common.{◌≡◌, ℕ, suc, ◌+◌, ◌≤◌, min, List
 use Rattle.std.proofs.lemmas.List.{take_min, take-append-le}
 use Rattle.tape.specs.Medium.{MediumKind, MediumStep, IsMediumCall}
 use Rattle.tape.specs.Medium.MediumCall.{Append}
-use Rattle.tape.specs.FileSteps.{IsMediumRun}
+use Rattle.tape.specs.FileSteps.{AreMediumCalls}
 use Rattle.tape.specs.declared.medium.MediumFailed.{MediumFailed}
 
 -- some of more than there are is all of it
@@ -34,7 +34,7 @@ append_then_short a b c e d x y z first next = append_then a (b ++ c) (Err d) x 
 
 -- appends in a row are one
 pub append_call : {S : Type 0} {m : MediumKind S} {old new : S} {bytes : List ℕ} {r : Result Unit MediumFailed}
-    → IsMediumRun m (MediumStep (Append bytes r)) (length bytes) (IsErr r) old new → IsMediumCall m old (Append bytes r) new
+    → AreMediumCalls m (MediumStep (Append bytes r)) (length bytes) (IsErr r) old new → IsMediumCall m old (Append bytes r) new
 append_call run = record {
   step = run.step;
   kept = λ reads. absurd reads;

@@ -7,7 +7,7 @@ use Rattle.tape.specs.Tape.{PlainEntry, Tape, TapeRequest, TapeAnswer, TapeStep,
 use Rattle.tape.specs.Tape.PlainEntry.{Record, Mark}
 use Rattle.tape.specs.Tape.TapeRequest.{Write, WriteMarks, ForwardFiles, BackFiles, ForwardRecords, BackRecords, Rewind, Nothing, Unknown}
 use Rattle.tape.specs.Tape.TapeAnswer.{Done, Fault}
-use Rattle.tape.specs.List.{IsListCall, IsSeen, seen, entry_at, entry_length}
+use Rattle.tape.specs.List.{IsListCall, IsListView, list_view, entry_at, entry_length}
 use Rattle.tape.specs.Media.{MemoryBytes, IsMemory, memory_kind}
 use Rattle.tape.specs.RecordFile.{SpellsReel, IsFile, FileTape, HoldsTape, tape_in, entries_in, image_added}
 use Rattle.tape.specs.Trouble.{ComesToDevice, left_by, left_after, put_by, DeviceStep, IsTroubleLeft}
@@ -24,31 +24,31 @@ use Rattle.tape.proofs.Writing.{offset_at}
 
 -- ---- what is seen
 
-pub held_is : (r : FileTape MemoryBytes) (t : Tape) → HoldsTape IsMemory r t → t ≡ (seen r).tape
+pub held_is : (r : FileTape MemoryBytes) (t : Tape) → HoldsTape IsMemory r t → t ≡ (list_view r).tape
 held_is r t h = one_tape h.0 r.offset t h.2 ∙ ap (tape_in r.offset) h.1.0
 
-pub held_seen : (r : FileTape MemoryBytes) (t : Tape) → HoldsTape IsMemory r t → IsSeen r
+pub held_seen : (r : FileTape MemoryBytes) (t : Tape) → HoldsTape IsMemory r t → IsListView r
 held_seen r t h = subst (HoldsTape IsMemory r) (held_is r t h) h
 
 -- a step of what is held is one of what is seen
-pub seen_step : (old new : FileTape MemoryBytes) (does : Tape → Tape → Type 0) → IsSeen old → Steps (HoldsTape IsMemory) old new does
-    → IsSeen new × does (seen old).tape (seen new).tape
+pub seen_step : (old new : FileTape MemoryBytes) (does : Tape → Tape → Type 0) → IsListView old → Steps (HoldsTape IsMemory) old new does
+    → IsListView new × does (list_view old).tape (list_view new).tape
 seen_step old new does held steps =
-    let s = steps (seen old).tape held in
-    (held_seen new s.0 s.1, subst (does (seen old).tape) (held_is new s.0 s.1) s.2)
+    let s = steps (list_view old).tape held in
+    (held_seen new s.0 s.1, subst (does (list_view old).tape) (held_is new s.0 s.1) s.2)
 
 -- the entries that are seen are those of the bytes
-seen_entries : (r : FileTape MemoryBytes) → IsSeen r → entries_of (seen r).tape ≡ entries_in r.medium.bytes
-seen_entries r h = spells_in h.0 (entries_of (seen r).tape) h.2.spelled ∙ ap entries_in h.1.0
+seen_entries : (r : FileTape MemoryBytes) → IsListView r → entries_of (list_view r).tape ≡ entries_in r.medium.bytes
+seen_entries r h = spells_in h.0 (entries_of (list_view r).tape) h.2.spelled ∙ ap entries_in h.1.0
 
-pub entry_seen : (r : FileTape MemoryBytes) (file : List ℕ) (i : ℕ) → IsSeen r → file ≡ r.medium.bytes → entry_at i (seen r).tape ≡ slice_get (entries_in file) i
+pub entry_seen : (r : FileTape MemoryBytes) (file : List ℕ) (i : ℕ) → IsListView r → file ≡ r.medium.bytes → entry_at i (list_view r).tape ≡ slice_get (entries_in file) i
 entry_seen r file i held is = ap (λ es. slice_get es i) (seen_entries r held ∙ ap entries_in (sym is))
 
-pub mark_seen : (r : FileTape MemoryBytes) (i : ℕ) → IsSeen r → (entry_length (entry_at i (seen r).tape) ≡ Some 0) ↔ (entry_at i (seen r).tape ≡ Some Mark)
-mark_seen r i held = mark_told (entries_of (seen r).tape) i held.2.spelled.lawful
+pub mark_seen : (r : FileTape MemoryBytes) (i : ℕ) → IsListView r → (entry_length (entry_at i (list_view r).tape) ≡ Some 0) ↔ (entry_at i (list_view r).tape ≡ Some Mark)
+mark_seen r i held = mark_told (entries_of (list_view r).tape) i held.2.spelled.lawful
 
-seen_offset : (r : FileTape MemoryBytes) → IsSeen r → offset_of (seen r).tape.before ≡ r.offset
-seen_offset r h = offset_at h.0 r.offset (seen r).tape h.2
+seen_offset : (r : FileTape MemoryBytes) → IsListView r → offset_of (list_view r).tape.before ≡ r.offset
+seen_offset r h = offset_at h.0 r.offset (list_view r).tape h.2
 
 -- the same bytes and the same offset
 same_held : (a b : FileTape MemoryBytes) (t : Tape) → b.medium.bytes ≡ a.medium.bytes → b.offset ≡ a.offset → HoldsTape IsMemory a t → HoldsTape IsMemory b t
@@ -65,17 +65,17 @@ pub no_fault : (old new : FileTape MemoryBytes) (request : TapeRequest) (answer 
     → answer ≢ Fault Device
 no_fault old new request answer call none is = elim (call.made.cause is) [ inl can ↦ can | inr short ↦ absurd (omega arith) ]
 
-pub seen_kept : (old new : FileTape MemoryBytes) (request : TapeRequest) (answer : TapeAnswer) → IsSeen old → FileCall memory_kind old new request answer → IsSeen new
+pub seen_kept : (old new : FileTape MemoryBytes) (request : TapeRequest) (answer : TapeAnswer) → IsListView old → FileCall memory_kind old new request answer → IsListView new
 seen_kept old new request answer held call = (seen_step old new (λ t u. TapeStep old.capacity t request answer u) held call.step).0
 
-pub seen_tape : (old new : FileTape MemoryBytes) (request : TapeRequest) (answer : TapeAnswer) → IsSeen old → FileCall memory_kind old new request answer
-    → TapeStep old.capacity (seen old).tape request answer (seen new).tape
+pub seen_tape : (old new : FileTape MemoryBytes) (request : TapeRequest) (answer : TapeAnswer) → IsListView old → FileCall memory_kind old new request answer
+    → TapeStep old.capacity (list_view old).tape request answer (list_view new).tape
 seen_tape old new request answer held call = (seen_step old new (λ t u. TapeStep old.capacity t request answer u) held call.step).1
 
-pub seen_call : (old new : FileTape MemoryBytes) (request : TapeRequest) (answer : TapeAnswer) → IsSeen old → FileCall memory_kind old new request answer
-    → image_added request ≡ 0 → IsListCall (seen old) (seen new) request answer
+pub seen_call : (old new : FileTape MemoryBytes) (request : TapeRequest) (answer : TapeAnswer) → IsListView old → FileCall memory_kind old new request answer
+    → image_added request ≡ 0 → IsListCall (list_view old) (list_view new) request answer
 seen_call old new request answer held call none =
-    list_call (seen old) (seen new) request answer (seen_tape old new request answer held call) call.same_capacity (no_fault old new request answer call none)
+    list_call (list_view old) (list_view new) request answer (seen_tape old new request answer held call) call.same_capacity (no_fault old new request answer call none)
 
 either_adds : (b : Bool) (x y : TapeRequest) → image_added x ≡ 0 → image_added y ≡ 0 → image_added (if b then x else y) ≡ 0
 either_adds true x y one other = one
@@ -162,56 +162,56 @@ device_put capacity trouble t u request written (Err fault) (device, set) is com
     (set, comes, is ∙ put_failed trouble written t set ∙ ap (tape t.before) (sym left))
 
 put_step : (a b c : FileTape MemoryBytes) (trouble : Trouble) (request : TapeRequest) (written : List PlainEntry) (result : Result Unit TapeFault)
-    → IsSeen a → b.medium.bytes ≡ a.medium.bytes → b.offset ≡ a.offset → Steps (HoldsTape IsMemory) b c (λ t u. u ≡ put_by trouble written t)
+    → IsListView a → b.medium.bytes ≡ a.medium.bytes → b.offset ≡ a.offset → Steps (HoldsTape IsMemory) b c (λ t u. u ≡ put_by trouble written t)
     → MatchResult result (λ _. trouble ≡ NoTrouble) (λ fault. (fault ≡ Device) × (trouble ≢ NoTrouble))
-    → ComesToDevice a.capacity (seen a).tape request → left_after trouble request (seen a).tape.after ≡ left_by trouble (seen a).tape.after written
-    → ((u : Tape) → u ≡ tape ((seen a).tape.before ++ written) [] → TapeStep a.capacity (seen a).tape request Done u)
-    → IsSeen c × DeviceStep a.capacity trouble (seen a).tape request (done_answer result) (seen c).tape
+    → ComesToDevice a.capacity (list_view a).tape request → left_after trouble request (list_view a).tape.after ≡ left_by trouble (list_view a).tape.after written
+    → ((u : Tape) → u ≡ tape ((list_view a).tape.before ++ written) [] → TapeStep a.capacity (list_view a).tape request Done u)
+    → IsListView c × DeviceStep a.capacity trouble (list_view a).tape request (done_answer result) (list_view c).tape
 put_step a b c trouble request written result held bytes offset steps answered comes left done =
-    let s = steps (seen a).tape (same_held a b (seen a).tape bytes offset held) in
-    let is : (seen c).tape ≡ put_by trouble written (seen a).tape = sym (held_is c s.0 s.1) ∙ s.2 in
-    (held_seen c s.0 s.1, device_put a.capacity trouble (seen a).tape (seen c).tape request written result answered is comes left (done (seen c).tape))
+    let s = steps (list_view a).tape (same_held a b (list_view a).tape bytes offset held) in
+    let is : (list_view c).tape ≡ put_by trouble written (list_view a).tape = sym (held_is c s.0 s.1) ∙ s.2 in
+    (held_seen c s.0 s.1, device_put a.capacity trouble (list_view a).tape (list_view c).tape request written result answered is comes left (done (list_view c).tape))
 
 -- ---- records
 
-pub record_full : (r : FileTape MemoryBytes) (trouble : Trouble) (bytes : List ℕ) → IsSeen r → r.capacity < r.offset + (length bytes + 8 + 4)
-    → DeviceStep r.capacity trouble (seen r).tape (Write bytes) (Fault Full) (seen r).tape
+pub record_full : (r : FileTape MemoryBytes) (trouble : Trouble) (bytes : List ℕ) → IsListView r → r.capacity < r.offset + (length bytes + 8 + 4)
+    → DeviceStep r.capacity trouble (list_view r).tape (Write bytes) (Fault Full) (list_view r).tape
 record_full r trouble bytes held short =
     let at = seen_offset r held in
     (inr (λ comes. absurd (omega arith)), (omega arith, refl))
 
-pub record_refused : (old new : FileTape MemoryBytes) (trouble : Trouble) (bytes : List ℕ) → IsSeen old → old.offset + (length bytes + 8 + 4) ≤ old.capacity
-    → new ≡ old → DeviceStep old.capacity trouble (seen old).tape (Write bytes) (Fault OutOfMemory) (seen new).tape
-record_refused old new trouble bytes held room same = let at = seen_offset old held in (omega arith, ap (λ (r : FileTape MemoryBytes). (seen r).tape) same)
+pub record_refused : (old new : FileTape MemoryBytes) (trouble : Trouble) (bytes : List ℕ) → IsListView old → old.offset + (length bytes + 8 + 4) ≤ old.capacity
+    → new ≡ old → DeviceStep old.capacity trouble (list_view old).tape (Write bytes) (Fault OutOfMemory) (list_view new).tape
+record_refused old new trouble bytes held room same = let at = seen_offset old held in (omega arith, ap (λ (r : FileTape MemoryBytes). (list_view r).tape) same)
 
-pub record_put : (a b c : FileTape MemoryBytes) (trouble : Trouble) (bytes : List ℕ) (result : Result Unit TapeFault) → IsSeen a
+pub record_put : (a b c : FileTape MemoryBytes) (trouble : Trouble) (bytes : List ℕ) (result : Result Unit TapeFault) → IsListView a
     → b.medium.bytes ≡ a.medium.bytes → b.offset ≡ a.offset → Steps (HoldsTape IsMemory) b c (λ t u. u ≡ put_by trouble (Record bytes ∷ []) t)
     → MatchResult result (λ _. trouble ≡ NoTrouble) (λ fault. (fault ≡ Device) × (trouble ≢ NoTrouble)) → a.offset + (length bytes + 8 + 4) ≤ a.capacity
-    → IsSeen c × DeviceStep a.capacity trouble (seen a).tape (Write bytes) (done_answer result) (seen c).tape
+    → IsListView c × DeviceStep a.capacity trouble (list_view a).tape (Write bytes) (done_answer result) (list_view c).tape
 record_put a b c trouble bytes result held same offset steps answered room =
     let at = seen_offset a held in
-    let fits : offset_of (seen a).tape.before + length bytes + 12 ≤ a.capacity = omega arith in
+    let fits : offset_of (list_view a).tape.before + length bytes + 12 ≤ a.capacity = omega arith in
     put_step a b c trouble (Write bytes) (Record bytes ∷ []) result held same offset steps answered fits refl (λ u is. (fits, is))
 
 -- ---- marks
 
-pub marks_full : (r : FileTape MemoryBytes) (trouble : Trouble) (count : ℕ) → IsSeen r → 0 < count → r.capacity < r.offset + 4 * count
-    → DeviceStep r.capacity trouble (seen r).tape (WriteMarks count) (Fault Full) (seen r).tape
+pub marks_full : (r : FileTape MemoryBytes) (trouble : Trouble) (count : ℕ) → IsListView r → 0 < count → r.capacity < r.offset + 4 * count
+    → DeviceStep r.capacity trouble (list_view r).tape (WriteMarks count) (Fault Full) (list_view r).tape
 marks_full r trouble count held some short =
     let at = seen_offset r held in
     (inr (λ comes. absurd (let fits = comes.1 in omega arith)), (some, omega arith, refl))
 
-pub marks_refused : (old new : FileTape MemoryBytes) (trouble : Trouble) (count : ℕ) → IsSeen old → 0 < count → old.offset + 4 * count ≤ old.capacity
-    → new ≡ old → DeviceStep old.capacity trouble (seen old).tape (WriteMarks count) (Fault OutOfMemory) (seen new).tape
+pub marks_refused : (old new : FileTape MemoryBytes) (trouble : Trouble) (count : ℕ) → IsListView old → 0 < count → old.offset + 4 * count ≤ old.capacity
+    → new ≡ old → DeviceStep old.capacity trouble (list_view old).tape (WriteMarks count) (Fault OutOfMemory) (list_view new).tape
 marks_refused old new trouble count held some room same =
     let at = seen_offset old held in
-    (some, omega arith, ap (λ (r : FileTape MemoryBytes). (seen r).tape) same)
+    (some, omega arith, ap (λ (r : FileTape MemoryBytes). (list_view r).tape) same)
 
-pub marks_put : (a b c : FileTape MemoryBytes) (trouble : Trouble) (count : ℕ) (result : Result Unit TapeFault) → IsSeen a
+pub marks_put : (a b c : FileTape MemoryBytes) (trouble : Trouble) (count : ℕ) (result : Result Unit TapeFault) → IsListView a
     → b.medium.bytes ≡ a.medium.bytes → b.offset ≡ a.offset → Steps (HoldsTape IsMemory) b c (λ t u. u ≡ put_by trouble (replicate count Mark) t)
     → MatchResult result (λ _. trouble ≡ NoTrouble) (λ fault. (fault ≡ Device) × (trouble ≢ NoTrouble)) → 0 < count → a.offset + 4 * count ≤ a.capacity
-    → IsSeen c × DeviceStep a.capacity trouble (seen a).tape (WriteMarks count) (done_answer result) (seen c).tape
+    → IsListView c × DeviceStep a.capacity trouble (list_view a).tape (WriteMarks count) (done_answer result) (list_view c).tape
 marks_put a b c trouble count result held same offset steps answered some room =
     let at = seen_offset a held in
-    let fits : offset_of (seen a).tape.before + 4 * count ≤ a.capacity = omega arith in
+    let fits : offset_of (list_view a).tape.before + 4 * count ≤ a.capacity = omega arith in
     put_step a b c trouble (WriteMarks count) (replicate count Mark) result held same offset steps answered (some, fits) refl (λ u is. inr (some, fits, is))

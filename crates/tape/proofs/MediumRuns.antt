@@ -1,10 +1,10 @@
 -- Calls of a medium in a row.
 use Rattle.std.proofs.Common.{◌≡◌, ◌≢◌, false, true, ℕ, ◌+◌, ◌<◌, ◌≤◌, List, inl, inr, refl, ◌∙◌, arith}
 use Rattle.tape.specs.Medium.{MediumCall, MediumStep, HasFailed, bytes_added, MediumKind, IsMediumCall}
-use Rattle.tape.specs.FileSteps.{IsMediumRun}
+use Rattle.tape.specs.FileSteps.{AreMediumCalls}
 
 pub run_call : {S : Type 0} {m : MediumKind S} {old new : S} {call : MediumCall} → IsMediumCall m old call new
-    → IsMediumRun m (MediumStep call) (bytes_added call) (HasFailed call) old new
+    → AreMediumCalls m (MediumStep call) (bytes_added call) (HasFailed call) old new
 run_call c = record { step = c.step; failed = c.failed; same = c.same; counted = c.counted; able = c.able; quiet = c.quiet; room = c.room }
 
 -- an answer that is no error is none
@@ -29,8 +29,8 @@ some_bytes {n} some = omega arith
 
 -- what a run does, said otherwise
 pub run_as : {S : Type 0} {m : MediumKind S} {old new : S} {first does : List ℕ → List ℕ → Type 0} {less added : ℕ} {fails F : Type 0}
-    → IsMediumRun m first less fails old new → (fails → F) → (F → fails) → less ≤ added
-    → ((x y : List ℕ) → m.holds old x → first x y → does x y) → IsMediumRun m does added F old new
+    → AreMediumCalls m first less fails old new → (fails → F) → (F → fails) → less ≤ added
+    → ((x y : List ℕ) → m.holds old x → first x y → does x y) → AreMediumCalls m does added F old new
 run_as r to from fits weaker = record {
   step = λ x held. let s = r.step x held in (s.0, s.1, weaker x s.0 held s.2);
   failed = λ f. r.failed (from f);
@@ -43,7 +43,7 @@ run_as r to from fits weaker = record {
 
 -- no call
 pub run_none : {S : Type 0} {m : MediumKind S} {here : S} {does : List ℕ → List ℕ → Type 0} {added : ℕ} {fails : Type 0}
-    → (fails → ⊥) → ((x : List ℕ) → m.holds here x → does x x) → IsMediumRun m does added fails here here
+    → (fails → ⊥) → ((x : List ℕ) → m.holds here x → does x x) → AreMediumCalls m does added fails here here
 run_none not same = record {
   step = λ x held. (x, held, same x held);
   failed = λ f. absurd (not f);
@@ -56,8 +56,8 @@ run_none not same = record {
 
 -- one run and then another
 pub run_then : {S : Type 0} {m : MediumKind S} {a b c : S} {first next does : List ℕ → List ℕ → Type 0} {less more added : ℕ} {fails F G : Type 0}
-    → IsMediumRun m first less fails a b → IsMediumRun m next more F b c → (fails → ⊥) → (F → G) → (G → F) → less + more ≤ added
-    → ((x y z : List ℕ) → m.holds a x → first x y → next y z → does x z) → IsMediumRun m does added G a c
+    → AreMediumCalls m first less fails a b → AreMediumCalls m next more F b c → (fails → ⊥) → (F → G) → (G → F) → less + more ≤ added
+    → ((x y z : List ℕ) → m.holds a x → first x y → next y z → does x z) → AreMediumCalls m does added G a c
 run_then r q not to from fits both = record {
   step = λ x held.
       let s = r.step x held in

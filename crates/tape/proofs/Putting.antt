@@ -6,7 +6,7 @@ use Rattle.tape.specs.Tape.{PlainEntry, IsRecord, IsTapeEntry, tape}
 use Rattle.tape.specs.Tape.PlainEntry.{Record}
 use Rattle.tape.specs.Medium.{MediumKind}
 use Rattle.tape.specs.RecordFile.{images_of, IsFile, FileTape}
-use Rattle.tape.specs.FileSteps.{IsMediumRun, IsReelRun, IsImageWritten, PutsEntries}
+use Rattle.tape.specs.FileSteps.{AreMediumCalls, AreReelCalls, IsImageWritten, PutsEntries}
 use Rattle.tape.specs.declared.medium.MediumFailed.{MediumFailed}
 use Rattle.tape.specs.declared.fault.TapeFault.{TapeFault}
 use Rattle.tape.proofs.MediumRuns.{run_as}
@@ -14,8 +14,8 @@ use Rattle.tape.proofs.Writing.{written_whole, written_part}
 
 pub puts_whole : {M : Type 0} {m : MediumKind M} (old new : FileTape M) (written : List PlainEntry) (image : List ℕ) (added : ℕ) (u v : Unit {0})
     → All IsTapeEntry written → image ≡ images_of written → new.offset ≡ old.offset + length image → new.capacity ≡ old.capacity
-    → IsMediumRun m (IsImageWritten old.offset image (Ok u)) added (IsErr {E = MediumFailed} (Ok u)) old.medium new.medium
-    → IsReelRun m (PutsEntries written (Ok v)) added (IsErr {E = TapeFault} (Ok v)) old new
+    → AreMediumCalls m (IsImageWritten old.offset image (Ok u)) added (IsErr {E = MediumFailed} (Ok u)) old.medium new.medium
+    → AreReelCalls m (PutsEntries written (Ok v)) added (IsErr {E = TapeFault} (Ok v)) old new
 puts_whole old new written image added u v lawful image_is offset_is same run = record {
   step = λ t h.
       let s = run.step h.0 h.1 in
@@ -26,8 +26,8 @@ puts_whole old new written image added u v lawful image_is offset_is same run = 
 
 pub puts_part : {M : Type 0} {m : MediumKind M} (old new : FileTape M) (written : List PlainEntry) (image : List ℕ) (added : ℕ) (e : MediumFailed) (d : TapeFault)
     → All IsTapeEntry written → image ≡ images_of written → new.offset ≡ old.offset → new.capacity ≡ old.capacity
-    → IsMediumRun m (IsImageWritten old.offset image (Err e)) added (IsErr {T = Unit {0}} (Err e)) old.medium new.medium
-    → IsReelRun m (PutsEntries written (Err d)) added (IsErr {T = Unit {0}} (Err d)) old new
+    → AreMediumCalls m (IsImageWritten old.offset image (Err e)) added (IsErr {T = Unit {0}} (Err e)) old.medium new.medium
+    → AreReelCalls m (PutsEntries written (Err d)) added (IsErr {T = Unit {0}} (Err d)) old new
 puts_part old new written image added e d lawful image_is offset_is same run = record {
   step = λ t h.
       let s = run.step h.0 h.1 in

@@ -9,7 +9,7 @@ use Rattle.tape.specs.Tape.TapeAnswer.{Done, Fault}
 use Rattle.tape.specs.Call.{IsTapeCall, CanAnswer, CanSpace}
 use Rattle.tape.specs.Medium.{MediumKind}
 use Rattle.tape.specs.RecordFile.{IsFile, FileTape, file_reel_kind, image_added}
-use Rattle.tape.specs.FileSteps.{IsMediumRun, IsReelRun, IsWalked, PutsEntries, ahead, place_after, files_request, records_request}
+use Rattle.tape.specs.FileSteps.{AreMediumCalls, AreReelCalls, IsWalked, PutsEntries, ahead, place_after, files_request, records_request}
 use Rattle.tape.specs.declared.file_reel.walk.Way.{Way}
 use Rattle.tape.specs.declared.file_reel.walk.Way.TheVariants.{Forward, Back}
 use Rattle.tape.proofs.MediumRuns.{run_as}
@@ -23,7 +23,7 @@ abbrev pub FileCall : {M : Type 0} → MediumKind M → FileTape M → FileTape 
 FileCall m old new request answer = IsTapeCall (file_reel_kind m) old new request answer
 
 pub file_call : {M : Type 0} {m : MediumKind M} {does : Tape → Tape → Type 0} {added : ℕ} {fails : Type 0} (old new : FileTape M) (request : TapeRequest) (answer : TapeAnswer)
-    → IsReelRun m does added fails old new → (answer ≡ Fault Device → fails) → (fails → answer ≡ Fault Device) → CanAnswer request answer
+    → AreReelCalls m does added fails old new → (answer ≡ Fault Device → fails) → (fails → answer ≡ Fault Device) → CanAnswer request answer
     → (answer ≡ Fault OutOfMemory → ⊥) → added ≤ image_added request
     → ((bytes : List ℕ) (t u : Tape) → IsFile bytes old.offset t → does t u → TapeStep old.capacity t request answer u)
     → FileCall m old new request answer
@@ -45,7 +45,7 @@ file_call old new request answer r to from can memory fits step = record {
 }
 
 -- no call of the medium
-pub reel_none : {M : Type 0} (m : MediumKind M) (here : FileTape M) → IsReelRun m (λ t u. u ≡ t) 0 ⊥ here here
+pub reel_none : {M : Type 0} (m : MediumKind M) (here : FileTape M) → AreReelCalls m (λ t u. u ≡ t) 0 ⊥ here here
 reel_none m here = record {
   step = λ t h. (t, h, refl);
   calls = record {
@@ -61,7 +61,7 @@ reel_none m here = record {
 }
 
 pub write_call : {M : Type 0} {m : MediumKind M} (old new : FileTape M) (bytes : List ℕ) (r : Result Unit TapeFault) → IfErr r (λ fault. fault ≡ Device)
-    → old.offset + (length bytes + 8 + 4) ≤ old.capacity → IsReelRun m (PutsEntries (Record bytes ∷ []) r) (length bytes + 8) (IsErr r) old new
+    → old.offset + (length bytes + 8 + 4) ≤ old.capacity → AreReelCalls m (PutsEntries (Record bytes ∷ []) r) (length bytes + 8) (IsErr r) old new
     → FileCall m old new (Write bytes) (done_answer r)
 write_call old new bytes (Ok x) device room run =
     file_call old new (Write bytes) Done run (λ is. cc) (λ f. cc) (inl refl) (λ is. cc) (omega arith)
@@ -88,7 +88,7 @@ full_call m here bytes short =
     (λ file t u f same. (omega (arith, offset_at file here.offset t f), same))
 
 pub marks_call : {M : Type 0} {m : MediumKind M} (old new : FileTape M) (count : ℕ) (r : Result Unit TapeFault) → IfErr r (λ fault. fault ≡ Device)
-    → 0 < count → old.offset + 4 * count ≤ old.capacity → IsReelRun m (PutsEntries (replicate count Mark) r) (4 * count) (IsErr r) old new
+    → 0 < count → old.offset + 4 * count ≤ old.capacity → AreReelCalls m (PutsEntries (replicate count Mark) r) (4 * count) (IsErr r) old new
     → FileCall m old new (WriteMarks count) (done_answer r)
 marks_call old new count (Ok x) device some room run =
     file_call old new (WriteMarks count) Done run (λ is. cc) (λ f. cc) (inl refl) (λ is. cc) (omega arith)
@@ -127,7 +127,7 @@ the_room need most r answer is = answer.0 is
 pub rewind_call : {M : Type 0} (m : MediumKind M) (old : FileTape M) → FileCall m old (record old { offset = 0 }) Rewind Done
 rewind_call {M} m old =
     let new : FileTape M = record old { offset = 0 } in
-    let run : IsReelRun m (λ t u. u ≡ tape [] (entries_of t)) 0 ⊥ old new = record {
+    let run : AreReelCalls m (λ t u. u ≡ tape [] (entries_of t)) 0 ⊥ old new = record {
       step = λ t h. (tape [] (entries_of t), (h.0, h.1, record { spelled = h.2.spelled; offset_is = refl }), refl);
       calls = (reel_none m old).calls;
       same_capacity = refl;
@@ -147,8 +147,8 @@ abbrev Walked : {M : Type 0} → Way → ℕ → ℕ → ℕ → (Tape → ℕ) 
 Walked way count at left met far old x y = (y ≡ x) × ((t : Tape) → IsFile x old.offset t → IsWalked way count (met t) (far t) x t at left)
 
 walked_run : {M : Type 0} {m : MediumKind M} {F : Type 0} (way : Way) (count at left : ℕ) (met far : Tape → ℕ) (old : FileTape M) (b : M)
-    → IsMediumRun m (Walked way count at left met far old) 0 F old.medium b → (F → ⊥)
-    → IsReelRun m (λ t u. (u ≡ stands_at (place_after way (far t) t) t) × (left ≡ count - met t)) 0 ⊥ old (record { medium = b; offset = at; capacity = old.capacity })
+    → AreMediumCalls m (Walked way count at left met far old) 0 F old.medium b → (F → ⊥)
+    → AreReelCalls m (λ t u. (u ≡ stands_at (place_after way (far t) t) t) × (left ≡ count - met t)) 0 ⊥ old (record { medium = b; offset = at; capacity = old.capacity })
 walked_run way count at left met far old b r never = record {
   step = λ t h.
       let s = r.step h.0 h.1 in
@@ -159,7 +159,7 @@ walked_run way count at left met far old b r never = record {
 }
 
 space_by : {M : Type 0} {m : MediumKind M} {F : Type 0} (way : Way) (count at left : ℕ) (met far : Tape → ℕ) (request : TapeRequest) (old : FileTape M) (b : M) (r : Result Unit TapeFault)
-    → IsMediumRun m (Walked way count at left met far old) 0 F old.medium b → (F → ⊥) → left ≤ count
+    → AreMediumCalls m (Walked way count at left met far old) 0 F old.medium b → (F → ⊥) → left ≤ count
     → MatchResult r (λ _. left ≡ 0) (λ fault. (fault ≡ EndOrMark) × (0 < left))
     → ((answer : TapeAnswer) (t u : Tape) → SpaceStep count (met t) (place_after way (far t) t) t answer u → TapeStep old.capacity t request answer u)
     → ((answer : TapeAnswer) → CanSpace count answer → CanAnswer request answer)
@@ -175,7 +175,7 @@ space_by {m = m} way count at left met far request old b (Err fault) run never w
     (λ file t u f d. step (Fault EndOrMark) t u (let e = d.1 in omega arith, d.0)))
 
 pub files_spaced : {M : Type 0} {m : MediumKind M} {F : Type 0} (way : Way) (count at left : ℕ) (old : FileTape M) (b : M) (r : Result Unit TapeFault)
-    → IsMediumRun m (Walked way count at left (λ t. marks_met (ahead way t)) (λ t. passed_for_marks count (ahead way t)) old) 0 F old.medium b → (F → ⊥) → left ≤ count
+    → AreMediumCalls m (Walked way count at left (λ t. marks_met (ahead way t)) (λ t. passed_for_marks count (ahead way t)) old) 0 F old.medium b → (F → ⊥) → left ≤ count
     → MatchResult r (λ _. left ≡ 0) (λ fault. (fault ≡ EndOrMark) × (0 < left))
     → FileCall m old (record { medium = b; offset = at; capacity = old.capacity }) (files_request way count) (done_answer r)
 files_spaced Forward count at left old b r run never within answered =
@@ -184,7 +184,7 @@ files_spaced Back count at left old b r run never within answered =
     space_by Back count at left _ _ (BackFiles count) old b r run never within answered (λ answer t u s. s) (λ answer c. c)
 
 pub records_spaced : {M : Type 0} {m : MediumKind M} {F : Type 0} (way : Way) (count at left : ℕ) (old : FileTape M) (b : M) (r : Result Unit TapeFault)
-    → IsMediumRun m (Walked way count at left (λ t. records_met (ahead way t)) (λ t. passed_for_records count (ahead way t)) old) 0 F old.medium b → (F → ⊥) → left ≤ count
+    → AreMediumCalls m (Walked way count at left (λ t. records_met (ahead way t)) (λ t. passed_for_records count (ahead way t)) old) 0 F old.medium b → (F → ⊥) → left ≤ count
     → MatchResult r (λ _. left ≡ 0) (λ fault. (fault ≡ EndOrMark) × (0 < left))
     → FileCall m old (record { medium = b; offset = at; capacity = old.capacity }) (records_request way count) (done_answer r)
 records_spaced Forward count at left old b r run never within answered =

@@ -10,7 +10,7 @@ use Rattle.tape.specs.Medium.{MediumKind, IsReadAt, IsMediumCall}
 use Rattle.tape.specs.Medium.MediumCall.{ReadAt}
 use Rattle.tape.specs.declared.medium.MediumFailed.{MediumFailed}
 use Rattle.tape.specs.RecordFile.{length_bytes, image_of, images_of, IsFile, FileTape}
-use Rattle.tape.specs.FileSteps.{IsMediumRun, IsReelRun, IsPassed, first_length, size_by_length}
+use Rattle.tape.specs.FileSteps.{AreMediumCalls, AreReelCalls, IsPassed, first_length, size_by_length}
 use Rattle.tape.specs.declared.fault.TapeFault.TheVariants.{Device}
 use Rattle.tape.specs.declared.file_reel.walk.Way.TheVariants.{Forward}
 use Rattle.tape.proofs.Spelling.{length_length_bytes, body_of, image_parts}
@@ -24,11 +24,11 @@ pub none_given : (n : ℕ) → 0 ≤ n
 none_given n = omega arith
 
 pub gave_call : {M : Type 0} {m : MediumKind M} {does : List ℕ → List ℕ → Type 0} {F : Type 0} (old new : FileTape M) (count : ℕ) (bytes : List ℕ)
-    → IsMediumRun m does 0 F old.medium new.medium → (F → ⊥) → length bytes ≤ count → new.capacity ≡ old.capacity
+    → AreMediumCalls m does 0 F old.medium new.medium → (F → ⊥) → length bytes ≤ count → new.capacity ≡ old.capacity
     → ((x y : List ℕ) (t : Tape) → IsFile x old.offset t → does x y → (u : Tape) × IsFile y new.offset u × Passes count t.after t bytes u)
     → FileCall m old new (Read count) (Gave bytes)
 gave_call {M} {m} old new count bytes run not bound same step =
-    let whole : IsReelRun m (λ t u. Passes count t.after t bytes u) 0 ⊥ old new = record {
+    let whole : AreReelCalls m (λ t u. Passes count t.after t bytes u) 0 ⊥ old new = record {
       step = λ t h.
           let s = run.step h.0 h.1 in
           let p = step h.0 s.0 t h.2 s.2 in
@@ -39,10 +39,10 @@ gave_call {M} {m} old new count bytes run not bound same step =
     file_call old new (Read count) (Gave bytes) whole (λ is. cc) (λ f. absurd f) (inl (bytes, bound, refl)) (λ is. cc) (omega arith) (λ file t u f is. is)
 
 pub failed_read : {M : Type 0} {m : MediumKind M} {does : List ℕ → List ℕ → Type 0} {F : Type 0} (old new : FileTape M) (count : ℕ)
-    → IsMediumRun m does 0 F old.medium new.medium → F → new.offset ≡ old.offset → new.capacity ≡ old.capacity
+    → AreMediumCalls m does 0 F old.medium new.medium → F → new.offset ≡ old.offset → new.capacity ≡ old.capacity
     → ((x y : List ℕ) → does x y → y ≡ x) → FileCall m old new (Read count) (Fault Device)
 failed_read {M} {m} old new count run failed here same step =
-    let whole : IsReelRun m (λ t u. u ≡ t) 0 (Unit {0}) old new = record {
+    let whole : AreReelCalls m (λ t u. u ≡ t) 0 (Unit {0}) old new = record {
       step = λ t h.
           let s = run.step h.0 h.1 in
           let P : List ℕ → Type 0 = λ l. IsFile l old.offset t in
@@ -138,8 +138,8 @@ abbrev Reads : ℕ → ℕ → ℕ → List ℕ → List ℕ → List ℕ → Ty
 Reads at n got given x z = (z ≡ x) × ((t : Tape) → IsFile x at t → Some n ≡ first_length t.after) × IsReadAt (at + 4) given got x
 
 pub read_run : {M : Type 0} {m : MediumKind M} {a b c : M} (at n got : ℕ) (length_there : Option ℕ) (given : List ℕ)
-    → IsMediumRun m (λ x y. (y ≡ x) × ((t : Tape) → IsFile x at t → length_there ≡ first_length t.after)) 0 (false ≡ true) a b
-    → IsMediumCall m b (ReadAt (at + 4) given (Ok got)) c → length_there ≡ Some n → IsMediumRun m (Reads at n got given) 0 ⊥ a c
+    → AreMediumCalls m (λ x y. (y ≡ x) × ((t : Tape) → IsFile x at t → length_there ≡ first_length t.after)) 0 (false ≡ true) a b
+    → IsMediumCall m b (ReadAt (at + 4) given (Ok got)) c → length_there ≡ Some n → AreMediumCalls m (Reads at n got given) 0 ⊥ a c
 read_run at n got length_there given first call is =
     run_then first (run_call call) no_error no_error (λ f. absurd f) (omega arith)
     (λ x y z held s r.
@@ -148,7 +148,7 @@ read_run at n got length_there given first call is =
 
 -- the call where a record was cut short, which no file has
 pub cut_short : {M : Type 0} {m : MediumKind M} (old new : FileTape M) (n got count want : ℕ) (given : List ℕ)
-    → IsMediumRun m (Reads old.offset n got given) 0 ⊥ old.medium new.medium → new.capacity ≡ old.capacity
+    → AreMediumCalls m (Reads old.offset n got given) 0 ⊥ old.medium new.medium → new.capacity ≡ old.capacity
     → count ≡ min want n → length given ≡ count → got < count → FileCall m old new (Read want) (Gave [])
 cut_short old new n got count want given run same least size short =
     gave_call old new want [] run (λ f. f) (omega arith) same
@@ -156,7 +156,7 @@ cut_short old new n got count want given run same least size short =
 
 -- the call where the record was read
 pub given_whole : {M : Type 0} {m : MediumKind M} (old new : FileTape M) (n got count want : ℕ) (given rest : List ℕ)
-    → IsMediumRun m (Reads old.offset n got given) 0 ⊥ old.medium new.medium → new.capacity ≡ old.capacity → new.offset ≡ old.offset + size_by_length n
+    → AreMediumCalls m (Reads old.offset n got given) 0 ⊥ old.medium new.medium → new.capacity ≡ old.capacity → new.offset ≡ old.offset + size_by_length n
     → count ≡ min want n → length given ≡ count → count ≤ got → FileCall m old new (Read want) (Gave (take count (given ++ rest)))
 given_whole old new n got count want given rest run same place least size enough =
     gave_call old new want (take count (given ++ rest)) run (λ f. f) (omega (arith, length-take count (given ++ rest))) same
@@ -168,10 +168,10 @@ given_whole old new n got count want given rest run same place least size enough
 
 -- the call where the bytes could not be read
 pub failed_behind : {M : Type 0} {m : MediumKind M} {b : M} (old new : FileTape M) (want : ℕ) (length_there : Option ℕ) (given : List ℕ) (fault : MediumFailed)
-    → IsMediumRun m (λ x y. (y ≡ x) × ((t : Tape) → IsFile x old.offset t → length_there ≡ first_length t.after)) 0 (false ≡ true) old.medium b
+    → AreMediumCalls m (λ x y. (y ≡ x) × ((t : Tape) → IsFile x old.offset t → length_there ≡ first_length t.after)) 0 (false ≡ true) old.medium b
     → IsMediumCall m b (ReadAt (old.offset + 4) given (Err fault)) new.medium → new.offset ≡ old.offset → new.capacity ≡ old.capacity
     → FileCall m old new (Read want) (Fault Device)
 failed_behind {M} {m} old new want length_there given fault first call here same =
-    let run : IsMediumRun m (λ x z. z ≡ x) 0 (Unit {0}) old.medium new.medium
+    let run : AreMediumCalls m (λ x z. z ≡ x) 0 (Unit {0}) old.medium new.medium
     = run_then first (run_call call) no_error (λ f. tt) (λ f. refl) (omega arith) (λ x y z held s r. r.0 ∙ s.0) in
     failed_read old new want run tt here same (λ x y s. s)

@@ -6,7 +6,7 @@ use Rattle.tape.specs.Tape.{PlainEntry, Tape, tape, entries_of, stands_at, mark_
 use Rattle.tape.specs.Tape.PlainEntry.{Record, Mark}
 use Rattle.tape.specs.Medium.{MediumKind}
 use Rattle.tape.specs.RecordFile.{IsFile}
-use Rattle.tape.specs.FileSteps.{IsMediumRun, IsPassed, IsWalked, ahead, place_after, way_left}
+use Rattle.tape.specs.FileSteps.{AreMediumCalls, IsPassed, IsWalked, ahead, place_after, way_left}
 use Rattle.tape.specs.declared.file_reel.walk.PassedEntry.{PassedEntry}
 use Rattle.tape.proofs.MediumRuns.{run_as, run_then}
 use Rattle.tape.proofs.Spacing.{IsCounted, mark_of_marks, record_of_marks, mark_of_records, record_of_records, marks_end, records_end}
@@ -96,9 +96,9 @@ same_file : {x y : List ℕ} {at : ℕ} {t : Tape} → y ≡ x → IsFile x at t
 same_file {at = at} {t} e f = subst (λ b. IsFile b at t) (sym e) f
 
 pub goes_on : {S : Type 0} {m : MediumKind S} {a b c : S} {way : Way} {count offset at left left' : ℕ} {found : Option PassedEntry} {passed : PassedEntry} {F : Type 0} (met : Tape → ℕ) (far : ℕ → Tape → ℕ)
-    → IsMediumRun m (Goes way count offset at left met far) 0 ⊥ a b → IsMediumRun m (Finds way at found) 0 F b c → (F → ⊥) → found ≡ Some passed
+    → AreMediumCalls m (Goes way count offset at left met far) 0 ⊥ a b → AreMediumCalls m (Finds way at found) 0 F b c → (F → ⊥) → found ≡ Some passed
     → ((t u : Tape) → IsPassed way t passed.is_mark u → IsCounted (far left t) (far left' u) (met t) (met u) left left')
-    → IsMediumRun m (Goes way count offset passed.at left' met far) 0 ⊥ a c
+    → AreMediumCalls m (Goes way count offset passed.at left' met far) 0 ⊥ a c
 goes_on {way = way} {at = at} {passed = passed} met far r q not is counts =
     run_then r q (λ f. f) not (λ f. absurd f) (omega arith)
     (λ x y z held f n. (
@@ -112,16 +112,16 @@ goes_on {way = way} {at = at} {passed = passed} met far r q not is counts =
 
 -- the walk ends where it stands, with nothing left to pass
 pub goes_end : {S : Type 0} {m : MediumKind S} {a b : S} {way : Way} {count offset at left : ℕ} {G : Type 0} (met : Tape → ℕ) (far : ℕ → Tape → ℕ)
-    → IsMediumRun m (Goes way count offset at left met far) 0 ⊥ a b → (G → ⊥)
+    → AreMediumCalls m (Goes way count offset at left met far) 0 ⊥ a b → (G → ⊥)
     → ((t : Tape) → far left t ≡ 0) → ((t : Tape) → left - met t ≡ left)
-    → IsMediumRun m (Ends way count offset at left met far) 0 G a b
+    → AreMediumCalls m (Ends way count offset at left met far) 0 G a b
 goes_end met far r never none all = run_as r (λ f. absurd f) never (omega arith) (λ x y held f. (f.0, λ t file. let w = f.1 t file in walks_end w (none w.to) (all w.to)))
 
 -- or with nothing found on the way
 pub goes_out : {S : Type 0} {m : MediumKind S} {a b c : S} {way : Way} {count offset at left : ℕ} {found : Option PassedEntry} {F G : Type 0} (met : Tape → ℕ) (far : ℕ → Tape → ℕ)
-    → IsMediumRun m (Goes way count offset at left met far) 0 ⊥ a b → IsMediumRun m (Finds way at found) 0 F b c → (F → G) → (G → F) → found ≡ None
+    → AreMediumCalls m (Goes way count offset at left met far) 0 ⊥ a b → AreMediumCalls m (Finds way at found) 0 F b c → (F → G) → (G → F) → found ≡ None
     → ((t : Tape) → ahead way t ≡ [] → (far left t ≡ 0) × (met t ≡ 0))
-    → IsMediumRun m (Ends way count offset at left met far) 0 G a c
+    → AreMediumCalls m (Ends way count offset at left met far) 0 G a c
 goes_out {way = way} {left = left} met far r q to from is none =
     run_then r q (λ f. f) to from (omega arith)
     (λ x y z held f n. (
@@ -136,8 +136,8 @@ goes_out {way = way} {left = left} met far r q to from is none =
 
 -- or where the medium failed
 pub goes_wrong : {S : Type 0} {m : MediumKind S} {a b c : S} {way : Way} {count offset at left : ℕ} {next : List ℕ → List ℕ → Type 0} {F G : Type 0} (met : Tape → ℕ) (far : ℕ → Tape → ℕ)
-    → IsMediumRun m (Goes way count offset at left met far) 0 ⊥ a b → IsMediumRun m (λ old new. (new ≡ old) × next old new) 0 F b c → (F → G) → (G → F)
-    → IsMediumRun m (λ old new. (new ≡ old) × Unit {0}) 0 G a c
+    → AreMediumCalls m (Goes way count offset at left met far) 0 ⊥ a b → AreMediumCalls m (λ old new. (new ≡ old) × next old new) 0 F b c → (F → G) → (G → F)
+    → AreMediumCalls m (λ old new. (new ≡ old) × Unit {0}) 0 G a c
 goes_wrong met far r q to from = run_then r q (λ f. f) to from (omega arith) (λ x y z held f n. (n.0 ∙ f.0, tt))
 
 -- which entry was passed
@@ -212,9 +212,9 @@ records_gone way left t is = records_end left (ahead way t) is
 
 -- the walk ends after one entry more, where it stops
 pub goes_stop : {S : Type 0} {m : MediumKind S} {a b c : S} {way : Way} {count offset at left : ℕ} {found : Option PassedEntry} {passed : PassedEntry} {F G : Type 0} (met : Tape → ℕ) (far : ℕ → Tape → ℕ)
-    → IsMediumRun m (Goes way count offset at left met far) 0 ⊥ a b → IsMediumRun m (Finds way at found) 0 F b c → (F → G) → (G → F) → found ≡ Some passed
+    → AreMediumCalls m (Goes way count offset at left met far) 0 ⊥ a b → AreMediumCalls m (Finds way at found) 0 F b c → (F → G) → (G → F) → found ≡ Some passed
     → ((t u : Tape) → IsPassed way t passed.is_mark u → IsCounted (far left t) 0 (met t) 0 left left)
-    → IsMediumRun m (Ends way count offset passed.at left met far) 0 G a c
+    → AreMediumCalls m (Ends way count offset passed.at left met far) 0 G a c
 goes_stop {way = way} {left = left} {passed = passed} met far r q to from is counts =
     run_then r q (λ f. f) to from (omega arith)
     (λ x y z held f n. (

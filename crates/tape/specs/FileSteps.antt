@@ -1,5 +1,5 @@
 -- What the parts of a reel on a medium do to the medium, and to the tape that its bytes spell. The
--- contracts of `next_length` and `entry_size` cite `LooksAlong`, `IsMediumRun`, `first_length` and
+-- contracts of `next_length` and `entry_size` cite `LooksAlong`, `AreMediumCalls`, `first_length` and
 -- `size_by_length`. No other public contract needs it.
 use Rattle.std.specs.Prelude.{◌≡◌, ◌⊎◌, ◌==◌, if◌then◌else◌, ℕ, ◌+◌, ◌-◌, ◌^◌, ◌<◌, ◌≤◌, Bool, List, [], ◌∷◌, ◌++◌, length, reverse, take, Option, Some, None, MatchOption, Result, IsErr, IfOk, MatchResult}
 use Rattle.tape.specs.Failures.{HasRisen, Steps}
@@ -17,7 +17,7 @@ use Rattle.tape.specs.declared.file_reel.walk.Way.TheVariants.{Forward, Back}
 
 -- Calls of a medium in a row. `does` relates the bytes before and after. At most `added` bytes are
 -- added. `fails` says whether the last call failed; no call follows a failed one.
-pub record IsMediumRun {S : Type 0} (m : MediumKind S) (does : List ℕ → List ℕ → Type 0) (added : ℕ) (fails : Type 0) (old new : S) : Type 0 where
+pub record AreMediumCalls {S : Type 0} (m : MediumKind S) (does : List ℕ → List ℕ → Type 0) (added : ℕ) (fails : Type 0) (old new : S) : Type 0 where
   pub step : Steps m.holds old new does
   pub failed : fails → HasRisen (m.failures old) (m.failures new)
   pub same : (m.failures new ≡ m.failures old) ⊎ fails
@@ -30,13 +30,13 @@ pub record IsMediumRun {S : Type 0} (m : MediumKind S) (does : List ℕ → List
 -- place at this offset.
 abbrev pub LooksAlong : {A S : Type 0} → MediumKind S → ℕ → Result A MediumFailed → (List ℕ → Tape → A → Type 0) → S → S → Type 0
 LooksAlong m at result tells old new =
-    IsMediumRun m (λ bytes left. (left ≡ bytes) × IfOk result (λ answer. (t : Tape) → IsFile bytes at t → tells bytes t answer)) 0 (IsErr result) old new
+    AreMediumCalls m (λ bytes left. (left ≡ bytes) × IfOk result (λ answer. (t : Tape) → IsFile bytes at t → tells bytes t answer)) 0 (IsErr result) old new
 
--- The same of a reel on the medium, and of its tape.
-pub record IsReelRun {M : Type 0} (m : MediumKind M) (does : Tape → Tape → Type 0) (added : ℕ) (fails : Type 0)
+-- As `AreMediumCalls`, of a reel on the medium: `does` relates its tapes before and after.
+pub record AreReelCalls {M : Type 0} (m : MediumKind M) (does : Tape → Tape → Type 0) (added : ℕ) (fails : Type 0)
     (old new : FileTape M) : Type 0 where
   pub step : Steps (HoldsTape m.holds) old new does
-  pub calls : IsMediumRun m (λ _ _. Unit {0}) added fails old.medium new.medium
+  pub calls : AreMediumCalls m (λ _ _. Unit {0}) added fails old.medium new.medium
   pub same_capacity : new.capacity ≡ old.capacity
 
 -- The length that the bytes begin with, if there are at least 4 bytes.

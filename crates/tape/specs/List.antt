@@ -16,12 +16,12 @@ pub record ListTape : Type 0 where
   pub capacity : ℕ
 
 -- The view of a record file in memory: the tape of its bytes, with the place at its offset.
-abbrev pub seen : FileTape MemoryBytes → ListTape
-seen r = record { tape = tape_in r.offset r.medium.bytes; capacity = r.capacity }
+abbrev pub list_view : FileTape MemoryBytes → ListTape
+list_view r = record { tape = tape_in r.offset r.medium.bytes; capacity = r.capacity }
 
 -- Its bytes spell that tape, and its place is at its offset.
-abbrev pub IsSeen : FileTape MemoryBytes → Type 0
-IsSeen r = HoldsTape IsMemory r (seen r).tape
+abbrev pub IsListView : FileTape MemoryBytes → Type 0
+IsListView r = HoldsTape IsMemory r (list_view r).tape
 
 -- The tape of a reel in memory is always known.
 abbrev pub IsTape : ListTape → Tape → Type 0

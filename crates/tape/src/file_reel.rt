@@ -6,7 +6,7 @@ ghost use Rattle.tape.specs.Tape.PlainEntry.{Record, Mark};
 ghost use Rattle.tape.specs.Tape.TapeRequest.{WriteMarks};
 ghost use Rattle.tape.specs.Call.{IsTapeCall};
 ghost use Rattle.tape.specs.RecordFile.{FileTape, SpellsReel, HoldsTape, IsFileCall, file_reel_kind, medium_kind_of};
-ghost use Rattle.tape.specs.FileSteps.{IsReelRun, PutsEntries, files_request, records_request};
+ghost use Rattle.tape.specs.FileSteps.{AreReelCalls, PutsEntries, files_request, records_request};
 ghost use Rattle.tape.specs.declared.fault.TapeFault.TheVariants.{Device, OutOfMemory};
 
 mod image;
@@ -102,7 +102,7 @@ impl<M: Medium> FileReel<M> {
     ///
     /// Fails with `Device` if the medium fails. The entries are unchanged then, or cut.
     pub(crate) fn cut(&mut self) -> Result<(), TapeFault>
-        ensures run { IsReelRun (medium_kind_of M.Medium) (PutsEntries [] result) 0 (IsErr result) self.old self.new }
+        ensures run { AreReelCalls (medium_kind_of M.Medium) (PutsEntries [] result) 0 (IsErr result) self.old self.new }
         ensures device { IfErr result (λ fault. fault ≡ Device) }
     {
         self.medium.cut(self.offset)?;
@@ -116,7 +116,7 @@ impl<M: Medium> FileReel<M> {
     pub(crate) fn put_record(&mut self, bytes: &[u8]) -> Result<(), TapeFault>
         requires record_is { IsRecord bytes.now }
         requires room { self.old.offset + (length bytes.now + 8) < 2 ^ 64 }
-        ensures run { IsReelRun (medium_kind_of M.Medium) (PutsEntries (Record bytes.now ∷ []) result)
+        ensures run { AreReelCalls (medium_kind_of M.Medium) (PutsEntries (Record bytes.now ∷ []) result)
             (length bytes.now + 8) (IsErr result) self.old self.new }
         ensures device { IfErr result (λ fault. fault ≡ Device) }
     {
@@ -131,7 +131,7 @@ impl<M: Medium> FileReel<M> {
     /// old entries, none, or some or all of the marks.
     pub(crate) fn put_marks(&mut self, count: u32) -> Result<(), TapeFault>
         requires { self.old.offset + 4 * count < 2 ^ 64 }
-        ensures run { IsReelRun (medium_kind_of M.Medium) (PutsEntries (replicate count Mark) result)
+        ensures run { AreReelCalls (medium_kind_of M.Medium) (PutsEntries (replicate count Mark) result)
             (4 * count) (IsErr result) self.old self.new }
         ensures device { IfErr result (λ fault. fault ≡ Device) }
     {

@@ -66,7 +66,7 @@ impl<M: Medium> FuseMedium<M> {
     }
 
     /// Counts a call and returns whether it is due to fail. If so, counts the failure too.
-    fn stops(&mut self) -> bool
+    fn count_call(&mut self) -> bool
         ensures answer { result ≡ is_due self.old.to_go }
         ensures new { self.new ≡ record self.old {
           to_go = counted_down self.old.once self.old.to_go;
@@ -118,7 +118,7 @@ impl<M: Medium> Medium for FuseMedium<M> {
         ensures failures { self.new.failures ≡ (if is_err result then raised self.old.failures else self.old.failures) }
         ensures unfailed { IsNotDue self.old.to_go → OnOk result (M.failures self.new.inner ≡ M.failures self.old.inner) }
     {
-        if self.stops() {
+        if self.count_call() {
             // The medium within is not asked.
             return Err(MediumFailed);
         }
@@ -137,7 +137,7 @@ impl<M: Medium> Medium for FuseMedium<M> {
         ensures failures { self.new.failures ≡ (if is_err result then raised self.old.failures else self.old.failures) }
         ensures unfailed { IsNotDue self.old.to_go → OnOk result (M.failures self.new.inner ≡ M.failures self.old.inner) }
     {
-        if self.stops() {
+        if self.count_call() {
             // Nothing is read into the buffer.
             return Err(MediumFailed);
         }
@@ -156,7 +156,7 @@ impl<M: Medium> Medium for FuseMedium<M> {
         ensures failures { self.new.failures ≡ (if is_err result then raised self.old.failures else self.old.failures) }
         ensures unfailed { IsNotDue self.old.to_go → OnOk result (M.failures self.new.inner ≡ M.failures self.old.inner) }
     {
-        if self.stops() {
+        if self.count_call() {
             leave(&mut self.inner, self.left, bytes);
             return Err(MediumFailed);
         }
@@ -177,7 +177,7 @@ impl<M: Medium> Medium for FuseMedium<M> {
         ensures failures { self.new.failures ≡ (if is_err result then raised self.old.failures else self.old.failures) }
         ensures unfailed { IsNotDue self.old.to_go → OnOk result (M.failures self.new.inner ≡ M.failures self.old.inner) }
     {
-        if self.stops() {
+        if self.count_call() {
             leave_framed(&mut self.inner, self.left, frame, bytes);
             return Err(MediumFailed);
         }
@@ -196,7 +196,7 @@ impl<M: Medium> Medium for FuseMedium<M> {
         ensures failures { self.new.failures ≡ (if is_err result then raised self.old.failures else self.old.failures) }
         ensures unfailed { IsNotDue self.old.to_go → OnOk result (M.failures self.new.inner ≡ M.failures self.old.inner) }
     {
-        if self.stops() {
+        if self.count_call() {
             if self.left > 0 {
                 let _ = self.inner.cut(len);
             }

@@ -30,13 +30,13 @@ pub struct ListReel {
 }
 
 impl Model for ListReel {
-    ghost use Rattle.tape.specs.List.{IsSeen, ListTape, seen};
+    ghost use Rattle.tape.specs.List.{IsListView, ListTape, list_view};
 
     ghost Value = { ListTape };
 
-    ghost view = { λ r. seen r.reel };
+    ghost view = { λ r. list_view r.reel };
 
-    ghost invariant = { λ r. IsSeen r.reel };
+    ghost invariant = { λ r. IsListView r.reel };
 }
 
 impl ListReel {

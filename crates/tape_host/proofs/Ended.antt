@@ -20,7 +20,7 @@ use Rattle.tape_host.specs.declared.side.Next.TheVariants.{Nothing, Seat, Whole}
 use Rattle.tape_host.specs.Servers.{side_at, with_side_at, ended_from, ended}
 use Rattle.tape_host.specs.Hosting.{MemoryDrives, MemorySessionState, idle_session_state, seen_side, server_of, IsLive, IsIdleAt, IsNextWaiting, IsHosting}
 use Rattle.tape_host.proofs.Sides.{side_within, side_other, side_same, side_map, length_with, map_with}
-use Rattle.tape_host.specs.Lying.{LieBut, IsOnlineAt}
+use Rattle.tape_host.specs.Lying.{AreInSlotsExcept, IsOnlineAt}
 use Rattle.tape_host.proofs.Tidied.{Either, OnlineBeside, closed_fits, side_tidy}
 use Rattle.tape_host.proofs.Hosted.{false_unless, holds_open}
 
@@ -117,11 +117,11 @@ module _ (others : OthersStay) (session_view : TellsSessionView) (ends : EndsUnt
       let apart : n ≢ k = λ same. was.1 (holds_open h d k s live (l, was.0 ∙ same)) in
       (found.0, side_other sides k n None apart ∙ found.1)
 
-  ended_tidy : LieBut (library_of drives'.stacks) (IsOnlineAt (map (option_map seen_side) (with_side_at sides k None)))
+  ended_tidy : AreInSlotsExcept (library_of drives'.stacks) (IsOnlineAt (map (option_map seen_side) (with_side_at sides k None)))
   ended_tidy =
       let others = OnlineBeside (map (option_map seen_side) sides) k in
       side_tidy sides k s is None (library_of drives.stacks) (library_of drives'.stacks) h.tidy
-      (λ own. subst (λ (x : TapeLibrary). LieBut x (Either None others)) left.tells.library.0 (closed_fits others (library_of drives.stacks) (session_seen s.session.opened) own))
+      (λ own. subst (λ (x : TapeLibrary). AreInSlotsExcept x (Either None others)) left.tells.library.0 (closed_fits others (library_of drives.stacks) (session_seen s.session.opened) own))
 
   pub ended_hosting : IsHosting drives' (with_side_at sides k None) next
   ended_hosting = record {

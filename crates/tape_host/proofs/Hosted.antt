@@ -25,7 +25,7 @@ use Rattle.tape_host.specs.Servers.{side_at, drive_open_by, IsHeldOnce, joined}
 use Rattle.tape_host.proofs.Lying.{lie_first, none_away}
 use Rattle.tape_host.proofs.Sides.{side_within, side_map, at_more}
 use Rattle.tape_host.proofs.Tidied.{joined_tidy, none_online}
-use Rattle.tape_host.specs.Lying.{AllLie, IsOnlineAt}
+use Rattle.tape_host.specs.Lying.{AreAllInSlots, IsOnlineAt}
 use Rattle.tape_host.specs.Hosting.{MemoryDrives, MemorySessionState, seen_side, server_of, is_nothing, IsIdle, IsMade, IsUntroubled, IsLive, IsIdleAt, IsNextWaiting, IsHosting}
 
 -- without connections no side is live
@@ -43,7 +43,7 @@ none_unless (suc n) h = absurd (h (omega arith))
 
 -- drives that no seat holds, and no connection
 pub first_hosting : (drives : MemoryDrives) (n : ℕ) → drives.holds ≡ holders (replicate n 0) 0 → length drives.stacks.library.drives ≡ n
-    → IsLibrary drives.stacks (library_of drives.stacks) → (StacksCanFail drives.stacks → ⊥) → AllLie (library_of drives.stacks) → IsHosting drives [] Nothing
+    → IsLibrary drives.stacks (library_of drives.stacks) → (StacksCanFail drives.stacks → ⊥) → AreAllInSlots (library_of drives.stacks) → IsHosting drives [] Nothing
 first_hosting drives n e all told quiet rested =
     let numbers : drives.holds.numbers ≡ replicate n 0 = ap (λ h. h.numbers) e in
     let same : length drives.holds.numbers ≡ n = ap length numbers ∙ length-replicate n 0 in

@@ -14,7 +14,7 @@ use Rattle.tape_host.specs.declared.side.Next.{Next}
 use Rattle.tape_host.specs.declared.side.Next.TheVariants.{Nothing, Seat, Whole}
 use Rattle.tape_host.specs.Servers.{hosted, restacked}
 use Rattle.tape_host.specs.Hosting.{MemoryDrives, MemorySessionState, idle_session_state, seen_side, server_of, IsIdleAt, IsNextWaiting, IsHosting}
-use Rattle.tape_host.specs.Lying.{LieBut, IsOnlineAt}
+use Rattle.tape_host.specs.Lying.{AreInSlotsExcept, IsOnlineAt}
 use Rattle.tape_host.proofs.Lying.{lie_arranged}
 use Rattle.tape_host.proofs.Tidied.{none_online}
 use Rattle.tape_host.proofs.Hosted.{false_unless, none_unless}
@@ -57,11 +57,11 @@ module _ (free : LeavesFree) (elsewhere : StaysElsewhere) {drives : MemoryDrives
 
   restacked_tidy : {U : Type 0} (names : List (List ℕ)) (result : Result U DriveFault)
       → MatchResult result (λ _. library_of stacks ≡ arranged (library_of drives.stacks) d names) (λ _. library_of stacks ≡ library_of drives.stacks)
-      → LieBut (library_of stacks) (IsOnlineAt (map (option_map seen_side) sides))
+      → AreInSlotsExcept (library_of stacks) (IsOnlineAt (map (option_map seen_side) sides))
   restacked_tidy names (Ok x) e =
-      subst (λ (s : TapeLibrary). LieBut s (IsOnlineAt (map (option_map seen_side) sides))) (sym e)
+      subst (λ (s : TapeLibrary). AreInSlotsExcept s (IsOnlineAt (map (option_map seen_side) sides))) (sym e)
       (lie_arranged (library_of drives.stacks) d names (IsOnlineAt (map (option_map seen_side) sides)) h.tidy none_there)
-  restacked_tidy names (Err why) e = subst (λ (s : TapeLibrary). LieBut s (IsOnlineAt (map (option_map seen_side) sides))) (sym e) h.tidy
+  restacked_tidy names (Err why) e = subst (λ (s : TapeLibrary). AreInSlotsExcept s (IsOnlineAt (map (option_map seen_side) sides))) (sym e) h.tidy
 
   pub restacked_hosting : {U : Type 0} (names : List (List ℕ)) (result : Result U DriveFault)
       → MatchResult result (λ _. library_of stacks ≡ arranged (library_of drives.stacks) d names) (λ _. library_of stacks ≡ library_of drives.stacks)

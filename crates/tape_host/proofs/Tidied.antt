@@ -24,7 +24,7 @@ use Rattle.rmt_server.specs.ServerState.{ServerConnection}
 use Rattle.drives.specs.ListLibrary.{is_set}
 use Rattle.tape_host.specs.declared.side.ServerConnection.{ServerConnection as RealServerConnection}
 use Rattle.tape_host.specs.Servers.{side_at, with_side_at}
-use Rattle.tape_host.specs.Lying.{LieBut, online_drive_in, online_by, IsOnlineAt}
+use Rattle.tape_host.specs.Lying.{AreInSlotsExcept, online_drive_in, online_by, IsOnlineAt}
 use Rattle.tape_host.specs.Hosting.{seen_side}
 use Rattle.tape_host.proofs.Lying.{lie_laid, lie_latched, lie_moved}
 use Rattle.tape_host.proofs.Sides.{side_within, side_other, side_same, side_map, map_with, at_more}
@@ -37,7 +37,7 @@ Either own others d = (own ≡ Some d) ⊎ others d
 
 module _ (others : ℕ → Type 0) where
   abbrev Fits : TapeLibrary → PlainSession → Type 0
-  Fits s x = LieBut s (Either (online_drive_in x) others)
+  Fits s x = AreInSlotsExcept s (Either (online_drive_in x) others)
 
   given_up : (drive e : ℕ) → e ≢ drive → Either (Some drive) others e → Either None others e
   given_up drive e apart (inl own) = absurd (apart (cc))
@@ -146,21 +146,21 @@ by_all sides k d x first last (inl own) = (k, ap online_by (side_same sides k x 
 by_all sides k d x first last (inr (j, apart, online)) = (j, ap online_by (side_other sides k j x apart) ∙ online)
 
 -- where another reel is away only if one before was
-pub lie_while : {s : TapeLibrary} (before after : ℕ → Type 0) → LieBut s before → ((d : ℕ) → before d → after d) → LieBut s after
+pub lie_while : {s : TapeLibrary} (before after : ℕ → Type 0) → AreInSlotsExcept s before → ((d : ℕ) → before d → after d) → AreInSlotsExcept s after
 lie_while before after h more = record { bin = h.bin; below = h.below; first = λ d away. more d (h.first d away) }
 
 -- what one side did
 pub side_tidy : (sides : List (Option RealServerConnection)) (k : ℕ) (s : RealServerConnection) → side_at sides k ≡ Some s → (x : Option RealServerConnection) (old new : TapeLibrary)
-    → LieBut old (IsOnlineAt (map (option_map seen_side) sides))
-    → (LieBut old (Either (online_drive_in (session_seen s.session.opened)) (OnlineBeside (map (option_map seen_side) sides) k))
-    → LieBut new (Either (online_by (option_map seen_side x)) (OnlineBeside (map (option_map seen_side) sides) k)))
-    → LieBut new (IsOnlineAt (map (option_map seen_side) (with_side_at sides k x)))
+    → AreInSlotsExcept old (IsOnlineAt (map (option_map seen_side) sides))
+    → (AreInSlotsExcept old (Either (online_drive_in (session_seen s.session.opened)) (OnlineBeside (map (option_map seen_side) sides) k))
+    → AreInSlotsExcept new (Either (online_by (option_map seen_side x)) (OnlineBeside (map (option_map seen_side) sides) k)))
+    → AreInSlotsExcept new (IsOnlineAt (map (option_map seen_side) (with_side_at sides k x)))
 side_tidy sides k s is x old new h step =
     let all = map (option_map seen_side) sides in
     let own : side_at all k ≡ Some (seen_side s) = side_map seen_side sides k ∙ ap (option_map seen_side) is in
     let within = side_within all k (seen_side s) own in
-    let out : LieBut old (Either (online_by (Some (seen_side s))) (OnlineBeside all k)) = lie_while (IsOnlineAt all) (Either (online_by (Some (seen_side s))) (OnlineBeside all k)) h (λ d. by_one all k d (Some (seen_side s)) own) in
-    subst (λ xs. LieBut new (IsOnlineAt xs)) (sym (map_with seen_side sides k x))
+    let out : AreInSlotsExcept old (Either (online_by (Some (seen_side s))) (OnlineBeside all k)) = lie_while (IsOnlineAt all) (Either (online_by (Some (seen_side s))) (OnlineBeside all k)) h (λ d. by_one all k d (Some (seen_side s)) own) in
+    subst (λ xs. AreInSlotsExcept new (IsOnlineAt xs)) (sym (map_with seen_side sides k x))
     (lie_while (Either (online_by (option_map seen_side x)) (OnlineBeside all k)) (IsOnlineAt (with_side_at all k (option_map seen_side x))) (step out)
     (λ d. by_all all k d (option_map seen_side x) within.0 within.1))
 
@@ -173,11 +173,11 @@ still_at sides y zero x is = is
 still_at sides y (suc i) x is = at_more sides y i x is
 
 -- one side more
-pub joined_tidy : (sides : List (Option RealServerConnection)) (s : RealServerConnection) (library : TapeLibrary) → LieBut library (IsOnlineAt (map (option_map seen_side) sides))
-    → LieBut library (IsOnlineAt (map (option_map seen_side) (sides ++ Some s ∷ [])))
+pub joined_tidy : (sides : List (Option RealServerConnection)) (s : RealServerConnection) (library : TapeLibrary) → AreInSlotsExcept library (IsOnlineAt (map (option_map seen_side) sides))
+    → AreInSlotsExcept library (IsOnlineAt (map (option_map seen_side) (sides ++ Some s ∷ [])))
 joined_tidy sides s library h =
     let all = map (option_map seen_side) sides in
-    subst (λ xs. LieBut library (IsOnlineAt xs)) (sym (map-append (option_map seen_side) sides (Some s ∷ [])))
+    subst (λ xs. AreInSlotsExcept library (IsOnlineAt xs)) (sym (map-append (option_map seen_side) sides (Some s ∷ [])))
     (lie_while (IsOnlineAt all) (IsOnlineAt (all ++ Some (seen_side s) ∷ [])) h
     (λ d (k, online). (
     let found = online_some (side_at all k) d online in

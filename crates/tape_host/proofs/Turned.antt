@@ -20,7 +20,7 @@ use Rattle.tape_host.specs.Servers.{Hosted, hosted, side_at, with_side_at}
 use Rattle.tape_host.specs.Turns.{TurnsAt, with_back}
 use Rattle.tape_host.specs.Hosting.{MemoryDrives, seen_side, server_of, IsLive, IsNextWaiting, IsHosting, IsUntroubledAt, IsCarried, TurnsSession, session_back}
 use Rattle.tape_host.proofs.Sides.{side_within, side_other, side_same, side_map, length_with, map_with, with_own}
-use Rattle.tape_host.specs.Lying.{LieBut, IsOnlineAt}
+use Rattle.tape_host.specs.Lying.{AreInSlotsExcept, IsOnlineAt}
 use Rattle.tape_host.proofs.Tidied.{OnlineBeside, served_fits, side_tidy}
 use Rattle.tape_host.proofs.Ended.{OthersStay, live_stays, waiting_stays}
 
@@ -91,7 +91,7 @@ module _ (others : OthersStay) {drives drives' : MemoryDrives} {sides : List (Op
         | inr was ↦ still_there n (h.held d n (l, was) x)
       ]
 
-  carried_tidy : LieBut (library_of drives'.stacks) (IsOnlineAt (map (option_map seen_side) (with_side_at sides k (Some after))))
+  carried_tidy : AreInSlotsExcept (library_of drives'.stacks) (IsOnlineAt (map (option_map seen_side) (with_side_at sides k (Some after))))
   carried_tidy =
       side_tidy sides k s is (Some after) (library_of drives.stacks) (library_of drives'.stacks) h.tidy
       (served_fits (OnlineBeside (map (option_map seen_side) sides) k) trouble drives.holds.numbers (session_view_seen (state drives s.session)) request reply

@@ -25,7 +25,7 @@ use Rattle.tape_host.specs.declared.turn.Carried.{Carried}
 use Rattle.tape_host.specs.declared.turn.Turn.{Turn}
 use Rattle.tape_host.specs.declared.turn.Turn.TheVariants as turns
 use Rattle.tape_host.specs.Servers.{side_at}
-use Rattle.tape_host.specs.Lying.{LieBut, IsOnlineAt}
+use Rattle.tape_host.specs.Lying.{AreInSlotsExcept, IsOnlineAt}
 use Rattle.tape_host.specs.Turns.{carried_of, sent_back, GivesNothing, GivesFault, GivesRequest}
 
 -- the drives, with their reels in memory
@@ -111,7 +111,7 @@ pub record IsHosting (drives : MemoryDrives) (sides : List (Option RealServerCon
   pub paired : length drives.holds.numbers ≡ length drives.stacks.library.drives
   pub quiet : drives.stacks.trouble ≡ false
   pub lying : troubled_in drives.stacks.library ≡ 0
-  pub tidy : LieBut (library_of drives.stacks) (IsOnlineAt (map (option_map seen_side) sides))
+  pub tidy : AreInSlotsExcept (library_of drives.stacks) (IsOnlineAt (map (option_map seen_side) sides))
 
 -- The seat belongs to these drives, no trouble is set, and no two reels have the same name.
 pub record IsUntroubledAt (x : MemoryState) : Type 0 where

@@ -8,18 +8,18 @@ use Rattle.rmt_server.specs.ServerState.{ServerConnection}
 use Rattle.tape_host.specs.Servers.{side_at}
 
 -- each of these slots has its reel
-abbrev pub Lie : {X : Type 0} → List (ReelSlot X) → Type 0
-Lie [] = Unit {0}
-Lie (x ∷ xs) = IsSome x.reel × Lie xs
+abbrev pub AreInSlots : {X : Type 0} → List (ReelSlot X) → Type 0
+AreInSlots [] = Unit {0}
+AreInSlots (x ∷ xs) = IsSome x.reel × AreInSlots xs
 
 -- each slot of the stacks of these drives has its reel
-abbrev pub StacksLie : {X : Type 0} → List (Drive X) → Type 0
-StacksLie [] = Unit {0}
-StacksLie (r ∷ drives) = Lie r.stack × StacksLie drives
+abbrev pub AreStacksInSlots : {X : Type 0} → List (Drive X) → Type 0
+AreStacksInSlots [] = Unit {0}
+AreStacksInSlots (r ∷ drives) = AreInSlots r.stack × AreStacksInSlots drives
 
 -- no reel is latched: each slot has its reel
-abbrev pub AllLie : {X : Type 0} → LibraryOf X → Type 0
-AllLie s = StacksLie s.drives × Lie s.bin
+abbrev pub AreAllInSlots : {X : Type 0} → LibraryOf X → Type 0
+AreAllInSlots s = AreStacksInSlots s.drives × AreInSlots s.bin
 
 -- the drive that a session has open with its reel
 abbrev pub online_drive_in : PlainSession → Option ℕ
@@ -38,7 +38,7 @@ IsOnlineAt sides d = (k : ℕ) × (online_by (side_at sides k) ≡ Some d)
 
 -- Every slot has its reel, except that the first of a stack can be away, and only if `away` holds
 -- of the drive.
-pub record LieBut {X : Type 0} (s : LibraryOf X) (away : ℕ → Type 0) : Type 0 where
-  pub bin : Lie s.bin
-  pub below : (d : ℕ) → Lie (drop 1 (drive_at s d).stack)
+pub record AreInSlotsExcept {X : Type 0} (s : LibraryOf X) (away : ℕ → Type 0) : Type 0 where
+  pub bin : AreInSlots s.bin
+  pub below : (d : ℕ) → AreInSlots (drop 1 (drive_at s d).stack)
   pub first : (d : ℕ) → IsSome (latched_at s d) → away d

@@ -5,7 +5,7 @@ use Rattle.rmt_wire.specs.Request.{PlainRequest}
 use Rattle.rmt_wire.specs.Request.PlainRequest.{Open, Write, WriteDropped, Op}
 use Rattle.rmt_wire.specs.Reply.{PlainReply, reply_text}
 use Rattle.rmt_wire.specs.Reply.PlainReply.{Done, Data, Error}
-use Rattle.rmt_wire.specs.RequestParts.{Gives}
+use Rattle.rmt_wire.specs.RequestParts.{ParsesAs}
 use Rattle.rmt_wire.specs.RequestReader.{RequestHeld, Unread}
 use Rattle.rmt_wire.specs.declared.fault.WireFault.{WireFault}
 use Rattle.rmt_wire.specs.declared.mtio.TheConstants.{MTWEOF}
@@ -56,16 +56,16 @@ sent_back false back text = back ++ text
 -- the unread bytes contain neither a whole request nor a fault
 abbrev pub GivesNothing : RequestHeld → Type 0
 GivesNothing reached =
-    (bytes rest : List ℕ) (found : Result (Option PlainRequest) WireFault) → Unread reached bytes → Gives bytes found rest → found ≡ Ok None
+    (bytes rest : List ℕ) (found : Result (Option PlainRequest) WireFault) → Unread reached bytes → ParsesAs bytes found rest → found ≡ Ok None
 
 -- the unread bytes begin with this fault
 abbrev pub GivesFault : RequestHeld → WireFault → Type 0
-GivesFault reached fault = (bytes rest : List ℕ) × Unread reached bytes × Gives bytes (Err fault) rest
+GivesFault reached fault = (bytes rest : List ℕ) × Unread reached bytes × ParsesAs bytes (Err fault) rest
 
 -- the unread bytes begin with this request, and `after` is the reader once it was read
 abbrev pub GivesRequest : RequestHeld → PlainRequest → RequestHeld → Type 0
 GivesRequest reached request after =
-    (bytes rest : List ℕ) × Unread reached bytes × Gives bytes (Ok (Some request)) rest × Unread after rest
+    (bytes rest : List ℕ) × Unread reached bytes × ParsesAs bytes (Ok (Some request)) rest × Unread after rest
 
 -- The server's side of connection `k` carries out this request with this reply. If the request
 -- makes a device call, the call meets the trouble.

@@ -9,7 +9,7 @@ ghost use Rattle.drives.specs.Arranging.{reel_named, may_arrange};
 ghost use Rattle.rmt_server.specs.Memory.{session_seen};
 ghost use Rattle.rmt_server.specs.ServerState.{server};
 ghost use Rattle.tape_host.specs.Servers.{hosted, side_at, joined, ended, all_ended, restacked, HasRoom, IsPiecePushed, IsHolder, IsHeldOnce};
-ghost use Rattle.tape_host.specs.Lying.{AllLie};
+ghost use Rattle.tape_host.specs.Lying.{AreAllInSlots};
 ghost use Rattle.tape_host.specs.Turns.{TurnsAt, ServesAt, with_back};
 
 use crate::serving::take_turn;
@@ -64,7 +64,7 @@ impl Host {
         requires all { length stacks.library.drives ≡ drives }
         requires told { IsLibrary stacks (library_of stacks) }
         requires quiet { StacksCanFail stacks → ⊥ }
-        requires rested { AllLie (library_of stacks) }
+        requires rested { AreAllInSlots (library_of stacks) }
         ensures server { IfOk result (λ h. h ≡ hosted (server (library_of stacks) (replicate drives 0) []) false) }
     {
         let holds = LocalHolds::new(alloc, drives)?;

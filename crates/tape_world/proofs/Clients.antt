@@ -13,11 +13,11 @@ use Rattle.dump_client.specs.declared.stage.State.{State}
 use Rattle.dump_client.specs.declared.stage.State.TheVariants as told
 use Rattle.dump_client.specs.declared.stage.Answer.{Answer}
 use Rattle.dump_client.specs.declared.fault.StartFault.{StartFault}
-use Rattle.world_model.specs.World.{World, Caller, numbered}
+use Rattle.world_model.specs.World.{World, WorldClient, numbered}
 use Rattle.world_model.specs.Rows.{StandsIn}
 use Rattle.world_model.specs.Steps.{caller, entry_of}
 use Rattle.tape_world.specs.declared.caller.Begun.{Begun as RealBegun}
-use Rattle.tape_world.specs.declared.caller.Caller.{Caller as RealCaller}
+use Rattle.tape_world.specs.declared.caller.WorldClient.{WorldClient as RealCaller}
 use Rattle.tape_world.specs.Seen.{seen_caller}
 use Rattle.tape_world.specs.Calling.{IsSameRun, ClientAnswers}
 use Rattle.tape_world.specs.Holding.{IsSourced}
@@ -28,7 +28,7 @@ pub stands : (w : World) (o : Option RealCaller) (c : RealCaller) (tells state :
 stands w o c tells state r is there stage same =
     let at : w.caller ≡ Some (seen_caller c) = is ∙ ap (option_map seen_caller) there in (
       λ yes. (seen_caller c, at, sym stage ∙ same.0 yes),
-      λ (d, other, stands). same.1 (stage ∙ ap (λ (x : Caller). state_of x.at.stage) (same_Some (seen_caller c) d (sym at ∙ other)) ∙ stands),
+      λ (d, other, stands). same.1 (stage ∙ ap (λ (x : WorldClient). state_of x.at.stage) (same_Some (seen_caller c) d (sym at ∙ other)) ∙ stands),
     )
 
 pub told_asking : (stage : Stage) → state_of stage ≡ told.Asking → stage ≡ Asking
@@ -57,11 +57,11 @@ pub record IsAnswered (o : Option RealCaller) (answer : Answer) (new : Option Re
   pub asks : before.client.at.stage ≡ Asking
   pub at : after.client.at ≡ standing before.client.at.run before.client.at.counts (stage_after answer)
 
-pub answered : (o new : Option RealCaller) (answer : Answer) (x : Caller) → option_map seen_caller o ≡ Some x → state_of x.at.stage ≡ told.Asking
+pub answered : (o new : Option RealCaller) (answer : Answer) (x : WorldClient) → option_map seen_caller o ≡ Some x → state_of x.at.stage ≡ told.Asking
     → ClientAnswers o answer new → IsAnswered o answer new
 answered None new answer x is asks a = absurd cc
 answered (Some c) new answer x is asks (d, r, new-is, same, moved) =
-    let asks : c.client.at.stage ≡ Asking = ap (λ (y : Caller). y.at.stage) (same_Some (seen_caller c) x is) ∙ told_asking x.at.stage asks in
+    let asks : c.client.at.stage ≡ Asking = ap (λ (y : WorldClient). y.at.stage) (same_Some (seen_caller c) x is) ∙ told_asking x.at.stage asks in
     record {
       before = c;
       after = d;

@@ -22,7 +22,7 @@ use Rattle.world_model.specs.Changes.{reel_opened_by}
 use Rattle.tape_world.specs.declared.history.Opening.{Opening as RealOpening}
 use Rattle.tape_world.specs.Seen.{name_at, seen_opening}
 use Rattle.tape_world.specs.Holding.{is_in_attempt}
-use Rattle.tape_world.specs.declared.caller.Caller.{Caller as RealCaller}
+use Rattle.tape_world.specs.declared.caller.WorldClient.{WorldClient as RealCaller}
 use Rattle.tape_world.specs.Hearing.{is_over, IsAttempting}
 
 -- a client that heard something in an attempt: of the same run, with one count more at most, and still in the attempt unless that

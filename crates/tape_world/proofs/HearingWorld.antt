@@ -8,11 +8,11 @@ use Rattle.dump_run.specs.declared.count.VolumeCount.{VolumeCount}
 use Rattle.dump_client.specs.declared.stage.Progress.{Progress}
 use Rattle.dump_client.specs.declared.stage.Progress.TheVariants as moved
 use Rattle.dump_client.specs.declared.fault.AttemptFault.{AttemptFault}
-use Rattle.world_model.specs.World.{World, Connection, Dumping, Caller, Count, numbered}
-use Rattle.world_model.specs.Changes.{with_no_failure, changed, changed_from, over_there, reel_opened_by, counts_of, came_to}
+use Rattle.world_model.specs.World.{World, Connection, AttemptState, WorldClient, Count, numbered}
+use Rattle.world_model.specs.Changes.{with_no_failure, changed, changed_from, without_peer, reel_opened_by, counts_of, after_client_call}
 use Rattle.world_model.specs.Steps.{Hears, caller}
 use Rattle.world_connections.specs.declared.connection.Connection.{Connection as RealConnection}
-use Rattle.tape_world.specs.declared.caller.Caller.{Caller as RealCaller}
+use Rattle.tape_world.specs.declared.caller.WorldClient.{WorldClient as RealCaller}
 use Rattle.tape_world.specs.declared.history.Count.{Count as RealCount}
 use Rattle.tape_world.specs.declared.world_state.hearing.PieceHeard.{PieceHeard}
 use Rattle.tape_world.specs.Seen.{seen_caller, seen_count, name_at}
@@ -42,7 +42,7 @@ pub attempts : (w : World) (o : Option RealCaller) (k : ℕ) → w.caller ≡ op
 attempts w None k was s clients = (let at = (s.own k (s.only k clients)).1 in let clash = sym was ∙ at.1 in absurd cc)
 attempts w (Some c) k was s clients =
     let at = (s.own k (s.only k clients)).1 in
-    (c, refl, subst (λ (x : Caller). IsTrue (is_in_attempt x.at.stage)) (same_Some at.0 (seen_caller c) (sym at.1 ∙ was)) at.2)
+    (c, refl, subst (λ (x : WorldClient). IsTrue (is_in_attempt x.at.stage)) (same_Some at.0 (seen_caller c) (sym at.1 ∙ was)) at.2)
 
 -- bytes that arrive before the connection is over make no difference
 get_set : (xs : List Connection) (i : ℕ) (x y : Connection) → slice_get xs i ≡ Some x → slice_get (slice_set xs i y) i ≡ Some y
@@ -51,24 +51,24 @@ get_set (w ∷ xs) zero x y at = refl
 get_set (w ∷ xs) (suc i) x y at = get_set xs i x y at
 
 over_from : (n : ℕ) (xs : List Connection) (k : ℕ) (o : Option Connection) → numbered xs k ≡ o
-    → changed over_there (changed_from (deliver_back n) xs k o) k ≡ changed_from over_there xs k o
-over_from n xs k None is = ap (changed_from over_there xs k) is
+    → changed without_peer (changed_from (deliver_back n) xs k o) k ≡ changed_from without_peer xs k o
+over_from n xs k None is = ap (changed_from without_peer xs k) is
 over_from n xs zero (Some x) is = absurd cc
 over_from n xs (suc i) (Some x) is =
-    ap (changed_from over_there (slice_set xs i (deliver_back n x)) (suc i)) (get_set xs i x (deliver_back n x) is)
-    ∙ set-set xs i (deliver_back n x) (over_there x)
+    ap (changed_from without_peer (slice_set xs i (deliver_back n x)) (suc i)) (get_set xs i x (deliver_back n x) is)
+    ∙ set-set xs i (deliver_back n x) (without_peer x)
 
-over_back : (n : ℕ) (xs : List Connection) (k : ℕ) → changed over_there (changed (deliver_back n) xs k) k ≡ changed over_there xs k
+over_back : (n : ℕ) (xs : List Connection) (k : ℕ) → changed without_peer (changed (deliver_back n) xs k) k ≡ changed without_peer xs k
 over_back n xs k = over_from n xs k (numbered xs k) refl
 
 -- the world after the client heard so many bytes
-abbrev pub heard_world : World → ℕ → ℕ → Bool → Option Caller → List Count → Option (ℕ × AttemptFault) → World
+abbrev pub heard_world : World → ℕ → ℕ → Bool → Option WorldClient → List Count → Option (ℕ × AttemptFault) → World
 heard_world w k n over caller counts failure =
     record w { connections = changed (heard_on over n) w.connections k; own = own_after over w.own; caller = caller; counts = counts; failure = failure }
 
-come_is : (w : World) (k n : ℕ) (x : Caller) (counts : List Count) (at : Standing) (progress : Progress)
+come_is : (w : World) (k n : ℕ) (x : WorldClient) (counts : List Count) (at : Standing) (progress : Progress)
     → heard_world w k n (is_over progress) (Some x) counts (failure_of at progress)
-    ≡ came_to (record (with_no_failure w) { connections = changed (deliver_back n) w.connections k; caller = Some x; counts = counts }) k at progress
+    ≡ after_client_call (record (with_no_failure w) { connections = changed (deliver_back n) w.connections k; caller = Some x; counts = counts }) k at progress
 come_is w k n x counts at (moved.Failed fault) =
     ap (λ ls. record w { connections = ls; own = None; caller = Some x; counts = counts; failure = Some ((checkpoint_of at.counts).0, fault) }) (sym (over_back n w.connections k))
 come_is w k n x counts at moved.Ended =
@@ -77,7 +77,7 @@ come_is w k n x counts at moved.Waiting = refl
 come_is w k n x counts at moved.Send = refl
 come_is w k n x counts at moved.Idle = refl
 
-pub heard_step : (w u : World) (k n : ℕ) (dump : Option Dumping) (d : Dumping) (piece : List ℕ) (o new : Option RealCaller) (h : PieceHeard) → dump ≡ Some d
+pub heard_step : (w u : World) (k n : ℕ) (dump : Option AttemptState) (d : AttemptState) (piece : List ℕ) (o new : Option RealCaller) (h : PieceHeard) → dump ≡ Some d
     → w.caller ≡ option_map seen_caller o → HasHeard o piece h new
     → u ≡ heard_world w k n h.is_over (option_map seen_caller new) (w.counts ++ map (counts_of w h.run k) (option_to_list h.count)) h.failure
     → Hears dump w k n piece u
@@ -106,7 +106,7 @@ heard_step w u k n dump d piece o new h some was e is =
           ∙ come_is w k n x now at e.progress,
     )
 
-pub dropped_step : (w u : World) (k n : ℕ) (dump : Option Dumping) (piece : List ℕ) → dump ≡ None
+pub dropped_step : (w u : World) (k n : ℕ) (dump : Option AttemptState) (piece : List ℕ) → dump ≡ None
     → u ≡ record (with_no_failure w) { connections = changed (deliver_back n) w.connections k } → Hears dump w k n piece u
 dropped_step w u k n dump piece none is = subst (λ y. Hears y w k n piece u) (sym none) is
 

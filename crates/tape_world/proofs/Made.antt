@@ -18,7 +18,7 @@ use Rattle.std.specs.Str.{bytes_eq}
 use Rattle.dumpdates.specs.Entry.{DatesEntry}
 use Rattle.rmt_server.specs.ServerState.{server}
 use Rattle.tape_host.specs.Servers.{Hosted, hosted}
-use Rattle.tape_host.specs.Lying.{Lie, StacksLie, AllLie}
+use Rattle.tape_host.specs.Lying.{AreInSlots, AreStacksInSlots, AreAllInSlots}
 use Rattle.world_model.specs.First.{PlainDriveSpec, blank_drive, first_world}
 use Rattle.world_connections.specs.declared.connection.Connection.{Connection as RealConnection}
 use Rattle.tape_world.specs.declared.caller.Begun.{Begun as RealBegun}
@@ -110,16 +110,16 @@ first_library : (s : ListLibrary) (drives : List DriveSpec) → s.library ≡ la
 first_library s drives is =
     ap (λ (x : LibraryOf TroubledTape). library (map rest_drive x.drives) (map rest_slot x.bin)) is ∙ ap (λ all_drives. library all_drives []) (kept_drives drives)
 
-slots_lie : (capacity : ℕ) (names : List (List ℕ)) → Lie (map (λ name. slot name (Some (kept_reel [] capacity))) names)
+slots_lie : (capacity : ℕ) (names : List (List ℕ)) → AreInSlots (map (λ name. slot name (Some (kept_reel [] capacity))) names)
 slots_lie capacity [] = tt
 slots_lie capacity (name ∷ names) = (refl, slots_lie capacity names)
 
-drives_lie : (drives : List PlainDriveSpec) → StacksLie (map blank_drive drives)
+drives_lie : (drives : List PlainDriveSpec) → AreStacksInSlots (map blank_drive drives)
 drives_lie [] = tt
 drives_lie (d ∷ drives) = (slots_lie d.capacity d.reels, drives_lie drives)
 
-pub none_latched : (s : ListLibrary) (drives : List DriveSpec) → s.library ≡ laid_library drives → AllLie (library_of s)
-none_latched s drives is = subst (λ (x : TapeLibrary). AllLie x) (sym (first_library s drives is)) (drives_lie (map plain_drive_spec drives), tt)
+pub none_latched : (s : ListLibrary) (drives : List DriveSpec) → s.library ≡ laid_library drives → AreAllInSlots (library_of s)
+none_latched s drives is = subst (λ (x : TapeLibrary). AreAllInSlots x) (sym (first_library s drives is)) (drives_lie (map plain_drive_spec drives), tt)
 
 -- where nothing has happened yet
 pub first_server : (host : Hosted) (s : ListLibrary) (drives : List DriveSpec) (n : ℕ) → s.library ≡ laid_library drives

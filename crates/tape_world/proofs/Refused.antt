@@ -8,7 +8,7 @@ use Rattle.world_model.specs.Steps.{caller}
 use Rattle.tape_world.specs.declared.stop.EventStop.{EventStop}
 use Rattle.tape_world.specs.declared.stop.EventStop.TheVariants.{OutOfMemory}
 use Rattle.tape_world.specs.declared.caller.Begun.{Begun as RealBegun}
-use Rattle.tape_world.specs.declared.caller.Caller.{Caller as RealCaller}
+use Rattle.tape_world.specs.declared.caller.WorldClient.{WorldClient as RealCaller}
 use Rattle.tape_world.specs.Seen.{seen_caller}
 use Rattle.tape_world.specs.Calling.{Starts}
 use Rattle.tape_world.specs.Holding.{IsEvent, IsSourced}

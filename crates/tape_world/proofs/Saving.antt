@@ -22,7 +22,7 @@ use Rattle.world_model.specs.Rows.{IsRunEntered, MayBeKept}
 use Rattle.world_model.specs.Steps.{ResumesRun, caller, forgotten_from, kept_after}
 use Rattle.tape_world.specs.declared.history.Entered.{Entered as RealEntered}
 use Rattle.tape_world.specs.declared.caller.Begun.{Begun as RealBegun}
-use Rattle.tape_world.specs.declared.caller.Caller.{Caller as RealCaller}
+use Rattle.tape_world.specs.declared.caller.WorldClient.{WorldClient as RealCaller}
 use Rattle.tape_world.specs.declared.caller.KeptRun.{KeptRun}
 use Rattle.tape_world.specs.Calling.{IsBegunWith}
 use Rattle.tape_world.specs.Holding.{IsBacked, IsSourced}

@@ -15,14 +15,14 @@ use Rattle.dump_client.specs.declared.stage.Stage.TheVariants.{Ready, ToSend, Wa
 use Rattle.dump_client.specs.declared.stage.State.TheVariants as told
 use Rattle.dump_client.specs.declared.fault.AttemptFault.{AttemptFault}
 use Rattle.dump_client.specs.declared.fault.AttemptFault.TheVariants.{SourceFault}
-use Rattle.world_model.specs.World.{World, Connection, Caller, numbered}
-use Rattle.world_model.specs.Changes.{changed, over_there}
+use Rattle.world_model.specs.World.{World, Connection, WorldClient, numbered}
+use Rattle.world_model.specs.Changes.{changed, without_peer}
 use Rattle.world_model.specs.Events.PlainEvent.{Send}
 use Rattle.world_model.specs.Rows.{StandsIn}
 use Rattle.world_model.specs.Steps.{Happens, Sends, caller, is_failing}
 use Rattle.world_connections.specs.declared.connection.Connection.{Connection as RealConnection}
 use Rattle.tape_world.specs.declared.caller.Begun.{Begun as RealBegun}
-use Rattle.tape_world.specs.declared.caller.Caller.{Caller as RealCaller}
+use Rattle.tape_world.specs.declared.caller.WorldClient.{WorldClient as RealCaller}
 use Rattle.tape_world.specs.Seen.{seen_begun, seen_caller}
 use Rattle.world_connections.specs.Connection.{plain_connection}
 use Rattle.tape_world.specs.Calling.{IsPlaced}
@@ -42,7 +42,7 @@ pub to_send : (w : World) (o : Option RealCaller) → w.caller ≡ option_map se
 to_send w None is (x, at, tells) = (let clash = sym is ∙ at in absurd cc)
 to_send w (Some c) is (x, at, tells) =
     let stage = told_to_send x.at.stage tells in
-    (c, stage.0, refl, ap (λ (y : Caller). y.at.stage) (same_Some (seen_caller c) x (sym is ∙ at)) ∙ stage.1)
+    (c, stage.0, refl, ap (λ (y : WorldClient). y.at.stage) (same_Some (seen_caller c) x (sym is ∙ at)) ∙ stage.1)
 
 -- a client that is to send has a connection of its own
 pub has_own : (w : World) → IsOwned w → w.own ≡ None → StandsIn w (λ stage. (step : Step) × (stage ≡ ToSend step)) → ⊥
@@ -108,7 +108,7 @@ talked_sourced begun o new fails text failure a s x at =
     )
 
 -- the world then
-abbrev pub talked_world : World → ℕ → List ℕ → Option (ℕ × AttemptFault) → Option Caller → World
+abbrev pub talked_world : World → ℕ → List ℕ → Option (ℕ × AttemptFault) → Option WorldClient → World
 talked_world w k text failure caller =
     record w { connections = changed (talked text failure) w.connections k; caller = caller; own = own_after failure w.own; failure = failure }
 
@@ -142,7 +142,7 @@ sends_so w u k o new fails text (Some failure) payload a blocks is =
     subst (λ b. Sends b w k (seen_caller a.before) payload a.step u) (sym fails) (
       a.after.client.reader,
       is ∙ ap (talked_world w k text (Some failure)) (caller_is a.before a.after new (standing a.before.client.at.run a.before.client.at.counts Asking) a.is a.number at)
-          ∙ ap (λ f. record w { connections = changed over_there w.connections k; caller = Some x; own = None; failure = f }) tells,
+          ∙ ap (λ f. record w { connections = changed without_peer w.connections k; caller = Some x; own = None; failure = f }) tells,
     )
 
 pub talked_event : (w u : World) (k : ℕ) (begun : List RealBegun) (o new : Option RealCaller) (fails : Bool) (text : List ℕ) (failure : Option (ℕ × AttemptFault))

@@ -21,8 +21,8 @@ use Rattle.tape_host.specs.declared.turn.Turn.{Turn}
 use Rattle.tape_host.specs.declared.turn.Turn.TheVariants as turns
 use Rattle.tape_host.specs.Servers.{Hosted, hosted, side_at, ended}
 use Rattle.tape_host.specs.Turns.{sent_back, GivesNothing, carried_of, asked_of, answered_of, TurnsAt, TurnsSide, ServesAt, with_back}
-use Rattle.world_model.specs.World.{Connection, Dumping}
-use Rattle.world_model.specs.Changes.{changed, sent_on, noted, noted_by, noted_write, noted_marks, answered, over_here, opening}
+use Rattle.world_model.specs.World.{Connection, AttemptState}
+use Rattle.world_model.specs.Changes.{changed, sent_on, noted, noted_by, noted_write, noted_marks, answered, without_server, opening}
 use Rattle.world_connections.specs.declared.connection.Connection.{Connection as RealConnection}
 use Rattle.tape_world.specs.declared.history.Opening.{Opening as RealOpening}
 use Rattle.tape_world.specs.Seen.{seen_opening, name_at}
@@ -33,26 +33,26 @@ use Rattle.world_connections.proofs.Linked.{put_connection}
 
 -- ---- what is noted of a request
 
-record_noted : (d : Dumping) (reply : PlainReply) → noted_record d (answered_of reply) ≡ noted_write d reply
+record_noted : (d : AttemptState) (reply : PlainReply) → noted_record d (answered_of reply) ≡ noted_write d reply
 record_noted d (Done zero) = refl
 record_noted d (Done (suc n)) = refl
 record_noted d (Data bytes) = refl
 record_noted d (Error n text) = refl
 
-mark_noted : (d : Dumping) (reply : PlainReply) → noted_mark d (answered_of reply) ≡ noted_marks d reply
+mark_noted : (d : AttemptState) (reply : PlainReply) → noted_mark d (answered_of reply) ≡ noted_marks d reply
 mark_noted d (Done n) = refl
 mark_noted d (Data bytes) = refl
 mark_noted d (Error n text) = refl
 
-op_step : (b : Bool) (d : Dumping) (reply : PlainReply)
+op_step : (b : Bool) (d : AttemptState) (reply : PlainReply)
     → noted_asked d (if b then asked.Marks else asked.Other) (answered_of reply) ≡ (if b then noted_marks d reply else d)
 op_step true d reply = mark_noted d reply
 op_step false d reply = refl
 
-op_noted : (d : Dumping) (op count : ℕ) (reply : PlainReply) → noted_asked d (asked_of (Op op count)) (answered_of reply) ≡ noted_by d (Op op count) reply
+op_noted : (d : AttemptState) (op count : ℕ) (reply : PlainReply) → noted_asked d (asked_of (Op op count)) (answered_of reply) ≡ noted_by d (Op op count) reply
 op_noted d op count reply = op_step (op == MTWEOF) d reply
 
-asked_noted : (d : Dumping) (request : PlainRequest) (reply : PlainReply) → noted_asked d (asked_of request) (answered_of reply) ≡ noted_by d request reply
+asked_noted : (d : AttemptState) (request : PlainRequest) (reply : PlainReply) → noted_asked d (asked_of request) (answered_of reply) ≡ noted_by d request reply
 asked_noted d (Open device mode) reply = refl
 asked_noted d Close reply = refl
 asked_noted d (Write bytes) reply = record_noted d reply
@@ -60,10 +60,10 @@ asked_noted d (WriteDropped count) reply = refl
 asked_noted d (Read count) reply = refl
 asked_noted d (Op op count) reply = op_noted d op count reply
 
-carried_noted : (request : PlainRequest) (reply : PlainReply) (o : Option Dumping)
+carried_noted : (request : PlainRequest) (reply : PlainReply) (o : Option AttemptState)
     → option_map (noted_carried (carried_of request reply)) o ≡ option_map (noted request reply) o
 carried_noted request reply None = refl
-carried_noted request reply (Some d) = ap Some (ap (λ (e : Dumping). record e { carried = raised e.carried }) (asked_noted d request reply))
+carried_noted request reply (Some d) = ap Some (ap (λ (e : AttemptState). record e { carried = raised e.carried }) (asked_noted d request reply))
 
 sent_same : (lost : Bool) (back text : List ℕ) → sent_back lost back text ≡ sent_on lost back text
 sent_same true back text = refl
@@ -88,7 +88,7 @@ serves_side trouble old new k s (turns.Carried c) l x back live (request, reply,
       (ap (λ e. option_map (noted_carried e) l.dump) told ∙ carried_noted request reply l.dump),
 )
 serves_side trouble old new k s (turns.Broken fault) l x back live (gives, after, is) so =
-    (s, live, gives, after, so ∙ ap (λ b. over_here (record l { back = b })) is)
+    (s, live, gives, after, so ∙ ap (λ b. without_server (record l { back = b })) is)
 
 serves_from : (trouble : Trouble) (old new : Hosted) (k : ℕ) (o : Option ServerConnection) (turn : Turn) (l x : Connection) (back : List ℕ) → side_at old.server.sides k ≡ o
     → TurnsAt (hosted (ended old.server k) old.ready) trouble l.cut (with_back old l.back) k o turn (with_back new back) → x ≡ noted_turn turn (record l { back = back })
@@ -108,7 +108,7 @@ pub serves_as : (trouble : Trouble) (old new : Hosted) (k : ℕ) (turn : Turn) (
 serves_as trouble old new k turns.Nothing p q on (none, same, is) = (none, same, on (λ l. l) is)
 serves_as trouble old new k (turns.Carried c) p q on (s, request, reply, live, carries, told, is) =
     (s, request, reply, live, carries, told, on (answered request reply) is)
-serves_as trouble old new k (turns.Broken fault) p q on (s, live, gives, after, is) = (s, live, gives, after, on over_here is)
+serves_as trouble old new k (turns.Broken fault) p q on (s, live, gives, after, is) = (s, live, gives, after, on without_server is)
 
 pub serves_connections : {E : Type 0} (trouble : Trouble) (old new : Hosted) (connections : List RealConnection) (k : ℕ) (x d : RealConnection) → 1 ≤ k → k ≤ length connections → (r : Result Turn E)
     → IfOk r (λ turn. TurnServes trouble old k turn new (λ f. plain_connection x ≡ f (plain_connection (slice_index_or connections (k - 1) d))))

@@ -30,7 +30,7 @@ use Rattle.dumpdates.specs.Entry.{DatesEntry}
 use Rattle.dump_run.specs.declared.count.VolumeCount.{VolumeCount}
 use Rattle.world_model.specs.World.{World, Connection, Opening, Writing, numbered, with_numbered}
 use Rattle.world_model.specs.Events.PlainEvent.{Serve}
-use Rattle.world_model.specs.Changes.{with_no_failure, changed, changed_from, ended, side_of, written_reel, opened_reel, opening, list_in, writing, answered, over_here}
+use Rattle.world_model.specs.Changes.{with_no_failure, changed, changed_from, ended, side_of, written_reel, opened_reel, opening, list_in, writing, answered, without_server}
 use Rattle.world_model.specs.Rows.{Possible}
 use Rattle.world_model.specs.Steps.{Happens}
 use Rattle.world_model.specs.Standing.{AreHeld}
@@ -40,7 +40,7 @@ use Rattle.tape_world.specs.declared.history.History.{History}
 use Rattle.tape_world.specs.declared.history.Count.{Count as RealCount}
 use Rattle.tape_world.specs.declared.history.Entered.{Entered as RealEntered}
 use Rattle.tape_world.specs.declared.caller.Begun.{Begun as RealBegun}
-use Rattle.tape_world.specs.declared.caller.Caller.{Caller as RealCaller}
+use Rattle.tape_world.specs.declared.caller.WorldClient.{WorldClient as RealCaller}
 use Rattle.tape_world.specs.declared.caller.KeptRun.{KeptRun}
 use Rattle.tape_world.specs.Seen.{seen_caller, seen_count, seen_opening, seen_lists, seen_writing, seen_entered, book_names, world_of}
 use Rattle.world_connections.specs.Connection.{plain_connection}
@@ -223,7 +223,7 @@ carried_happens trouble k w s request reply new connections live c is =
     )
 
 broken_happens : (trouble : Trouble) (k : ℕ) (w : World) (s : ServerConnection) (fault : WireFault) (new : ServerState) (connections : List Connection)
-    → side_at w.server.sides k ≡ Some s → GivesFault s.reached fault → new ≡ host.ended w.server k → connections ≡ changed over_here w.connections k
+    → side_at w.server.sides k ≡ Some s → GivesFault s.reached fault → new ≡ host.ended w.server k → connections ≡ changed without_server w.connections k
     → Happens w (Serve k trouble) (left_with w new connections (w.opens ++ []) (w.lists ++ []) (w.writings ++ []))
 broken_happens trouble k w s fault new connections live (bytes, rest, unread, gives) after is =
     let here = sym (side_found w.server k) ∙ live in (
@@ -238,9 +238,9 @@ broken_happens trouble k w s fault new connections live (bytes, rest, unread, gi
         gives,
         ap (λ h. left_with w h connections (w.opens ++ []) (w.lists ++ []) (w.writings ++ [])) (after ∙ ended_is w.server k)
             ∙ ap (λ l. left_with w (ended w.server k) l (w.opens ++ []) (w.lists ++ []) (w.writings ++ [])) is
-            ∙ ap (λ o. left_with w (ended w.server k) (changed over_here w.connections k) o (w.lists ++ []) (w.writings ++ [])) (append-nil w.opens)
-            ∙ ap (λ o. left_with w (ended w.server k) (changed over_here w.connections k) w.opens o (w.writings ++ [])) (append-nil w.lists)
-            ∙ ap (λ x. left_with w (ended w.server k) (changed over_here w.connections k) w.opens w.lists x) (append-nil w.writings),
+            ∙ ap (λ o. left_with w (ended w.server k) (changed without_server w.connections k) o (w.lists ++ []) (w.writings ++ [])) (append-nil w.opens)
+            ∙ ap (λ o. left_with w (ended w.server k) (changed without_server w.connections k) w.opens o (w.writings ++ [])) (append-nil w.lists)
+            ∙ ap (λ x. left_with w (ended w.server k) (changed without_server w.connections k) w.opens w.lists x) (append-nil w.writings),
       ),
     )
 

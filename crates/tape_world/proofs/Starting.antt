@@ -16,11 +16,11 @@ use Rattle.dump_client.specs.declared.fault.StartFault.TheVariants as refused
 use Rattle.rmt_wire.specs.ReplyReader.{ReplyHeld, ReplyUnread, reply_held}
 use Rattle.world_connections.specs.Attempt.{new_dumping}
 use Rattle.tape_world.specs.declared.stop.EventStop.TheVariants.{OutOfMemory}
-use Rattle.world_model.specs.World.{World, Dumping, Begun, numbered}
+use Rattle.world_model.specs.World.{World, AttemptState, Begun, numbered}
 use Rattle.world_model.specs.Rows.{StandsIn}
 use Rattle.world_model.specs.Steps.{caller, fresh}
 use Rattle.tape_world.specs.declared.caller.Begun.{Begun as RealBegun}
-use Rattle.tape_world.specs.declared.caller.Caller.{Caller as RealCaller}
+use Rattle.tape_world.specs.declared.caller.WorldClient.{WorldClient as RealCaller}
 use Rattle.tape_world.specs.Seen.{seen_begun, seen_caller}
 use Rattle.tape_world.specs.Calling.{IsBegunWith, IsSameRun, IsReady, Starts}
 use Rattle.tape_world.specs.Holding.{IsSourced}
@@ -80,7 +80,7 @@ refused_at stage old new room (Err refused.WrongState) is started bad =
 ready_stage : (o : Option RealCaller) (c : RealCaller) → o ≡ Some c → IsReady o → c.client.at.stage ≡ Ready
 ready_stage o c is (x, at, ready) = ap (λ (y : RealCaller). y.client.at.stage) (same_Some c x (sym is ∙ at)) ∙ ready
 
-pub starts : (o : Option RealCaller) (c d : RealCaller) (r : Result Unit StartFault) (dump : Dumping) → o ≡ Some c → IsReady o → IsSameRun c d
+pub starts : (o : Option RealCaller) (c d : RealCaller) (r : Result Unit StartFault) (dump : AttemptState) → o ≡ Some c → IsReady o → IsSameRun c d
     → StartedAt c.client.at.stage c.client.at c.client.room r d.client.at → is_err r ≡ false
     → ((bytes : List ℕ) → HasFedAt c.client.at.stage c.client.reader bytes → HasFedAt d.client.at.stage d.client.reader bytes)
     → dump ≡ new_dumping c.number (checkpoint_of c.client.at.counts).0 (checkpoint_of c.client.at.counts).1 → Starts o (Ok dump) (Some d)
@@ -99,7 +99,7 @@ refuses o c d r is ready same started bad reader =
     subst (λ x. Starts x (Err OutOfMemory) (Some d)) (sym is) (d, refl, same, at, reader, refl)
 
 -- a client that started an attempt
-pub record IsStarted (o : Option RealCaller) (dump : Dumping) (new : Option RealCaller) : Type 0 where
+pub record IsStarted (o : Option RealCaller) (dump : AttemptState) (new : Option RealCaller) : Type 0 where
   pub before : RealCaller
   pub after : RealCaller
   pub was : o ≡ Some before
@@ -109,11 +109,11 @@ pub record IsStarted (o : Option RealCaller) (dump : Dumping) (new : Option Real
   pub reader : after.client.reader ≡ reply_held None []
   pub fresh : dump ≡ fresh (seen_caller before)
 
-pub started : (o new : Option RealCaller) (dump : Dumping) → Starts o (Ok dump) new → IsStarted o dump new
+pub started : (o new : Option RealCaller) (dump : AttemptState) → Starts o (Ok dump) new → IsStarted o dump new
 started None new dump starts = absurd starts
 started (Some c) new dump (d, is, same, at, reader, new-is) = record { before = c; after = d; was = refl; is = is; same = same; at = at; reader = reader; fresh = new-is }
 
-pub started_caller : (o new : Option RealCaller) (dump : Dumping) (i : IsStarted o dump new)
+pub started_caller : (o new : Option RealCaller) (dump : AttemptState) (i : IsStarted o dump new)
     → option_map seen_caller new
     ≡ Some (caller i.before.number (standing i.before.client.at.run i.before.client.at.counts (ToSend Open)) (reply_held None []))
 started_caller o new dump i =

@@ -18,7 +18,7 @@ use Rattle.dump_run.specs.declared.blocks.SourceFailed.{SourceFailed}
 use Rattle.dump_client.specs.Script.{request_of}
 use Rattle.dump_client.specs.Standing.{Standing, standing, checkpoint_of}
 use Rattle.dump_client.specs.Client.{ClientHeld, HasFed, HasFedAt, IsShapedAs, AskedAt, ReadAt, ReadBy, IsFaultAt, has_failed}
-use Rattle.tape_world.specs.declared.caller.Caller.{Caller as RealCaller}
+use Rattle.tape_world.specs.declared.caller.WorldClient.{WorldClient as RealCaller}
 use Rattle.tape_world.specs.Talking.{Asks, AskedOf, IsToSend, talked}
 use Rattle.dump_client.specs.declared.step.Step.{Step}
 use Rattle.dump_client.specs.declared.step.Step.TheVariants.{Open, Operation, Look, Label, Block, Close}

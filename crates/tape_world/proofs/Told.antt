@@ -13,10 +13,10 @@ use Rattle.world_model.specs.Changes.{side_of, connection_of}
 use Rattle.world_model.specs.Rows.{Possible, HasRoomFor}
 use Rattle.world_model.specs.First.{IsReadable}
 use Rattle.tape_world.specs.declared.caller.Begun.{Begun as RealBegun}
-use Rattle.tape_world.specs.declared.caller.Caller.{Caller as RealCaller}
+use Rattle.tape_world.specs.declared.caller.WorldClient.{WorldClient as RealCaller}
 use Rattle.tape_world.specs.Holding.{IsBegun, IsSourced}
 use Rattle.tape_world.specs.Seen.{seen_begun, seen_caller}
-use Rattle.tape_world.specs.Telling.{IsGreatest, TellsPayload}
+use Rattle.tape_world.specs.Telling.{IsGreatest, IsPayloadOf}
 use Rattle.world_connections.proofs.Linked.{same_connection}
 
 -- so many bytes fit into the room of a live side
@@ -78,7 +78,7 @@ begun_at begun (suc i) b is = slice_get-map seen_begun begun i ∙ ap (option_ma
 
 -- the client reads the payload that its run was begun with
 pub payload : (w : World) (begun : List RealBegun) (caller : Option RealCaller) (c : RealCaller) → w.begun ≡ map seen_begun begun → w.caller ≡ option_map seen_caller caller
-    → caller ≡ Some c → IsBegun w → IsSourced begun caller → TellsPayload w c.client.source
+    → caller ≡ Some c → IsBegun w → IsSourced begun caller → IsPayloadOf w c.client.source
 payload w begun caller c begun_is caller_is is sound sourced =
     let has : w.caller ≡ Some (seen_caller c) = caller_is ∙ ap (option_map seen_caller) is in
     let run = sound (seen_caller c) has in

@@ -16,7 +16,7 @@ use Rattle.rmt_server.specs.Session.{PlainSession}
 use Rattle.rmt_server.specs.Session.PlainSession.{Idle, Offline, Online}
 use Rattle.world_model.specs.World.{World, Begun}
 use Rattle.world_model.specs.Changes.{side_of, first_name}
-use Rattle.world_model.specs.Standing.{IsFirstAway, online_drive_in, AreHeld, ReelLiesIn, ReelLiesOn, HasInDrive, StandsOn}
+use Rattle.world_model.specs.Standing.{IsFirstAway, online_drive_in, AreHeld, ReelLiesIn, ReelLiesOn, HasInDrive, ReelHolds}
 use Rattle.world_model.specs.Kept.{AreLaid, IsWorldKept}
 use Rattle.world_model.specs.Headline.{CountedReels}
 use Rattle.world_model.specs.Written.{whole_volume}
@@ -137,7 +137,7 @@ in_drive name s (Online drive access reel) t is =
     (drive, access, reel, refl, sym ((bytes_eq-Decides name (first_name (drive_at s drive).stack)).0 its.0), ap entries_of its.1)
 
 online_stands : (h : ServerState) (name : List ℕ) (i : ℕ) (t : Tape) (o : Option ServerConnection) → slice_index_or h.sides i None ≡ o → tape_online name h.library o ≡ Some t
-    → StandsOn h name (entries_of t)
+    → ReelHolds h name (entries_of t)
 online_stands h name i t None at is = absurd cc
 online_stands h name i t (Some s) at is =
     inr (suc i, s, ap (option_and_then (λ x. x)) (place_side h.sides i s at), in_drive name h.library s.session t is)
@@ -161,7 +161,7 @@ online_told h (suc j) s name entries a l once live has =
     (ap (tape_online name h.library) there ∙ t.1)
 
 -- what stands on a reel is told
-pub stands_told : (h : ServerState) (name : List ℕ) (entries : List PlainEntry) → AreHeld h → AreLaid h → EachReelOnce h.library → StandsOn h name entries → entries_on h name ≡ Some entries
+pub stands_told : (h : ServerState) (name : List ℕ) (entries : List PlainEntry) → AreHeld h → AreLaid h → EachReelOnce h.library → ReelHolds h name entries → entries_on h name ≡ Some entries
 stands_told h name entries a l once (inl lies) =
     let on = on_has h.library name entries lies in
     ap (λ o. option_or (option_map (λ (r : KeptReel). r.entries) o) (option_map entries_of (first_tape_online name h.library h.sides))) (library_named h.library name (Some on.0) once on.1)
@@ -177,4 +177,4 @@ volumes_told w kept counted x b among begun last =
     let on = counted x among in
     let same : on.begun ≡ b = same_Some on.begun b (sym on.begun_as ∙ begun) in
     stands_told w.server x.reel (whole_volume b.run b.payload x.volume x.first x.count) kept.held kept.laid kept.once.once
-    (subst (λ (c : Begun). StandsOn w.server x.reel (whole_volume c.run c.payload x.volume x.first x.count)) same (on.whole last).0)
+    (subst (λ (c : Begun). ReelHolds w.server x.reel (whole_volume c.run c.payload x.volume x.first x.count)) same (on.whole last).0)

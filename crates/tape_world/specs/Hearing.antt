@@ -7,12 +7,12 @@ use Rattle.dump_run.specs.declared.count.VolumeCount.{VolumeCount}
 use Rattle.dump_client.specs.declared.stage.Progress.{Progress}
 use Rattle.dump_client.specs.declared.stage.Progress.TheVariants.{Failed, Ended}
 use Rattle.world_model.specs.World.{Connection}
-use Rattle.world_model.specs.Changes.{over_there}
+use Rattle.world_model.specs.Changes.{without_peer}
 use Rattle.world_connections.specs.Connection.{deliver_back}
 use Rattle.tape_world.specs.Holding.{is_in_attempt}
 use Rattle.tape_world.specs.Calling.{IsSameRun, failure_of}
 use Rattle.tape_world.specs.declared.history.Count.{Count}
-use Rattle.tape_world.specs.declared.caller.Caller.{Caller}
+use Rattle.tape_world.specs.declared.caller.WorldClient.{WorldClient}
 use Rattle.tape_world.specs.declared.world_state.hearing.PieceHeard.{PieceHeard}
 
 -- whether the attempt is over
@@ -23,7 +23,7 @@ is_over progress = false
 
 -- the connection after `n` bytes reached the client, which leaves it if its attempt is over
 abbrev pub heard_on : Bool → ℕ → Connection → Connection
-heard_on true n l = over_there l
+heard_on true n l = without_peer l
 heard_on false n l = deliver_back n l
 
 -- the client's own connection, which is none if its attempt is over
@@ -32,13 +32,13 @@ own_after true own = None
 own_after false own = own
 
 -- there is a client, and it is in an attempt
-abbrev pub IsAttempting : Option Caller → Type 0
-IsAttempting o = (c : Caller) × (o ≡ Some c) × IsTrue (is_in_attempt c.client.at.stage)
+abbrev pub IsAttempting : Option WorldClient → Type 0
+IsAttempting o = (c : WorldClient) × (o ≡ Some c) × IsTrue (is_in_attempt c.client.at.stage)
 
 -- The client heard these bytes, and `heard` is the outcome, with the number of its run.
-pub record HasHeard (o : Option Caller) (piece : List ℕ) (heard : PieceHeard) (new : Option Caller) : Type 0 where
-  pub before : Caller
-  pub after : Caller
+pub record HasHeard (o : Option WorldClient) (piece : List ℕ) (heard : PieceHeard) (new : Option WorldClient) : Type 0 where
+  pub before : WorldClient
+  pub after : WorldClient
   pub fed : List ℕ
   pub progress : Progress
   pub was : o ≡ Some before

@@ -12,7 +12,7 @@ pub use Rattle.world_model.specs.Owning.{is_in_attempt, IsClients, IsOwned, IsBe
 use Rattle.tape_world.specs.declared.stop.EventStop.{EventStop}
 use Rattle.tape_world.specs.declared.stop.EventStop.TheVariants.{NotPossible, OutOfMemory}
 use Rattle.tape_world.specs.declared.caller.Begun.{Begun as RealBegun}
-use Rattle.tape_world.specs.declared.caller.Caller.{Caller as RealCaller}
+use Rattle.tape_world.specs.declared.caller.WorldClient.{WorldClient as RealCaller}
 use Rattle.tape_world.specs.declared.caller.KeptRun.{KeptRun}
 
 -- The event happened. Or it is not possible, or an allocation failed, and nothing has changed.

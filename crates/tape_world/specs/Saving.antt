@@ -11,7 +11,7 @@ use Rattle.dump_client.specs.declared.stage.Stage.TheVariants.{Finished, Abandon
 use Rattle.world_model.specs.World.{numbered}
 use Rattle.tape_world.specs.declared.history.Entered.{Entered}
 use Rattle.tape_world.specs.declared.caller.Begun.{Begun}
-use Rattle.tape_world.specs.declared.caller.Caller.{Caller}
+use Rattle.tape_world.specs.declared.caller.WorldClient.{WorldClient}
 use Rattle.tape_world.specs.declared.caller.KeptRun.{KeptRun}
 
 -- the saved run after the operator's answer, which drops it if it abandons the run
@@ -20,24 +20,24 @@ kept_then Retry kept = kept
 kept_then Abandon kept = None
 
 -- `k` has the run of this client, its counts, and the text of its checkpoint
-pub record IsKeptOf (c : Caller) (k : KeptRun) : Type 0 where
+pub record IsKeptOf (c : WorldClient) (k : KeptRun) : Type 0 where
   pub run : k.run ≡ c.number
   pub counts : k.counts.items ≡ c.client.at.counts
   pub text : k.text.items ≡ checkpoint_text c.client.at.run c.client.at.counts
 
 -- `e` has the run of this client, and its counts
-pub record IsEntryOf (c : Caller) (e : Entered) : Type 0 where
+pub record IsEntryOf (c : WorldClient) (e : Entered) : Type 0 where
   pub run : e.run ≡ c.number
   pub counts : e.counts.items ≡ c.client.at.counts
 
 -- the run is not abandoned, and not both finished and entered
-abbrev pub MayKeep : List Entered → Caller → Type 0
+abbrev pub MayKeep : List Entered → WorldClient → Type 0
 MayKeep entered c =
     (c.client.at.stage ≢ Abandoned) × (c.client.at.stage ≡ Finished → list_any (λ e. e.run == c.number) entered ≡ false)
 
 -- The client resumes the saved run with its counts, and is finished if they cover the run. It reads
 -- the payload of the run, without an injected fault.
-pub record IsBackWith (begun : List Begun) (k : KeptRun) (c : Caller) : Type 0 where
+pub record IsBackWith (begun : List Begun) (k : KeptRun) (c : WorldClient) : Type 0 where
   pub number : c.number ≡ k.run
   pub run : Begun
   pub begun_as : numbered begun k.run ≡ Some run
@@ -46,6 +46,6 @@ pub record IsBackWith (begun : List Begun) (k : KeptRun) (c : Caller) : Type 0 w
   pub source : c.client.source ≡ listed run.payload.blocks false failures
 
 -- the client resumes the saved run, or there is no client if none is saved
-abbrev pub ResumesRunWith : List Begun → Option KeptRun → Option Caller → Type 0
+abbrev pub ResumesRunWith : List Begun → Option KeptRun → Option WorldClient → Type 0
 ResumesRunWith begun None new = new ≡ None
-ResumesRunWith begun (Some k) new = (c : Caller) × (new ≡ Some c) × IsBackWith begun k c
+ResumesRunWith begun (Some k) new = (c : WorldClient) × (new ≡ Some c) × IsBackWith begun k c

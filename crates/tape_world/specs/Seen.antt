@@ -5,10 +5,10 @@ use Rattle.dumpdates.specs.Entry.{DatesEntry}
 use Rattle.rmt_server.specs.ServerState.{ServerState}
 use Rattle.dump_run.specs.declared.count.VolumeCount.{VolumeCount}
 use Rattle.world_connections.specs.Connection.{plain_connection}
-use Rattle.world_model.specs.World.{Connection, Begun, Caller, Count, Opening, Writing, Entered, Kept, World}
+use Rattle.world_model.specs.World.{Connection, Begun, WorldClient, Count, Opening, Writing, Entered, Kept, World}
 use Rattle.world_connections.specs.declared.connection.Connection.{Connection as RealConnection}
 use Rattle.tape_world.specs.declared.caller.Begun.{Begun as RealBegun}
-use Rattle.tape_world.specs.declared.caller.Caller.{Caller as RealCaller}
+use Rattle.tape_world.specs.declared.caller.WorldClient.{WorldClient as RealCaller}
 use Rattle.tape_world.specs.declared.caller.KeptRun.{KeptRun}
 use Rattle.tape_world.specs.declared.history.Count.{Count as RealCount}
 use Rattle.tape_world.specs.declared.history.Opening.{Opening as RealOpening}
@@ -21,7 +21,7 @@ abbrev pub seen_begun : RealBegun → Begun
 seen_begun b = record { run = b.run; payload = b.payload.blocks }
 
 -- the client, as plain data
-abbrev pub seen_caller : RealCaller → Caller
+abbrev pub seen_caller : RealCaller → WorldClient
 seen_caller c = record { number = c.number; at = c.client.at; reader = c.client.reader }
 
 -- the name at this place of the list, and the empty name past its end

@@ -22,9 +22,9 @@ use Rattle.tape_host.specs.declared.turn.Turn.{Turn}
 use Rattle.tape_host.specs.declared.turn.Turn.TheVariants as turns
 use Rattle.tape_host.specs.Servers.{Hosted, hosted, side_at, ended}
 use Rattle.tape_host.specs.Turns.{carried_of, Carries, GivesNothing, GivesFault}
-use Rattle.world_model.specs.World.{Connection, Dumping}
+use Rattle.world_model.specs.World.{Connection, AttemptState}
 use Rattle.world_model.specs.Standing.{HasReel}
-use Rattle.world_model.specs.Changes.{accepted, noted_error, answered, opening, over_here, first_name, writing}
+use Rattle.world_model.specs.Changes.{accepted, noted_error, answered, opening, without_server, first_name, writing}
 use Rattle.tape_world.specs.declared.history.History.{History}
 use Rattle.tape_world.specs.Seen.{seen_openings, seen_lists, seen_writings}
 
@@ -38,7 +38,7 @@ TurnServes trouble old k (turns.Carried carried) new becomes =
     × Carries trouble old.server k s request reply new.server × (carried ≡ carried_of request reply) × becomes (answered request reply)
 TurnServes trouble old k (turns.Broken fault) new becomes =
     (s : ServerConnection) × (side_at old.server.sides k ≡ Some s) × GivesFault s.reached fault
-    × (new ≡ hosted (ended old.server k) old.ready) × becomes over_here
+    × (new ≡ hosted (ended old.server k) old.ready) × becomes without_server
 
 -- the name of the reel that the session has online, if it has one
 abbrev pub name_online : TapeLibrary → PlainSession → Option (List ℕ)

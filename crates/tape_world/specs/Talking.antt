@@ -12,17 +12,17 @@ use Rattle.dump_client.specs.declared.stage.Stage.TheVariants.{ToSend, Waiting, 
 use Rattle.dump_client.specs.declared.fault.AttemptFault.{AttemptFault}
 use Rattle.dump_client.specs.declared.fault.AttemptFault.TheVariants.{SourceFault}
 use Rattle.world_model.specs.World.{Connection}
-use Rattle.world_model.specs.Changes.{over_there}
+use Rattle.world_model.specs.Changes.{without_peer}
 use Rattle.world_model.specs.Steps.{is_failing, sent_connection}
-use Rattle.tape_world.specs.declared.caller.Caller.{Caller}
+use Rattle.tape_world.specs.declared.caller.WorldClient.{WorldClient}
 
 -- there is a client, and it is about to send a request
-abbrev pub IsToSend : Option Caller → Type 0
-IsToSend o = (c : Caller) × (step : Step) × (o ≡ Some c) × (c.client.at.stage ≡ ToSend step)
+abbrev pub IsToSend : Option WorldClient → Type 0
+IsToSend o = (c : WorldClient) × (step : Step) × (o ≡ Some c) × (c.client.at.stage ≡ ToSend step)
 
 -- If the flag is set, the attempt failed. Otherwise `text` is that of the request, and the client
 -- waits for the reply.
-abbrev pub AskedOf : Bool → Caller → Step → List ℕ → Option (ℕ × AttemptFault) → Caller → Type 0
+abbrev pub AskedOf : Bool → WorldClient → Step → List ℕ → Option (ℕ × AttemptFault) → WorldClient → Type 0
 AskedOf true c step text failure d =
     (failure ≡ Some ((checkpoint_of c.client.at.counts).0, SourceFault))
     × (d.client.at ≡ standing c.client.at.run c.client.at.counts Asking)
@@ -33,10 +33,10 @@ AskedOf false c step text failure d =
     (checkpoint_of c.client.at.counts).0 (checkpoint_of c.client.at.counts).1 step))
 
 -- the client was asked for its next request
-pub record Asks (o : Option Caller) (fails : Bool) (text : List ℕ) (failure : Option (ℕ × AttemptFault))
-    (new : Option Caller) : Type 0 where
-  pub before : Caller
-  pub after : Caller
+pub record Asks (o : Option WorldClient) (fails : Bool) (text : List ℕ) (failure : Option (ℕ × AttemptFault))
+    (new : Option WorldClient) : Type 0 where
+  pub before : WorldClient
+  pub after : WorldClient
   pub step : Step
   pub failures : ℕ
   pub was : o ≡ Some before
@@ -50,4 +50,4 @@ pub record Asks (o : Option Caller) (fails : Bool) (text : List ℕ) (failure : 
 -- the connection after the client sent its request, or after it left because its attempt failed
 abbrev pub talked : List ℕ → Option (ℕ × AttemptFault) → Connection → Connection
 talked text None l = sent_connection text l
-talked text (Some failure) l = over_there l
+talked text (Some failure) l = without_peer l

@@ -5,15 +5,15 @@ use Rattle.drives.specs.TapeLibrary.{KeptReel, ReelSlot, TapeLibrary, IsDriveNam
 use Rattle.dump_run.specs.Blocks.{ListedBlocks, listed}
 use Rattle.dump_client.specs.Standing.{Standing}
 use Rattle.dump_client.specs.Client.{ClientHeld}
-use Rattle.world_model.specs.World.{World, Connection, Begun, Caller, Count, numbered}
+use Rattle.world_model.specs.World.{World, Connection, Begun, WorldClient, Count, numbered}
 use Rattle.world_model.specs.Events.PlainEvent.{ToServer, ToClient}
 use Rattle.world_model.specs.Changes.{connection_of}
 use Rattle.world_model.specs.Rows.{Possible}
-use Rattle.tape_world.specs.declared.counts.CountTold.{CountTold}
+use Rattle.tape_world.specs.declared.counts.CountedVolume.{CountedVolume}
 
 -- a count, as plain data
-abbrev pub told_count : CountTold → Count
-told_count c = record {
+abbrev pub plain_count : CountedVolume → Count
+plain_count c = record {
   run = c.run;
   volume = c.volume;
   first = c.first;
@@ -27,7 +27,7 @@ abbrev pub client_told : {S : Type 0} → ClientHeld S → Standing × ReplyHeld
 client_told c = (c.at, c.reader)
 
 -- the state of the world's client, and its reader of replies
-abbrev pub caller_told : Caller → Standing × ReplyHeld
+abbrev pub caller_told : WorldClient → Standing × ReplyHeld
 caller_told c = (c.at, c.reader)
 
 -- `p` holds of the numbers from 1 to `most`, and of no others
@@ -36,20 +36,20 @@ IsGreatest p most = (n : ℕ) → p n ↔ ((1 ≤ n) × (n ≤ most))
 
 -- how many bytes can now reach the server, and how many the peer; none if there is no such
 -- connection
-abbrev pub TellsWay : World → ℕ → Option (ℕ × ℕ) → Type 0
-TellsWay w k None = connection_of w k ≡ None
-TellsWay w k (Some way) =
+abbrev pub IsOnWay : World → ℕ → Option (ℕ × ℕ) → Type 0
+IsOnWay w k None = connection_of w k ≡ None
+IsOnWay w k (Some way) =
     (l : Connection) × (connection_of w k ≡ Some l) × IsGreatest (λ n. Possible w (ToServer k n)) way.0
     × IsGreatest (λ n. Possible w (ToClient k n)) way.1
 
 -- the reels of the first drive of that name; none if there is no such drive
-abbrev pub TellsStack : List ℕ → TapeLibrary → Option (List (ReelSlot KeptReel)) → Type 0
-TellsStack name s None = IsDriveNamed name s None
-TellsStack name s (Some reels) = (d : ℕ) × IsDriveNamed name s (Some d) × (reels ≡ (drive_at s d).stack)
+abbrev pub IsStackOf : List ℕ → TapeLibrary → Option (List (ReelSlot KeptReel)) → Type 0
+IsStackOf name s None = IsDriveNamed name s None
+IsStackOf name s (Some reels) = (d : ℕ) × IsDriveNamed name s (Some d) × (reels ≡ (drive_at s d).stack)
 
 -- the blocks with which the client's run was begun, without an injected fault
-pub record TellsPayload (w : World) (source : ListedBlocks) : Type 0 where
-  pub client : Caller
+pub record IsPayloadOf (w : World) (source : ListedBlocks) : Type 0 where
+  pub client : WorldClient
   pub run : Begun
   pub failures : ℕ
   pub has : w.caller ≡ Some client

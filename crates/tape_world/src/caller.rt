@@ -11,7 +11,7 @@ pub(crate) struct Begun {
 
 /// The client, and the number of its run.
 #[derive(Drop)]
-pub(crate) struct Caller {
+pub(crate) struct WorldClient {
     pub(crate) number: usize,
     pub(crate) client: Client<ListBlocks>,
 }

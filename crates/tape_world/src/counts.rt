@@ -2,14 +2,14 @@
 ghost use Rattle.std.specs.Prelude.{◌≡◌, ◌↔◌, true, [], length, map, slice_get};
 ghost use Rattle.std.specs.Option.{option_map};
 ghost use Rattle.tape_world.specs.Seen.{name_at, seen_count};
-ghost use Rattle.tape_world.specs.Telling.{told_count};
+ghost use Rattle.tape_world.specs.Telling.{plain_count};
 
 use crate::history::Count;
 use std::marker::Model;
 
 /// A volume that was counted.
 #[derive(Clone, Copy, Debug, PartialEq, Eq)]
-pub struct CountTold<'a> {
+pub struct CountedVolume<'a> {
     /// The number of its run. Runs are numbered from 1.
     pub run: usize,
     /// The number of the volume in its run, from 1.
@@ -57,8 +57,8 @@ impl<'a> Counts<'a> {
     }
 
     /// Returns the one at place `i`, from 0, or none past the last.
-    pub fn get(&self, i: usize) -> Option<CountTold<'a>>
-        ensures { option_map told_count result ≡ slice_get self.now i }
+    pub fn get(&self, i: usize) -> Option<CountedVolume<'a>>
+        ensures { option_map plain_count result ≡ slice_get self.now i }
     {
         let count = self.counts.get(i)?;
         Some(told(self.names, count))
@@ -66,10 +66,10 @@ impl<'a> Counts<'a> {
 }
 
 /// Returns this count, with the name of its reel.
-fn told<'a>(names: &'a [Vec<u8>], count: &Count) -> CountTold<'a>
-    ensures { told_count result ≡ seen_count (map (λ name. name.items) names.now) count.now }
+fn told<'a>(names: &'a [Vec<u8>], count: &Count) -> CountedVolume<'a>
+    ensures { plain_count result ≡ seen_count (map (λ name. name.items) names.now) count.now }
 {
-    CountTold {
+    CountedVolume {
         run: count.run,
         volume: count.volume,
         first: count.first,

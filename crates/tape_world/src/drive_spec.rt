@@ -91,7 +91,7 @@ fn all_differ(names: &[&[u8]]) -> bool
     ensures { result ≡ are_distinct (map (λ n. n.now) names.now) }
 {
     for place in 0..names.len() {
-        if stands_again(&names[place..]) {
+        if occurs_again(&names[place..]) {
             return false;
         }
     }
@@ -99,7 +99,7 @@ fn all_differ(names: &[&[u8]]) -> bool
 }
 
 /// Whether the first of the names is among the others.
-fn stands_again(names: &[&[u8]]) -> bool
+fn occurs_again(names: &[&[u8]]) -> bool
     ensures { result ≡ is_repeated (map (λ n. n.now) names.now) }
 {
     let Some((name, others)) = names.split_first() else {

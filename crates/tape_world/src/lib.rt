@@ -17,7 +17,7 @@ mod stop;
 mod world;
 mod world_state;
 
-pub use counts::{CountTold, Counts};
+pub use counts::{CountedVolume, Counts};
 pub use drive_spec::{DriveSpec, good_drives};
 pub use event::Event;
 pub use fault::WorldFault;

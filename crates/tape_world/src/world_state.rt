@@ -12,7 +12,7 @@ mod server;
 mod serving;
 mod talk;
 
-use crate::caller::{Begun, Caller, KeptRun};
+use crate::caller::{Begun, KeptRun, WorldClient};
 use crate::history::History;
 use dumpdates::Dates;
 use std::alloc::Global;
@@ -28,7 +28,7 @@ pub(crate) struct WorldState {
     pub(crate) host: Host,
     pub(crate) connections: Vec<Connection>,
     begun: Vec<Begun>,
-    pub(crate) caller: Option<Caller>,
+    pub(crate) caller: Option<WorldClient>,
     pub(crate) own: Option<usize>,
     kept: Option<KeptRun>,
     pub(crate) history: History,

@@ -5,7 +5,7 @@ use Rattle.std.proofs.lemmas.List.{map-set, set-get_or, length-map, length-set, 
 use Rattle.std.proofs.Math.ListN.{get_or-map}
 use Rattle.std.proofs.lemmas.Option.{slice_get-map, slice_get-get_or, same_Some}
 use Rattle.world_model.specs.World.{Connection, numbered, with_numbered, World}
-use Rattle.world_model.specs.Changes.{changed, changed_from, over_here, connection_of}
+use Rattle.world_model.specs.Changes.{changed, changed_from, without_server, connection_of}
 use Rattle.world_connections.specs.declared.connection.Connection.{Connection as RealConnection}
 use Rattle.world_connections.specs.Connection.{plain_connection}
 
@@ -49,32 +49,32 @@ put_same connections k x d is =
 abbrev pub ended_front : ℕ → List Connection → List Connection
 ended_front zero xs = xs
 ended_front (suc n) [] = []
-ended_front (suc n) (x ∷ xs) = over_here x ∷ ended_front n xs
+ended_front (suc n) (x ∷ xs) = without_server x ∷ ended_front n xs
 
 front_step : (i : ℕ) (xs : List Connection) (d : Connection) → i < length xs
-    → slice_set (ended_front i xs) i (over_here (slice_index_or (ended_front i xs) i d)) ≡ ended_front (suc i) xs
+    → slice_set (ended_front i xs) i (without_server (slice_index_or (ended_front i xs) i d)) ≡ ended_front (suc i) xs
 front_step i [] d within = absurd (omega (arith, within))
 front_step zero (x ∷ xs) d within = refl
-front_step (suc i) (x ∷ xs) d within = ap (λ l. over_here x ∷ l) (front_step i xs d (omega (arith, within)))
+front_step (suc i) (x ∷ xs) d within = ap (λ l. without_server x ∷ l) (front_step i xs d (omega (arith, within)))
 
-front_all : (n : ℕ) (xs : List Connection) → length xs ≤ n → ended_front n xs ≡ map over_here xs
+front_all : (n : ℕ) (xs : List Connection) → length xs ≤ n → ended_front n xs ≡ map without_server xs
 front_all zero [] within = refl
 front_all zero (x ∷ xs) within = absurd (omega (arith, within))
 front_all (suc n) [] within = refl
-front_all (suc n) (x ∷ xs) within = ap (λ l. over_here x ∷ l) (front_all n xs (omega (arith, within)))
+front_all (suc n) (x ∷ xs) within = ap (λ l. without_server x ∷ l) (front_all n xs (omega (arith, within)))
 
 -- the server's side of the next connection is over
 pub front_put : (connections first : List RealConnection) (i : ℕ) (x d : RealConnection) → map plain_connection connections ≡ ended_front i (map plain_connection first) → i < length first
-    → plain_connection x ≡ over_here (plain_connection (slice_index_or connections i d)) → map plain_connection (slice_set connections i x) ≡ ended_front (i + 1) (map plain_connection first)
+    → plain_connection x ≡ without_server (plain_connection (slice_index_or connections i d)) → map plain_connection (slice_set connections i x) ≡ ended_front (i + 1) (map plain_connection first)
 front_put connections first i x d so within is =
     let more : suc i ≡ i + 1 = omega arith in
     let here : plain_connection (slice_index_or connections i d) ≡ slice_index_or (ended_front i (map plain_connection first)) i (plain_connection d)
     = sym (get_or-map plain_connection connections i d) ∙ ap (λ l. slice_index_or l i (plain_connection d)) so in
-    map-set plain_connection connections i x ∙ ap (λ l. slice_set l i (plain_connection x)) so ∙ ap (slice_set (ended_front i (map plain_connection first)) i) (is ∙ ap over_here here)
+    map-set plain_connection connections i x ∙ ap (λ l. slice_set l i (plain_connection x)) so ∙ ap (slice_set (ended_front i (map plain_connection first)) i) (is ∙ ap without_server here)
     ∙ front_step i (map plain_connection first) (plain_connection d) (omega (arith, within, length-map first plain_connection)) ∙ ap (λ n. ended_front n (map plain_connection first)) more
 
 pub front_end : (connections first : List RealConnection) (i : ℕ) → map plain_connection connections ≡ ended_front i (map plain_connection first) → length first ≤ i
-    → map plain_connection connections ≡ map over_here (map plain_connection first)
+    → map plain_connection connections ≡ map without_server (map plain_connection first)
 front_end connections first i so within = so ∙ front_all i (map plain_connection first) (omega (arith, within, length-map first plain_connection))
 
 -- ---- connections in a vector
@@ -101,12 +101,12 @@ connections_after f n items xs ws k len value is =
     = sym (length-map ws plain_connection) ∙ ap length here ∙ length_changed f (map plain_connection items) k ∙ length-map items plain_connection in
     ap (map plain_connection) (items_after n items ws len same) ∙ here
 
-pub connections_over : (n : ℕ) (items xs ws : List RealConnection) → n ≡ length items → xs ≡ items → map plain_connection ws ≡ map over_here (map plain_connection xs)
-    → map plain_connection (take n (ws ++ drop (length ws) items)) ≡ map over_here (map plain_connection items)
+pub connections_over : (n : ℕ) (items xs ws : List RealConnection) → n ≡ length items → xs ≡ items → map plain_connection ws ≡ map without_server (map plain_connection xs)
+    → map plain_connection (take n (ws ++ drop (length ws) items)) ≡ map without_server (map plain_connection items)
 connections_over n items xs ws len value is =
-    let here : map plain_connection ws ≡ map over_here (map plain_connection items) = is ∙ ap (λ l. map over_here (map plain_connection l)) value in
+    let here : map plain_connection ws ≡ map without_server (map plain_connection items) = is ∙ ap (λ l. map without_server (map plain_connection l)) value in
     let same : length ws ≡ length items
-    = sym (length-map ws plain_connection) ∙ ap length here ∙ length-map (map plain_connection items) over_here ∙ length-map items plain_connection in
+    = sym (length-map ws plain_connection) ∙ ap length here ∙ length-map (map plain_connection items) without_server ∙ length-map items plain_connection in
     ap (map plain_connection) (items_after n items ws len same) ∙ here
 
 pub connections_same : (n : ℕ) (items xs ws : List RealConnection) → n ≡ length items → xs ≡ items → map plain_connection ws ≡ map plain_connection xs

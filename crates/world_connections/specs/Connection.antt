@@ -3,7 +3,7 @@ use Rattle.std.specs.Prelude.{ℕ, true, List, drop, option_map}
 use Rattle.tape_host.specs.declared.turn.Turn.{Turn}
 use Rattle.tape_host.specs.declared.turn.Turn.TheVariants as turns
 use Rattle.world_model.specs.World.{Connection}
-use Rattle.world_model.specs.Changes.{over_here, sent_on}
+use Rattle.world_model.specs.Changes.{without_server, sent_on}
 use Rattle.world_connections.specs.Attempt.{noted_carried}
 use Rattle.world_connections.specs.declared.connection.Connection.{Connection as RealConnection}
 
@@ -31,4 +31,4 @@ deliver_back n l = record l { back = drop n l.back }
 abbrev pub noted_turn : Turn → Connection → Connection
 noted_turn turns.Nothing l = l
 noted_turn (turns.Carried c) l = record l { dump = option_map (noted_carried c) l.dump }
-noted_turn (turns.Broken fault) l = over_here l
+noted_turn (turns.Broken fault) l = without_server l

@@ -2,12 +2,12 @@
 ghost use Rattle.std.specs.Prelude.{◌≡◌, ◌≤◌, false, length, map, slice_get, OnOk, OnErr};
 ghost use Rattle.std.specs.Option.{option_copied, option_map};
 ghost use Rattle.world_model.specs.World.{numbered};
-ghost use Rattle.world_model.specs.Changes.{changed, new_connection, over_here, over_there};
+ghost use Rattle.world_model.specs.Changes.{changed, new_connection, without_server, without_peer};
 ghost use Rattle.world_connections.specs.Connection.{plain_connection, severed, said, arrived, deliver_back, noted_turn};
 ghost use Rattle.world_model.specs.Steps.{sent_connection};
 
 use crate::direction::Direction;
-use crate::dumping::Dumping;
+use crate::dumping::AttemptState;
 use rmt_wire::READER_LIMIT;
 use std::alloc::{AllocError, Global};
 use tape_host::Turn;
@@ -21,12 +21,12 @@ pub struct Connection {
     pub back: Direction,
     pub cut: bool,
     pub other: bool,
-    pub dump: Option<Dumping>,
+    pub dump: Option<AttemptState>,
 }
 
 impl Connection {
     /// Makes a new connection.
-    pub fn new(alloc: Global, dump: Option<Dumping>) -> Connection
+    pub fn new(alloc: Global, dump: Option<AttemptState>) -> Connection
         ensures { plain_connection result ≡ new_connection dump }
     {
         Connection {
@@ -40,7 +40,7 @@ impl Connection {
 
     /// Ends the server's side: the connection is cut, and what is in transit to the server is lost.
     fn end_here(&mut self)
-        ensures { plain_connection self.new ≡ over_here (plain_connection self.old) }
+        ensures { plain_connection self.new ≡ without_server (plain_connection self.old) }
     {
         self.toward.clear();
         self.cut = true;
@@ -48,7 +48,7 @@ impl Connection {
 
     /// Removes the peer: the connection is cut, and what is in transit to the peer is lost.
     pub fn end_there(&mut self)
-        ensures { plain_connection self.new ≡ over_there (plain_connection self.old) }
+        ensures { plain_connection self.new ≡ without_peer (plain_connection self.old) }
     {
         self.back.clear();
         self.cut = true;
@@ -142,7 +142,7 @@ pub fn cut(connections: &mut [Connection], connection: usize)
 pub fn end_here(connections: &mut [Connection], connection: usize)
     requires first { 1 ≤ connection }
     requires last { connection ≤ length connections.old }
-    ensures { map plain_connection connections.new ≡ changed over_here (map plain_connection connections.old) connection }
+    ensures { map plain_connection connections.new ≡ changed without_server (map plain_connection connections.old) connection }
 {
     connections[connection - 1].end_here();
 }
@@ -151,14 +151,14 @@ pub fn end_here(connections: &mut [Connection], connection: usize)
 pub fn end_there(connections: &mut [Connection], connection: usize)
     requires first { 1 ≤ connection }
     requires last { connection ≤ length connections.old }
-    ensures { map plain_connection connections.new ≡ changed over_there (map plain_connection connections.old) connection }
+    ensures { map plain_connection connections.new ≡ changed without_peer (map plain_connection connections.old) connection }
 {
     connections[connection - 1].end_there();
 }
 
 /// Ends the server's sides of all connections.
 pub fn end_all_here(connections: &mut [Connection])
-    ensures { map plain_connection connections.new ≡ map over_here (map plain_connection connections.old) }
+    ensures { map plain_connection connections.new ≡ map without_server (map plain_connection connections.old) }
 {
     for conn in connections.iter_mut() {
         conn.end_here();

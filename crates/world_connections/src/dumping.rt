@@ -12,7 +12,7 @@ use tape_host::{Answered, Carried, RequestKind};
 /// volume and first block, how many requests were sent and how many carried out. It also has which
 /// of its writes were accepted. Numbers of requests and blocks stop at `u64::MAX`.
 #[derive(Drop)]
-pub struct Dumping {
+pub struct AttemptState {
     run: usize,
     volume: u32,
     first: u32,
@@ -24,10 +24,10 @@ pub struct Dumping {
     fault: bool,
 }
 
-impl Model for Dumping {
-    ghost use Rattle.world_model.specs.World.{Dumping};
+impl Model for AttemptState {
+    ghost use Rattle.world_model.specs.World.{AttemptState};
 
-    ghost Value = { Dumping };
+    ghost Value = { AttemptState };
 
     ghost view = { λ d. record {
       run = d.run;
@@ -42,13 +42,13 @@ impl Model for Dumping {
     } };
 }
 
-impl Dumping {
+impl AttemptState {
     /// Makes an attempt that has done nothing, of the run with this number, at this volume and
     /// first block.
-    pub fn new(run: usize, volume: u32, first: u32) -> Dumping
+    pub fn new(run: usize, volume: u32, first: u32) -> AttemptState
         ensures { result ≡ new_dumping run volume first }
     {
-        Dumping {
+        AttemptState {
             run,
             volume,
             first,

@@ -20,14 +20,14 @@ use Rattle.dump_client.specs.declared.stage.Progress.{Progress}
 use Rattle.dump_client.specs.declared.stage.Stage.{Stage}
 use Rattle.dump_client.specs.declared.stage.Stage.TheVariants.{Ready, ToSend, Waiting, Asking, Finished}
 use Rattle.dump_client.specs.declared.step.Step.TheVariants.{Open}
-use Rattle.world_model.specs.World.{World, Begun, Caller, Count, Entered, Kept, numbered}
+use Rattle.world_model.specs.World.{World, Begun, WorldClient, Count, Entered, Kept, numbered}
 use Rattle.world_model.specs.Changes.{with_no_failure, counts_of}
 use Rattle.world_model.specs.Rows.{IsRunEntered, MayBeKept}
 use Rattle.world_model.specs.Steps.{kept_after, entry_of, caller, recorded}
 use Rattle.world_model.specs.History.{volume_of, counted_if, counts_in, dates_with, dates_after}
 use Rattle.world_model.specs.Headline.{IsEarned, AreOnce}
 use Rattle.world_model.specs.History.{AreCountedIn}
-use Rattle.world_model.specs.Kept.{IsKeptRun, AreBooked, HasLawful}
+use Rattle.world_model.specs.Kept.{IsKeptRun, AreBooked, IsClientLawful}
 use Rattle.world_model.proofs.Numbers.{pushed_is, numbered_more, numbered_last, numbered_within}
 use Rattle.world_model.proofs.Moves.{Listens, told_counts, Move, begins, connects, asks, fails, hears, hears_last, sees, gone, comes, forgets, gives_up, answers, enters, saves, moved}
 
@@ -108,7 +108,7 @@ gone_booked w u s nobody k = record {
 }
 
 -- The client goes on, and its counts are told as those of its run.
-record Goes (w u : World) (x y : Caller) (more : List VolumeCount) (told : List Count) : Type 0 where
+record Goes (w u : World) (x y : WorldClient) (more : List VolumeCount) (told : List Count) : Type 0 where
   begun : u.begun ≡ w.begun
   counts : u.counts ≡ w.counts ++ told
   entered : u.entered ≡ w.entered
@@ -122,24 +122,24 @@ record Goes (w u : World) (x y : Caller) (more : List VolumeCount) (told : List 
   other : (run : ℕ) → x.number ≢ run → counts_in told run ≡ []
 
 -- the counts of another run stay
-other_run : (w u : World) (x y : Caller) (more : List VolumeCount) (told : List Count) → Goes w u x y more told → (run : ℕ) → x.number ≢ run
+other_run : (w u : World) (x y : WorldClient) (more : List VolumeCount) (told : List Count) → Goes w u x y more told → (run : ℕ) → x.number ≢ run
     → counts_in u.counts run ≡ counts_in w.counts run
 other_run w u x y more told g run other =
     ap (λ l. counts_in l run) g.counts ∙ in_more w.counts told run ∙ ap (λ l. counts_in w.counts run ++ l) (g.other run other) ∙ append-nil (counts_in w.counts run)
 
-own_run : (w u : World) (x y : Caller) (more : List VolumeCount) (told : List Count) → Goes w u x y more told
+own_run : (w u : World) (x y : WorldClient) (more : List VolumeCount) (told : List Count) → Goes w u x y more told
     → counts_in u.counts x.number ≡ counts_in w.counts x.number ++ more
 own_run w u x y more told g = ap (λ l. counts_in l x.number) g.counts ∙ in_more w.counts told x.number ∙ ap (λ l. counts_in w.counts x.number ++ l) g.own
 
 -- what was counted stays counted
-more_listed : (w u : World) (x y : Caller) (more : List VolumeCount) (told : List Count) → Goes w u x y more told → (run : ℕ) (listed : List VolumeCount)
+more_listed : (w u : World) (x y : WorldClient) (more : List VolumeCount) (told : List Count) → Goes w u x y more told → (run : ℕ) (listed : List VolumeCount)
     → AreCountedIn w run listed → AreCountedIn u run listed
 more_listed w u x y more told g run listed l v among =
     subst (λ cs. Contains cs v) (sym (ap (λ cs. counts_in cs run) g.counts ∙ in_more w.counts told run))
     (Contains-append_left (counts_in w.counts run) (counts_in told run) v (l v among))
 
 -- and what the client counts now is counted
-own_listed : (w u : World) (x y : Caller) (more : List VolumeCount) (told : List Count) → Goes w u x y more told
+own_listed : (w u : World) (x y : WorldClient) (more : List VolumeCount) (told : List Count) → Goes w u x y more told
     → AreCountedIn w x.number x.at.counts → AreCountedIn u y.number y.at.counts
 own_listed w u x y more told g l v among =
     subst (λ n. Contains (counts_in u.counts n) v) (sym g.number)
@@ -148,7 +148,7 @@ own_listed w u x y more told g l v among =
       | inr after ↦ Contains-append_right (counts_in w.counts x.number) more v after
     ]))
 
-goes_kept : (w u : World) (x y : Caller) (more : List VolumeCount) (told : List Count) → Goes w u x y more told → (z : Kept) → IsKeptRun w z → IsKeptRun u z
+goes_kept : (w u : World) (x y : WorldClient) (more : List VolumeCount) (told : List Count) → Goes w u x y more told → (z : Kept) → IsKeptRun w z → IsKeptRun u z
 goes_kept w u x y more told g z k = record {
   begun = k.begun;
   begun_as = ap (λ l. numbered l z.run) g.begun ∙ k.begun_as;
@@ -159,21 +159,21 @@ goes_kept w u x y more told g z k = record {
   unentered = λ e among. k.unentered e (subst (λ l. Contains l e) g.entered among);
 }
 
-goes_earned : (w u : World) (x y : Caller) (more : List VolumeCount) (told : List Count) → Goes w u x y more told → (e : Entered) → IsEarned w e → IsEarned u e
+goes_earned : (w u : World) (x y : WorldClient) (more : List VolumeCount) (told : List Count) → Goes w u x y more told → (e : Entered) → IsEarned w e → IsEarned u e
 goes_earned w u x y more told g e (b, at, covers, counted) =
     (b, ap (λ l. numbered l e.run) g.begun ∙ at, covers, more_listed w u x y more told g e.run e.listed counted)
 
-goes_booked : (w u : World) (x y : Caller) (more : List VolumeCount) (told : List Count) → Goes w u x y more told → AreBooked w → AreBooked u
+goes_booked : (w u : World) (x y : WorldClient) (more : List VolumeCount) (told : List Count) → Goes w u x y more told → AreBooked w → AreBooked u
 goes_booked w u x y more told g k =
-    let its : (c : Caller) → u.caller ≡ Some c → y ≡ c = λ c is. same_Some y c (sym g.is ∙ is) in
+    let its : (c : WorldClient) → u.caller ≡ Some c → y ≡ c = λ c is. same_Some y c (sym g.is ∙ is) in
     record {
-      last = λ c is. ap (λ (z : Caller). z.number) (sym (its c is)) ∙ g.number ∙ k.last x g.was ∙ sym (ap length g.begun);
+      last = λ c is. ap (λ (z : WorldClient). z.number) (sym (its c is)) ∙ g.number ∙ k.last x g.was ∙ sym (ap length g.begun);
       begun = λ c is. (let b = k.begun x g.was in (
         b.0,
-        ap (λ l. numbered l c.number) g.begun ∙ ap (λ (z : Caller). numbered w.begun z.number) (sym (its c is)) ∙ ap (numbered w.begun) g.number ∙ b.1,
-        b.2 ∙ sym g.goes.run ∙ ap (λ (z : Caller). z.at.run) (its c is),
+        ap (λ l. numbered l c.number) g.begun ∙ ap (λ (z : WorldClient). numbered w.begun z.number) (sym (its c is)) ∙ ap (numbered w.begun) g.number ∙ b.1,
+        b.2 ∙ sym g.goes.run ∙ ap (λ (z : WorldClient). z.at.run) (its c is),
       ));
-      listed = λ c is. subst (λ (z : Caller). AreCountedIn u z.number z.at.counts) (its c is) (own_listed w u x y more told g (k.listed x g.was));
+      listed = λ c is. subst (λ (z : WorldClient). AreCountedIn u z.number z.at.counts) (its c is) (own_listed w u x y more told g (k.listed x g.was));
       kept = λ z is. goes_kept w u x y more told g z (k.kept z (g.kept z is));
       none = λ run past. (
           let after : length w.begun < run = subst (λ l. length l < run) g.begun past in
@@ -181,8 +181,8 @@ goes_booked w u x y more told g k =
       earned = λ e among. goes_earned w u x y more told g e (k.earned e (subst (λ l. Contains l e) g.entered among));
       once = subst AreOnce (sym g.entered) k.once;
       finished = λ c e is among same_run. (
-          let same : e.run ≡ x.number = same_run ∙ ap (λ (z : Caller). z.number) (sym (its c is)) ∙ g.number in
-          ap (λ (z : Caller). z.at.stage) (sym (its c is))
+          let same : e.run ≡ x.number = same_run ∙ ap (λ (z : WorldClient). z.number) (sym (its c is)) ∙ g.number in
+          ap (λ (z : WorldClient). z.at.stage) (sym (its c is))
           ∙ (g.goes.finished (k.finished x e g.was (subst (λ l. Contains l e) g.entered among) same)).0);
       dates = g.dates ∙ k.dates ∙ sym (ap (λ l. dates_after l [] u.entered) g.begun ∙ ap (dates_after w.begun []) g.entered);
     }
@@ -199,7 +199,7 @@ at_stage : (x : Standing) (next : Stage) → x.stage ≢ Finished → GoesOnWith
 at_stage x next unlike = record { run = refl; counts = sym (append-nil x.counts); finished = λ e. absurd (unlike e) }
 
 -- nothing is counted
-alone_booked : (w u : World) (x y : Caller) → SameHistory w u → w.caller ≡ Some x → u.caller ≡ Some y → y.number ≡ x.number → GoesOnWith x.at y.at []
+alone_booked : (w u : World) (x y : WorldClient) → SameHistory w u → w.caller ≡ Some x → u.caller ≡ Some y → y.number ≡ x.number → GoesOnWith x.at y.at []
     → AreBooked w → AreBooked u
 alone_booked w u x y s was is number goes k =
     goes_booked w u x y [] [] record {
@@ -269,28 +269,28 @@ started_booked : (w u : World) (run : PlainRun) (b : Begun) (reader : ReplyHeld)
     → u.caller ≡ Some (caller (length w.begun + 1) (standing run [] Ready) reader) → u.counts ≡ w.counts → u.entered ≡ w.entered → u.kept ≡ None → u.dates ≡ w.dates
     → AreBooked w → AreBooked u
 started_booked w u run b reader begun of is counts done dropped dates k =
-    let new : Caller = caller (length w.begun + 1) (standing run [] Ready) reader in
-    let its : (c : Caller) → u.caller ≡ Some c → new ≡ c = λ c at. same_Some new c (sym is ∙ at) in
+    let new : WorldClient = caller (length w.begun + 1) (standing run [] Ready) reader in
+    let its : (c : WorldClient) → u.caller ≡ Some c → new ≡ c = λ c at. same_Some new c (sym is ∙ at) in
     let many : length u.begun ≡ length w.begun + 1 = ap length begun ∙ length-append w.begun (b ∷ []) in
     let place : length w.begun + 1 ≡ suc (length w.begun) = omega arith in
     let within : (e : Entered) → Contains w.entered e → e.run ≤ length w.begun
     = λ e among. (let x = k.earned e among in numbered_within w.begun e.run x.0 x.1) in
     record {
-      last = λ c at. ap (λ (z : Caller). z.number) (sym (its c at)) ∙ sym many;
+      last = λ c at. ap (λ (z : WorldClient). z.number) (sym (its c at)) ∙ sym many;
       begun = λ c at. (
         b,
-        ap (λ (z : Caller). numbered u.begun z.number) (sym (its c at)) ∙ ap (λ l. numbered l (length w.begun + 1)) begun
+        ap (λ (z : WorldClient). numbered u.begun z.number) (sym (its c at)) ∙ ap (λ l. numbered l (length w.begun + 1)) begun
             ∙ ap (numbered (w.begun ++ b ∷ [])) place ∙ numbered_last w.begun b,
-        of ∙ ap (λ (z : Caller). z.at.run) (its c at),
+        of ∙ ap (λ (z : WorldClient). z.at.run) (its c at),
       );
-      listed = λ c at. subst (λ (z : Caller). AreCountedIn u z.number z.at.counts) (its c at) (λ v (i, within, here). absurd (omega (arith, within)));
+      listed = λ c at. subst (λ (z : WorldClient). AreCountedIn u z.number z.at.counts) (its c at) (λ v (i, within, here). absurd (omega (arith, within)));
       kept = λ z at. (let clash = sym dropped ∙ at in absurd cc);
       none = λ run past. ap (λ l. counts_in l run) counts ∙ k.none run (omega (arith, past, many));
       earned = λ e among. more_earned w u (b ∷ []) begun counts e (k.earned e (subst (λ l. Contains l e) done among));
       once = subst AreOnce (sym done) k.once;
       finished = λ c e at among same. (
           let few = within e (subst (λ l. Contains l e) done among) in
-          let here : e.run ≡ length w.begun + 1 = same ∙ ap (λ (z : Caller). z.number) (sym (its c at)) in
+          let here : e.run ≡ length w.begun + 1 = same ∙ ap (λ (z : WorldClient). z.number) (sym (its c at)) in
           absurd (omega (arith, few, here)));
       dates = dates ∙ k.dates ∙ sym (ap (λ l. dates_after l [] u.entered) begun ∙ ap (dates_after (w.begun ++ b ∷ []) []) done
           ∙ more_dates w.begun (b ∷ []) [] w.entered (λ i e at. (let x = k.earned e (among_at w.entered i e at) in (x.0, x.1))));
@@ -314,7 +314,7 @@ once_more es e new once i j x y one other same = elim (pushed_is es e i x one) [
   ]
 ]
 
-entered_booked : (w : World) (c : Caller) → w.caller ≡ Some c → c.at.stage ≡ Finished → (IsRunEntered w c.number → ⊥) → IsLawful c.at → AreBooked w
+entered_booked : (w : World) (c : WorldClient) → w.caller ≡ Some c → c.at.stage ≡ Finished → (IsRunEntered w c.number → ⊥) → IsLawful c.at → AreBooked w
     → AreBooked (recorded w c)
 entered_booked w c there stage not_yet lawful k =
     let b = k.begun c there in
@@ -332,14 +332,14 @@ entered_booked w c there stage not_yet lawful k =
         | inr is ↦ subst (IsEarned (recorded w c)) is (b.0, b.1, covers, k.listed c there)
       ];
       once = once_more w.entered now (λ f among same. not_yet (f, among, same)) k.once;
-      finished = λ d e is among same. ap (λ (z : Caller). z.at.stage) (sym (same_Some c d (sym there ∙ is))) ∙ stage;
+      finished = λ d e is among same. ap (λ (z : WorldClient). z.at.stage) (sym (same_Some c d (sym there ∙ is))) ∙ stage;
       dates = ap (λ l. entered l (entry_of c.at.run)) k.dates
           ∙ sym (dates_more w.begun [] w.entered now ∙ ap (dates_with (dates_after w.begun [] w.entered)) b.1
           ∙ ap (λ r. entered (dates_after w.begun [] w.entered) (entry_of r)) b.2);
     }
 
 -- the client's run is kept, with its counts
-saved_booked : (w : World) (c : Caller) → w.caller ≡ Some c → MayBeKept w c → IsLawful c.at → AreBooked w
+saved_booked : (w : World) (c : WorldClient) → w.caller ≡ Some c → MayBeKept w c → IsLawful c.at → AreBooked w
     → AreBooked (record (with_no_failure w) { kept = Some (record { run = c.number; listed = c.at.counts }) })
 saved_booked w c there may lawful k =
     let b = k.begun c there in
@@ -376,22 +376,22 @@ back_booked : (w u : World) (z : Kept) (b : Begun) (at : Standing) (reader : Rep
 back_booked w u z b at reader s is_kept begun over is k =
     let q = k.kept z is_kept in
     let same = over_is b.run z.listed at over in
-    let its : (c : Caller) → u.caller ≡ Some c → caller z.run at reader ≡ c = λ c there. same_Some (caller z.run at reader) c (sym is ∙ there) in
+    let its : (c : WorldClient) → u.caller ≡ Some c → caller z.run at reader ≡ c = λ c there. same_Some (caller z.run at reader) c (sym is ∙ there) in
     record {
-      last = λ c there. ap (λ (y : Caller). y.number) (sym (its c there)) ∙ q.last ∙ sym (ap length s.begun);
+      last = λ c there. ap (λ (y : WorldClient). y.number) (sym (its c there)) ∙ q.last ∙ sym (ap length s.begun);
       begun = λ c there. (
         b,
-        ap (λ (y : Caller). numbered u.begun y.number) (sym (its c there)) ∙ ap (λ l. numbered l z.run) s.begun ∙ begun,
-        sym same.0 ∙ ap (λ (y : Caller). y.at.run) (its c there),
+        ap (λ (y : WorldClient). numbered u.begun y.number) (sym (its c there)) ∙ ap (λ l. numbered l z.run) s.begun ∙ begun,
+        sym same.0 ∙ ap (λ (y : WorldClient). y.at.run) (its c there),
       );
-      listed = λ c there. subst (λ (y : Caller). AreCountedIn u y.number y.at.counts) (its c there)
+      listed = λ c there. subst (λ (y : WorldClient). AreCountedIn u y.number y.at.counts) (its c there)
           (subst (AreCountedIn u z.run) (sym same.1) (same_listed w u s.counts z.run z.listed q.counted));
       kept = λ y there. same_kept w u s y (k.kept y (sym s.kept ∙ there));
       none = λ run past. ap (λ l. counts_in l run) s.counts ∙ k.none run (subst (λ l. length l < run) s.begun past);
       earned = λ e among. same_earned w u s e (k.earned e (subst (λ l. Contains l e) s.entered among));
       once = subst AreOnce (sym s.entered) k.once;
       finished = λ c e there among same_run. absurd
-          (q.unentered e (subst (λ l. Contains l e) s.entered among) (same_run ∙ ap (λ (y : Caller). y.number) (sym (its c there))));
+          (q.unentered e (subst (λ l. Contains l e) s.entered among) (same_run ∙ ap (λ (y : WorldClient). y.number) (sym (its c there))));
       dates = s.dates ∙ k.dates ∙ sym (ap (λ l. dates_after l [] u.entered) s.begun ∙ ap (dates_after w.begun []) s.entered);
     }
 
@@ -421,7 +421,7 @@ heard_booked g w u t begun counts entered kept dates is b =
       other = λ run other. other_counts w t.c.number t.k run new other;
     } b
 
-pub booked_moved : Goings → (w : World) (m : Move w) → HasLawful w → AreBooked w → AreBooked (moved w m)
+pub booked_moved : Goings → (w : World) (m : Move w) → IsClientLawful w → AreBooked w → AreBooked (moved w m)
 booked_moved g w (begins run payload reader none good long) lawful b = started_booked w _ run _ reader refl refl refl refl refl refl refl b
 booked_moved g w (connects c there ready) lawful b =
     alone_booked w _ c _ (record { begun = refl; counts = refl; entered = refl; kept = refl; dates = refl }) there refl refl (at_stage c.at (ToSend Open) (λ e. (let clash = sym ready ∙ e in absurd cc))) b

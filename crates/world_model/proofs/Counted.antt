@@ -5,9 +5,9 @@ use Rattle.tape.specs.Tape.PlainEntry.{Record}
 use Rattle.std.proofs.lemmas.Option.{same_Some}
 use Rattle.dump_run.specs.Run.{PlainRun}
 use Rattle.dump_run.specs.Label.{label}
-use Rattle.world_model.specs.World.{World, Connection, Dumping, Begun, Count, numbered}
+use Rattle.world_model.specs.World.{World, Connection, AttemptState, Begun, Count, numbered}
 use Rattle.world_model.specs.Changes.{opening}
-use Rattle.world_model.specs.Standing.{AreHeld, StandsOn}
+use Rattle.world_model.specs.Standing.{AreHeld, ReelHolds}
 use Rattle.world_model.specs.Kept.{AreLaid}
 use Rattle.world_model.specs.Naming.{AreNamed, AreWritersLast}
 use Rattle.world_model.specs.Headline.{IsNotReopened, CountedReels}
@@ -22,7 +22,7 @@ use Rattle.world_model.proofs.LabelledThere.{stands_somewhere}
 use Rattle.world_model.proofs.NotReopenedAlone.{not_reopened_alone}
 
 -- what an attempt wrote that was counted is its volume
-written_whole : (w : World) (run : PlainRun) (payload : List (List ℕ)) (x : Count) (l : Connection) (d : Dumping) (b : Begun) → IsEarnedBy w x l d b
+written_whole : (w : World) (run : PlainRun) (payload : List (List ℕ)) (x : Count) (l : Connection) (d : AttemptState) (b : Begun) → IsEarnedBy w x l d b
     → attempt_written run payload d ≡ whole_volume run payload x.volume x.first x.count
 written_whole w run payload x l d b e =
     ap (λ t. label_if t run d.volume d.first ++ (block_records payload d.first d.blocks ++ mark_if d.mark)) e.label
@@ -38,7 +38,7 @@ counted_reels w held laid named writers told labelled earned spares x among =
     let p = e.3 in
     let a = labelled x.connection e.0 e.1 p.there p.dump p.label in
     let same : a.0 ≡ e.2 = same_Some a.0 e.2 (sym a.1 ∙ ap (numbered w.begun) p.run ∙ p.begun) in
-    let just : IsNotReopened w x → (entries : List PlainEntry) → StandsOn w.server x.reel entries
+    let just : IsNotReopened w x → (entries : List PlainEntry) → ReelHolds w.server x.reel entries
     → entries ≡ whole_volume a.0.run a.0.payload x.volume x.first x.count
     = λ not_reopened entries stands.
     (a.2 x.reel (p.fault, (not_reopened.0, not_reopened.1, not_reopened_alone w x told writers spares.late spares.stopped among not_reopened))).stands entries stands
@@ -50,7 +50,7 @@ counted_reels w held laid named writers told labelled earned spares x among =
       within = subst (λ (b : Begun). x.first + x.count ≤ b.run.blocks) (sym same) p.within;
       opened = p.opened;
       there = named.opened _ p.opened;
-      whole = λ not_reopened. (subst (StandsOn w.server x.reel) (just not_reopened on.0 on.1) on.1, just not_reopened);
+      whole = λ not_reopened. (subst (ReelHolds w.server x.reel) (just not_reopened on.0 on.1) on.1, just not_reopened);
     }
 
 pub reels_not_reopened : (w : World) → AreTold w → AreWritersLast w → AreNotReopened w → ReelsNotReopened w
@@ -64,6 +64,6 @@ labelled_reels w held laid named labelled k d reel has label quiet =
     record {
       begun = a.0;
       begun_as = a.1;
-      holds = (subst (StandsOn w.server reel) (wrote.stands on.0 on.1) on.1, wrote.stands);
+      holds = (subst (ReelHolds w.server reel) (wrote.stands on.0 on.1) on.1, wrote.stands);
       at_end = wrote.behind;
     }

@@ -4,7 +4,7 @@ use Rattle.std.proofs.lemmas.List.{append-nil}
 use Rattle.std.proofs.lemmas.List.Elements.{Contains-push_cases, Contains-append_cases, Contains-append_right}
 use Rattle.std.proofs.lemmas.Bool.Decides.{eqb_tells}
 use Rattle.dump_client.specs.Standing.{checkpoint_of, count_to}
-use Rattle.world_model.specs.World.{World, Connection, Dumping, Begun, Count, Opening, numbered}
+use Rattle.world_model.specs.World.{World, Connection, AttemptState, Begun, Count, Opening, numbered}
 use Rattle.world_model.specs.Changes.{side_of, connection_of, opening, reel_opened_by, counts_of}
 use Rattle.world_model.specs.Owning.{IsOwned}
 use Rattle.world_model.specs.Sending.{AreTold}
@@ -41,8 +41,8 @@ reel_there k [] reel (i, within, is) = absurd (omega (arith, within))
 reel_there k (o ∷ rest) reel among = first_there (o.connection == k) k o rest reel refl among (reel_there k rest reel)
 
 -- an attempt that is told of later, with the same notes
-still_earned : (w u : World) (x : Count) (l : Connection) (d : Dumping) (b : Begun) → Quietly w u → IsEarnedBy w x l d b
-    → (m : Connection) × (e : Dumping) × (c : Begun) × IsEarnedBy u x m e c
+still_earned : (w u : World) (x : Count) (l : Connection) (d : AttemptState) (b : Begun) → Quietly w u → IsEarnedBy w x l d b
+    → (m : Connection) × (e : AttemptState) × (c : Begun) × IsEarnedBy u x m e c
 still_earned w u x l d b q e =
     let y = connection_still w.connections u.connections q.connections x.connection l e.there in
     let f = subst (λ o. Like o y.0.dump) e.dump y.2 in (
@@ -75,7 +75,7 @@ same_earned w u q counts earned x among =
 -- the count of an attempt of which all was done up to its close
 new_earned : (w u : World) (t : Listens w) → Quietly w u → IsSingle w.opens t.k t.d → HasCounted w.begun (side_of w.server t.k) t.c t.d t.at
     → (x : Count) → x ≡ counts_of w t.c.number t.k (count_to (checkpoint_of t.c.at.counts) (t.d.first + t.d.blocks))
-    → (m : Connection) × (e : Dumping) × (c : Begun) × IsEarnedBy u x m e c
+    → (m : Connection) × (e : AttemptState) × (c : Begun) × IsEarnedBy u x m e c
 new_earned w u t q single h x is =
     let done = h.goes.done in
     let at = open_attempt t.c.at.counts h.step h.other in

@@ -12,7 +12,7 @@ use Rattle.dump_client.specs.declared.stage.Stage.{Stage}
 use Rattle.dump_client.specs.declared.stage.Stage.TheVariants.{ToSend, Waiting}
 use Rattle.dump_client.specs.declared.stage.Progress.{Progress}
 use Rattle.dump_client.proofs.Received.{HeardAs, has_failed, goes_to, has_counted, has_ended, counted_last, heard_as}
-use Rattle.world_model.specs.World.{Connection, Dumping, Begun, Caller}
+use Rattle.world_model.specs.World.{Connection, AttemptState, Begun, WorldClient}
 use Rattle.world_model.specs.Sending.{GoesTo, LeadsOn, IsStepReply, IsAttempt, IsStepReplied, IsConnectionToldAt}
 use Rattle.world_model.proofs.SentWire.{OneReply}
 use Rattle.world_model.proofs.Pieces.{HearsPiece, waits, whole, hearing}
@@ -32,14 +32,14 @@ becomes_counts old new progress (has_ended tells over) = inl (over_counts old.ru
 becomes_counts old new progress (counted_last end followed tells over) = absurd cc
 
 -- the client has counted, and goes on to its close
-pub record HasCounted (begun : List Begun) (o : Option ServerConnection) (c : Caller) (d : Dumping) (new : Standing) : Type 0 where
+pub record HasCounted (begun : List Begun) (o : Option ServerConnection) (c : WorldClient) (d : AttemptState) (new : Standing) : Type 0 where
   pub b : Begun
   pub step : Step
   pub other : step ≢ Close
   pub attempt : IsAttempt begun c d step b
   pub goes : GoesTo b.run o c.at d new Close
 
-hearing_counts : (begun : List Begun) (o : Option ServerConnection) (c : Caller) (d : Dumping) (step : Step) (b : Begun) (new : Standing) (bytes way : List ℕ) (reply : PlainReply)
+hearing_counts : (begun : List Begun) (o : Option ServerConnection) (c : WorldClient) (d : AttemptState) (step : Step) (b : Begun) (new : Standing) (bytes way : List ℕ) (reply : PlainReply)
     (progress : Progress) → IsAttempt begun c d step b → LeadsOn b.run o c.at d step reply → HearsPiece c.at step reply bytes way progress new
     → (new.counts ≡ c.at.counts) ⊎ HasCounted begun o c d new
 hearing_counts begun o c d step b new bytes way reply progress attempt leads (waits moved is text) = inl (ap (λ (s : Standing). s.counts) is)
@@ -54,7 +54,7 @@ hearing_counts begun o c d step b new bytes way reply progress attempt leads (wh
   }
 ]
 
-reply_counts : OneReply → (begun : List Begun) (o : Option ServerConnection) (l : Connection) (c : Caller) (d : Dumping) (step : Step) (b : Begun) (new : Standing) (fed : List ℕ)
+reply_counts : OneReply → (begun : List Begun) (o : Option ServerConnection) (l : Connection) (c : WorldClient) (d : AttemptState) (step : Step) (b : Begun) (new : Standing) (fed : List ℕ)
     (n : ℕ) (progress : Progress) → 1 ≤ n → n ≤ length l.back → (r : IsStepReplied b o l c d step) → IsStepReply b.run o c.at d step (r.fed ++ l.back)
     → IsAttempt begun c d step b → HasFedAt (Waiting step) c.reader fed → FedAt (Waiting step) c.at fed (take n l.back) progress new
     → (new.counts ≡ c.at.counts) ⊎ HasCounted begun o c d new
@@ -67,7 +67,7 @@ reply_counts g begun o l c d step b new fed n progress first within r (inr (repl
     (hearing g c.reader c.at new step reply r.fed fed l.back n progress brief is r.has had feeds)
 
 -- What was heard: no count more, or that of an attempt of which all was done up to its close.
-pub heard_counts : OneReply → (stage : Stage) (begun : List Begun) (o : Option ServerConnection) (l : Connection) (c : Caller) (d : Dumping) (new : Standing) (fed : List ℕ) (n : ℕ)
+pub heard_counts : OneReply → (stage : Stage) (begun : List Begun) (o : Option ServerConnection) (l : Connection) (c : WorldClient) (d : AttemptState) (new : Standing) (fed : List ℕ) (n : ℕ)
     (progress : Progress) → 1 ≤ n → n ≤ length l.back → IsConnectionToldAt stage begun o l c d → HasFedAt stage c.reader fed
     → FedAt stage c.at fed (take n l.back) progress new → (new.counts ≡ c.at.counts) ⊎ HasCounted begun o c d new
 heard_counts g (ToSend step) begun o l c d new fed n progress first within (b, attempt, turn) had feeds = absurd (some_way l n first within turn.back)

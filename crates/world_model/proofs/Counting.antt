@@ -8,29 +8,29 @@ use Rattle.dump_client.specs.Standing.{Standing}
 use Rattle.dump_client.specs.declared.stage.Progress.{Progress}
 use Rattle.dump_client.specs.declared.stage.Progress.TheVariants as moved
 use Rattle.dump_client.specs.declared.step.Step.{Step}
-use Rattle.world_model.specs.World.{World, Dumping, Caller, Kept}
+use Rattle.world_model.specs.World.{World, AttemptState, WorldClient, Kept}
 use Rattle.world_model.specs.Events.{PlainEvent}
 use Rattle.world_model.specs.Events.PlainEvent.{StartRun, Connect, Send, ToServer, Serve, ToClient, Cut, EndAtServer, EndAtClient, ServerRestart, ClientRestart, Respond, Arrange, Stranger, Says, Enter, Save}
-use Rattle.world_model.specs.Changes.{with_no_failure, counts_of, came_to}
+use Rattle.world_model.specs.Changes.{with_no_failure, counts_of, after_client_call}
 use Rattle.world_model.specs.Further.{IsToldOf, CountsGrow}
 use Rattle.world_model.specs.Steps.{Happens, Sends, Finds, Hears, SeesEnd, ResumesRun, caller, forgotten_from}
 use Rattle.world_model.proofs.Booked.{Goings, drop_front}
 
-came_counts : (w : World) (k : ℕ) (at : Standing) (progress : Progress) → (came_to w k at progress).counts ≡ w.counts
+came_counts : (w : World) (k : ℕ) (at : Standing) (progress : Progress) → (after_client_call w k at progress).counts ≡ w.counts
 came_counts w k at (moved.Failed fault) = refl
 came_counts w k at moved.Ended = refl
 came_counts w k at moved.Idle = refl
 came_counts w k at moved.Waiting = refl
 came_counts w k at moved.Send = refl
 
-came_caller : (w : World) (k : ℕ) (at : Standing) (progress : Progress) → (came_to w k at progress).caller ≡ w.caller
+came_caller : (w : World) (k : ℕ) (at : Standing) (progress : Progress) → (after_client_call w k at progress).caller ≡ w.caller
 came_caller w k at (moved.Failed fault) = refl
 came_caller w k at moved.Ended = refl
 came_caller w k at moved.Idle = refl
 came_caller w k at moved.Waiting = refl
 came_caller w k at moved.Send = refl
 
-hears_counts : Goings → (o : Option Dumping) (w : World) (k n : ℕ) (piece : List ℕ) (u : World) → Hears o w k n piece u → ((u.counts ≡ w.counts) × (u.caller ≡ w.caller)) ⊎ IsToldOf w k u
+hears_counts : Goings → (o : Option AttemptState) (w : World) (k n : ℕ) (piece : List ℕ) (u : World) → Hears o w k n piece u → ((u.counts ≡ w.counts) × (u.caller ≡ w.caller)) ⊎ IsToldOf w k u
 hears_counts g None w k n piece u is = inl (ap (λ (x : World). x.counts) is, ap (λ (x : World). x.caller) is)
 hears_counts g (Some dump) w k n piece u (c, fed, at, reader, progress, there, had, feeds, has, is) =
     let m = g.0 c.at at fed piece progress feeds in
@@ -46,11 +46,11 @@ hears_counts g (Some dump) w k n piece u (c, fed, at, reader, progress, there, h
       counts = ap (λ (x : World). x.counts) is ∙ came_counts _ k at progress ∙ ap (λ cs. w.counts ++ map (counts_of w c.number k) cs) new;
     }
 
-sees_counts : (o : Option Dumping) (w : World) (k : ℕ) (u : World) → SeesEnd o w k u → u.counts ≡ w.counts
+sees_counts : (o : Option AttemptState) (w : World) (k : ℕ) (u : World) → SeesEnd o w k u → u.counts ≡ w.counts
 sees_counts None w k u is = ap (λ (x : World). x.counts) is
 sees_counts (Some dump) w k u (c, at, reader, progress, there, cuts, has, is) = ap (λ (x : World). x.counts) is ∙ came_counts _ k at progress
 
-sends_counts : (failing : Bool) (w : World) (k : ℕ) (c : Caller) (payload : List (List ℕ)) (step : Step) (u : World) → Sends failing w k c payload step u → u.counts ≡ w.counts
+sends_counts : (failing : Bool) (w : World) (k : ℕ) (c : WorldClient) (payload : List (List ℕ)) (step : Step) (u : World) → Sends failing w k c payload step u → u.counts ≡ w.counts
 sends_counts true w k c payload step u (reader, is) = ap (λ (x : World). x.counts) is
 sends_counts false w k c payload step u (reader, has, is) = ap (λ (x : World). x.counts) is
 
@@ -60,7 +60,7 @@ finds_counts w k trouble s (Ok None) rest u finds = absurd finds
 finds_counts w k trouble s (Ok (Some request)) rest u (reply, reached, library, session, holders, unread, served, is) = ap (λ (x : World). x.counts) is
 finds_counts w k trouble s (Err fault) rest u is = ap (λ (x : World). x.counts) is
 
-forgotten_counts : (w : World) (o : Option ℕ) (c : Option Caller) → (record (forgotten_from (with_no_failure w) o) { caller = c }).counts ≡ w.counts
+forgotten_counts : (w : World) (o : Option ℕ) (c : Option WorldClient) → (record (forgotten_from (with_no_failure w) o) { caller = c }).counts ≡ w.counts
 forgotten_counts w None c = refl
 forgotten_counts w (Some k) c = refl
 

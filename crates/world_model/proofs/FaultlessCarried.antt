@@ -5,7 +5,7 @@ use Rattle.std.proofs.lemmas.List.{nil_from_length}
 use Rattle.std.proofs.lemmas.Option.{same_Some}
 use Rattle.tape.specs.declared.trouble.Trouble.TheVariants.{None as NoTrouble}
 use Rattle.rmt_wire.specs.Request.{PlainRequest, SpellsRequest, request_text}
-use Rattle.rmt_wire.specs.RequestParts.{Gives, HasFault}
+use Rattle.rmt_wire.specs.RequestParts.{ParsesAs, HasFault}
 use Rattle.rmt_wire.specs.RequestReader.{RequestHeld, Unread}
 use Rattle.rmt_wire.specs.Reply.{PlainReply, reply_text}
 use Rattle.rmt_wire.specs.declared.fault.WireFault.{WireFault}
@@ -19,7 +19,7 @@ use Rattle.dump_client.specs.declared.step.Step.{Step}
 use Rattle.dump_client.specs.declared.step.Step.TheVariants.{Open}
 use Rattle.dump_client.specs.declared.stage.Stage.{Stage}
 use Rattle.dump_client.specs.declared.stage.Stage.TheVariants.{Ready, ToSend, Waiting}
-use Rattle.world_model.specs.World.{World, Connection, Dumping, Begun, Caller, numbered}
+use Rattle.world_model.specs.World.{World, Connection, AttemptState, Begun, WorldClient, numbered}
 use Rattle.world_model.specs.First.{PlainDriveSpec}
 use Rattle.world_model.specs.Changes.{connection_of, changed, changed_from, side_of, sent_on, answered, noted}
 use Rattle.world_model.specs.Steps.{Finds, carried}
@@ -48,7 +48,7 @@ no_bytes bytes fault none f =
 
 -- a beginning of a request has no fault
 request_no_fault : (text bytes way rest : List ℕ) (request : PlainRequest) (fault : WireFault) → SpellsRequest text request → text ≡ bytes ++ way
-    → Gives bytes (Err fault) rest → ⊥
+    → ParsesAs bytes (Err fault) rest → ⊥
 request_no_fault text bytes way rest request fault spelled is (f, none, same) =
     let stream : text ≡ (f.seen ++ f.byte ∷ []) ++ (f.later ++ way)
     = is ∙ ap (λ l. l ++ way) f.split ∙ append_assoc f.seen (f.byte ∷ f.later) way ∙ sym (append_assoc f.seen (f.byte ∷ []) (f.later ++ way)) in
@@ -56,7 +56,7 @@ request_no_fault text bytes way rest request fault spelled is (f, none, same) =
 
 -- where nothing is unserved, no request is found and no fault
 pub nothing_found : DroppedWrites → (w u : World) (k : ℕ) (s : ServerConnection) (way bytes rest : List ℕ) (found : Result (Option PlainRequest) WireFault) → AreUnserved (Some s) way []
-    → Unread s.reached bytes → Gives bytes found rest → Finds w k NoTrouble s found rest u → ⊥
+    → Unread s.reached bytes → ParsesAs bytes found rest → Finds w k NoTrouble s found rest u → ⊥
 nothing_found h w u k s way bytes rest (Ok None) none unread gives finds = finds
 nothing_found h w u k s way bytes rest (Ok (Some request)) none unread gives finds = nothing_there h s way bytes rest request none unread gives
 nothing_found h w u k s way bytes rest (Err fault) (reached, was, is) unread gives finds =
@@ -67,8 +67,8 @@ nothing_found h w u k s way bytes rest (Err fault) (reached, was, is) unread giv
     no_bytes bytes fault (sym same) gives.0
 
 -- the server's side of a request that was sent finds no fault
-pending_no_fault : OneReading → DroppedWrites → (b : Begun) (s : ServerConnection) (way : List ℕ) (d : Dumping) (step : Step) (bytes rest : List ℕ) (fault : WireFault)
-    → IsPending b (Some s) way d step → Unread s.reached bytes → Gives bytes (Err fault) rest → ⊥
+pending_no_fault : OneReading → DroppedWrites → (b : Begun) (s : ServerConnection) (way : List ℕ) (d : AttemptState) (step : Step) (bytes rest : List ℕ) (fault : WireFault)
+    → IsPending b (Some s) way d step → Unread s.reached bytes → ParsesAs bytes (Err fault) rest → ⊥
 pending_no_fault g h b s way d step bytes rest fault p unread gives = unserved_by p.unserved
   where
     unserved_by : AreUnserved (Some s) way (request_text (request_in b d step)) ⊎ AreUnserved (Some s) way [] → ⊥
@@ -84,7 +84,7 @@ pending_no_fault g h b s way d step bytes rest fault p unread gives = unserved_b
         request_no_fault text bytes way rest (request_in b d step) fault p.spelled (is ∙ ap (λ l. l ++ way) same) gives
 
 -- what is carried out of the request that the client waits for
-record Carries (w u : World) (k : ℕ) (c : Caller) (l : Connection) (d : Dumping) (b : Begun) (s : ServerConnection) (step : Step) : Type 0 where
+record Carries (w u : World) (k : ℕ) (c : WorldClient) (l : Connection) (d : AttemptState) (b : Begun) (s : ServerConnection) (step : Step) : Type 0 where
   caller : w.caller ≡ Some c
   stage : c.at.stage ≡ Waiting step
   own : IsOwnConnection w k l d b s
@@ -99,18 +99,18 @@ record Carries (w u : World) (k : ℕ) (c : Caller) (l : Connection) (d : Dumpin
   bytes : List ℕ
   rest : List ℕ
   unread : Unread s.reached bytes
-  gives : Gives bytes (Ok (Some request)) rest
+  gives : ParsesAs bytes (Ok (Some request)) rest
   left : Unread reached rest
   served : TroubledServe NoTrouble w.server.holders k (session_view w.server.library s.session) request reply (session_view library session) holders
   is : u ≡ carried w k request reply reached library session holders
 
 -- the bin before a step
-pub before_bin : (drive : PlainDriveSpec) (t : Stock) (k : ℕ) (b : Begun) (d : Dumping) (session : PlainSession) (step : Step) → StandsBefore step drive t k b d session
+pub before_bin : (drive : PlainDriveSpec) (t : Stock) (k : ℕ) (b : Begun) (d : AttemptState) (session : PlainSession) (step : Step) → StandsBefore step drive t k b d session
     → t.library.bin ≡ volume_slots drive t
 before_bin drive t k b d session Open q = ap (λ (x : TapeLibrary). x.bin) q.0.library
 before_bin drive t k b d session step q = ap (λ (x : TapeLibrary). x.bin) q.library
 
-carried_faultless : OneReading → DroppedWrites → (drive : PlainDriveSpec) (w u : World) (k : ℕ) (c : Caller) (l : Connection) (d : Dumping) (b : Begun) (s : ServerConnection) (step : Step) → IsWorldKept w → IsFaultlessWorld drive w
+carried_faultless : OneReading → DroppedWrites → (drive : PlainDriveSpec) (w u : World) (k : ℕ) (c : WorldClient) (l : Connection) (d : AttemptState) (b : Begun) (s : ServerConnection) (step : Step) → IsWorldKept w → IsFaultlessWorld drive w
     → IsStepUnanswered drive w (attempt_on k b d s.session) l step → Carries w u k c l d b s step → IsFaultlessWorld drive u
 carried_faultless g h drive w u k c l d b s step kept sm un v =
     let p = v.asked.pending in
@@ -183,16 +183,16 @@ carried_faultless g h drive w u k c l d b s step kept sm un v =
     }
 
 -- what is told of the client's own connection
-pub own_told : (w : World) (k : ℕ) (l : Connection) (d : Dumping) (b : Begun) (s : ServerConnection) (c : Caller) (stage : Stage) → IsWorldKept w → IsOwnConnection w k l d b s → w.caller ≡ Some c
+pub own_told : (w : World) (k : ℕ) (l : Connection) (d : AttemptState) (b : Begun) (s : ServerConnection) (c : WorldClient) (stage : Stage) → IsWorldKept w → IsOwnConnection w k l d b s → w.caller ≡ Some c
     → c.at.stage ≡ stage → IsConnectionToldAt stage w.begun (Some s) l c d
 own_told w k l d b s c stage kept own there at =
     subst (λ o. IsConnectionToldAt stage w.begun o l c d) own.live
     (subst (λ x. IsConnectionToldAt x w.begun (side_of w.server k) l c d) at ((kept.told.each k l own.there).own d c own.dump own.own there))
 
 -- the server finds something on a connection where the client waits
-found_faultless : OneReading → DroppedWrites → (drive : PlainDriveSpec) (w u : World) (k : ℕ) (c : Caller) (l : Connection) (d : Dumping) (b : Begun) (s : ServerConnection) (step : Step)
+found_faultless : OneReading → DroppedWrites → (drive : PlainDriveSpec) (w u : World) (k : ℕ) (c : WorldClient) (l : Connection) (d : AttemptState) (b : Begun) (s : ServerConnection) (step : Step)
     (found : Result (Option PlainRequest) WireFault) (bytes rest : List ℕ) → IsWorldKept w → IsFaultlessWorld drive w → w.caller ≡ Some c → c.at.stage ≡ Waiting step → IsOwnConnection w k l d b s
-    → IsStepUnanswered drive w (attempt_on k b d s.session) l step → IsConnectionToldAt (Waiting step) w.begun (Some s) l c d → Unread s.reached bytes → Gives bytes found rest
+    → IsStepUnanswered drive w (attempt_on k b d s.session) l step → IsConnectionToldAt (Waiting step) w.begun (Some s) l c d → Unread s.reached bytes → ParsesAs bytes found rest
     → Finds w k NoTrouble s found rest u → IsFaultlessWorld drive u
 found_faultless g h drive w u k c l d b s step found bytes rest kept sm there stage own un (b', attempt, inr replied) unread gives finds =
     absurd (nothing_found h w u k s l.toward bytes rest found replied.settled.unserved unread gives finds)
@@ -225,11 +225,11 @@ found_faultless g h drive w u k c l d b s step (Ok (Some request)) bytes rest ke
 -- What may be unserved on a connection: nothing is, or it is the client's own, whose request was not carried out.
 pub data Unserved (drive : PlainDriveSpec) (w : World) (k : ℕ) (s : ServerConnection) (l : Connection) : Type 0 where
   none_left : AreUnserved (Some s) l.toward [] → Unserved drive w k s l
-  one_left : (c : Caller) (step : Step) (d : Dumping) (b : Begun) → w.caller ≡ Some c → c.at.stage ≡ Waiting step → IsOwnConnection w k l d b s
+  one_left : (c : WorldClient) (step : Step) (d : AttemptState) (b : Begun) → w.caller ≡ Some c → c.at.stage ≡ Waiting step → IsOwnConnection w k l d b s
       → IsStepUnanswered drive w (attempt_on k b d s.session) l step → Unserved drive w k s l
 
 -- on the client's own, by its stage
-unserved_at : (drive : PlainDriveSpec) (w : World) (k : ℕ) (s : ServerConnection) (l : Connection) (c : Caller) (stage : Stage) → IsWorldKept w → side_of w.server k ≡ Some s → connection_of w k ≡ Some l
+unserved_at : (drive : PlainDriveSpec) (w : World) (k : ℕ) (s : ServerConnection) (l : Connection) (c : WorldClient) (stage : Stage) → IsWorldKept w → side_of w.server k ≡ Some s → connection_of w k ≡ Some l
     → w.own ≡ Some k → w.caller ≡ Some c → c.at.stage ≡ stage → IsTrue (is_in_attempt stage) → ReelsStandAt stage drive w c → Unserved drive w k s l
 unserved_at drive w k s l c (ToSend step) kept live conn mine there at under (j, x, d, b, y, own, stands) =
     let same : j ≡ k = same_Some j k (sym own.own ∙ mine) in
@@ -279,7 +279,7 @@ unserved_on drive w k s l kept sm live conn = by_own w.own refl
 
 -- the server carries a request out
 pub serve_faultless : OneReading → DroppedWrites → (drive : PlainDriveSpec) (w u : World) (k : ℕ) (s : ServerConnection) (found : Result (Option PlainRequest) WireFault) (bytes rest : List ℕ)
-    → IsWorldKept w → IsFaultlessWorld drive w → side_of w.server k ≡ Some s → Unread s.reached bytes → Gives bytes found rest → Finds w k NoTrouble s found rest u → IsFaultlessWorld drive u
+    → IsWorldKept w → IsFaultlessWorld drive w → side_of w.server k ≡ Some s → Unread s.reached bytes → ParsesAs bytes found rest → Finds w k NoTrouble s found rest u → IsFaultlessWorld drive u
 serve_faultless g h drive w u k s found bytes rest kept sm live unread gives finds =
     let paired = kept.tidy.paired in
     let here = side_there w.server k s live in

@@ -14,7 +14,7 @@ use Rattle.dump_client.specs.declared.step.Step.{Step}
 use Rattle.dump_client.specs.declared.step.Step.TheVariants.{Open, Close}
 use Rattle.dump_client.specs.declared.stage.Stage.{Stage}
 use Rattle.dump_client.specs.declared.stage.Stage.TheVariants.{Ready, ToSend, Waiting, Finished, Abandoned}
-use Rattle.world_model.specs.World.{World, Connection, Dumping, Begun, Caller}
+use Rattle.world_model.specs.World.{World, Connection, AttemptState, Begun, WorldClient}
 use Rattle.world_model.specs.First.{PlainDriveSpec}
 use Rattle.world_model.specs.Changes.{side_of, connection_of, new_connection, noted_sent}
 use Rattle.world_model.specs.Rows.{NoRun, is_run_done}
@@ -30,7 +30,7 @@ use Rattle.world_model.proofs.FaultlessCarried.{changed_here, own_told, none_lef
 use Rattle.world_model.proofs.FaultlessHears.{changed_connections, settles}
 
 -- without a run no session has the drive
-free_stage : (drive : PlainDriveSpec) (w : World) (c : Caller) (stage : Stage) → IsTrue (is_run_done stage) → ReelsStandAt stage drive w c → IsFree drive (stock_of w)
+free_stage : (drive : PlainDriveSpec) (w : World) (c : WorldClient) (stage : Stage) → IsTrue (is_run_done stage) → ReelsStandAt stage drive w c → IsFree drive (stock_of w)
 free_stage drive w c Finished done free = free
 free_stage drive w c Abandoned done free = absurd free
 free_stage drive w c Ready done free = free
@@ -64,14 +64,14 @@ begun_faultless drive w run payload reader kept sm none =
     }
 
 -- between attempts there is no own connection
-idle_own : (w : World) (c : Caller) → IsWorldKept w → w.caller ≡ Some c → c.at.stage ≡ Ready → (j : ℕ) → w.own ≡ Some j → ⊥
+idle_own : (w : World) (c : WorldClient) → IsWorldKept w → w.caller ≡ Some c → c.at.stage ≡ Ready → (j : ℕ) → w.own ≡ Some j → ⊥
 idle_own w c kept there ready j mine =
     let client = (kept.owned.own j mine).1 in
     let same : client.0 ≡ c = same_Some client.0 c (sym client.1 ∙ there) in
-    let under : IsTrue (is_in_attempt Ready) = subst (λ s. IsTrue (is_in_attempt s)) ready (subst (λ (x : Caller). IsTrue (is_in_attempt x.at.stage)) same client.2) in
+    let under : IsTrue (is_in_attempt Ready) = subst (λ s. IsTrue (is_in_attempt s)) ready (subst (λ (x : WorldClient). IsTrue (is_in_attempt x.at.stage)) same client.2) in
     cc
 
-pub connected_faultless : (drive : PlainDriveSpec) (w : World) (c : Caller) → IsWorldKept w → IsFaultlessWorld drive w → w.caller ≡ Some c → c.at.stage ≡ Ready → IsFaultlessWorld drive (client_connected w c)
+pub connected_faultless : (drive : PlainDriveSpec) (w : World) (c : WorldClient) → IsWorldKept w → IsFaultlessWorld drive w → w.caller ≡ Some c → c.at.stage ≡ Ready → IsFaultlessWorld drive (client_connected w c)
 connected_faultless drive w c kept sm there ready =
     let u : World = client_connected w c in
     let k = length w.connections + 1 in
@@ -111,7 +111,7 @@ connected_faultless drive w c kept sm there ready =
       failure = λ volume fault is. absurd cc;
     }
 
-sent_latched : (drive : PlainDriveSpec) (t : Stock) (k : ℕ) (b : Begun) (d : Dumping) (session : PlainSession) → IsLatched drive t k b d session
+sent_latched : (drive : PlainDriveSpec) (t : Stock) (k : ℕ) (b : Begun) (d : AttemptState) (session : PlainSession) → IsLatched drive t k b d session
     → IsLatched drive t k b (noted_sent d) session
 sent_latched drive t k b d session q = record {
   name = q.name;
@@ -125,14 +125,14 @@ sent_latched drive t k b d session q = record {
 }
 
 -- how all stands does not speak of how much was sent
-sent_stands : (drive : PlainDriveSpec) (t : Stock) (k : ℕ) (b : Begun) (d : Dumping) (session : PlainSession) (step : Step) → StandsBefore step drive t k b d session
+sent_stands : (drive : PlainDriveSpec) (t : Stock) (k : ℕ) (b : Begun) (d : AttemptState) (session : PlainSession) (step : Step) → StandsBefore step drive t k b d session
     → StandsBefore step drive t k b (noted_sent d) session
 sent_stands drive t k b d session Open q = q
 sent_stands drive t k b d session Close q = q
 sent_stands drive t k b d session step q = sent_latched drive t k b d session q
 
 -- the client sends its next request
-pub asked_faultless : (drive : PlainDriveSpec) (w : World) (k : ℕ) (c : Caller) (payload : List (List ℕ)) (step : Step) (reader : ReplyHeld) → IsWorldKept w → IsFaultlessWorld drive w
+pub asked_faultless : (drive : PlainDriveSpec) (w : World) (k : ℕ) (c : WorldClient) (payload : List (List ℕ)) (step : Step) (reader : ReplyHeld) → IsWorldKept w → IsFaultlessWorld drive w
     → w.own ≡ Some k → w.caller ≡ Some c → c.at.stage ≡ ToSend step → IsFaultlessWorld drive (asked w k c payload step reader)
 asked_faultless drive w k c payload step reader kept sm mine there stage =
     sent_by (subst (λ x. ReelsStandAt x drive w c) stage (subst (λ o. StandsWith o drive w) there sm.stands))
@@ -178,7 +178,7 @@ reached_faultless drive w k n s l reached kept sm live conn first within = elim 
   | one_left c step d b there stage own un ↦ moved_on d b c step there stage own un.back un.stands
 ]
   where
-    moved_on : (d : Dumping) (b : Begun) (c : Caller) (step : Step) → w.caller ≡ Some c → c.at.stage ≡ Waiting step → IsOwnConnection w k l d b s
+    moved_on : (d : AttemptState) (b : Begun) (c : WorldClient) (step : Step) → w.caller ≡ Some c → c.at.stage ≡ Waiting step → IsOwnConnection w k l d b s
         → l.back ≡ [] → StandsBefore step drive (stock_of w) k b d s.session → IsFaultlessWorld drive (reached_by w k n s reached)
     moved_on d b c step there stage own back stands =
         let u : World = reached_by w k n s reached in

@@ -16,9 +16,9 @@ use Rattle.dump_client.specs.declared.stage.Stage.{Stage}
 use Rattle.dump_client.specs.declared.stage.Stage.TheVariants.{Ready, ToSend, Waiting, Asking, Finished}
 use Rattle.dump_client.specs.declared.stage.Progress.{Progress}
 use Rattle.dump_client.specs.declared.stage.Progress.TheVariants as moved
-use Rattle.world_model.specs.World.{World, Connection, Dumping, Begun, Caller, Count, numbered}
+use Rattle.world_model.specs.World.{World, Connection, AttemptState, Begun, WorldClient, Count, numbered}
 use Rattle.world_model.specs.First.{PlainDriveSpec}
-use Rattle.world_model.specs.Changes.{changed, side_of, connection_of, over_there, counts_of, reel_opened_by}
+use Rattle.world_model.specs.Changes.{changed, side_of, connection_of, without_peer, counts_of, reel_opened_by}
 use Rattle.world_model.specs.Steps.{Hears, caller, heard}
 use Rattle.world_model.specs.Kept.{IsWorldKept}
 use Rattle.world_model.specs.Owning.{is_in_attempt}
@@ -38,10 +38,10 @@ use Rattle.world_model.proofs.FaultlessCarried.{changed_here, own_told}
 abbrev pub ConnectionsFrom : World → World → ℕ → Type 0
 ConnectionsFrom w u k =
     (j : ℕ) (y : Connection) → connection_of u j ≡ Some y
-    → (x : Connection) × (connection_of w j ≡ Some x) × ((d : Dumping) → x.dump ≡ Some d → (e : Dumping) × (y.dump ≡ Some e)) × (j ≢ k → y.toward ≡ x.toward)
+    → (x : Connection) × (connection_of w j ≡ Some x) × ((d : AttemptState) → x.dump ≡ Some d → (e : AttemptState) × (y.dump ≡ Some e)) × (j ≢ k → y.toward ≡ x.toward)
 
 pub changed_connections : (w u : World) (k : ℕ) (f : Connection → Connection) → u.connections ≡ changed f w.connections k
-    → ((l : Connection) (d : Dumping) → l.dump ≡ Some d → (e : Dumping) × ((f l).dump ≡ Some e)) → ConnectionsFrom w u k
+    → ((l : Connection) (d : AttemptState) → l.dump ≡ Some d → (e : AttemptState) × ((f l).dump ≡ Some e)) → ConnectionsFrom w u k
 changed_connections w u k f connections dumps j y at = elim (changed_is f w.connections k j y (ap (λ ls. numbered ls j) (sym connections) ∙ at)) [
   | inl (same, (x, was, new)) ↦ (
     x,
@@ -90,11 +90,11 @@ none_counted w number k c new same =
 abbrev with_counts : Stock → List Count → Stock
 with_counts t counts = record t { counts = counts }
 
-back_dumps : (n : ℕ) (l : Connection) (d : Dumping) → l.dump ≡ Some d → (e : Dumping) × ((record l { back = drop n l.back }).dump ≡ Some e)
+back_dumps : (n : ℕ) (l : Connection) (d : AttemptState) → l.dump ≡ Some d → (e : AttemptState) × ((record l { back = drop n l.back }).dump ≡ Some e)
 back_dumps n l d is = (d, is)
 
 -- the client goes on
-goes_on : (drive : PlainDriveSpec) (w : World) (k n : ℕ) (c : Caller) (l : Connection) (d : Dumping) (b : Begun) (s : ServerConnection) (at : Standing) (reader : ReplyHeld) (progress : Progress)
+goes_on : (drive : PlainDriveSpec) (w : World) (k n : ℕ) (c : WorldClient) (l : Connection) (d : AttemptState) (b : Begun) (s : ServerConnection) (at : Standing) (reader : ReplyHeld) (progress : Progress)
     (counts : List Count) → IsFaultlessWorld drive w → IsOwnConnection w k l d b s → (came : heard w k n c at reader progress ≡ heard w k n c at reader moved.Send)
     → w.counts ++ map (counts_of w c.number k) (drop (length c.at.counts) at.counts) ≡ counts
     → map (λ (x : Count). x.reel) counts ≡ take (length counts) drive.reels
@@ -122,7 +122,7 @@ goes_on drive w k n c l d b s at reader progress counts sm own came are reels st
     })
 
 -- it goes on to a step that is not its close
-goes_to : (drive : PlainDriveSpec) (w : World) (k n : ℕ) (c : Caller) (l : Connection) (d : Dumping) (b : Begun) (s : ServerConnection) (at : Standing) (reader : ReplyHeld) (next : Step)
+goes_to : (drive : PlainDriveSpec) (w : World) (k n : ℕ) (c : WorldClient) (l : Connection) (d : AttemptState) (b : Begun) (s : ServerConnection) (at : Standing) (reader : ReplyHeld) (next : Step)
     → IsFaultlessWorld drive w → IsOwnConnection w k l d b s → at.stage ≡ ToSend next → at.counts ≡ c.at.counts → StandsBefore next drive (stock_of w) k b d s.session
     → IsFaultlessWorld drive (heard w k n c at reader moved.Send)
 goes_to drive w k n c l d b s at reader next sm own stage same stands =
@@ -133,7 +133,7 @@ goes_to drive w k n c l d b s at reader next sm own stage same stands =
     (k, record l { back = drop n l.back }, d, b, s, mine, subst (λ cs. StandsBefore next drive (with_counts (stock_of w) cs) k b d s.session) (sym counts) stands))
 
 -- it counts its volume, and goes on to its close
-counts_now : (drive : PlainDriveSpec) (w : World) (k n : ℕ) (c : Caller) (l : Connection) (d : Dumping) (b : Begun) (s : ServerConnection) (step : Step) (at : Standing) (reader : ReplyHeld)
+counts_now : (drive : PlainDriveSpec) (w : World) (k n : ℕ) (c : WorldClient) (l : Connection) (d : AttemptState) (b : Begun) (s : ServerConnection) (step : Step) (at : Standing) (reader : ReplyHeld)
     → IsWorldKept w → IsFaultlessWorld drive w → IsOwnConnection w k l d b s → IsAttempt w.begun c d step b → step ≢ Close → at.stage ≡ ToSend Close
     → at.counts ≡ counted_to c.at.counts (d.first + d.blocks) → IsMoved drive (stock_of w) k b d s.session → IsFaultlessWorld drive (heard w k n c at reader moved.Send)
 counts_now drive w k n c l d b s step at reader kept sm own attempt other stage counted q =
@@ -175,10 +175,10 @@ counts_now drive w k n c l d b s step at reader kept sm own attempt other stage 
     (k, record l { back = drop n l.back }, d, b, s, mine, subst (λ cs. IsOffline drive (with_counts (stock_of w) cs) k s.session) (sym all) off))
 
 -- what was on the way to the server is so still
-over_connections : (w u : World) (k n : ℕ) → u.connections ≡ changed over_there (changed (λ x. record x { back = drop n x.back }) w.connections k) k
+over_connections : (w u : World) (k n : ℕ) → u.connections ≡ changed without_peer (changed (λ x. record x { back = drop n x.back }) w.connections k) k
     → (j : ℕ) (y : Connection) → connection_of u j ≡ Some y → (x : Connection) × (connection_of w j ≡ Some x) × (y.dump ≡ x.dump) × (y.toward ≡ x.toward)
 over_connections w u k n connections j y at =
-    elim (changed_is over_there (changed (λ x. record x { back = drop n x.back }) w.connections k) k j y (ap (λ ls. numbered ls j) (sym connections) ∙ at)) [
+    elim (changed_is without_peer (changed (λ x. record x { back = drop n x.back }) w.connections k) k j y (ap (λ ls. numbered ls j) (sym connections) ∙ at)) [
       | inl (same, (z, was, new)) ↦ elim (changed_is (λ x. record x { back = drop n x.back }) w.connections k j z (ap (numbered _) same ∙ was)) [
         | inl (here, (x, there, turned)) ↦ (
           x,
@@ -195,8 +195,8 @@ over_connections w u k n connections j y at =
     ]
 
 -- the attempt is over
-is_over : (drive : PlainDriveSpec) (w u : World) (k n : ℕ) (l : Connection) (d : Dumping) (b : Begun) (s : ServerConnection) → IsFaultlessWorld drive w → IsOwnConnection w k l d b s
-    → AreUnserved (side_of w.server k) l.toward [] → u.server ≡ w.server → u.connections ≡ changed over_there (changed (λ x. record x { back = drop n x.back }) w.connections k) k → u.begun ≡ w.begun
+is_over : (drive : PlainDriveSpec) (w u : World) (k n : ℕ) (l : Connection) (d : AttemptState) (b : Begun) (s : ServerConnection) → IsFaultlessWorld drive w → IsOwnConnection w k l d b s
+    → AreUnserved (side_of w.server k) l.toward [] → u.server ≡ w.server → u.connections ≡ changed without_peer (changed (λ x. record x { back = drop n x.back }) w.connections k) k → u.begun ≡ w.begun
     → u.counts ≡ w.counts → StandsWith u.caller drive u → FailsFaultless drive u → IsFaultlessWorld drive u
 is_over drive w u k n l d b s sm own served server connections begun counts stands failure = settles drive w u k sm record {
   own = own.own;
@@ -213,7 +213,7 @@ is_over drive w u k n l d b s sm own served server connections begun counts stan
 }
 
 -- it failed
-has_failed : (drive : PlainDriveSpec) (w : World) (k n : ℕ) (c : Caller) (l : Connection) (d : Dumping) (b : Begun) (s : ServerConnection) (step : Step) (at : Standing) (reader : ReplyHeld) (fault : AttemptFault)
+has_failed : (drive : PlainDriveSpec) (w : World) (k n : ℕ) (c : WorldClient) (l : Connection) (d : AttemptState) (b : Begun) (s : ServerConnection) (step : Step) (at : Standing) (reader : ReplyHeld) (fault : AttemptFault)
     → IsFaultlessWorld drive w → IsOwnConnection w k l d b s → AreUnserved (side_of w.server k) l.toward [] → at.stage ≡ Asking → at.counts ≡ c.at.counts → b.run ≡ at.run
     → IsFaultlessFailure drive.capacity b.run fault → w.server.library.bin ≡ volume_slots drive (stock_of w) → IsFaultlessWorld drive (heard w k n c at reader (moved.Failed fault))
 has_failed drive w k n c l d b s step at reader fault sm own served stage same run why bin =
@@ -230,9 +230,9 @@ has_failed drive w k n c l d b s step at reader fault sm own served stage same r
     ))
 
 -- it ended
-has_ended : (drive : PlainDriveSpec) (w : World) (k n : ℕ) (c : Caller) (l : Connection) (d : Dumping) (b : Begun) (s : ServerConnection) (at : Standing) (reader : ReplyHeld) (stage : Stage)
+has_ended : (drive : PlainDriveSpec) (w : World) (k n : ℕ) (c : WorldClient) (l : Connection) (d : AttemptState) (b : Begun) (s : ServerConnection) (at : Standing) (reader : ReplyHeld) (stage : Stage)
     → IsFaultlessWorld drive w → IsOwnConnection w k l d b s → AreUnserved (side_of w.server k) l.toward [] → at.stage ≡ stage → at.counts ≡ c.at.counts
-    → ((u : World) (x : Caller) → IsFree drive (stock_of u) → ReelsStandAt stage drive u x) → IsFree drive (stock_of w) → IsFaultlessWorld drive (heard w k n c at reader moved.Ended)
+    → ((u : World) (x : WorldClient) → IsFree drive (stock_of u) → ReelsStandAt stage drive u x) → IsFree drive (stock_of w) → IsFaultlessWorld drive (heard w k n c at reader moved.Ended)
 has_ended drive w k n c l d b s at reader stage sm own served is same stands free =
     let u : World = heard w k n c at reader moved.Ended in
     let counts = none_counted w c.number k c.at at same in
@@ -242,7 +242,7 @@ has_ended drive w k n c l d b s at reader stage sm own served is same stands fre
     (λ volume fault failed. absurd cc)
 
 -- by what came of it
-by_then : (drive : PlainDriveSpec) (w : World) (k n : ℕ) (c : Caller) (l : Connection) (d : Dumping) (b : Begun) (s : ServerConnection) (step : Step) (at : Standing) (reader : ReplyHeld)
+by_then : (drive : PlainDriveSpec) (w : World) (k n : ℕ) (c : WorldClient) (l : Connection) (d : AttemptState) (b : Begun) (s : ServerConnection) (step : Step) (at : Standing) (reader : ReplyHeld)
     (progress : Progress) (stage : Stage) → IsWorldKept w → IsFaultlessWorld drive w → IsOwnConnection w k l d b s → IsAttempt w.begun c d step b → AreUnserved (side_of w.server k) l.toward []
     → ((next : Step) → at.stage ≡ ToSend next → step ≢ Close) → b.run ≡ at.run → at.stage ≡ stage → StandsThen progress stage drive (stock_of w) k b d s.session
     → CountsThen stage c.at.counts d at.counts → IsFaultlessWorld drive (heard w k n c at reader progress)
@@ -267,7 +267,7 @@ by_then drive w k n c l d b s step at reader moved.Ended Finished kept sm own at
 by_then drive w k n c l d b s step at reader progress stage kept sm own attempt served early run is stands counts = absurd stands
 
 -- it waits for more
-waits_on : (drive : PlainDriveSpec) (w : World) (k n : ℕ) (c : Caller) (l : Connection) (d : Dumping) (b : Begun) (s : ServerConnection) (step : Step) (at : Standing) (reader : ReplyHeld)
+waits_on : (drive : PlainDriveSpec) (w : World) (k n : ℕ) (c : WorldClient) (l : Connection) (d : AttemptState) (b : Begun) (s : ServerConnection) (step : Step) (at : Standing) (reader : ReplyHeld)
     (bytes : List ℕ) → IsFaultlessWorld drive w → IsOwnConnection w k l d b s → (a : IsStepAnswered drive w (attempt_on k b d s.session) l c step) → c.at.stage ≡ Waiting step → at ≡ c.at
     → reply_text a.reply ≡ bytes ++ drop n l.back → HasFedAt at.stage reader (unanswered at.stage bytes) → IsFaultlessWorld drive (heard w k n c at reader moved.Waiting)
 waits_on drive w k n c l d b s step at reader bytes sm own a was same text has =
@@ -296,7 +296,7 @@ waits_on drive w k n c l d b s step at reader bytes sm own a was same text has =
     ))
 
 -- by what it makes of the bytes
-hearing_faultless : (drive : PlainDriveSpec) (w : World) (k n : ℕ) (c : Caller) (l : Connection) (d : Dumping) (b : Begun) (s : ServerConnection) (step : Step) (at : Standing) (reader : ReplyHeld)
+hearing_faultless : (drive : PlainDriveSpec) (w : World) (k n : ℕ) (c : WorldClient) (l : Connection) (d : AttemptState) (b : Begun) (s : ServerConnection) (step : Step) (at : Standing) (reader : ReplyHeld)
     (bytes : List ℕ) (progress : Progress) → IsWorldKept w → IsFaultlessWorld drive w → IsOwnConnection w k l d b s → IsAttempt w.begun c d step b
     → (a : IsStepAnswered drive w (attempt_on k b d s.session) l c step) → c.at.stage ≡ Waiting step → at.run ≡ c.at.run → HearsPiece c.at step a.reply bytes (drop n l.back) progress at
     → HasFedAt at.stage reader (unanswered at.stage bytes) → IsFaultlessWorld drive (heard w k n c at reader progress)
@@ -308,7 +308,7 @@ hearing_faultless drive w k n c l d b s step at reader bytes progress kept sm ow
     (attempt.run ∙ sym run) refl led.0 led.1
 
 -- what reached the client that waits
-fed_faultless : OneReply → Goings → (drive : PlainDriveSpec) (w : World) (k n : ℕ) (c : Caller) (l : Connection) (d : Dumping) (b : Begun) (s : ServerConnection) (step : Step) (at : Standing)
+fed_faultless : OneReply → Goings → (drive : PlainDriveSpec) (w : World) (k n : ℕ) (c : WorldClient) (l : Connection) (d : AttemptState) (b : Begun) (s : ServerConnection) (step : Step) (at : Standing)
     (reader : ReplyHeld) (fed : List ℕ) (progress : Progress) → IsWorldKept w → IsFaultlessWorld drive w → IsOwnConnection w k l d b s → IsAttempt w.begun c d step b
     → IsStepAnswered drive w (attempt_on k b d s.session) l c step → c.at.stage ≡ Waiting step → HasFedAt (Waiting step) c.reader fed
     → FedAt c.at.stage c.at fed (take n l.back) progress at → FedAt (Waiting step) c.at fed (take n l.back) progress at
@@ -317,7 +317,7 @@ fed_faultless g o drive w k n c l d b s step at reader fed progress kept sm own 
     hearing_faultless drive w k n c l d b s step at reader (fed ++ take n l.back) progress kept sm own attempt a was ((o.0 c.at at fed (take n l.back) progress feeds).1.run)
     (hearing g c.reader c.at at step a.reply a.fed fed l.back n progress a.brief a.text a.has had waited) has
 
-stage_hears : OneReply → Goings → (drive : PlainDriveSpec) (w : World) (k n : ℕ) (l : Connection) (c : Caller) (stage : Stage) (at : Standing) (reader : ReplyHeld) (fed : List ℕ)
+stage_hears : OneReply → Goings → (drive : PlainDriveSpec) (w : World) (k n : ℕ) (l : Connection) (c : WorldClient) (stage : Stage) (at : Standing) (reader : ReplyHeld) (fed : List ℕ)
     (progress : Progress) → IsWorldKept w → IsFaultlessWorld drive w → w.caller ≡ Some c → c.at.stage ≡ stage → w.own ≡ Some k → IsTrue (is_in_attempt stage) → connection_of w k ≡ Some l
     → 1 ≤ n → n ≤ length l.back → ReelsStandAt stage drive w c → HasFedAt c.at.stage c.reader fed → FedAt c.at.stage c.at fed (take n l.back) progress at
     → HasFedAt at.stage reader (unanswered at.stage (fed ++ take n l.back)) → IsFaultlessWorld drive (heard w k n c at reader progress)
@@ -343,7 +343,7 @@ stage_hears g o drive w k n l c (Waiting step) at reader fed progress kept sm th
 stage_hears g o drive w k n l c stage at reader fed progress kept sm there is mine under conn first within stands had feeds has = absurd cc
 
 -- Bytes reach the side that is not the server's: on this link it is the client.
-pub hears_faultless : OneReply → Goings → (dump : Option Dumping) (drive : PlainDriveSpec) (w u : World) (k n : ℕ) (l : Connection) → IsWorldKept w → IsFaultlessWorld drive w → connection_of w k ≡ Some l
+pub hears_faultless : OneReply → Goings → (dump : Option AttemptState) (drive : PlainDriveSpec) (w u : World) (k n : ℕ) (l : Connection) → IsWorldKept w → IsFaultlessWorld drive w → connection_of w k ≡ Some l
     → IsTrue l.other → l.dump ≡ dump → 1 ≤ n → n ≤ length l.back → Hears dump w k n (take n l.back) u → IsFaultlessWorld drive u
 hears_faultless g o None drive w u k n l kept sm at other dump first within hears =
     let d = sm.clients k l at in
@@ -353,5 +353,5 @@ hears_faultless g o (Some d) drive w u k n l kept sm at other dump first within 
     let client = (kept.owned.own k mine).1 in
     let same : client.0 ≡ c = same_Some client.0 c (sym client.1 ∙ there) in
     subst (IsFaultlessWorld drive) (sym is)
-    (stage_hears g o drive w k n l c c.at.stage new reader fed progress kept sm there refl mine (subst (λ (x : Caller). IsTrue (is_in_attempt x.at.stage)) same client.2) at first within
+    (stage_hears g o drive w k n l c c.at.stage new reader fed progress kept sm there refl mine (subst (λ (x : WorldClient). IsTrue (is_in_attempt x.at.stage)) same client.2) at first within
     (subst (λ x. StandsWith x drive w) there sm.stands) had feeds has)

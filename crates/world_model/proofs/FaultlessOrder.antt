@@ -11,13 +11,13 @@ use Rattle.drives.proofs.Shops.{bit, named, times_named, sum_by_with_drive}
 use Rattle.rmt_server.specs.ServerState.{ServerState}
 use Rattle.dump_client.specs.declared.stage.Stage.{Stage}
 use Rattle.dump_client.specs.declared.stage.Stage.TheVariants.{Ready, ToSend, Waiting, Asking, Finished, Abandoned}
-use Rattle.world_model.specs.World.{World, Connection, Begun, Caller, Count, numbered}
+use Rattle.world_model.specs.World.{World, Connection, Begun, WorldClient, Count, numbered}
 use Rattle.world_model.specs.Events.{PlainEvent}
 use Rattle.world_model.specs.Events.PlainEvent.{StartRun, Connect, Send, ToServer, Serve, ToClient}
 use Rattle.world_model.specs.First.{PlainDriveSpec, AreGoodDrives, first_world}
 use Rattle.world_model.specs.Steps.{Happens, Runs, none, one_more, is_failing, Sends, Finds}
 use Rattle.world_model.specs.Kept.{IsWorldKept, AreLaid}
-use Rattle.world_model.specs.Standing.{AreHeld, ReelLiesIn, StandsOn}
+use Rattle.world_model.specs.Standing.{AreHeld, ReelLiesIn, ReelHolds}
 use Rattle.world_model.specs.Written.{whole_volume}
 use Rattle.world_model.specs.Faultless.{IsFaultless, AreFaultless, IsFaultlessWorld, is_between, VolumesInOrder, ReelsStandAt, StandsWith, stock_of, volume_by, volume_slot, volume_slots}
 use Rattle.world_model.proofs.Numbers.{no_number}
@@ -73,7 +73,7 @@ runs_faultless g drive first w all kept sm whole (one_more {events = events} {be
     (kept_after g before w event was.0 happens, faultless_after g drive before w event was.0 was.1 parts.1 happens)
 
 -- the reels of the counts come first in the bin
-bin_at : (drive : PlainDriveSpec) (w : World) (c : Caller) (stage : Stage) → ReelsStandAt stage drive w c → Behind (volume_slots drive (stock_of w)) w.server.library.bin
+bin_at : (drive : PlainDriveSpec) (w : World) (c : WorldClient) (stage : Stage) → ReelsStandAt stage drive w c → Behind (volume_slots drive (stock_of w)) w.server.library.bin
 bin_at drive w c (ToSend step) (k, l, d, b, s, own, stands) =
     same_bin (volume_slots drive (stock_of w)) w.server.library.bin (before_bin drive (stock_of w) k b d s.session step stands)
 bin_at drive w c (Waiting step) (k, l, d, b, s, own, inl un) =
@@ -84,7 +84,7 @@ bin_at drive w c Finished free = same_bin (volume_slots drive (stock_of w)) w.se
 bin_at drive w c Asking bin = same_bin (volume_slots drive (stock_of w)) w.server.library.bin bin
 bin_at drive w c Abandoned never = absurd never
 
-bin_with : (drive : PlainDriveSpec) (w : World) (o : Option Caller) → StandsWith o drive w → Behind (volume_slots drive (stock_of w)) w.server.library.bin
+bin_with : (drive : PlainDriveSpec) (w : World) (o : Option WorldClient) → StandsWith o drive w → Behind (volume_slots drive (stock_of w)) w.server.library.bin
 bin_with drive w None free = same_bin (volume_slots drive (stock_of w)) w.server.library.bin (ap (λ (x : TapeLibrary). x.bin) free.library)
 bin_with drive w (Some c) stands = bin_at drive w c c.at.stage stands
 
@@ -141,7 +141,7 @@ drive_there (r ∷ drives) zero name entries lies = omega arith
 drive_there (r ∷ drives) (suc d) name entries lies = let on = drive_there drives d name entries lies in omega (arith, on)
 
 -- what lies in the bin stands nowhere else
-bin_alone : (h : ServerState) (name : List ℕ) (entries other : List PlainEntry) → AreHeld h → AreLaid h → EachReelOnce h.library → ReelLiesIn h.library.bin name entries → StandsOn h name other
+bin_alone : (h : ServerState) (name : List ℕ) (entries other : List PlainEntry) → AreHeld h → AreLaid h → EachReelOnce h.library → ReelLiesIn h.library.bin name entries → ReelHolds h name other
     → other ≡ entries
 bin_alone h name entries other held laid once lies (inl (inl (d, two))) =
     let t = with_drive_at h.library d (drive_with [] []) in
@@ -160,7 +160,7 @@ bin_alone h name entries other held laid once lies (inl (inr two)) =
 bin_alone h name entries other held laid once lies (inr (k, s, at, (drive, access, reel, online, first, holds))) =
     sym holds ∙ sym (stands_one h k s drive access reel name entries at online first held laid once (inl (inr lies)))
 
-between_names : (drive : PlainDriveSpec) (w : World) (c : Caller) (stage : Stage) → is_between stage ≡ true → ReelsStandAt stage drive w c
+between_names : (drive : PlainDriveSpec) (w : World) (c : WorldClient) (stage : Stage) → is_between stage ≡ true → ReelsStandAt stage drive w c
     → names_of w.server.library.bin ≡ map (λ (x : Count). x.reel) w.counts
 between_names drive w c Ready is free = ap (λ (x : TapeLibrary). names_of x.bin) free.library ∙ slot_names drive.capacity w.begun w.counts
 between_names drive w c Finished is free = ap (λ (x : TapeLibrary). names_of x.bin) free.library ∙ slot_names drive.capacity w.begun w.counts

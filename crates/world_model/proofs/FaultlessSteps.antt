@@ -22,7 +22,7 @@ use Rattle.dump_client.specs.Standing.{Standing, checkpoint_of}
 use Rattle.dump_client.specs.declared.step.Step.{Step}
 use Rattle.dump_client.specs.declared.step.Step.TheVariants.{Open, Operation, Look, Label, Block, Close}
 use Rattle.dump_client.specs.declared.step.TapeOp.TheVariants.{Rewind, RewindAgain, Mark, Unload}
-use Rattle.world_model.specs.World.{Dumping, Begun, Opening}
+use Rattle.world_model.specs.World.{AttemptState, Begun, Opening}
 use Rattle.world_model.specs.First.{PlainDriveSpec}
 use Rattle.world_model.specs.Changes.{opening, opened_reel, written_reel, first_name, noted}
 use Rattle.world_model.specs.Sending.{HasDone, request_in}
@@ -44,14 +44,14 @@ label_whole s lawful =
     let zeros = length-replicate {A = ℕ} (1024 - length (label_lines s.run volume first)) 0 in
     omega (arith, short, size, zeros)
 
-its_label : (old : Standing) (b : Begun) (d : Dumping) → b.run ≡ old.run → d.volume ≡ (checkpoint_of old.counts).0 → d.first ≡ (checkpoint_of old.counts).1 → IsLawful old
+its_label : (old : Standing) (b : Begun) (d : AttemptState) → b.run ≡ old.run → d.volume ≡ (checkpoint_of old.counts).0 → d.first ≡ (checkpoint_of old.counts).1 → IsLawful old
     → length (label b.run d.volume d.first) ≡ label_bytes
 its_label old b d run volume first lawful =
     ap (λ r. length (label r d.volume d.first)) run ∙ ap (λ n. length (label old.run n d.first)) volume ∙ ap (λ n. length (label old.run (checkpoint_of old.counts).0 n)) first
     ∙ label_whole old lawful
 
 -- What is told of an attempt whose request is carried out.
-pub record Attempt (t : Stock) (k : ℕ) (old : Standing) (b : Begun) (d : Dumping) (s : ServerConnection) (step : Step) : Type 0 where
+pub record Attempt (t : Stock) (k : ℕ) (old : Standing) (b : Begun) (d : AttemptState) (s : ServerConnection) (step : Step) : Type 0 where
   pub run : b.run ≡ old.run
   pub lawful : IsLawful old
   pub good : IsRun b.run
@@ -80,13 +80,13 @@ still_held t k session after holders mine before now held =
     ∙ ap (λ l. slice_set (slice_set l 0 0) 0 k) mine
 
 -- the request of one whose reel is in the drive
-latched_step : (drive : PlainDriveSpec) (t : Stock) (k : ℕ) (b : Begun) (d : Dumping) (session after : PlainSession) (request : PlainRequest) (reply : PlainReply) (library : TapeLibrary)
+latched_step : (drive : PlainDriveSpec) (t : Stock) (k : ℕ) (b : Begun) (d : AttemptState) (session after : PlainSession) (request : PlainRequest) (reply : PlainReply) (library : TapeLibrary)
     (holders : List ℕ) → IsLatched drive t k b d session → Served t k session request reply library after holders
     → TroubledServeStep NoTrouble t.holders (session_view t.library (Online 0 Both (plain_reel (tape (attempt_written b.run b.payload d) []) drive.capacity))) request reply (session_view library after)
 latched_step drive t k b d session after request reply library holders q served =
     subst (λ s. TroubledServeStep NoTrouble t.holders (session_view t.library s) request reply (session_view library after)) q.online served.step
 
-latched_held : (drive : PlainDriveSpec) (t : Stock) (k : ℕ) (b : Begun) (d : Dumping) (session after : PlainSession) (request : PlainRequest) (reply : PlainReply) (library : TapeLibrary)
+latched_held : (drive : PlainDriveSpec) (t : Stock) (k : ℕ) (b : Begun) (d : AttemptState) (session after : PlainSession) (request : PlainRequest) (reply : PlainReply) (library : TapeLibrary)
     (holders : List ℕ) → (q : IsLatched drive t k b d session) → Served t k session request reply library after holders → drive_in after ≡ Some 0 → holders ≡ k ∷ []
 latched_held drive t k b d session after request reply library holders q served now =
     still_held t k session after holders q.holders (ap drive_in q.online) now served.held
@@ -101,7 +101,7 @@ write_online library capacity before bytes reply after (wrote fits replies onlin
 write_online library capacity before bytes reply after (full tight replies online) = ap (λ (v : SessionView). drive_in v.session) online
 write_online library capacity before bytes reply after (scarce few online) = ap (λ (v : SessionView). drive_in v.session) online
 
-open_step : (drive : PlainDriveSpec) (t : Stock) (k : ℕ) (old : Standing) (b : Begun) (d : Dumping) (s : ServerConnection) (reply : PlainReply) (library : TapeLibrary) (session : PlainSession) (holders : List ℕ)
+open_step : (drive : PlainDriveSpec) (t : Stock) (k : ℕ) (old : Standing) (b : Begun) (d : AttemptState) (s : ServerConnection) (reply : PlainReply) (library : TapeLibrary) (session : PlainSession) (holders : List ℕ)
     → Attempt t k old b d s Open → StandsBefore Open drive t k b d s.session → Served t k s.session (request_in b d Open) reply library session holders
     → Leads drive (stock_then t k (request_in b d Open) library session holders) (attempt_on k b (noted (request_in b d Open) reply d) session) old Open reply
 open_step drive t k old b d s reply library session holders a (free, idle) served =
@@ -126,7 +126,7 @@ open_step drive t k old b d s reply library session holders a (free, idle) serve
     ]
 
 -- a step before the label, at a reel that is blank
-blank_step : (drive : PlainDriveSpec) (t : Stock) (k : ℕ) (b : Begun) (d : Dumping) (session after : PlainSession) (request : PlainRequest) (reply : PlainReply) (library : TapeLibrary)
+blank_step : (drive : PlainDriveSpec) (t : Stock) (k : ℕ) (b : Begun) (d : AttemptState) (session after : PlainSession) (request : PlainRequest) (reply : PlainReply) (library : TapeLibrary)
     (holders : List ℕ) → d.label ≡ false → d.blocks ≡ 0 → d.mark ≡ false → IsLatched drive t k b d session → Served t k session request reply library after holders
     → TroubledServeStep NoTrouble t.holders (session_view t.library (Online 0 Both (plain_reel (tape [] []) drive.capacity))) request reply (session_view library after)
 blank_step drive t k b d session after request reply library holders none few bare q served =
@@ -134,13 +134,13 @@ blank_step drive t k b d session after request reply library holders none few ba
     (nothing_written b d none few bare) (latched_step drive t k b d session after request reply library holders q served)
 
 -- the drive is held still by one whose reel is in it
-online_held : (drive : PlainDriveSpec) (t : Stock) (k : ℕ) (b : Begun) (d : Dumping) (session after : PlainSession) (request : PlainRequest) (reply : PlainReply) (library : TapeLibrary)
+online_held : (drive : PlainDriveSpec) (t : Stock) (k : ℕ) (b : Begun) (d : AttemptState) (session after : PlainSession) (request : PlainRequest) (reply : PlainReply) (library : TapeLibrary)
     (holders : List ℕ) → IsLatched drive t k b d session → Served t k session request reply library after holders → IsOnline t.library drive.capacity (tape [] []) (session_view library after)
     → holders ≡ k ∷ []
 online_held drive t k b d session after request reply library holders q served online =
     latched_held drive t k b d session after request reply library holders q served (ap (λ (v : SessionView). drive_in v.session) online)
 
-rewind_step : (drive : PlainDriveSpec) (t : Stock) (k : ℕ) (old : Standing) (b : Begun) (d : Dumping) (s : ServerConnection) (reply : PlainReply) (library : TapeLibrary) (session : PlainSession) (holders : List ℕ)
+rewind_step : (drive : PlainDriveSpec) (t : Stock) (k : ℕ) (old : Standing) (b : Begun) (d : AttemptState) (s : ServerConnection) (reply : PlainReply) (library : TapeLibrary) (session : PlainSession) (holders : List ℕ)
     → Attempt t k old b d s (Operation Rewind) → IsLatched drive t k b d s.session → Served t k s.session (request_in b d (Operation Rewind)) reply library session holders
     → Leads drive (stock_then t k (request_in b d (Operation Rewind)) library session holders) (attempt_on k b (noted (request_in b d (Operation Rewind)) reply d) session) old (Operation Rewind) reply
 rewind_step drive t k old b d s reply library session holders a q served =
@@ -149,7 +149,7 @@ rewind_step drive t k old b d s reply library session holders a q served =
     rewound_leads drive t k old b d (Some s) s.session reply (session_view library session) holders (opens_then t k (Op MTREW 1) library session) a.done
     (online_held drive t k b d s.session session (Op MTREW 1) reply library holders q served r.1) q (still_opened t.opens [] (opening k q.name) q.opened) r
 
-again_step : (drive : PlainDriveSpec) (t : Stock) (k : ℕ) (old : Standing) (b : Begun) (d : Dumping) (s : ServerConnection) (reply : PlainReply) (library : TapeLibrary) (session : PlainSession) (holders : List ℕ)
+again_step : (drive : PlainDriveSpec) (t : Stock) (k : ℕ) (old : Standing) (b : Begun) (d : AttemptState) (s : ServerConnection) (reply : PlainReply) (library : TapeLibrary) (session : PlainSession) (holders : List ℕ)
     → Attempt t k old b d s (Operation RewindAgain) → IsLatched drive t k b d s.session → Served t k s.session (request_in b d (Operation RewindAgain)) reply library session holders
     → Leads drive (stock_then t k (request_in b d (Operation RewindAgain)) library session holders) (attempt_on k b (noted (request_in b d (Operation RewindAgain)) reply d) session) old
     (Operation RewindAgain) reply
@@ -159,7 +159,7 @@ again_step drive t k old b d s reply library session holders a q served =
     again_leads drive t k old b d (Some s) s.session reply (session_view library session) holders (opens_then t k (Op MTREW 1) library session) a.done
     (online_held drive t k b d s.session session (Op MTREW 1) reply library holders q served r.1) q (still_opened t.opens [] (opening k q.name) q.opened) r
 
-look_step : (drive : PlainDriveSpec) (t : Stock) (k : ℕ) (old : Standing) (b : Begun) (d : Dumping) (s : ServerConnection) (reply : PlainReply) (library : TapeLibrary) (session : PlainSession) (holders : List ℕ)
+look_step : (drive : PlainDriveSpec) (t : Stock) (k : ℕ) (old : Standing) (b : Begun) (d : AttemptState) (s : ServerConnection) (reply : PlainReply) (library : TapeLibrary) (session : PlainSession) (holders : List ℕ)
     → Attempt t k old b d s Look → IsLatched drive t k b d s.session → Served t k s.session (request_in b d Look) reply library session holders
     → Leads drive (stock_then t k (request_in b d Look) library session holders) (attempt_on k b (noted (request_in b d Look) reply d) session) old Look reply
 look_step drive t k old b d s reply library session holders a q served =
@@ -168,7 +168,7 @@ look_step drive t k old b d s reply library session holders a q served =
     look_leads drive t k old b d (Some s) s.session reply (session_view library session) holders (opens_then t k (Read label_bytes) library session) a.done
     (online_held drive t k b d s.session session (Read label_bytes) reply library holders q served r.1) q (still_opened t.opens [] (opening k q.name) q.opened) r
 
-label_step : (drive : PlainDriveSpec) (t : Stock) (k : ℕ) (old : Standing) (b : Begun) (d : Dumping) (s : ServerConnection) (reply : PlainReply) (library : TapeLibrary) (session : PlainSession) (holders : List ℕ)
+label_step : (drive : PlainDriveSpec) (t : Stock) (k : ℕ) (old : Standing) (b : Begun) (d : AttemptState) (s : ServerConnection) (reply : PlainReply) (library : TapeLibrary) (session : PlainSession) (holders : List ℕ)
     → Attempt t k old b d s Label → IsLatched drive t k b d s.session → length (label b.run d.volume d.first) ≡ label_bytes
     → Served t k s.session (request_in b d Label) reply library session holders
     → Leads drive (stock_then t k (request_in b d Label) library session holders) (attempt_on k b (noted (request_in b d Label) reply d) session) old Label reply
@@ -180,7 +180,7 @@ label_step drive t k old b d s reply library session holders a q size served =
     (latched_held drive t k b d s.session session (Write bytes) reply library holders q served
     (write_online t.library drive.capacity (attempt_written b.run b.payload d) bytes reply (session_view library session) r)) q (still_opened t.opens [] (opening k q.name) q.opened) size r
 
-block_step : (drive : PlainDriveSpec) (t : Stock) (k : ℕ) (old : Standing) (b : Begun) (d : Dumping) (s : ServerConnection) (number : ℕ) (reply : PlainReply) (library : TapeLibrary) (session : PlainSession)
+block_step : (drive : PlainDriveSpec) (t : Stock) (k : ℕ) (old : Standing) (b : Begun) (d : AttemptState) (s : ServerConnection) (number : ℕ) (reply : PlainReply) (library : TapeLibrary) (session : PlainSession)
     (holders : List ℕ) → Attempt t k old b d s (Block number) → IsLatched drive t k b d s.session → length (label b.run d.volume d.first) ≡ label_bytes
     → Served t k s.session (request_in b d (Block number)) reply library session holders
     → Leads drive (stock_then t k (request_in b d (Block number)) library session holders) (attempt_on k b (noted (request_in b d (Block number)) reply d) session) old (Block number) reply
@@ -197,7 +197,7 @@ block_step drive t k old b d s number reply library session holders a q label_si
     (write_online t.library drive.capacity (attempt_written b.run b.payload d) bytes reply (session_view library session) r)) q (still_opened t.opens [] (opening k q.name) q.opened)
     a.good a.run a.first size label_size r
 
-mark_step : (drive : PlainDriveSpec) (t : Stock) (k : ℕ) (old : Standing) (b : Begun) (d : Dumping) (s : ServerConnection) (next : ℕ) (reply : PlainReply) (library : TapeLibrary) (session : PlainSession)
+mark_step : (drive : PlainDriveSpec) (t : Stock) (k : ℕ) (old : Standing) (b : Begun) (d : AttemptState) (s : ServerConnection) (next : ℕ) (reply : PlainReply) (library : TapeLibrary) (session : PlainSession)
     (holders : List ℕ) → Attempt t k old b d s (Operation (Mark next)) → IsLatched drive t k b d s.session → Served t k s.session (request_in b d (Operation (Mark next))) reply library session holders
     → Leads drive (stock_then t k (request_in b d (Operation (Mark next))) library session holders) (attempt_on k b (noted (request_in b d (Operation (Mark next))) reply d) session) old (Operation (Mark next)) reply
 mark_step drive t k old b d s next reply library session holders a q served =
@@ -210,7 +210,7 @@ mark_step drive t k old b d s next reply library session holders a q served =
     mark_leads drive t k old b d (Some s) s.session next reply (session_view library session) holders (opens_then t k (Op MTWEOF 1) library session) a.done
     (latched_held drive t k b d s.session session (Op MTWEOF 1) reply library holders q served on) q (still_opened t.opens [] (opening k q.name) q.opened) r
 
-unload_step : (drive : PlainDriveSpec) (t : Stock) (k : ℕ) (old : Standing) (b : Begun) (d : Dumping) (s : ServerConnection) (next : ℕ) (reply : PlainReply) (library : TapeLibrary) (session : PlainSession)
+unload_step : (drive : PlainDriveSpec) (t : Stock) (k : ℕ) (old : Standing) (b : Begun) (d : AttemptState) (s : ServerConnection) (next : ℕ) (reply : PlainReply) (library : TapeLibrary) (session : PlainSession)
     (holders : List ℕ) → Attempt t k old b d s (Operation (Unload next)) → IsLatched drive t k b d s.session → Served t k s.session (request_in b d (Operation (Unload next))) reply library session holders
     → Leads drive (stock_then t k (request_in b d (Operation (Unload next))) library session holders) (attempt_on k b (noted (request_in b d (Operation (Unload next))) reply d) session) old (Operation (Unload next)) reply
 unload_step drive t k old b d s next reply library session holders a q served =
@@ -220,7 +220,7 @@ unload_step drive t k old b d s next reply library session holders a q served =
     (subst (λ x. TroubledServeStep NoTrouble t.holders (session_view x (Online 0 Both (plain_reel (tape (attempt_written b.run b.payload d) []) drive.capacity))) (Op MTOFFL 1) reply (session_view library session))
     q.library (latched_step drive t k b d s.session session (Op MTOFFL 1) reply library holders q served)))
 
-close_step : (drive : PlainDriveSpec) (t : Stock) (k : ℕ) (old : Standing) (b : Begun) (d : Dumping) (s : ServerConnection) (reply : PlainReply) (library : TapeLibrary) (session : PlainSession) (holders : List ℕ)
+close_step : (drive : PlainDriveSpec) (t : Stock) (k : ℕ) (old : Standing) (b : Begun) (d : AttemptState) (s : ServerConnection) (reply : PlainReply) (library : TapeLibrary) (session : PlainSession) (holders : List ℕ)
     → IsOffline drive t k s.session → Served t k s.session (request_in b d Close) reply library session holders
     → Leads drive (stock_then t k (request_in b d Close) library session holders) (attempt_on k b (noted (request_in b d Close) reply d) session) old Close reply
 close_step drive t k old b d s reply library session holders q served =
@@ -232,7 +232,7 @@ close_step drive t k old b d s reply library session holders q served =
     close_leads drive t k old b d s.session reply (session_view library session) holders (opens_then t k CloseDevice library session) free q r
 
 -- Where the reply to the request leads, by its step.
-pub step_leads : (drive : PlainDriveSpec) (t : Stock) (k : ℕ) (old : Standing) (b : Begun) (d : Dumping) (s : ServerConnection) (step : Step) (reply : PlainReply) (library : TapeLibrary) (session : PlainSession)
+pub step_leads : (drive : PlainDriveSpec) (t : Stock) (k : ℕ) (old : Standing) (b : Begun) (d : AttemptState) (s : ServerConnection) (step : Step) (reply : PlainReply) (library : TapeLibrary) (session : PlainSession)
     (holders : List ℕ) → Attempt t k old b d s step → StandsBefore step drive t k b d s.session → Served t k s.session (request_in b d step) reply library session holders
     → Leads drive (stock_then t k (request_in b d step) library session holders) (attempt_on k b (noted (request_in b d step) reply d) session) old step reply
 step_leads drive t k old b d s Open reply library session holders a stands served = open_step drive t k old b d s reply library session holders a stands served

@@ -5,8 +5,8 @@ use Rattle.std.proofs.lemmas.Option.{same_Some}
 use Rattle.rmt_wire.specs.RequestReader.{RequestHeld, held}
 use Rattle.rmt_server.specs.ServerState.{ServerState, server, ServerConnection, side}
 use Rattle.rmt_server.specs.Session.PlainSession.{Idle}
-use Rattle.world_model.specs.World.{World, Connection, Dumping, Begun, numbered, with_numbered}
-use Rattle.world_model.specs.Changes.{changed, side_of, with_side, new_connection, over_there, over_here, ended_from, noted_sent}
+use Rattle.world_model.specs.World.{World, Connection, AttemptState, Begun, numbered, with_numbered}
+use Rattle.world_model.specs.Changes.{changed, side_of, with_side, new_connection, without_peer, without_server, ended_from, noted_sent}
 use Rattle.world_model.specs.Standing.{online_drive_in, AreHeld}
 use Rattle.world_model.specs.Steps.{sent_connection}
 use Rattle.world_model.proofs.Numbers.{changed_is, length_changed, map_at, pushed_is, numbered_within, numbered_there, numbered_first}
@@ -18,7 +18,7 @@ use Rattle.world_model.proofs.Held.{held_ended_by, held_all_ended_by}
 use Rattle.world_model.proofs.LabelledServers.{StoodIn, over_stands, sides_stand, arranged_stands}
 
 -- an attempt of which no request was carried out
-pub record SameNotes (d e : Dumping) : Type 0 where
+pub record SameNotes (d e : AttemptState) : Type 0 where
   pub run : e.run ≡ d.run
   pub volume : e.volume ≡ d.volume
   pub first : e.first ≡ d.first
@@ -28,24 +28,24 @@ pub record SameNotes (d e : Dumping) : Type 0 where
   pub mark : e.mark ≡ d.mark
   pub fault : e.fault ≡ d.fault
 
-pub same_notes : (d : Dumping) → SameNotes d d
+pub same_notes : (d : AttemptState) → SameNotes d d
 same_notes d = record { run = refl; volume = refl; first = refl; carried = refl; label = refl; blocks = refl; mark = refl; fault = refl }
 
 -- a stranger's stays a stranger's, and a client's stays so
-abbrev pub Like : Option Dumping → Option Dumping → Type 0
+abbrev pub Like : Option AttemptState → Option AttemptState → Type 0
 Like None p = p ≡ None
-Like (Some d) p = (e : Dumping) × (p ≡ Some e) × SameNotes d e
+Like (Some d) p = (e : AttemptState) × (p ≡ Some e) × SameNotes d e
 
-like_same : (o : Option Dumping) → Like o o
+like_same : (o : Option AttemptState) → Like o o
 like_same None = refl
 like_same (Some d) = (d, refl, same_notes d)
 
-like_sent : (o : Option Dumping) → Like o (option_map noted_sent o)
+like_sent : (o : Option AttemptState) → Like o (option_map noted_sent o)
 like_sent None = refl
 like_sent (Some d) = (noted_sent d, refl, record { run = refl; volume = refl; first = refl; carried = refl; label = refl; blocks = refl; mark = refl; fault = refl })
 
 -- nothing was carried out of it, if it is a client's
-abbrev pub IsFresh : Option Dumping → Type 0
+abbrev pub IsFresh : Option AttemptState → Type 0
 IsFresh None = Unit {0}
 IsFresh (Some d) = (d.label ≡ false) × (d.carried ≡ 0)
 
@@ -162,17 +162,17 @@ connections_like : (w : World) (m : Move w) → IsNoRequest w.server (server_mov
 connections_like w (move.serves t) none = absurd none
 connections_like w (move.connects c there stage) none = then_joined w.connections _ (refl, refl)
 connections_like w move.joins none = then_joined w.connections (new_connection None) tt
-connections_like w move.restarts none = then_mapped w.connections over_here (λ x. like_same x.dump)
+connections_like w move.restarts none = then_mapped w.connections without_server (λ x. like_same x.dump)
 connections_like w (move.asks t) none = then_changed w.connections (sent_connection _) t.k (λ x. like_sent x.dump)
-connections_like w (move.fails k n c reader there stage own) none = then_kept w.connections over_there k (λ x. refl)
+connections_like w (move.fails k n c reader there stage own) none = then_kept w.connections without_peer k (λ x. refl)
 connections_like w (move.reaches k n s l reached live at grows) none = then_kept w.connections _ k (λ x. refl)
-connections_like w (move.ends k) none = then_kept w.connections over_here k (λ x. refl)
+connections_like w (move.ends k) none = then_kept w.connections without_server k (λ x. refl)
 connections_like w (move.cuts k) none = then_kept w.connections _ k (λ x. refl)
 connections_like w (move.talks k l t at stranger) none = then_kept w.connections (talked t) k (talked_dump t)
 connections_like w (move.hears t on) none = then_kept w.connections _ t.k (λ x. refl)
-connections_like w (move.hears_last t failure over) none = then_kept w.connections over_there t.k (λ x. refl)
-connections_like w (move.sees t failure) none = then_kept w.connections over_there t.k (λ x. refl)
-connections_like w (move.gives_up x k own) none = then_kept w.connections over_there k (λ x. refl)
+connections_like w (move.hears_last t failure over) none = then_kept w.connections without_peer t.k (λ x. refl)
+connections_like w (move.sees t failure) none = then_kept w.connections without_peer t.k (λ x. refl)
+connections_like w (move.gives_up x k own) none = then_kept w.connections without_peer k (λ x. refl)
 connections_like w m none = same_connections w.connections
 
 same_opens : (w : World) (m : Move w) → IsNoRequest w.server (server_move w m) → (moved w m).opens ≡ w.opens

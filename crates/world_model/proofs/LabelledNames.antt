@@ -16,7 +16,7 @@ use Rattle.rmt_server.specs.Session.{PlainReel}
 use Rattle.rmt_server.specs.Session.PlainSession.{Online}
 use Rattle.rmt_server.specs.TroubledServe.{drive_in}
 use Rattle.world_model.specs.Changes.{side_of, first_name}
-use Rattle.world_model.specs.Standing.{IsFirstAway, online_drive_in, AreHeld, ReelLiesIn, ReelLiesOn, StandsOn}
+use Rattle.world_model.specs.Standing.{IsFirstAway, online_drive_in, AreHeld, ReelLiesIn, ReelLiesOn, ReelHolds}
 use Rattle.world_model.specs.Kept.{AreLaid}
 use Rattle.world_model.proofs.Laid.{drive_other, alone_at, drive_within}
 use Rattle.world_model.proofs.Named.{first_times}
@@ -85,7 +85,7 @@ lies_nowhere s drive name entries once within away is (inr lies) =
 
 -- what stands on the reel in a drive
 pub stands_one : (h : ServerState) (k : ℕ) (s : ServerConnection) (drive : ℕ) (access : Access) (reel : PlainReel) (name : List ℕ) (entries : List PlainEntry) → side_of h k ≡ Some s
-    → s.session ≡ Online drive access reel → first_name (drive_at h.library drive).stack ≡ name → AreHeld h → AreLaid h → EachReelOnce h.library → StandsOn h name entries
+    → s.session ≡ Online drive access reel → first_name (drive_at h.library drive).stack ≡ name → AreHeld h → AreLaid h → EachReelOnce h.library → ReelHolds h name entries
     → entries ≡ entries_of reel.tape
 stands_one h k s drive access reel name entries live online is a l once (inl lies) =
     absurd (lies_nowhere h.library drive name entries once (drive_within h k s drive a live (ap drive_in online)) (l.latched drive (k, s, live, ap online_drive_in online)) is lies)

@@ -9,9 +9,9 @@ use Rattle.dump_run.specs.Run.{PlainRun}
 use Rattle.dump_client.specs.Lawful.{steps_before}
 use Rattle.dump_client.specs.declared.step.Step.TheVariants.{Operation}
 use Rattle.dump_client.specs.declared.step.TapeOp.TheVariants.{Unload}
-use Rattle.world_model.specs.World.{World, Dumping, Begun, Opening, numbered, with_numbered}
+use Rattle.world_model.specs.World.{World, AttemptState, Begun, Opening, numbered, with_numbered}
 use Rattle.world_model.specs.Changes.{side_of, opening, opened_reel, writing}
-use Rattle.world_model.specs.Standing.{online_drive_in, AreHeld, IsOnlineWith, StandsOn}
+use Rattle.world_model.specs.Standing.{online_drive_in, AreHeld, IsOnlineWith, ReelHolds}
 use Rattle.world_model.specs.Written.{block_records}
 use Rattle.world_model.specs.Written.{attempt_written, label_if, mark_if, IsAlone, IsBeforeOffline}
 use Rattle.world_model.specs.Attempts.{IsReelWritten, IsLabelled, AreLabelled}
@@ -24,7 +24,7 @@ use Rattle.world_model.proofs.LabelledSingle.{like_back}
 use Rattle.world_model.proofs.Writers.{writing_there, writings_after}
 
 -- the same was written
-written_same : (run : PlainRun) (payload : List (List ℕ)) (d e : Dumping) → SameNotes d e → attempt_written run payload d ≡ attempt_written run payload e
+written_same : (run : PlainRun) (payload : List (List ℕ)) (d e : AttemptState) → SameNotes d e → attempt_written run payload d ≡ attempt_written run payload e
 written_same run payload d e s =
     ap (λ t. label_if t run d.volume d.first ++ (block_records payload d.first d.blocks ++ mark_if d.mark)) (sym s.label)
     ∙ ap (λ n. label_if e.label run n d.first ++ (block_records payload d.first d.blocks ++ mark_if d.mark)) (sym s.volume)
@@ -32,7 +32,7 @@ written_same run payload d e s =
     ∙ ap (λ n. label_if e.label run e.volume e.first ++ (block_records payload e.first n ++ mark_if d.mark)) (sym s.blocks)
     ∙ ap (λ t. label_if e.label run e.volume e.first ++ (block_records payload e.first e.blocks ++ mark_if t)) (sym s.mark)
 
-before_same : (run : PlainRun) (d e : Dumping) → SameNotes d e → IsBeforeOffline run e → IsBeforeOffline run d
+before_same : (run : PlainRun) (d e : AttemptState) → SameNotes d e → IsBeforeOffline run e → IsBeforeOffline run d
 before_same run d e s before marked =
     let less = before (s.mark ∙ marked) in
     let many : length (steps_before run e.first (e.first + e.blocks) (Operation (Unload (e.first + e.blocks))))
@@ -44,10 +44,10 @@ before_same run d e s before marked =
 
 -- what stood on the reel stands there, or the session is another's
 record StillWritten (w u : World) (k : ℕ) (reel : List ℕ) : Type 0 where
-  stands : (entries : List PlainEntry) → StandsOn u.server reel entries → StandsOn w.server reel entries
+  stands : (entries : List PlainEntry) → ReelHolds u.server reel entries → ReelHolds w.server reel entries
   sides : (s : ServerConnection) (r : PlainReel) → side_of u.server k ≡ Some s → IsOnlineWith s.session r → (x : ServerConnection) × (side_of w.server k ≡ Some x) × (s.session ≡ x.session)
 
-still_written : (w u : World) (k : ℕ) (b : Begun) (d e : Dumping) (reel : List ℕ) → SameNotes d e → StillWritten w u k reel → IsReelWritten w k b d reel → IsReelWritten u k b e reel
+still_written : (w u : World) (k : ℕ) (b : Begun) (d e : AttemptState) (reel : List ℕ) → SameNotes d e → StillWritten w u k reel → IsReelWritten w k b d reel → IsReelWritten u k b e reel
 still_written w u k b d e reel s t was = record {
   stands = λ entries on. was.stands entries (t.stands entries on) ∙ written_same b.run b.payload d e s;
   behind = λ y r at on before. (
@@ -88,7 +88,7 @@ opening_before opens j k i reel (Some r) other at = elim (pushed_is opens (openi
 ]
 
 -- a request of another connection
-pub others_labelled : (w : World) (v : Turn w) (j : ℕ) (d : Dumping) → j ≢ v.k → AreHeld w.server → AreHeld (turned w v).server → IsLabelled w j d
+pub others_labelled : (w : World) (v : Turn w) (j : ℕ) (d : AttemptState) → j ≢ v.k → AreHeld w.server → AreHeld (turned w v).server → IsLabelled w j d
     → IsLabelled (turned w v) j d
 others_labelled w v j d other a b labelled label =
     let p = labelled label in

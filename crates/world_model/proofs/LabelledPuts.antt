@@ -17,7 +17,7 @@ use Rattle.rmt_server.specs.declared.access.Access.TheVariants.{Both}
 use Rattle.rmt_server.specs.Session.{PlainReel, SessionView, status_of, refusal, tape_request, reel_reply}
 use Rattle.rmt_server.specs.Session.PlainSession.{Online}
 use Rattle.rmt_server.specs.TroubledServe.{TroubledServeStep, TroubledDoneStep}
-use Rattle.world_model.specs.World.{Dumping}
+use Rattle.world_model.specs.World.{AttemptState}
 use Rattle.world_model.specs.Changes.{noted_by}
 use Rattle.world_model.proofs.Called.{IsLeftWith, called}
 
@@ -25,8 +25,8 @@ use Rattle.world_model.proofs.Called.{IsLeftWith, called}
 -- a device fault was noted.
 pub data Puts (before after : SessionView) (drive : ℕ) (reel : PlainReel) (entries : List PlainEntry) (request : PlainRequest) (reply : PlainReply) : Type 0 where
   puts : (n : ℕ) → reply ≡ Done (suc n) → IsLeftWith before after drive reel (tape (reel.tape.before ++ entries) []) → Puts before after drive reel entries request reply
-  keeps : ((d : Dumping) → noted_by d request reply ≡ d) → IsLeftWith before after drive reel reel.tape → Puts before after drive reel entries request reply
-  fails : ((d : Dumping) → (noted_by d request reply).fault ≡ true) → Puts before after drive reel entries request reply
+  keeps : ((d : AttemptState) → noted_by d request reply ≡ d) → IsLeftWith before after drive reel reel.tape → Puts before after drive reel entries request reply
+  fails : ((d : AttemptState) → (noted_by d request reply).fault ≡ true) → Puts before after drive reel entries request reply
 
 -- the tape is known
 left_as : (before after : SessionView) (drive : ℕ) (reel : PlainReel) (t u : Tape) → t ≡ u → IsLeftWith before after drive reel t → IsLeftWith before after drive reel u

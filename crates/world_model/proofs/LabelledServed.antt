@@ -21,7 +21,7 @@ use Rattle.dump_client.specs.Lawful.{steps_before}
 use Rattle.dump_client.specs.declared.step.Step.{Step}
 use Rattle.dump_client.specs.declared.step.Step.TheVariants.{Open, Operation, Look, Label, Block, Close}
 use Rattle.dump_client.specs.declared.step.TapeOp.TheVariants.{Rewind, RewindAgain, Mark as MarkTape, Unload}
-use Rattle.world_model.specs.World.{World, Connection, Dumping, Begun, numbered, with_numbered}
+use Rattle.world_model.specs.World.{World, Connection, AttemptState, Begun, numbered, with_numbered}
 use Rattle.world_model.specs.Changes.{side_of, first_name, written_reel, opening, opened_reel, noted}
 use Rattle.world_model.specs.Standing.{AreHeld}
 use Rattle.world_model.specs.Kept.{AreLaid}
@@ -55,14 +55,14 @@ more_records payload first (suc count) =
     (more_records payload (suc first) count ∙ ap (λ n. block_records payload (suc first) count ++ Record (get_or payload n []) ∷ []) (omega arith))
 
 -- what was written once the label was accepted
-pub labelled_as : (run : PlainRun) (payload : List (List ℕ)) (d : Dumping) (mark : Bool) → d.label ≡ true → d.mark ≡ mark
+pub labelled_as : (run : PlainRun) (payload : List (List ℕ)) (d : AttemptState) (mark : Bool) → d.label ≡ true → d.mark ≡ mark
     → attempt_written run payload d ≡ Record (label run d.volume d.first) ∷ (block_records payload d.first d.blocks ++ mark_if mark)
 labelled_as run payload d mark is marked =
     ap (λ t. label_if t run d.volume d.first ++ (block_records payload d.first d.blocks ++ mark_if d.mark)) is
     ∙ ap (λ t. Record (label run d.volume d.first) ∷ (block_records payload d.first d.blocks ++ mark_if t)) marked
 
 -- All that is known of an attempt whose own request is carried out.
-pub record Own (w : World) (v : Turn w) (l : Connection) (d : Dumping) : Type 0 where
+pub record Own (w : World) (v : Turn w) (l : Connection) (d : AttemptState) : Type 0 where
   pub p : IsServed w v l d
   pub good : IsGood p.b
   pub held : AreHeld w.server
@@ -82,7 +82,7 @@ alone_was w v reel none (i, at, alone) =
     (i, ap (λ os. numbered os i) (sym same) ∙ at, λ x among. alone x (writings_after w v x among))
 
 -- the reel in the drive is that of the attempt's last opening
-its_name : (w : World) (v : Turn w) (l : Connection) (d : Dumping) → Own w v l d → (drive : ℕ) (reel : PlainReel) (name : List ℕ)
+its_name : (w : World) (v : Turn w) (l : Connection) (d : AttemptState) → Own w v l d → (drive : ℕ) (reel : PlainReel) (name : List ℕ)
     → v.s.session ≡ Online drive Both reel → IsAlone w v.k name → first_name (drive_at w.server.library drive).stack ≡ name
 its_name w v l d o drive reel name online last =
     let first = first_name (drive_at w.server.library drive).stack in
@@ -90,7 +90,7 @@ its_name w v l d o drive reel name online last =
     one_reel w.opens v.k d o.single (opening v.k first) (opening v.k name) (among_at w.opens mine.0 (opening v.k first) mine.1) (among_at w.opens last.0 (opening v.k name) last.1) refl refl
 
 -- what was written stands on the tape of the session
-now_written : (w : World) (v : Turn w) (l : Connection) (d e : Dumping) → Own w v l d → (b : Begun) (drive : ℕ) (reel : PlainReel) (name : List ℕ) (t : Tape)
+now_written : (w : World) (v : Turn w) (l : Connection) (d e : AttemptState) → Own w v l d → (b : Begun) (drive : ℕ) (reel : PlainReel) (name : List ℕ) (t : Tape)
     → v.s.session ≡ Online drive Both reel → IsAlone w v.k name
     → IsLeftWith (session_view w.server.library v.s.session) (session_view v.library v.session) drive reel t → entries_of t ≡ attempt_written b.run b.payload e → t.after ≡ [] → IsReelWritten (turned w v) v.k b e name
 now_written w v l d e o b drive reel name t online last left same none =
@@ -113,11 +113,11 @@ now_written w v l d e o b drive reel name t online last left same none =
     }
 
 -- what stood there before
-record WasThere (b : Begun) (d : Dumping) (reel : PlainReel) : Type 0 where
+record WasThere (b : Begun) (d : AttemptState) (reel : PlainReel) : Type 0 where
   stood : entries_of reel.tape ≡ attempt_written b.run b.payload d
   none : reel.tape.after ≡ []
 
-was_there : (w : World) (v : Turn w) (l : Connection) (d : Dumping) → Own w v l d → (b : Begun) (drive : ℕ) (reel : PlainReel) (name : List ℕ) → v.s.session ≡ Online drive Both reel
+was_there : (w : World) (v : Turn w) (l : Connection) (d : AttemptState) → Own w v l d → (b : Begun) (drive : ℕ) (reel : PlainReel) (name : List ℕ) → v.s.session ≡ Online drive Both reel
     → IsAlone w v.k name → d.mark ≡ false → IsReelWritten w v.k b d name → WasThere b d reel
 was_there w v l d o b drive reel name online last unmarked was = record {
   stood = was.stands (entries_of reel.tape) (inr (v.k, v.s, v.live, (drive, Both, reel, online, its_name w v l d o drive reel name online last, refl)));
@@ -130,7 +130,7 @@ one_entry_more t x all is none =
     append-nil (t.before ++ x ∷ []) ∙ ap (λ l. l ++ x ∷ []) (sym (append-nil t.before) ∙ ap (λ l. t.before ++ l) (sym none) ∙ is)
 
 -- a block more, and the mark
-block_written : (run : PlainRun) (payload : List (List ℕ)) (d : Dumping) (number : ℕ) → d.label ≡ true → d.mark ≡ false → number ≡ d.first + d.blocks → d.blocks + 1 < 2 ^ 64
+block_written : (run : PlainRun) (payload : List (List ℕ)) (d : AttemptState) (number : ℕ) → d.label ≡ true → d.mark ≡ false → number ≡ d.first + d.blocks → d.blocks + 1 < 2 ^ 64
     → attempt_written run payload d ++ Record (get_or payload number []) ∷ [] ≡ attempt_written run payload (record d { blocks = raised d.blocks })
 block_written run payload d number labelled unmarked at few =
     let name = Record (label run d.volume d.first) in
@@ -144,7 +144,7 @@ block_written run payload d number labelled unmarked at few =
     ∙ ap (λ l. name ∷ l) (sym (append-nil (block_records payload d.first (raised d.blocks))))
     ∙ sym (labelled_as run payload (record d { blocks = raised d.blocks }) false labelled unmarked)
 
-mark_written : (run : PlainRun) (payload : List (List ℕ)) (d : Dumping) → d.label ≡ true → d.mark ≡ false
+mark_written : (run : PlainRun) (payload : List (List ℕ)) (d : AttemptState) → d.label ≡ true → d.mark ≡ false
     → attempt_written run payload d ++ Mark ∷ [] ≡ attempt_written run payload (record d { mark = true })
 mark_written run payload d labelled unmarked =
     let name = Record (label run d.volume d.first) in
@@ -153,21 +153,21 @@ mark_written run payload d labelled unmarked =
     ∙ ap (λ l. name ∷ (l ++ Mark ∷ [])) (append-nil blocks)
     ∙ sym (labelled_as run payload (record d { mark = true }) true labelled refl)
 
-label_written : (run : PlainRun) (payload : List (List ℕ)) (d : Dumping) → d.blocks ≡ 0 → d.mark ≡ false
+label_written : (run : PlainRun) (payload : List (List ℕ)) (d : AttemptState) → d.blocks ≡ 0 → d.mark ≡ false
     → Record (label run d.volume d.first) ∷ [] ≡ attempt_written run payload (record d { label = true })
 label_written run payload d none unmarked =
     ap (λ n. Record (label run d.volume d.first) ∷ (block_records payload d.first n ++ [])) (sym none)
     ∙ sym (labelled_as run payload (record d { label = true }) false refl unmarked)
 
 -- what was written before, while the attempt is quiet
-was_written : (w : World) (v : Turn w) (l : Connection) (d : Dumping) (o : Own w v l d) → d.label ≡ true → d.fault ≡ false → (reel : List ℕ) → IsAlone w v.k reel
+was_written : (w : World) (v : Turn w) (l : Connection) (d : AttemptState) (o : Own w v l d) → d.label ≡ true → d.fault ≡ false → (reel : List ℕ) → IsAlone w v.k reel
     → IsReelWritten w v.k o.p.b d reel
 was_written w v l d o labelled fault reel last =
     let a = o.labelled labelled in
     subst (λ b. IsReelWritten w v.k b d reel) (same_Some a.0 o.p.b (sym a.1 ∙ o.p.begun)) (a.2 reel (fault, last))
 
 -- the run is the same
-labelled_so : (w : World) (v : Turn w) (l : Connection) (d : Dumping) (o : Own w v l d)
+labelled_so : (w : World) (v : Turn w) (l : Connection) (d : AttemptState) (o : Own w v l d)
     → ((noted v.request v.reply d).label ≡ true → (reel : List ℕ) → IsQuiet (turned w v) v.k (noted v.request v.reply d) reel → IsReelWritten (turned w v) v.k o.p.b (noted v.request v.reply d) reel)
     → IsLabelled (turned w v) v.k (noted v.request v.reply d)
 labelled_so w v l d o all labelled = (
@@ -177,12 +177,12 @@ labelled_so w v l d o all labelled = (
 )
 
 -- the request of a write that was accepted, or was not
-abbrev IsNow : (w : World) (v : Turn w) → Begun → Dumping → PlainRequest → Type 0
+abbrev IsNow : (w : World) (v : Turn w) → Begun → AttemptState → PlainRequest → Type 0
 IsNow w v b d request =
     (noted request v.reply d).label ≡ true → (reel : List ℕ) → (noted request v.reply d).fault ≡ false → IsAlone w v.k reel → IsReelWritten (turned w v) v.k b (noted request v.reply d) reel
 
 -- the label
-own_label : (w : World) (v : Turn w) (l : Connection) (d : Dumping) (o : Own w v l d) (drive : ℕ) (reel : PlainReel) → v.s.session ≡ Online drive Both reel → reel.tape.before ≡ []
+own_label : (w : World) (v : Turn w) (l : Connection) (d : AttemptState) (o : Own w v l d) (drive : ℕ) (reel : PlainReel) → v.s.session ≡ Online drive Both reel → reel.tape.before ≡ []
     → HasDone o.p.b.run (Some v.s) d Label
     → Puts (session_view w.server.library v.s.session) (session_view v.library v.session) drive reel (Record (label o.p.b.run d.volume d.first) ∷ []) (request_in o.p.b d Label) v.reply
     → IsNow w v o.p.b d (request_in o.p.b d Label)
@@ -194,11 +194,11 @@ own_label w v l d o drive reel online first done (puts n is left) labelled name 
     (now_written w v l d (on_by_one (record d { label = true })) o o.p.b drive reel name (tape (reel.tape.before ++ x ∷ []) []) online last left
     (append-nil (reel.tape.before ++ x ∷ []) ∙ ap (λ t. t ++ x ∷ []) first ∙ label_written o.p.b.run o.p.b.payload d done.blocks done.mark) refl)
 own_label w v l d o drive reel online first done (keeps same left) labelled name quiet last =
-    (let clash = sym done.label ∙ sym (ap (λ (e : Dumping). e.label) (same d)) ∙ labelled in absurd cc)
+    (let clash = sym done.label ∙ sym (ap (λ (e : AttemptState). e.label) (same d)) ∙ labelled in absurd cc)
 own_label w v l d o drive reel online first done (fails fault) labelled name quiet last = (let clash = sym (fault d) ∙ quiet in absurd cc)
 
 -- a block
-own_block : (w : World) (v : Turn w) (l : Connection) (d : Dumping) (o : Own w v l d) (drive : ℕ) (reel : PlainReel) (number : ℕ) → v.s.session ≡ Online drive Both reel
+own_block : (w : World) (v : Turn w) (l : Connection) (d : AttemptState) (o : Own w v l d) (drive : ℕ) (reel : PlainReel) (number : ℕ) → v.s.session ≡ Online drive Both reel
     → HasDone o.p.b.run (Some v.s) d (Block number)
     → Puts (session_view w.server.library v.s.session) (session_view v.library v.session) drive reel (Record (get_or o.p.b.payload number []) ∷ []) (request_in o.p.b d (Block number)) v.reply
     → IsNow w v o.p.b d (request_in o.p.b d (Block number))
@@ -218,7 +218,7 @@ own_block w v l d o drive reel number online done (keeps same left) labelled nam
 own_block w v l d o drive reel number online done (fails fault) labelled name quiet last = (let clash = sym (fault d) ∙ quiet in absurd cc)
 
 -- the mark
-own_mark : (w : World) (v : Turn w) (l : Connection) (d : Dumping) (o : Own w v l d) (drive : ℕ) (reel : PlainReel) (next : ℕ) → v.s.session ≡ Online drive Both reel
+own_mark : (w : World) (v : Turn w) (l : Connection) (d : AttemptState) (o : Own w v l d) (drive : ℕ) (reel : PlainReel) (next : ℕ) → v.s.session ≡ Online drive Both reel
     → HasDone o.p.b.run (Some v.s) d (Operation (MarkTape next))
     → Puts (session_view w.server.library v.s.session) (session_view v.library v.session) drive reel (Mark ∷ []) (Op MTWEOF 1) v.reply → IsNow w v o.p.b d (Op MTWEOF 1)
 own_mark w v l d o drive reel next online done (puts n is left) labelled name quiet last =
@@ -234,7 +234,7 @@ own_mark w v l d o drive reel next online done (keeps same left) labelled name q
 own_mark w v l d o drive reel next online done (fails fault) labelled name quiet last = (let clash = sym (fault d) ∙ quiet in absurd cc)
 
 -- after the mark nothing is written, and more was carried out than up to it
-own_marked : (w : World) (v : Turn w) (l : Connection) (d e : Dumping) (o : Own w v l d) → d.label ≡ true → d.fault ≡ false → d.mark ≡ true
+own_marked : (w : World) (v : Turn w) (l : Connection) (d e : AttemptState) (o : Own w v l d) → d.label ≡ true → d.fault ≡ false → d.mark ≡ true
     → length (steps_before o.p.b.run d.first (d.first + d.blocks) (Operation (Unload (d.first + d.blocks)))) < e.carried
     → (e.mark ≡ d.mark) → (e.first ≡ d.first) → (e.blocks ≡ d.blocks) → (attempt_written o.p.b.run o.p.b.payload e ≡ attempt_written o.p.b.run o.p.b.payload d) → (name : List ℕ)
     → IsAlone w v.k name → IsReelWritten (turned w v) v.k o.p.b e name
@@ -250,7 +250,7 @@ own_marked w v l d e o labelled fault marked more mark first blocks same name la
       absurd (omega (arith, less, many, more)));
 }
 
-now_by : (w : World) (v : Turn w) (l : Connection) (d : Dumping) (o : Own w v l d) (step : Step) → HasDone o.p.b.run (Some v.s) d step → v.request ≡ request_in o.p.b d step
+now_by : (w : World) (v : Turn w) (l : Connection) (d : AttemptState) (o : Own w v l d) (step : Step) → HasDone o.p.b.run (Some v.s) d step → v.request ≡ request_in o.p.b d step
     → IsNow w v o.p.b d (request_in o.p.b d step)
 now_by w v l d o Open done asks labelled = let clash = sym done.label ∙ labelled in absurd cc
 now_by w v l d o (Operation Rewind) done asks labelled = let clash = sym done.label ∙ labelled in absurd cc
@@ -287,13 +287,13 @@ now_by w v l d o Close done asks labelled = λ name quiet last. (
     own_marked w v l d (on_by_one d) o done.label done.fault done.mark (omega (arith, one, was, all, some)) refl refl refl refl name last)
 
 -- an open comes before the label
-not_opened : (w : World) (v : Turn w) (b : Begun) (d : Dumping) (step : Step) → HasDone b.run (Some v.s) d step → v.request ≡ request_in b d step
+not_opened : (w : World) (v : Turn w) (b : Begun) (d : AttemptState) (step : Step) → HasDone b.run (Some v.s) d step → v.request ≡ request_in b d step
     → (noted v.request v.reply d).label ≡ true → opened_reel v.request v.library v.session ≡ None
 not_opened w v b d Open done asks labelled = (let clash = sym done.label ∙ sym (ap (λ r. (noted r v.reply d).label) asks) ∙ labelled in absurd cc)
 not_opened w v b d step done asks labelled = ap (λ r. opened_reel r v.library v.session) asks
 
 -- a request of its own
-pub own_labelled : (w : World) (v : Turn w) (l : Connection) (d : Dumping) → Own w v l d → IsLabelled (turned w v) v.k (noted v.request v.reply d)
+pub own_labelled : (w : World) (v : Turn w) (l : Connection) (d : AttemptState) → Own w v l d → IsLabelled (turned w v) v.k (noted v.request v.reply d)
 own_labelled w v l d o =
     labelled_so w v l d o (λ labelled reel quiet.
     (let now = subst (IsNow w v o.p.b d) (sym o.p.asks) (now_by w v l d o o.p.step o.p.done o.p.asks) in

@@ -12,7 +12,7 @@ use Rattle.rmt_server.specs.ServerState.{ServerState, server, ServerConnection}
 use Rattle.rmt_server.specs.Session.{PlainSession, session_view, closed_library}
 use Rattle.rmt_server.specs.TroubledServe.{TroubledServeStep}
 use Rattle.world_model.specs.Changes.{side_of, ended_from, first_name}
-use Rattle.world_model.specs.Standing.{online_drive_in, AreHeld, ReelLiesOn, HasInDrive, StandsOn}
+use Rattle.world_model.specs.Standing.{online_drive_in, AreHeld, ReelLiesOn, HasInDrive, ReelHolds}
 use Rattle.world_model.proofs.Sides.{Sits, sits_is}
 use Rattle.world_model.proofs.Held.{KeepsHeldOver}
 use Rattle.world_model.proofs.Laid.{apart, online_drive, drive_other, free_off}
@@ -23,11 +23,11 @@ use Rattle.world_model.proofs.LabelledSteps.{StandsIn, WritesOn, step_stood}
 
 -- what stands on the reels of one hall stood there in the other
 abbrev pub StoodIn : ServerState → ServerState → Type 0
-StoodIn h u = (name : List ℕ) (entries : List PlainEntry) → StandsOn u name entries → StandsOn h name entries
+StoodIn h u = (name : List ℕ) (entries : List PlainEntry) → ReelHolds u name entries → ReelHolds h name entries
 
 -- what stands in the scene of a side stands in its hall
 session_view_stands : (h : ServerState) (k : ℕ) (s : ServerConnection) (name : List ℕ) (entries : List PlainEntry) → side_of h k ≡ Some s → StandsIn (session_view h.library s.session) name entries
-    → StandsOn h name entries
+    → ReelHolds h name entries
 session_view_stands h k s name entries live (inl lies) = inl lies
 session_view_stands h k s name entries live (inr has) = inr (k, s, live, has)
 
@@ -40,16 +40,16 @@ same_drive s t session name entries drives (drive, access, reel, online, named, 
 -- one side serves a request
 pub served_stands : (trouble : Trouble) (holders : List ℕ) (h u : ServerState) (k : ℕ) (s x : ServerConnection) (request : PlainRequest) (reply : PlainReply) → Sits h k s (Some x) u → AreHeld h
     → AreHeld u → TroubledServeStep trouble holders (session_view h.library s.session) request reply (session_view u.library x.session) → (name : List ℕ) (entries : List PlainEntry)
-    → StandsOn u name entries → StandsOn h name entries ⊎ WritesOn (session_view h.library s.session) request name
+    → ReelHolds u name entries → ReelHolds h name entries ⊎ WritesOn (session_view h.library s.session) request name
 served_stands trouble holders h u k s x request reply t a b step name entries stands = from stands
   where
-    own : StandsIn (session_view u.library x.session) name entries → StandsOn h name entries ⊎ WritesOn (session_view h.library s.session) request name
+    own : StandsIn (session_view u.library x.session) name entries → ReelHolds h name entries ⊎ WritesOn (session_view h.library s.session) request name
     own now = elim (step_stood trouble holders (session_view h.library s.session) request reply (session_view u.library x.session) step name entries now) [
       | inl before ↦ inl (session_view_stands h k s name entries t.was before)
       | inr wrote ↦ inr wrote
     ]
 
-    from : StandsOn u name entries → StandsOn h name entries ⊎ WritesOn (session_view h.library s.session) request name
+    from : ReelHolds u name entries → ReelHolds h name entries ⊎ WritesOn (session_view h.library s.session) request name
     from (inl lies) = own (inl lies)
     from (inr (j, y, at, has)) = elim (sits_is h k s (Some x) u t j y at) [
       | inl (same, mine) ↦ own (inr (subst (λ (z : ServerConnection). HasInDrive u.library z.session name entries) (same_Some y x (sym mine)) has))

@@ -4,7 +4,7 @@ use Rattle.std.proofs.lemmas.List.Elements.{Contains-append_left}
 use Rattle.dump_client.specs.declared.step.Step.{Step}
 use Rattle.dump_client.specs.declared.step.Step.TheVariants.{Operation, Close}
 use Rattle.dump_client.specs.declared.step.TapeOp.TheVariants.{Unload}
-use Rattle.world_model.specs.World.{World, Connection, Dumping, Begun, Count, Opening, numbered}
+use Rattle.world_model.specs.World.{World, Connection, AttemptState, Begun, Count, Opening, numbered}
 use Rattle.world_model.specs.Changes.{connection_of, opening, noted, answered}
 use Rattle.world_model.specs.Sending.{HasDone, request_in, IsConnectionSent, AreTold}
 use Rattle.world_model.specs.Attempts.{IsEarnedBy, AreCountsEarned}
@@ -16,8 +16,8 @@ use Rattle.world_model.proofs.ToldEvents.{mapped}
 use Rattle.world_model.proofs.Moves.{Turn, turned}
 
 -- the attempt of the connection that was served, or another's
-pub served_dump : (w : World) (v : Turn w) (j : ℕ) (l : Connection) (d : Dumping) → connection_of (turned w v) j ≡ Some l → l.dump ≡ Some d
-    → ((j ≡ v.k) × ((x : Connection) × (e : Dumping) × (connection_of w v.k ≡ Some x) × (x.dump ≡ Some e) × (d ≡ noted v.request v.reply e)))
+pub served_dump : (w : World) (v : Turn w) (j : ℕ) (l : Connection) (d : AttemptState) → connection_of (turned w v) j ≡ Some l → l.dump ≡ Some d
+    → ((j ≡ v.k) × ((x : Connection) × (e : AttemptState) × (connection_of w v.k ≡ Some x) × (x.dump ≡ Some e) × (d ≡ noted v.request v.reply e)))
     ⊎ ((j ≢ v.k) × (connection_of w j ≡ Some l))
 served_dump w v j l d at dump =
     elim (changed_is (answered v.request v.reply) w.connections v.k j l at) [
@@ -28,7 +28,7 @@ served_dump w v j l d at dump =
     ]
 
 -- the request that was served is that of a step, before which all was done
-pub record IsServed (w : World) (v : Turn w) (l : Connection) (d : Dumping) : Type 0 where
+pub record IsServed (w : World) (v : Turn w) (l : Connection) (d : AttemptState) : Type 0 where
   pub b : Begun
   pub step : Step
   pub begun : numbered w.begun d.run ≡ Some b
@@ -36,7 +36,7 @@ pub record IsServed (w : World) (v : Turn w) (l : Connection) (d : Dumping) : Ty
   pub few : d.carried + 1 < 2 ^ 64
   pub asks : v.request ≡ request_in b d step
 
-served_sent : OneReading → DroppedWrites → (w : World) (v : Turn w) (l : Connection) (d : Dumping) → IsConnectionSent w.begun (Some v.s) l d → IsServed w v l d
+served_sent : OneReading → DroppedWrites → (w : World) (v : Turn w) (l : Connection) (d : AttemptState) → IsConnectionSent w.begun (Some v.s) l d → IsServed w v l d
 served_sent g h w v l d (inl settled) = absurd (nothing_there h v.s l.toward v.bytes v.rest v.request settled.unserved v.unread v.gives)
 served_sent g h w v l d (inr (b, step, at, p)) =
     let all = serve_pending g h b v.s l.toward d step v.bytes v.rest v.request v.reply v.reached v.session p v.unread v.gives v.left in
@@ -49,13 +49,13 @@ served_sent g h w v l d (inr (b, step, at, p)) =
       asks = all.0;
     }
 
-pub served_step : OneReading → DroppedWrites → (w : World) (v : Turn w) → AreTold w → (l : Connection) (d : Dumping) → connection_of w v.k ≡ Some l → l.dump ≡ Some d
+pub served_step : OneReading → DroppedWrites → (w : World) (v : Turn w) → AreTold w → (l : Connection) (d : AttemptState) → connection_of w v.k ≡ Some l → l.dump ≡ Some d
     → IsServed w v l d
 served_step g h w v told l d at dump =
     served_sent g h w v l d (subst (λ o. IsConnectionSent w.begun o l d) v.live ((told.each v.k l at).sent d dump))
 
 -- all but how many were carried out, and those are no fewer
-pub record SameWrites (d e : Dumping) : Type 0 where
+pub record SameWrites (d e : AttemptState) : Type 0 where
   pub run : e.run ≡ d.run
   pub volume : e.volume ≡ d.volume
   pub first : e.first ≡ d.first
@@ -66,7 +66,7 @@ pub record SameWrites (d e : Dumping) : Type 0 where
   pub more : d.carried ≤ e.carried
 
 -- once the mark was accepted no request changes what was
-pub marked_writes : (w : World) (v : Turn w) (b : Begun) (d : Dumping) (step : Step) → HasDone b.run (Some v.s) d step → v.request ≡ request_in b d step → d.mark ≡ true
+pub marked_writes : (w : World) (v : Turn w) (b : Begun) (d : AttemptState) (step : Step) → HasDone b.run (Some v.s) d step → v.request ≡ request_in b d step → d.mark ≡ true
     → SameWrites d (noted v.request v.reply d)
 marked_writes w v b d (Operation (Unload next)) done asks marked =
     subst (λ r. SameWrites d (noted r v.reply d)) (sym asks) record { run = refl; volume = refl; first = refl; label = refl; blocks = refl; mark = refl; fault = refl; more = omega arith }
@@ -85,7 +85,7 @@ connection_after w v j l at = elim (changed_there (answered v.request v.reply) w
 pub opens_after : (w : World) (v : Turn w) (o : Opening) → Contains w.opens o → Contains (turned w v).opens o
 opens_after w v o among = Contains-append_left w.opens _ o among
 
-earned_as : (w : World) (v : Turn w) (x : Count) (l y : Connection) (d e : Dumping) (b : Begun) → IsEarnedBy w x l d b → connection_of (turned w v) x.connection ≡ Some y → y.dump ≡ Some e
+earned_as : (w : World) (v : Turn w) (x : Count) (l y : Connection) (d e : AttemptState) (b : Begun) → IsEarnedBy w x l d b → connection_of (turned w v) x.connection ≡ Some y → y.dump ≡ Some e
     → SameWrites d e → IsEarnedBy (turned w v) x y e b
 earned_as w v x l y d e b p at dump same = record {
   there = at;

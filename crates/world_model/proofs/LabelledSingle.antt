@@ -13,10 +13,10 @@ use Rattle.rmt_server.specs.Session.{PlainSession}
 use Rattle.dump_client.specs.declared.step.Step.{Step}
 use Rattle.dump_client.specs.declared.step.Step.TheVariants.{Open, Operation, Look, Label}
 use Rattle.dump_client.specs.declared.step.TapeOp.TheVariants.{Rewind, RewindAgain}
-use Rattle.world_model.specs.World.{World, Connection, Dumping, Begun, Opening, numbered}
+use Rattle.world_model.specs.World.{World, Connection, AttemptState, Begun, Opening, numbered}
 use Rattle.world_model.specs.Changes.{opening, opened_reel, written_reel, first_name, noted}
 use Rattle.world_model.specs.Naming.{AreOpened}
-use Rattle.world_model.specs.Sending.{HasDone, StandsFor, request_in, AreTold}
+use Rattle.world_model.specs.Sending.{HasDone, IsSessionBefore, request_in, AreTold}
 use Rattle.world_model.specs.Attempts.{IsSingle, AreSingle}
 use Rattle.world_model.proofs.Booked.{among_at, place_of}
 use Rattle.world_model.proofs.Numbers.{pushed_is}
@@ -29,7 +29,7 @@ use Rattle.world_model.proofs.Moves.{Turn, turned}
 use Rattle.world_model.proofs.LabelledServes.{IsServed, served_dump, served_step, opens_after}
 
 -- the attempt that it was before
-pub like_back : (o p : Option Dumping) (d : Dumping) → Like o p → p ≡ Some d → (e : Dumping) × (o ≡ Some e) × SameNotes e d
+pub like_back : (o p : Option AttemptState) (d : AttemptState) → Like o p → p ≡ Some d → (e : AttemptState) × (o ≡ Some e) × SameNotes e d
 like_back None p d is at = let clash = sym is ∙ at in absurd cc
 like_back (Some e) p d (f, is, same) at = (e, refl, subst (SameNotes e) (same_Some f d (sym is ∙ at)) same)
 
@@ -54,12 +54,12 @@ quiet_single w u q opened single k l d at dump = elim (q.connections.at k l at) 
 ]
 
 -- only an open opens a reel
-pub open_step : (b : Begun) (d : Dumping) (step : Step) (s : TapeLibrary) (session : PlainSession) (reel : List ℕ) → opened_reel (request_in b d step) s session ≡ Some reel → step ≡ Open
+pub open_step : (b : Begun) (d : AttemptState) (step : Step) (s : TapeLibrary) (session : PlainSession) (reel : List ℕ) → opened_reel (request_in b d step) s session ≡ Some reel → step ≡ Open
 open_step b d Open s session reel is = refl
 open_step b d step s session reel is = absurd cc
 
 -- only that of the label makes it accepted
-pub label_step : (b : Begun) (o : Option ServerConnection) (d : Dumping) (step : Step) (reply : PlainReply) → HasDone b.run o d step → d.label ≡ false
+pub label_step : (b : Begun) (o : Option ServerConnection) (d : AttemptState) (step : Step) (reply : PlainReply) → HasDone b.run o d step → d.label ≡ false
     → (noted (request_in b d step) reply d).label ≡ true → step ≡ Label
 label_step b o d Open reply done none is = let clash = sym none ∙ is in absurd cc
 label_step b o d (Operation Rewind) reply done none is = let clash = sym none ∙ is in absurd cc
@@ -69,18 +69,18 @@ label_step b o d Label reply done none is = refl
 label_step b o d step reply done none is = let clash = sym none ∙ done.label in absurd cc
 
 -- one request more was carried out
-pub carried_more : (d : Dumping) (request : PlainRequest) (reply : PlainReply) → d.carried + 1 < 2 ^ 64 → (noted request reply d).carried ≡ d.carried + 1
+pub carried_more : (d : AttemptState) (request : PlainRequest) (reply : PlainReply) → d.carried + 1 < 2 ^ 64 → (noted request reply d).carried ≡ d.carried + 1
 carried_more d request reply few = ap raised (noted_same d request reply).carried ∙ raised_one d.carried few
 
 -- what is open before the label, and the last opening of it
-label_opened : (w : World) (v : Turn w) (l : Connection) (d : Dumping) (p : IsServed w v l d) → AreOpened w → p.step ≡ Label → (reel : List ℕ) × Contains w.opens (opening v.k reel)
+label_opened : (w : World) (v : Turn w) (l : Connection) (d : AttemptState) (p : IsServed w v l d) → AreOpened w → p.step ≡ Label → (reel : List ℕ) × Contains w.opens (opening v.k reel)
 label_opened w v l d p opened is =
-    let on = subst (λ s. StandsFor s v.s.session) is (p.done.stands v.s refl) in
+    let on = subst (λ s. IsSessionBefore s v.s.session) is (p.done.stands v.s refl) in
     let name = first_name (drive_at w.server.library on.1.0).stack in
     let last = opened.last v.k v.s name v.live (ap (written_reel w.server.library) on.1.1) in
     (name, among_at w.opens last.0 (opening v.k name) last.1)
 
-label_some : (w : World) (v : Turn w) (l : Connection) (d : Dumping) (p : IsServed w v l d) (b : Bool) → d.label ≡ b → AreOpened w → IsSingle w.opens v.k d
+label_some : (w : World) (v : Turn w) (l : Connection) (d : AttemptState) (p : IsServed w v l d) (b : Bool) → d.label ≡ b → AreOpened w → IsSingle w.opens v.k d
     → (noted v.request v.reply d).label ≡ true → (reel : List ℕ) × Contains w.opens (opening v.k reel)
 label_some w v l d p true test opened single labelled = single.some test
 label_some w v l d p false test opened single labelled =
@@ -114,7 +114,7 @@ was_placed w v i o at = elim (was_placed_new w v i o at) [
   | inr (last, (reel, is, new)) ↦ inr (last, (reel, is))
 ]
 
-own_single : (w : World) (v : Turn w) (l : Connection) (d : Dumping) → IsServed w v l d → AreOpened w → IsSingle w.opens v.k d → IsSingle (turned w v).opens v.k (noted v.request v.reply d)
+own_single : (w : World) (v : Turn w) (l : Connection) (d : AttemptState) → IsServed w v l d → AreOpened w → IsSingle w.opens v.k d → IsSingle (turned w v).opens v.k (noted v.request v.reply d)
 own_single w v l d p opened single = record {
   one = λ i j o q at other mine its. both i j o q (was_placed w v i o at) (was_placed w v j q other) mine its;
   none = λ nothing. (let more = carried_more d v.request v.reply p.few in absurd (omega (arith, more, nothing)));
@@ -136,7 +136,7 @@ own_single w v l d p opened single = record {
     both i j o q (inr (last, one)) (inr (past, other)) mine its = last ∙ sym past
 
 -- another's openings are those before
-other_single : (w : World) (v : Turn w) (j : ℕ) (d : Dumping) → j ≢ v.k → IsSingle w.opens j d → IsSingle (turned w v).opens j d
+other_single : (w : World) (v : Turn w) (j : ℕ) (d : AttemptState) → j ≢ v.k → IsSingle w.opens j d → IsSingle (turned w v).opens j d
 other_single w v j d other single = record {
   one = λ a b o p at its mine same. single.one a b o p (placed_before a o at mine) (placed_before b p its same) mine same;
   none = λ nothing o among mine. single.none nothing o (before o among mine) mine;
@@ -156,7 +156,7 @@ other_single w v j d other single = record {
     ]
 
 -- a connection's openings are of one reel
-pub one_reel : (opens : List Opening) (k : ℕ) (d : Dumping) → IsSingle opens k d → (o p : Opening) → Contains opens o → Contains opens p → o.connection ≡ k → p.connection ≡ k
+pub one_reel : (opens : List Opening) (k : ℕ) (d : AttemptState) → IsSingle opens k d → (o p : Opening) → Contains opens o → Contains opens p → o.connection ≡ k → p.connection ≡ k
     → o.reel ≡ p.reel
 one_reel opens k d single o p among other mine its =
     let i = place_of opens o among in

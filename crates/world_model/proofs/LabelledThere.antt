@@ -14,7 +14,7 @@ use Rattle.rmt_server.specs.Session.{PlainSession}
 use Rattle.rmt_server.specs.TroubledServe.{drive_in}
 use Rattle.rmt_server.specs.Session.PlainSession.{Idle, Offline, Online}
 use Rattle.world_model.specs.Changes.{side_of, first_name}
-use Rattle.world_model.specs.Standing.{AreThere, IsFirstAway, online_drive_in, IsOnlineAt, AreHeld, HasReel, ReelLiesIn, HasInDrive, StandsOn}
+use Rattle.world_model.specs.Standing.{AreThere, IsFirstAway, online_drive_in, IsOnlineAt, AreHeld, HasReel, ReelLiesIn, HasInDrive, ReelHolds}
 use Rattle.world_model.specs.Kept.{AreLaid}
 use Rattle.world_model.proofs.Held.{side_there}
 use Rattle.world_model.proofs.Laid.{online_drive}
@@ -98,7 +98,7 @@ held_online h d (Some (suc k)) a is =
 
 -- on a stack, or in the drive
 stack_stands : (h : ServerState) (d : ℕ) (name : List ℕ) → AreLaid h → HasSlot (drive_at h.library d).stack name → IsOnlineAt h d ⊎ (IsOnlineAt h d → ⊥)
-    → (entries : List PlainEntry) × StandsOn h name entries
+    → (entries : List PlainEntry) × ReelHolds h name entries
 stack_stands h d name l has (inl (k, s, at, online)) = elim (away_or_lies (drive_at h.library d).stack name has (l.latched d (k, s, at, online))) [
   | inl named ↦ (let on = in_drive h.library s.session d name online named in (on.0, inr (k, s, at, on.1)))
   | inr (entries, lies) ↦ (entries, inl (inl (d, lies)))
@@ -106,7 +106,7 @@ stack_stands h d name l has (inl (k, s, at, online)) = elim (away_or_lies (drive
 stack_stands h d name l has (inr off) = let on = there_lies (drive_at h.library d).stack name has (l.lying d off) in (on.0, inl (inl (d, on.1)))
 
 stack_or_bin : (h : ServerState) (name : List ℕ) (n : ℕ) → sum_by (named name) (flat_map (λ x. x.stack) h.library.drives) ≡ n → AreHeld h → AreLaid h → HasReel h.library name
-    → (entries : List PlainEntry) × StandsOn h name entries
+    → (entries : List PlainEntry) × ReelHolds h name entries
 stack_or_bin h name zero none a l has =
     let parts = sum_by-append (named name) (flat_map (λ x. x.stack) h.library.drives) h.library.bin in
     let all = times_named name (slots_in h.library) in
@@ -116,5 +116,5 @@ stack_or_bin h name (suc n) some a l has =
     let on = stack_among h.library.drives name (omega (arith, some)) in
     stack_stands h on.0 name l on.1 (held_online h on.0 (slice_get h.holders on.0) a refl)
 
-pub stands_somewhere : (h : ServerState) (name : List ℕ) → AreHeld h → AreLaid h → HasReel h.library name → (entries : List PlainEntry) × StandsOn h name entries
+pub stands_somewhere : (h : ServerState) (name : List ℕ) → AreHeld h → AreLaid h → HasReel h.library name → (entries : List PlainEntry) × ReelHolds h name entries
 stands_somewhere h name a l has = stack_or_bin h name (sum_by (named name) (flat_map (λ x. x.stack) h.library.drives)) refl a l has

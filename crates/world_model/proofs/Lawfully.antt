@@ -12,9 +12,9 @@ use Rattle.dump_client.specs.declared.stage.Progress.{Progress}
 use Rattle.dump_client.specs.declared.stage.Stage.{Stage}
 use Rattle.dump_client.specs.declared.stage.Stage.TheVariants.{Ready, ToSend, Waiting, Asking}
 use Rattle.dump_client.specs.declared.step.Step.TheVariants.{Open, Block}
-use Rattle.world_model.specs.World.{World, Begun, Caller}
+use Rattle.world_model.specs.World.{World, Begun, WorldClient}
 use Rattle.world_model.specs.Steps.{caller}
-use Rattle.world_model.specs.Kept.{AreBooked, HasLawful}
+use Rattle.world_model.specs.Kept.{AreBooked, IsClientLawful}
 use Rattle.world_model.proofs.Moves.{Move, begins, connects, asks, fails, hears, hears_last, sees, Back, gone, comes, back_caller, forgets, gives_up, answers, moved}
 
 -- what calls of a client leave of one that is lawful
@@ -25,8 +25,8 @@ Lawfully =
     × ((run : PlainRun) (counts : List VolumeCount) (at : Standing) → IsRun run → AreVolumes run 1 0 counts → IsOver run counts at → IsLawful at)
 
 -- the client is this one
-is_lawful : (c : Caller) → IsLawful c.at → (d : Caller) → Some c ≡ Some d → IsLawful d.at
-is_lawful c l d at = subst (λ (x : Caller). IsLawful x.at) (same_Some c d at) l
+is_lawful : (c : WorldClient) → IsLawful c.at → (d : WorldClient) → Some c ≡ Some d → IsLawful d.at
+is_lawful c l d at = subst (λ (x : WorldClient). IsLawful x.at) (same_Some c d at) l
 
 -- a client at another stage of its run
 at_stage : (s : Standing) (stage : Stage) → IsLawful s → StageFits s.run s.counts stage → IsLawful (standing s.run s.counts stage)
@@ -41,7 +41,7 @@ answer_fits s Abandon fits = fits
 
 -- a client that comes back with what is kept
 back_lawful : ((run : PlainRun) (counts : List VolumeCount) (at : Standing) → IsRun run → AreVolumes run 1 0 counts → IsOver run counts at → IsLawful at)
-    → (w : World) (x : Back w) → AreBooked w → (c : Caller) → back_caller w x ≡ Some c → IsLawful c.at
+    → (w : World) (x : Back w) → AreBooked w → (c : WorldClient) → back_caller w x ≡ Some c → IsLawful c.at
 back_lawful g w (gone none) booked c is = absurd cc
 back_lawful g w (comes z b at reader kept begun over) booked c is =
     let q = booked.kept z kept in
@@ -49,7 +49,7 @@ back_lawful g w (comes z b at reader kept begun over) booked c is =
     is_lawful (caller z.run at reader)
     (g q.begun.run z.listed at q.limits q.in_order (subst (λ (y : Begun). IsOver y.run z.listed at) same over)) c is
 
-pub lawful_moved : Lawfully → (w : World) (m : Move w) → AreBooked w → HasLawful w → HasLawful (moved w m)
+pub lawful_moved : Lawfully → (w : World) (m : Move w) → AreBooked w → IsClientLawful w → IsClientLawful (moved w m)
 lawful_moved g w (begins run payload reader none good long) booked l = is_lawful _ (record { run = good; counts = tt; stage = inl refl })
 lawful_moved g w (connects c there ready) booked l = is_lawful _ (at_stage c.at (ToSend Open) (l c there) (fits_at c.at Ready (l c there) ready))
 lawful_moved g w (asks t) booked l = is_lawful _ (at_stage t.c.at (Waiting t.step) (l t.c t.there) (fits_at t.c.at (ToSend t.step) (l t.c t.there) t.stage))

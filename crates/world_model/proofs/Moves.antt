@@ -6,7 +6,7 @@ use Rattle.std.proofs.lemmas.List.{length-map, length-append}
 use Rattle.std.proofs.lemmas.Option.{same_Some}
 use Rattle.rmt_wire.specs.Request.{PlainRequest}
 use Rattle.rmt_wire.specs.Reply.{PlainReply}
-use Rattle.rmt_wire.specs.RequestParts.{Gives}
+use Rattle.rmt_wire.specs.RequestParts.{ParsesAs}
 use Rattle.rmt_wire.specs.RequestReader.{RequestHeld, Unread}
 use Rattle.rmt_wire.specs.ReplyReader.{ReplyHeld}
 use Rattle.rmt_wire.specs.declared.fault.WireFault.{WireFault}
@@ -27,10 +27,10 @@ use Rattle.dump_client.specs.declared.stage.Progress.TheVariants as came
 use Rattle.dump_client.specs.declared.stage.Stage.TheVariants.{Ready, ToSend, Waiting, Asking, Finished}
 use Rattle.dump_client.specs.declared.step.Step.{Step}
 use Rattle.dump_client.specs.declared.step.Step.TheVariants.{Block}
-use Rattle.world_model.specs.World.{World, Connection, Dumping, Begun, Caller, Count, Kept, numbered, with_numbered}
+use Rattle.world_model.specs.World.{World, Connection, AttemptState, Begun, WorldClient, Count, Kept, numbered, with_numbered}
 use Rattle.world_model.specs.Events.{PlainEvent}
 use Rattle.world_model.specs.Events.PlainEvent.{StartRun, Connect, Send, ToServer, Serve, ToClient, Cut, EndAtServer, EndAtClient, ServerRestart, ClientRestart, Respond, Arrange, Stranger, Says, Enter, Save}
-use Rattle.world_model.specs.Changes.{changed, changed_from, side_of, connection_of, new_connection, over_there, over_here, sent_on, opened_reel, with_no_failure, given_up, joined, restarted, ended_at, counts_of, came_to}
+use Rattle.world_model.specs.Changes.{changed, changed_from, side_of, connection_of, new_connection, without_peer, without_server, sent_on, opened_reel, with_no_failure, given_up, joined, restarted, ended_at, counts_of, after_client_call}
 use Rattle.world_model.specs.Owning.{is_in_attempt}
 use Rattle.world_model.specs.Rows.{NoRun, IsRunEntered, MayBeKept}
 use Rattle.world_model.specs.Serving.{ServerTurn}
@@ -42,7 +42,7 @@ use Rattle.world_model.proofs.ServerMoves.{ServerMove, server_after}
 
 -- the client sends its next request
 pub record Sender (w : World) : Type 0 where
-  pub c : Caller
+  pub c : WorldClient
   pub step : Step
   pub k : ℕ
   pub b : Begun
@@ -68,7 +68,7 @@ pub record Turn (w : World) : Type 0 where
   pub holders : List ℕ
   pub live : side_of w.server k ≡ Some s
   pub unread : Unread s.reached bytes
-  pub gives : Gives bytes (Ok (Some request)) rest
+  pub gives : ParsesAs bytes (Ok (Some request)) rest
   pub left : Unread reached rest
   pub served : TroubledServe trouble w.server.holders k (session_view w.server.library s.session) request reply (session_view library session) holders
 
@@ -80,8 +80,8 @@ pub record Listens (w : World) : Type 0 where
   pub k : ℕ
   pub n : ℕ
   pub l : Connection
-  pub d : Dumping
-  pub c : Caller
+  pub d : AttemptState
+  pub c : WorldClient
   pub fed : List ℕ
   pub at : Standing
   pub reader : ReplyHeld
@@ -100,8 +100,8 @@ pub record Listens (w : World) : Type 0 where
 pub record Seeing (w : World) : Type 0 where
   pub k : ℕ
   pub l : Connection
-  pub d : Dumping
-  pub c : Caller
+  pub d : AttemptState
+  pub c : WorldClient
   pub at : Standing
   pub reader : ReplyHeld
   pub progress : Progress
@@ -120,7 +120,7 @@ pub data Talking : Type 0 where
 abbrev pub talked : Talking → Connection → Connection
 talked (says bytes) l = record l { toward = sent_on l.cut l.toward bytes }
 talked (drops n) l = record l { back = drop n l.back }
-talked leaves l = over_there l
+talked leaves l = without_peer l
 
 pub talked_dump : (t : Talking) (l : Connection) → (talked t l).dump ≡ l.dump
 talked_dump (says bytes) l = refl
@@ -138,7 +138,7 @@ pub data Back (w : World) : Type 0 where
   gone : w.kept ≡ None → Back w
   comes : (z : Kept) (b : Begun) (at : Standing) (reader : ReplyHeld) → w.kept ≡ Some z → numbered w.begun z.run ≡ Some b → IsOver b.run z.listed at → Back w
 
-abbrev pub back_caller : (w : World) → Back w → Option Caller
+abbrev pub back_caller : (w : World) → Back w → Option WorldClient
 back_caller w (gone none) = None
 back_caller w (comes z b at reader kept begun over) = Some (caller z.run at reader)
 
@@ -147,10 +147,10 @@ over_idle run counts at (inl (covers, is)) inside = let clash = subst (λ (s : S
 over_idle run counts at (inr (left, is)) inside = let clash = subst (λ (s : Standing). IsTrue (is_in_attempt s.stage)) is inside in cc
 
 -- whoever is there then is in no attempt
-pub back_idle : (w : World) (x : Back w) (c : Caller) → back_caller w x ≡ Some c → IsTrue (is_in_attempt c.at.stage) → ⊥
+pub back_idle : (w : World) (x : Back w) (c : WorldClient) → back_caller w x ≡ Some c → IsTrue (is_in_attempt c.at.stage) → ⊥
 back_idle w (gone none) c is inside = absurd cc
 back_idle w (comes z b at reader kept begun over) c is inside =
-    over_idle b.run z.listed at over (subst (λ (x : Caller). IsTrue (is_in_attempt x.at.stage)) (sym (same_Some (caller z.run at reader) c is)) inside)
+    over_idle b.run z.listed at over (subst (λ (x : WorldClient). IsTrue (is_in_attempt x.at.stage)) (sym (same_Some (caller z.run at reader) c is)) inside)
 
 abbrev Failure : Type 0
 Failure = Option (ℕ × AttemptFault)
@@ -161,9 +161,9 @@ Failure = Option (ℕ × AttemptFault)
 -- in one; it is answered; a stack is arranged; a stranger comes; a run is entered, or kept.
 pub data Move (w : World) : Type 0 where
   begins : (run : PlainRun) (payload : List ℕ) (reader : ReplyHeld) → NoRun w → IsRun run → length payload ≡ run.blocks * run.block_bytes → Move w
-  connects : (c : Caller) → w.caller ≡ Some c → c.at.stage ≡ Ready → Move w
+  connects : (c : WorldClient) → w.caller ≡ Some c → c.at.stage ≡ Ready → Move w
   asks : Sender w → Move w
-  fails : (k n : ℕ) (c : Caller) (reader : ReplyHeld) → w.caller ≡ Some c → c.at.stage ≡ ToSend (Block n) → w.own ≡ Some k → Move w
+  fails : (k n : ℕ) (c : WorldClient) (reader : ReplyHeld) → w.caller ≡ Some c → c.at.stage ≡ ToSend (Block n) → w.own ≡ Some k → Move w
   reaches : (k n : ℕ) (s : ServerConnection) (l : Connection) (reached : RequestHeld) → side_of w.server k ≡ Some s → connection_of w k ≡ Some l
       → IsPushed s.reached (take n l.toward) reached → Move w
   serves : Turn w → Move w
@@ -176,11 +176,11 @@ pub data Move (w : World) : Type 0 where
   sees : Seeing w → Failure → Move w
   forgets : Back w → w.own ≡ None → Move w
   gives_up : Back w → (k : ℕ) → w.own ≡ Some k → Move w
-  answers : (c : Caller) (answer : Answer) (reader : ReplyHeld) → w.caller ≡ Some c → c.at.stage ≡ Asking → Move w
+  answers : (c : WorldClient) (answer : Answer) (reader : ReplyHeld) → w.caller ≡ Some c → c.at.stage ≡ Asking → Move w
   arranges : (d : ℕ) (names : List (List ℕ)) → d < length w.server.library.drives → slice_index_or w.server.holders d 0 ≡ 0 → Move w
   joins : Move w
-  enters : (c : Caller) → w.caller ≡ Some c → c.at.stage ≡ Finished → (IsRunEntered w c.number → ⊥) → Move w
-  saves : (c : Caller) → w.caller ≡ Some c → MayBeKept w c → Move w
+  enters : (c : WorldClient) → w.caller ≡ Some c → c.at.stage ≡ Finished → (IsRunEntered w c.number → ⊥) → Move w
+  saves : (c : WorldClient) → w.caller ≡ Some c → MayBeKept w c → Move w
 
 -- what the client counts then
 abbrev pub told_counts : (w : World) → Listens w → List Count
@@ -249,18 +249,18 @@ one_more xs new = let all = length-append xs (new ∷ []) in omega (arith, all)
 pub connections_more : (w : World) (m : Move w) → length w.connections ≤ length (moved w m).connections
 connections_more w (connects c there ready) = one_more w.connections _
 connections_more w joins = one_more w.connections (new_connection None)
-connections_more w restarts = let same = length-map w.connections over_here in omega (arith, same)
+connections_more w restarts = let same = length-map w.connections without_server in omega (arith, same)
 connections_more w (asks t) = as_many _ w.connections t.k
-connections_more w (fails k n c reader there stage own) = as_many over_there w.connections k
+connections_more w (fails k n c reader there stage own) = as_many without_peer w.connections k
 connections_more w (reaches k n s l reached live at grows) = as_many _ w.connections k
 connections_more w (serves t) = as_many _ w.connections t.k
-connections_more w (ends k) = as_many over_here w.connections k
+connections_more w (ends k) = as_many without_server w.connections k
 connections_more w (cuts k) = as_many _ w.connections k
 connections_more w (talks k l t at none) = as_many (talked t) w.connections k
 connections_more w (hears t on) = as_many _ w.connections t.k
-connections_more w (hears_last t failure over) = as_many over_there w.connections t.k
-connections_more w (sees t failure) = as_many over_there w.connections t.k
-connections_more w (gives_up x k own) = as_many over_there w.connections k
+connections_more w (hears_last t failure over) = as_many without_peer w.connections t.k
+connections_more w (sees t failure) = as_many without_peer w.connections t.k
+connections_more w (gives_up x k own) = as_many without_peer w.connections k
 connections_more w m = omega arith
 
 -- no run goes
@@ -269,21 +269,21 @@ begun_more w (begins run payload reader none good long) n b at = numbered_more w
 begun_more w m n b at = at
 
 -- a connection that was changed, and of which a side is over then
-over_from : (f : Connection → Connection) → ((l : Connection) → over_there (f l) ≡ over_there l) → (xs : List Connection) (k : ℕ) (o : Option Connection) → numbered xs k ≡ o
-    → changed over_there (changed_from f xs k o) k ≡ changed_from over_there xs k o
-over_from f same xs k None is = ap (changed_from over_there xs k) is
+over_from : (f : Connection → Connection) → ((l : Connection) → without_peer (f l) ≡ without_peer l) → (xs : List Connection) (k : ℕ) (o : Option Connection) → numbered xs k ≡ o
+    → changed without_peer (changed_from f xs k o) k ≡ changed_from without_peer xs k o
+over_from f same xs k None is = ap (changed_from without_peer xs k) is
 over_from f same xs k (Some x) is =
-    ap (changed_from over_there (changed_from f xs k (Some x)) k) (with_here xs k x (f x) is) ∙ with_twice xs k (f x) (over_there (f x))
+    ap (changed_from without_peer (changed_from f xs k (Some x)) k) (with_here xs k x (f x) is) ∙ with_twice xs k (f x) (without_peer (f x))
     ∙ ap (with_numbered xs k) (same x)
 
-over_then : (f : Connection → Connection) → ((l : Connection) → over_there (f l) ≡ over_there l) → (xs : List Connection) (k : ℕ)
-    → changed over_there (changed f xs k) k ≡ changed over_there xs k
+over_then : (f : Connection → Connection) → ((l : Connection) → without_peer (f l) ≡ without_peer l) → (xs : List Connection) (k : ℕ)
+    → changed without_peer (changed f xs k) k ≡ changed without_peer xs k
 over_then f same xs k = over_from f same xs k (numbered xs k) refl
 
 -- what came of the client's call: it goes on, or its connection is over
 came_on : (v : World) (k : ℕ) (at : Standing) (progress : Progress)
-    → ((is_over progress ≡ false) × (came_to v k at progress ≡ v))
-    ⊎ ((is_over progress ≡ true) × ((failure : Failure) × (came_to v k at progress ≡ record (given_up v k) { failure = failure })))
+    → ((is_over progress ≡ false) × (after_client_call v k at progress ≡ v))
+    ⊎ ((is_over progress ≡ true) × ((failure : Failure) × (after_client_call v k at progress ≡ record (given_up v k) { failure = failure })))
 came_on v k at (came.Failed fault) = inr (refl, (_, refl))
 came_on v k at came.Ended = inr (refl, (v.failure, refl))
 came_on v k at progress = inl (refl, refl)
@@ -297,14 +297,14 @@ failing_block : (failing : Bool) (step : Step) → is_failing failing step ≡ t
 failing_block true (Block n) is = (n, refl)
 failing_block failing step is = absurd cc
 
-sends_moves : (failing : Bool) (w : World) (k : ℕ) (c : Caller) (step : Step) (b : Begun) (u : World) → (failing ≡ true → (n : ℕ) × (step ≡ Block n)) → w.caller ≡ Some c
+sends_moves : (failing : Bool) (w : World) (k : ℕ) (c : WorldClient) (step : Step) (b : Begun) (u : World) → (failing ≡ true → (n : ℕ) × (step ≡ Block n)) → w.caller ≡ Some c
     → c.at.stage ≡ ToSend step → w.own ≡ Some k → numbered w.begun c.number ≡ Some b → Sends failing w k c b.payload step u → Moves w u
 sends_moves true w k c step b u block there stage own mine (reader, is) = let n = block refl in (fails k n.0 c reader there (stage ∙ ap ToSend n.1) own, is)
 sends_moves false w k c step b u block there stage own mine (reader, fed, is) =
     (asks record { c = c; step = step; k = k; b = b; reader = reader; there = there; stage = stage; own = own; mine = mine; fed = fed }, is)
 
 abbrev pub turn_of : (w : World) (k : ℕ) (trouble : Trouble) (s : ServerConnection) (request : PlainRequest) (bytes rest : List ℕ) (u : World) → side_of w.server k ≡ Some s → Unread s.reached bytes
-    → Gives bytes (Ok (Some request)) rest → Finds w k trouble s (Ok (Some request)) rest u → ServerTurn w k trouble u
+    → ParsesAs bytes (Ok (Some request)) rest → Finds w k trouble s (Ok (Some request)) rest u → ServerTurn w k trouble u
 turn_of w k trouble s request bytes rest u live unread gives (reply, reached, library, session, holders, left, served, is) = record {
   s = s;
   request = request;
@@ -345,7 +345,7 @@ carries_turn w u k trouble c = record {
 
 -- a request is carried out, or a fault ends the server's side
 finds_carries : (w : World) (k : ℕ) (trouble : Trouble) (s : ServerConnection) (found : Result (Option PlainRequest) WireFault) (bytes rest : List ℕ) (u : World) → side_of w.server k ≡ Some s
-    → Unread s.reached bytes → Gives bytes found rest → Finds w k trouble s found rest u → ServerTurn w k trouble u ⊎ (u ≡ ended_at (with_no_failure w) k)
+    → Unread s.reached bytes → ParsesAs bytes found rest → Finds w k trouble s found rest u → ServerTurn w k trouble u ⊎ (u ≡ ended_at (with_no_failure w) k)
 finds_carries w k trouble s (Ok None) bytes rest u live unread gives finds = absurd finds
 finds_carries w k trouble s (Err fault) bytes rest u live unread gives is = inr is
 finds_carries w k trouble s (Ok (Some request)) bytes rest u live unread gives finds = inl (turn_of w k trouble s request bytes rest u live unread gives finds)
@@ -353,7 +353,7 @@ finds_carries w k trouble s (Ok (Some request)) bytes rest u live unread gives f
 pub carries : (w u : World) (k : ℕ) (trouble : Trouble) → Happens w (Serve k trouble) u → ServerTurn w k trouble u ⊎ (u ≡ ended_at (with_no_failure w) k)
 carries w u k trouble (may, (s, found, bytes, rest, live, unread, gives, finds)) = finds_carries w k trouble s found bytes rest u live unread gives finds
 
-listens_moves : (w : World) (t : Listens w) (u : World) → u ≡ came_to (heard_by w t) t.k t.at t.progress → Moves w u
+listens_moves : (w : World) (t : Listens w) (u : World) → u ≡ after_client_call (heard_by w t) t.k t.at t.progress → Moves w u
 listens_moves w t u is = elim (came_on (heard_by w t) t.k t.at t.progress) [
   | inl (on, same) ↦ (hears t on, is ∙ same)
   | inr (over, (failure, same)) ↦ (
@@ -362,7 +362,7 @@ listens_moves w t u is = elim (came_on (heard_by w t) t.k t.at t.progress) [
   )
 ]
 
-hears_moves : (o : Option Dumping) (w : World) (k n : ℕ) (l : Connection) (u : World) → connection_of w k ≡ Some l → l.dump ≡ o → IsTrue l.other → 1 ≤ n → n ≤ length l.back
+hears_moves : (o : Option AttemptState) (w : World) (k n : ℕ) (l : Connection) (u : World) → connection_of w k ≡ Some l → l.dump ≡ o → IsTrue l.other → 1 ≤ n → n ≤ length l.back
     → Hears o w k n (take n l.back) u → Moves w u
 hears_moves None w k n l u at none other some within is = (talks k l (drops n) at none, is)
 hears_moves (Some dump) w k n l u at its other some within (c, fed, new, reader, progress, there, had, feeds, has, is) =
@@ -387,7 +387,7 @@ hears_moves (Some dump) w k n l u at its other some within (c, fed, new, reader,
       has = has;
     } u is
 
-sees_moves : (o : Option Dumping) (w : World) (k : ℕ) (l : Connection) (u : World) → connection_of w k ≡ Some l → l.dump ≡ o → IsTrue l.other → SeesEnd o w k u → Moves w u
+sees_moves : (o : Option AttemptState) (w : World) (k : ℕ) (l : Connection) (u : World) → connection_of w k ≡ Some l → l.dump ≡ o → IsTrue l.other → SeesEnd o w k u → Moves w u
 sees_moves None w k l u at none other is = (talks k l leaves at none, is)
 sees_moves (Some dump) w k l u at its other (c, new, reader, progress, there, ended, has, is) =
     let t : Seeing w
@@ -396,7 +396,7 @@ sees_moves (Some dump) w k l u at its other (c, new, reader, progress, there, en
       | inl (on, same) ↦ (sees t None, is ∙ same)
       | inr (over, (failure, same)) ↦ (
         sees t failure,
-        is ∙ same ∙ ap (λ ls. record (moved w (sees t failure)) { connections = ls }) (over_then over_there (λ x. refl) w.connections k),
+        is ∙ same ∙ ap (λ ls. record (moved w (sees t failure)) { connections = ls }) (over_then without_peer (λ x. refl) w.connections k),
       )
     ]
 
@@ -442,5 +442,5 @@ happened w Stranger u (may, is) = (joins, is)
 happened w (Says k bytes) u ((x, (there, other), none), is) = (talks k x (says bytes) there none, is)
 happened w Enter u ((x, at, stage, not_yet), (c, there, is)) =
     let same : x ≡ c = same_Some x c (sym at ∙ there) in
-    (enters c there (ap (λ (z : Caller). z.at.stage) (sym same) ∙ stage) (λ e. not_yet (subst (λ (z : Caller). IsRunEntered w z.number) (sym same) e)), is)
+    (enters c there (ap (λ (z : WorldClient). z.at.stage) (sym same) ∙ stage) (λ e. not_yet (subst (λ (z : WorldClient). IsRunEntered w z.number) (sym same) e)), is)
 happened w Save u ((x, at, may), (c, there, is)) = (saves c there (subst (MayBeKept w) (same_Some x c (sym at ∙ there)) may), is)

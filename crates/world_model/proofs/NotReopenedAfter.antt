@@ -2,9 +2,9 @@
 use Rattle.std.proofs.Common.{◌≡◌, List, None, refl, sym, ◌∙◌, arith}
 use Rattle.world_model.specs.World.{World}
 use Rattle.world_model.specs.First.{PlainDriveSpec, first_world}
-use Rattle.world_model.specs.Changes.{over_here, over_there, new_connection}
+use Rattle.world_model.specs.Changes.{without_server, without_peer, new_connection}
 use Rattle.world_model.specs.Attempts.{AreSingle, AreCountsEarned}
-use Rattle.world_model.specs.Kept.{HasLawful}
+use Rattle.world_model.specs.Kept.{IsClientLawful}
 use Rattle.world_model.specs.Owning.{IsOwned}
 use Rattle.world_model.specs.Sending.{AreTold}
 use Rattle.world_model.specs.Sparing.{AreNotReopened}
@@ -35,7 +35,7 @@ pub record After (u : World) : Type 0 where
   pub single : AreSingle u
   pub earned : AreCountsEarned u
 
-served_not_reopened : OneReading → DroppedWrites → OneReply → (w : World) (v : Turn w) → Grounds w → IsOwned w → HasLawful w → After (turned w v)
+served_not_reopened : OneReading → DroppedWrites → OneReply → (w : World) (v : Turn w) → Grounds w → IsOwned w → IsClientLawful w → After (turned w v)
     → AreNotReopened (turned w v)
 served_not_reopened r h g w v a owned lawful after = record {
   paired = as_many w.opens w.lists v.k _ _ a.not_reopened.paired;
@@ -49,7 +49,7 @@ served_not_reopened r h g w v a owned lawful after = record {
 quiet : (w u : World) → u.opens ≡ w.opens → u.lists ≡ w.lists → u.writings ≡ w.writings → SameOpens w u
 quiet w u opens lists writings = record { opens = opens; lists = lists; writings = writings }
 
-pub not_reopened_moved : OneReading → DroppedWrites → OneReply → (w : World) (m : Move w) → Grounds w → IsOwned w → HasLawful w → After (moved w m)
+pub not_reopened_moved : OneReading → DroppedWrites → OneReply → (w : World) (m : Move w) → Grounds w → IsOwned w → IsClientLawful w → After (moved w m)
     → AreNotReopened (moved w m)
 not_reopened_moved r h g w (serves v) a owned lawful after = served_not_reopened r h g w v a owned lawful after
 not_reopened_moved r h g w (asks t) a owned lawful after = asked_not_reopened w t owned a.told a.opened a.not_reopened
@@ -65,13 +65,13 @@ not_reopened_moved r h g w (answers c answer reader there stage) a owned lawful 
 not_reopened_moved r h g w (connects c there ready) a owned lawful after = connected_not_reopened w c a.opened a.writers a.not_reopened
 not_reopened_moved r h g w (fails k n c reader there stage own) a owned lawful after =
     let u = moved w (fails k n c reader there stage own) in
-    idle_not_reopened w u (quiet w u refl refl refl) (changed_dumps over_there (λ x. refl) w u k refl) a.opened a.writers refl (λ j mine. absurd cc) a.not_reopened
+    idle_not_reopened w u (quiet w u refl refl refl) (changed_dumps without_peer (λ x. refl) w u k refl) a.opened a.writers refl (λ j mine. absurd cc) a.not_reopened
 not_reopened_moved r h g w (sees t failure) a owned lawful after =
     let u = moved w (sees t failure) in
-    idle_not_reopened w u (quiet w u refl refl refl) (changed_dumps over_there (λ x. refl) w u t.k refl) a.opened a.writers refl (λ j mine. absurd cc) a.not_reopened
+    idle_not_reopened w u (quiet w u refl refl refl) (changed_dumps without_peer (λ x. refl) w u t.k refl) a.opened a.writers refl (λ j mine. absurd cc) a.not_reopened
 not_reopened_moved r h g w (gives_up x k own) a owned lawful after =
     let u = moved w (gives_up x k own) in
-    idle_not_reopened w u (quiet w u refl refl refl) (changed_dumps over_there (λ y. refl) w u k refl) a.opened a.writers refl (λ j mine. absurd cc) a.not_reopened
+    idle_not_reopened w u (quiet w u refl refl refl) (changed_dumps without_peer (λ y. refl) w u k refl) a.opened a.writers refl (λ j mine. absurd cc) a.not_reopened
 not_reopened_moved r h g w (forgets x none) a owned lawful after =
     let u = moved w (forgets x none) in
     idle_not_reopened w u (quiet w u refl refl refl) (same_dumps w u refl) a.opened a.writers refl (λ j mine. (let clash = sym none ∙ mine in absurd cc)) a.not_reopened
@@ -81,11 +81,11 @@ not_reopened_moved r h g w (reaches k n s l reached live at grows) a owned lawfu
     refl a.not_reopened
 not_reopened_moved r h g w (ends k) a owned lawful after =
     let u = moved w (ends k) in
-    same_not_reopened w u (quiet w u refl refl refl) (changed_dumps over_here (λ x. refl) w u k refl) (changed_backs over_here (λ x. refl) w u k refl) a.opened
+    same_not_reopened w u (quiet w u refl refl refl) (changed_dumps without_server (λ x. refl) w u k refl) (changed_backs without_server (λ x. refl) w u k refl) a.opened
     a.writers refl refl refl a.not_reopened
 not_reopened_moved r h g w restarts a owned lawful after =
     let u = moved w restarts in
-    same_not_reopened w u (quiet w u refl refl refl) (mapped_dumps over_here (λ x. refl) w u refl) (mapped_backs over_here (λ x. refl) w u refl) a.opened a.writers
+    same_not_reopened w u (quiet w u refl refl refl) (mapped_dumps without_server (λ x. refl) w u refl) (mapped_backs without_server (λ x. refl) w u refl) a.opened a.writers
     refl refl refl a.not_reopened
 not_reopened_moved r h g w (cuts k) a owned lawful after =
     let u = moved w (cuts k) in

@@ -2,7 +2,7 @@
 use Rattle.std.proofs.Common.{◌≡◌, ℕ, ◌≤◌, length, take, Some, Contains, sym, ap, ◌∙◌, inl, inr, arith}
 use Rattle.std.proofs.lemmas.Bool.Decides.{eqb_tells}
 use Rattle.std.proofs.lemmas.Option.{same_Some}
-use Rattle.world_model.specs.World.{World, Dumping, Count, Opening, Writing, numbered}
+use Rattle.world_model.specs.World.{World, AttemptState, Count, Opening, Writing, numbered}
 use Rattle.world_model.specs.Changes.{opening, HasDump}
 use Rattle.world_model.specs.Headline.{IsNotReopened}
 use Rattle.world_model.specs.Naming.{IsUnopenedSince, AreWritersLast}
@@ -12,7 +12,7 @@ use Rattle.world_model.proofs.Numbers.{less_or_more}
 use Rattle.world_model.proofs.Writers.{front_in, in_front}
 
 -- no more was carried out than was sent
-few_carried : (w : World) (k : ℕ) (d : Dumping) → AreTold w → HasDump w k d → d.carried ≤ d.sent
+few_carried : (w : World) (k : ℕ) (d : AttemptState) → AreTold w → HasDump w k d → d.carried ≤ d.sent
 few_carried w k d told has = elim ((told.each k has.0 has.1).sent d has.2) [
   | inl settled ↦ (let same = settled.sent in omega (arith, same))
   | inr (b, step, begun, pending) ↦ (let one = pending.sent in omega (arith, one))

@@ -20,13 +20,13 @@ use Rattle.dump_client.specs.declared.step.TapeOp.TheVariants.{Rewind, RewindAga
 use Rattle.dump_client.specs.declared.stage.Stage.{Stage}
 use Rattle.dump_client.specs.declared.stage.Stage.TheVariants.{ToSend, Waiting}
 use Rattle.dump_client.specs.declared.stage.Progress.{Progress}
-use Rattle.world_model.specs.World.{World, Connection, Dumping, Begun, Caller, Count, numbered}
+use Rattle.world_model.specs.World.{World, Connection, AttemptState, Begun, WorldClient, Count, numbered}
 use Rattle.world_model.specs.Changes.{side_of, connection_of, sent_on, opening, opened_reel, noted, answered}
 use Rattle.world_model.specs.Headline.{IsNotReopened}
-use Rattle.world_model.specs.Kept.{HasLawful}
+use Rattle.world_model.specs.Kept.{IsClientLawful}
 use Rattle.world_model.specs.Owning.{is_in_attempt, IsOwned}
 use Rattle.world_model.specs.Attempts.{AreSingle, AreCountsEarned}
-use Rattle.world_model.specs.Sending.{StandsFor, request_in, FitsReplyReader, IsAttempt, IsStepAsked, IsStepReplied, IsConnectionToldAt, AreTold}
+use Rattle.world_model.specs.Sending.{IsSessionBefore, request_in, FitsReplyReader, IsAttempt, IsStepAsked, IsStepReplied, IsConnectionToldAt, AreTold}
 use Rattle.world_model.specs.Sparing.{HasOpenedSince, HasLooked}
 use Rattle.world_model.proofs.Numbers.{changed_is}
 use Rattle.world_model.proofs.Sent.{steps_len, before_length}
@@ -55,7 +55,7 @@ look_step run first next (Operation (Unload end)) is = absurd (omega (arith, is)
 look_step run first next Close is = absurd (omega (arith, is))
 
 -- The client's own session carries out the request of the step at which it waits, and the reply leads on to the second rewind.
-record IsAnswered (w : World) (v : Turn w) (c : Caller) (l : Connection) (d : Dumping) (progress : Progress) (new : Standing) : Type 0 where
+record IsAnswered (w : World) (v : Turn w) (c : WorldClient) (l : Connection) (d : AttemptState) (progress : Progress) (new : Standing) : Type 0 where
   own : w.own ≡ Some v.k
   there : w.caller ≡ Some c
   at : connection_of w v.k ≡ Some l
@@ -74,7 +74,7 @@ record IsAnswered (w : World) (v : Turn w) (c : Caller) (l : Connection) (d : Du
   noted_three : (noted v.request v.reply d).carried ≡ 3
 
 -- it is the look, for the client and for the server
-step_is : (w : World) (v : Turn w) (c : Caller) (l : Connection) (d : Dumping) (progress : Progress) (new : Standing) → (a : IsAnswered w v c l d progress new)
+step_is : (w : World) (v : Turn w) (c : WorldClient) (l : Connection) (d : AttemptState) (progress : Progress) (new : Standing) → (a : IsAnswered w v c l d progress new)
     → (a.step ≡ Look) × (a.served.step ≡ Look)
 step_is w v c l d progress new a =
     let more = carried_more d v.request v.reply a.served.few in
@@ -86,11 +86,11 @@ step_is w v c l d progress new a =
     )
 
 -- and what the client hears is what the server answered
-reply_is : OneReply → (w : World) (v : Turn w) (c : Caller) (l : Connection) (d : Dumping) (progress : Progress) (new : Standing)
+reply_is : OneReply → (w : World) (v : Turn w) (c : WorldClient) (l : Connection) (d : AttemptState) (progress : Progress) (new : Standing)
     → (a : IsAnswered w v c l d progress new) → v.reply ≡ a.reply
 reply_is g w v c l d progress new a =
     let is = step_is w v c l d progress new a in
-    let on = subst (λ s. StandsFor s v.s.session) is.1 (a.served.done.stands v.s refl) in
+    let on = subst (λ s. IsSessionBefore s v.s.session) is.1 (a.served.done.stands v.s refl) in
     let served = subst (λ q. TroubledServeStep v.trouble w.server.holders (session_view w.server.library v.s.session) q v.reply (session_view v.library v.session))
     (a.served.asks ∙ ap (request_in a.served.b d) is.1) v.served.step in
     let shown = look_online v.trouble w.server.holders (session_view w.server.library v.s.session) v.reply (session_view v.library v.session) on.1.0 on.0 on.1.1 served in
@@ -110,8 +110,8 @@ shows_both run at reply (inr (shown, data_is, counted)) bytes is none =
     counted (ap (counted_label run at.counts) same ∙ none)
 
 -- so the reel is not that of a count
-answered_past : OneReply → (w : World) (v : Turn w) (c : Caller) (l : Connection) (d : Dumping) (progress : Progress) (new : Standing) (x : Count) → Grounds w
-    → HasLawful w → IsAnswered w v c l d progress new → Contains w.counts x → IsNotReopened w x → HasOpenedSince w x v.k ⊎ ((v.k ≡ v.k) × OpensNow w v) → ⊥
+answered_past : OneReply → (w : World) (v : Turn w) (c : WorldClient) (l : Connection) (d : AttemptState) (progress : Progress) (new : Standing) (x : Count) → Grounds w
+    → IsClientLawful w → IsAnswered w v c l d progress new → Contains w.counts x → IsNotReopened w x → HasOpenedSince w x v.k ⊎ ((v.k ≡ v.k) × OpensNow w v) → ⊥
 answered_past g w v c l d progress new x k lawful a counted not_reopened (inr (same, (reel, opened))) =
     let first = open_step a.served.b d a.served.step v.library v.session reel (subst (λ q. opened_reel q v.library v.session ≡ Some reel) a.served.asks opened) in
     let clash : Look ≡ Open = sym (step_is w v c l d progress new a).1 ∙ first in
@@ -150,7 +150,7 @@ arrives true text reply is = absurd (no_text reply is)
 arrives false text reply is = is
 
 -- The client's own session is served, and after it what is on the way leads on past the look; the reel is that of a count.
-record IsServedHere (w : World) (v : Turn w) (c : Caller) (l m : Connection) (d : Dumping) (new : Standing) (x : Count) : Type 0 where
+record IsServedHere (w : World) (v : Turn w) (c : WorldClient) (l m : Connection) (d : AttemptState) (new : Standing) (x : Count) : Type 0 where
   own : w.own ≡ Some v.k
   there : w.caller ≡ Some c
   at : connection_of w v.k ≡ Some l
@@ -163,8 +163,8 @@ record IsServedHere (w : World) (v : Turn w) (c : Caller) (l m : Connection) (d 
   since : HasOpenedSince w x v.k ⊎ ((v.k ≡ v.k) × OpensNow w v)
 
 -- its request is the one that the client waits for
-asked_past : OneReply → (w : World) (v : Turn w) (c : Caller) (l m : Connection) (d : Dumping) (step : Step) (b e : Begun) (o : Option ServerConnection) (fed : List ℕ)
-    (progress : Progress) (new : Standing) (x : Count) → Grounds w → HasLawful w → IsServedHere w v c l m d new x → c.at.stage ≡ Waiting step
+asked_past : OneReply → (w : World) (v : Turn w) (c : WorldClient) (l m : Connection) (d : AttemptState) (step : Step) (b e : Begun) (o : Option ServerConnection) (fed : List ℕ)
+    (progress : Progress) (new : Standing) (x : Count) → Grounds w → IsClientLawful w → IsServedHere w v c l m d new x → c.at.stage ≡ Waiting step
     → IsAttempt w.begun c d step b → IsStepAsked b (Some v.s) l c d step → (r : IsStepReplied e o m c (noted v.request v.reply d) step)
     → HasFedAt (Waiting step) c.reader fed → FedAt (Waiting step) c.at fed m.back progress new → ⊥
 asked_past g w v c l m d step b e o fed progress new x k lawful s stage attempt asked replied had feeds =
@@ -192,8 +192,8 @@ asked_past g w v c l m d step b e o fed progress new x k lawful s stage attempt 
     } s.counted s.not_reopened s.since
 
 -- at the stage where the client stands
-stage_past : DroppedWrites → OneReply → (w : World) (v : Turn w) (stage : Stage) (c : Caller) (l m : Connection) (d : Dumping) (begun : List Begun) (o : Option ServerConnection)
-    (fed : List ℕ) (progress : Progress) (new : Standing) (x : Count) → Grounds w → HasLawful w → IsServedHere w v c l m d new x → c.at.stage ≡ stage
+stage_past : DroppedWrites → OneReply → (w : World) (v : Turn w) (stage : Stage) (c : WorldClient) (l m : Connection) (d : AttemptState) (begun : List Begun) (o : Option ServerConnection)
+    (fed : List ℕ) (progress : Progress) (new : Standing) (x : Count) → Grounds w → IsClientLawful w → IsServedHere w v c l m d new x → c.at.stage ≡ stage
     → IsTrue (is_in_attempt stage) → IsConnectionToldAt stage w.begun (Some v.s) l c d → IsConnectionToldAt stage begun o m c (noted v.request v.reply d)
     → HasFedAt stage c.reader fed → FedAt stage c.at fed m.back progress new → ⊥
 stage_past h g w v (ToSend step) c l m d begun o fed progress new x k lawful s stage inside (b, attempt, turn) told had feeds =
@@ -211,8 +211,8 @@ stage_past h g w v (Waiting step) c l m d begun o fed progress new x k lawful s 
 stage_past h g w v other c l m d begun o fed progress new x k lawful s stage inside told again had feeds = absurd cc
 
 -- the client's own session is served
-own_looked : OneReading → DroppedWrites → OneReply → (w : World) (v : Turn w) (c : Caller) (y l : Connection) (fed : List ℕ) (progress : Progress) (new : Standing)
-    (x : Count) → Grounds w → IsOwned w → HasLawful w → AreTold (turned w v) → w.own ≡ Some v.k → w.caller ≡ Some c → connection_of w v.k ≡ Some y
+own_looked : OneReading → DroppedWrites → OneReply → (w : World) (v : Turn w) (c : WorldClient) (y l : Connection) (fed : List ℕ) (progress : Progress) (new : Standing)
+    (x : Count) → Grounds w → IsOwned w → IsClientLawful w → AreTold (turned w v) → w.own ≡ Some v.k → w.caller ≡ Some c → connection_of w v.k ≡ Some y
     → connection_of (turned w v) v.k ≡ Some l → l ≡ answered v.request v.reply y → HasFedAt c.at.stage c.reader fed → FedAt c.at.stage c.at fed l.back progress new
     → new.stage ≡ ToSend (Operation RewindAgain) → Contains w.counts x → IsNotReopened w x → HasOpenedSince w x v.k ⊎ ((v.k ≡ v.k) × OpensNow w v) → ⊥
 own_looked r h g w v c y l fed progress new x k owned lawful told own there was at is had feeds goes counted not_reopened since =
@@ -222,7 +222,7 @@ own_looked r h g w v c y l fed progress new x k owned lawful told own there was 
     let dump : y.dump ≡ Some d = ap (λ (z : Connection). z.dump) (sym same) ∙ mine.0.4 in
     let noted_dump = ap (λ (z : Connection). z.dump) is ∙ ap (option_map (noted v.request v.reply)) dump in
     let client = mine.1 in
-    let inside = subst (λ (z : Caller). IsTrue (is_in_attempt z.at.stage)) (same_Some client.0 c (sym client.1 ∙ there)) client.2 in
+    let inside = subst (λ (z : WorldClient). IsTrue (is_in_attempt z.at.stage)) (same_Some client.0 c (sym client.1 ∙ there)) client.2 in
     let before = subst (λ o. IsConnectionToldAt c.at.stage w.begun o y c d) v.live ((k.told.each v.k y was).own d c dump own there) in
     let after = (told.each v.k l at).own (noted v.request v.reply d) c noted_dump own there in
     let here : IsServedHere w v c y l d new x = record {
@@ -239,7 +239,7 @@ own_looked r h g w v c y l fed progress new x k owned lawful told own there was 
     } in
     stage_past h g w v c.at.stage c y l d w.begun (side_of (turned w v).server v.k) fed progress new x k lawful here refl inside before after had feeds
 
-pub served_looked : OneReading → DroppedWrites → OneReply → (w : World) (v : Turn w) → Grounds w → IsOwned w → HasLawful w → AreTold (turned w v)
+pub served_looked : OneReading → DroppedWrites → OneReply → (w : World) (v : Turn w) → Grounds w → IsOwned w → IsClientLawful w → AreTold (turned w v)
     → AreCountsEarned (turned w v) → AreSingle (turned w v) → HasLooked (turned w v)
 served_looked r h g w v a owned lawful told earned single k l c fed progress new x own at there had feeds goes counted not_reopened since =
     elim (changed_is (answered v.request v.reply) w.connections v.k k l at) [

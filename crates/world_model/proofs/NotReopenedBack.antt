@@ -1,7 +1,7 @@
 -- What is spared after an event was so before it.
 use Rattle.std.proofs.Common.{◌≡◌, ℕ, ◌≤◌, List, [], ◌∷◌, ◌++◌, length, map, Some, Contains, refl, sym, ap, ◌∙◌, inl, inr, arith}
 use Rattle.dump_run.specs.declared.count.VolumeCount.{VolumeCount}
-use Rattle.world_model.specs.World.{World, Connection, Dumping, Count, Opening, Writing, numbered}
+use Rattle.world_model.specs.World.{World, Connection, AttemptState, Count, Opening, Writing, numbered}
 use Rattle.world_model.specs.Changes.{changed, opening, HasDump}
 use Rattle.world_model.specs.Headline.{IsNotReopened}
 use Rattle.world_model.specs.Naming.{AreOpened, AreWritersLast}
@@ -12,7 +12,7 @@ use Rattle.world_model.proofs.Writers.{front_in}
 
 -- Openings stay at their places, with their lists, and an attempt that was there is of its run still.
 pub record GoesBack (w u : World) : Type 0 where
-  pub dumps : (k : ℕ) (d : Dumping) → HasDump u k d → k ≤ length w.connections → (e : Dumping) × HasDump w k e × (e.run ≡ d.run)
+  pub dumps : (k : ℕ) (d : AttemptState) → HasDump u k d → k ≤ length w.connections → (e : AttemptState) × HasDump w k e × (e.run ≡ d.run)
   pub opens : (m : ℕ) (o : Opening) → numbered w.opens m ≡ Some o → numbered u.opens m ≡ Some o
   pub lists : (m : ℕ) (o : Opening) (list : List VolumeCount) → numbered w.opens m ≡ Some o → numbered u.lists m ≡ Some list → numbered w.lists m ≡ Some list
 
@@ -30,7 +30,7 @@ not_reopened_back w u b opened x (i, at, own_open) was = (
 
 -- each attempt that was there is as it was
 abbrev pub DumpsStay : World → World → Type 0
-DumpsStay w u = (k : ℕ) (d : Dumping) → HasDump u k d → k ≤ length w.connections → HasDump w k d
+DumpsStay w u = (k : ℕ) (d : AttemptState) → HasDump u k d → k ≤ length w.connections → HasDump w k d
 
 pub same_dumps : (w u : World) → u.connections ≡ w.connections → DumpsStay w u
 same_dumps w u connections k d (l, at, dump) within = (l, ap (λ ls. numbered ls k) (sym connections) ∙ at, dump)

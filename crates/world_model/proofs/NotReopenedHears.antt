@@ -4,7 +4,7 @@ use Rattle.std.proofs.lemmas.List.{append-nil, take-append-drop}
 use Rattle.std.proofs.lemmas.List.Elements.{Contains-push_cases}
 use Rattle.std.proofs.lemmas.Option.{same_Some}
 use Rattle.rmt_wire.specs.Reply.{PlainReply}
-use Rattle.rmt_wire.specs.ReplyParts.{ReplyGives}
+use Rattle.rmt_wire.specs.ReplyParts.{ReplyParsesAs}
 use Rattle.dump_run.specs.Run.{PlainRun}
 use Rattle.dump_run.specs.Counts.{AreVolumes, checkpoint_after}
 use Rattle.dump_run.specs.declared.count.VolumeCount.{VolumeCount}
@@ -19,10 +19,10 @@ use Rattle.dump_client.specs.declared.stage.Stage.TheVariants.{ToSend, Waiting}
 use Rattle.dump_client.specs.declared.stage.Progress.{Progress}
 use Rattle.dump_client.proofs.Received.{heard_as}
 use Rattle.dump_client.specs.declared.fault.AttemptFault.{AttemptFault}
-use Rattle.world_model.specs.World.{World, Connection, Begun, Caller, Count}
-use Rattle.world_model.specs.Changes.{side_of, connection_of, opening, counts_of, over_there}
+use Rattle.world_model.specs.World.{World, Connection, Begun, WorldClient, Count}
+use Rattle.world_model.specs.Changes.{side_of, connection_of, opening, counts_of, without_peer}
 use Rattle.world_model.specs.Headline.{IsNotReopened}
-use Rattle.world_model.specs.Kept.{HasLawful}
+use Rattle.world_model.specs.Kept.{IsClientLawful}
 use Rattle.world_model.specs.Naming.{AreOpened, AreWritersLast}
 use Rattle.world_model.specs.Owning.{is_in_attempt, IsOwned}
 use Rattle.world_model.specs.Attempts.{AreSingle}
@@ -86,7 +86,7 @@ pub hearing_now : OneReply → (w : World) (t : Listens w) → IsOwned w → Are
 hearing_now g w t owned told =
     let own = own_listens w t owned in
     let a = (owned.own t.k own).1 in
-    let inside = subst (λ (x : Caller). IsTrue (is_in_attempt x.at.stage)) (same_Some a.0 t.c (sym a.1 ∙ t.client)) a.2 in
+    let inside = subst (λ (x : WorldClient). IsTrue (is_in_attempt x.at.stage)) (same_Some a.0 t.c (sym a.1 ∙ t.client)) a.2 in
     stage_hearing g w t t.c.at.stage refl inside ((told.each t.k t.l t.there).own t.d t.c t.dump own t.client) t.had t.feeds
 
 -- it counted its volume, and goes on to the close
@@ -173,7 +173,7 @@ fed_text : (step : Step) (old new : Standing) (fed way other more : List ℕ) (p
 fed_text step old new fed way other more progress is (seen, rest, gives, makes) = (
   seen,
   rest,
-  subst (λ bytes. ReplyGives (Some (wanted_of step)) bytes seen rest) is gives,
+  subst (λ bytes. ReplyParsesAs (Some (wanted_of step)) bytes seen rest) is gives,
   subst (λ bytes. Makes old step bytes seen rest progress new) is
       makes,
 )
@@ -254,7 +254,7 @@ was_at_step w t h step (waits moves is text) at other = record {
 was_at_step w t h step (whole spelled none heard) at other = went_on w t h t.at.stage step refl at other heard
 
 -- of each count that is there then, whoever opened its reel since was stopped
-heard_stopped : OneReply → (w u : World) (t : Listens w) → SameOpens w u → DumpsStay w u → u.counts ≡ w.counts ++ told_counts w t → IsOwned w → HasLawful w
+heard_stopped : OneReply → (w u : World) (t : Listens w) → SameOpens w u → DumpsStay w u → u.counts ≡ w.counts ++ told_counts w t → IsOwned w → IsClientLawful w
     → AreTold w → AreSingle w → AreOpened w → AreNotReopened w → AreStopped u
 heard_stopped g w u t s stay counts owned lawful told single opened p x k d counted not_reopened since has =
     elim (counted_is w u t counts (hearing_now g w t owned told) x counted) [
@@ -269,7 +269,7 @@ heard_dumps : (w : World) (t : Listens w) (on : is_over t.progress ≡ false) �
 heard_dumps w t on = changed_dumps (λ l. record l { back = drop t.n l.back }) (λ x. refl) w (move.moved w (move.hears t on)) t.k refl
 
 -- it goes on
-pub heard_not_reopened : OneReply → (w : World) (t : Listens w) (on : is_over t.progress ≡ false) → IsOwned w → HasLawful w → AreTold w → AreSingle w → AreOpened w
+pub heard_not_reopened : OneReply → (w : World) (t : Listens w) (on : is_over t.progress ≡ false) → IsOwned w → IsClientLawful w → AreTold w → AreSingle w → AreOpened w
     → AreWritersLast w → AreNotReopened w → AreNotReopened (move.moved w (move.hears t on))
 heard_not_reopened g w t on owned lawful told single opened writers p = record {
   paired = p.paired;
@@ -277,14 +277,14 @@ heard_not_reopened g w t on owned lawful told single opened writers p = record {
   stopped = heard_stopped g w u t s stay refl owned lawful told single opened p;
   listed = λ k i m c step o list mine there at other opens its from lists. (
       let is : caller t.c.number t.at t.reader ≡ c = same_Some _ c there in
-      let was = was_at_step w t h step h.piece (subst (λ (z : Caller). IsAtStep z.at.stage step) (sym is) at) other in
-      p.listed k i m t.c was.step o list mine t.client was.at was.other opens its from lists ∙ sym was.counts ∙ ap (λ (z : Caller). z.at.counts) is);
+      let was = was_at_step w t h step h.piece (subst (λ (z : WorldClient). IsAtStep z.at.stage step) (sym is) at) other in
+      p.listed k i m t.c was.step o list mine t.client was.at was.other opens its from lists ∙ sym was.counts ∙ ap (λ (z : WorldClient). z.at.counts) is);
   looked = λ k l c fed progress new x mine at there had feeds goes counted not_reopened since. elim (counted_is w u t refl h x counted) [
     | inl before ↦ (
         let is : caller t.c.number t.at t.reader ≡ c = same_Some _ c there in
         let back = back_is k l mine at in
-        let its = heard_past w t h fed progress new h.piece (subst (λ (z : Caller). HasFedAt z.at.stage z.reader fed) (sym is) had)
-        (subst (λ way. FedAt t.at.stage t.at fed way progress new) back (subst (λ (z : Caller). FedAt z.at.stage z.at fed l.back progress new) (sym is)
+        let its = heard_past w t h fed progress new h.piece (subst (λ (z : WorldClient). HasFedAt z.at.stage z.reader fed) (sym is) had)
+        (subst (λ way. FedAt t.at.stage t.at fed way progress new) back (subst (λ (z : WorldClient). FedAt z.at.stage z.at fed l.back progress new) (sym is)
         feeds)) in
         p.looked t.k t.l t.c t.fed its.0 new x own t.there t.client t.had its.1 goes before (quiet_not_reopened w u s (quiet_back w u s stay) opened x not_reopened)
         (subst (HasOpenedSince w x) (same_Some k t.k (sym mine ∙ own)) since))
@@ -317,7 +317,7 @@ heard_not_reopened g w t on owned lawful told single opened writers p = record {
 
 -- its attempt is over then
 pub heard_last_not_reopened : OneReply → (w : World) (t : Listens w) (failure : Option (ℕ × AttemptFault)) (over : is_over t.progress ≡ true) → IsOwned w
-    → HasLawful w → AreTold w → AreSingle w → AreOpened w → AreWritersLast w → AreNotReopened w → AreNotReopened (move.moved w (move.hears_last t failure over))
+    → IsClientLawful w → AreTold w → AreSingle w → AreOpened w → AreWritersLast w → AreNotReopened w → AreNotReopened (move.moved w (move.hears_last t failure over))
 heard_last_not_reopened g w t failure over owned lawful told single opened writers p = record {
   paired = p.paired;
   late = quiet_late w u s stay opened writers p.late;
@@ -333,4 +333,4 @@ heard_last_not_reopened g w t failure over owned lawful told single opened write
     s = record { opens = refl; lists = refl; writings = refl }
 
     stay : DumpsStay w u
-    stay = changed_dumps over_there (λ x. refl) w u t.k refl
+    stay = changed_dumps without_peer (λ x. refl) w u t.k refl

@@ -23,16 +23,16 @@ use Rattle.dump_client.specs.Script.{counted_label}
 use Rattle.dump_client.specs.Standing.{IsAtStep}
 use Rattle.dump_client.specs.Lawful.{IsLawful}
 use Rattle.dump_client.specs.declared.step.Step.TheVariants.{Look}
-use Rattle.world_model.specs.World.{World, Connection, Dumping, Begun, Caller, Count, numbered}
+use Rattle.world_model.specs.World.{World, Connection, AttemptState, Begun, WorldClient, Count, numbered}
 use Rattle.world_model.specs.Changes.{connection_of, opening, written_reel, first_name}
 use Rattle.world_model.specs.History.{HasCountOf}
-use Rattle.world_model.specs.Standing.{AreHeld, StandsOn}
+use Rattle.world_model.specs.Standing.{AreHeld, ReelHolds}
 use Rattle.world_model.specs.Kept.{AreLaid}
 use Rattle.world_model.specs.Headline.{IsNotReopened}
 use Rattle.world_model.specs.Written.{whole_volume}
 use Rattle.world_model.specs.Naming.{AreNamed, AreOpened, AreWritersLast}
 use Rattle.world_model.specs.Attempts.{AreSingle, AreLabelled, AreCountsEarned}
-use Rattle.world_model.specs.Sending.{StandsFor, request_in, IsAttempt, AreTold}
+use Rattle.world_model.specs.Sending.{IsSessionBefore, request_in, IsAttempt, AreTold}
 use Rattle.world_model.specs.Sparing.{HasOpenedSince, AreNotReopened}
 use Rattle.world_model.proofs.Booked.{among_at}
 use Rattle.world_model.proofs.Called.{called}
@@ -79,9 +79,9 @@ label_whole run volume first good v f =
     take_all label_bytes (label run volume first) (omega (arith, short, size, zeros))
 
 -- All that is known where the client's own session looks at a reel that it opened after that of a count.
-pub record IsLooking (w : World) (v : Turn w) (c : Caller) (x : Count) : Type 0 where
+pub record IsLooking (w : World) (v : Turn w) (c : WorldClient) (x : Count) : Type 0 where
   pub l : Connection
-  pub d : Dumping
+  pub d : AttemptState
   pub b : Begun
   pub at : connection_of w v.k ≡ Some l
   pub dump : l.dump ≡ Some d
@@ -110,7 +110,7 @@ pub record Grounds (w : World) : Type 0 where
   pub not_reopened : AreNotReopened w
 
 -- the label of that volume stands first on the reel, and the client has a count of it
-record IsCountedThere (w : World) (v : Turn w) (c : Caller) (x : Count) : Type 0 where
+record IsCountedThere (w : World) (v : Turn w) (c : WorldClient) (x : Count) : Type 0 where
   drive : ℕ
   reel : PlainReel
   rest : List PlainEntry
@@ -120,7 +120,7 @@ record IsCountedThere (w : World) (v : Turn w) (c : Caller) (x : Count) : Type 0
   few : x.first ≤ c.at.run.blocks
 
 -- the session's reel is that of the count
-its_reel : (w : World) (v : Turn w) (c : Caller) (x : Count) → Grounds w → (g : IsLooking w v c x) → (drive : ℕ) (reel : PlainReel)
+its_reel : (w : World) (v : Turn w) (c : WorldClient) (x : Count) → Grounds w → (g : IsLooking w v c x) → (drive : ℕ) (reel : PlainReel)
     → v.s.session ≡ Online drive Both reel → first_name (drive_at w.server.library drive).stack ≡ x.reel
 its_reel w v c x k g drive reel online =
     let name = first_name (drive_at w.server.library drive).stack in
@@ -130,7 +130,7 @@ its_reel w v c x k g drive reel online =
     (among_at w.opens m (opening v.k x.reel) opened) refl refl
 
 -- that opening is not foreign, and its list is the client's
-its_count : (w : World) (v : Turn w) (c : Caller) (x : Count) → Grounds w → (g : IsLooking w v c x)
+its_count : (w : World) (v : Turn w) (c : WorldClient) (x : Count) → Grounds w → (g : IsLooking w v c x)
     → (g.d.run ≡ x.run) × HasCountOf c.at.counts x.volume x.first
 its_count w v c x k g =
     let (i, m, place, less, opened) = g.since in
@@ -141,13 +141,13 @@ its_count w v c x k g =
     let connections : l ≡ g.l = same_Some l g.l (sym here ∙ g.at) in
     let dumps : d ≡ g.d = same_Some d g.d (sym dump ∙ ap (λ (y : Connection). y.dump) connections ∙ g.dump) in
     let same = k.not_reopened.listed v.k m m c Look (opening v.k x.reel) list g.own g.there g.waits (λ is. cc) opened refl (omega arith) lists in
-    (ap (λ (y : Dumping). y.run) (sym dumps) ∙ run, subst (λ cs. HasCountOf cs x.volume x.first) same has)
+    (ap (λ (y : AttemptState). y.run) (sym dumps) ∙ run, subst (λ cs. HasCountOf cs x.volume x.first) same has)
 
-counted_there : (w : World) (v : Turn w) (c : Caller) (x : Count) → Grounds w → IsLooking w v c x → IsCountedThere w v c x
+counted_there : (w : World) (v : Turn w) (c : WorldClient) (x : Count) → Grounds w → IsLooking w v c x → IsCountedThere w v c x
 counted_there w v c x k g =
-    let on = subst (λ s. StandsFor s v.s.session) g.look (g.served.done.stands v.s refl) in
+    let on = subst (λ s. IsSessionBefore s v.s.session) g.look (g.served.done.stands v.s refl) in
     let r = counted_reels w k.held k.laid k.named k.writers k.told k.labelled k.earned k.not_reopened x g.counted in
-    let stands : StandsOn w.server x.reel (entries_of on.0.tape)
+    let stands : ReelHolds w.server x.reel (entries_of on.0.tape)
     = inr (v.k, v.s, v.live, (on.1.0, Both, on.0, on.1.1, its_reel w v c x k g on.1.0 on.0 on.1.1, refl)) in
     let count = its_count w v c x k g in
     let begun : r.begun ≡ g.b = same_Some r.begun g.b (sym r.begun_as ∙ ap (numbered w.begun) (sym count.0) ∙ g.attempt.begun_as) in
@@ -166,7 +166,7 @@ counted_there w v c x k g =
     }
 
 -- so the look answers by an error, or by the label of a volume that the client has counted
-pub look_finds : (w : World) (v : Turn w) (c : Caller) (x : Count) → Grounds w → IsLooking w v c x
+pub look_finds : (w : World) (v : Turn w) (c : WorldClient) (x : Count) → Grounds w → IsLooking w v c x
     → ((n : ℕ) × (text : List ℕ) × (v.reply ≡ Error n text)) ⊎ ((bytes : List ℕ) × (v.reply ≡ Data bytes) × (counted_label c.at.run c.at.counts bytes ≢ None))
 look_finds w v c x k g =
     let t = counted_there w v c x k g in

@@ -5,7 +5,7 @@ use Rattle.std.proofs.lemmas.Slice.Eq.{bytes_eq-Decides}
 use Rattle.std.proofs.lemmas.List.{take_all}
 use Rattle.rmt_wire.specs.Reply.{PlainReply, reply_text}
 use Rattle.rmt_wire.specs.Reply.PlainReply.{Done, Data, Error}
-use Rattle.rmt_wire.specs.ReplyParts.{ReplyGives}
+use Rattle.rmt_wire.specs.ReplyParts.{ReplyParsesAs}
 use Rattle.rmt_wire.specs.ReplyReader.{ReplyHeld}
 use Rattle.rmt_wire.specs.declared.fault.WireFault.{WireFault}
 use Rattle.dump_run.specs.Run.{PlainRun}
@@ -22,7 +22,7 @@ use Rattle.dump_client.specs.declared.step.TapeOp.TheVariants.{RewindAgain}
 use Rattle.dump_client.specs.declared.stage.Stage.TheVariants.{ToSend, Waiting, Asking}
 use Rattle.dump_client.specs.declared.stage.Progress.{Progress}
 use Rattle.rmt_server.specs.ServerState.{ServerConnection}
-use Rattle.world_model.specs.World.{Connection, Dumping, Begun, Caller}
+use Rattle.world_model.specs.World.{Connection, AttemptState, Begun, WorldClient}
 use Rattle.world_model.specs.History.{HasCountOf}
 use Rattle.world_model.specs.Sending.{GoesTo, LeadsOn, FitsReplyReader, IsStepReply, IsStepReplied}
 use Rattle.world_model.proofs.SentWire.{OneReply, one_heard}
@@ -71,7 +71,7 @@ look_past old new (Data bytes) progress becomes at =
 
 -- while nothing came it waits
 made_nothing : (old new : Standing) (step next : Step) (reader : ReplyHeld) (seen : Result (Option PlainReply) WireFault) (rest : List ℕ) (progress : Progress)
-    → HasFedAt (Waiting step) reader [] → old.stage ≡ Waiting step → ReplyGives (Some (wanted_of step)) [] seen rest → Makes old step [] seen rest progress new
+    → HasFedAt (Waiting step) reader [] → old.stage ≡ Waiting step → ReplyParsesAs (Some (wanted_of step)) [] seen rest → Makes old step [] seen rest progress new
     → new.stage ≡ ToSend next → ⊥
 made_nothing old new step next reader (Ok None) rest progress had at gives (moves, is) goes =
     let clash : Waiting step ≡ ToSend next = sym at ∙ sym (ap (λ (s : Standing). s.stage) is) ∙ goes in cc
@@ -91,7 +91,7 @@ turn_past old new step next fed progress at (inl (none, moves, is)) goes =
 turn_past old new step next fed progress at (inr (some, hears)) goes = absurd (some refl)
 
 -- What leads it on is the whole reply, and before the next step all was done.
-pub record RepliesPast (run : PlainRun) (o : Option ServerConnection) (l : Connection) (c : Caller) (d : Dumping) (step next : Step) (progress : Progress) (new : Standing) :
+pub record RepliesPast (run : PlainRun) (o : Option ServerConnection) (l : Connection) (c : WorldClient) (d : AttemptState) (step next : Step) (progress : Progress) (new : Standing) :
     Type 0 where
   pub reply : PlainReply
   pub text : l.back ≡ reply_text reply
@@ -99,7 +99,7 @@ pub record RepliesPast (run : PlainRun) (o : Option ServerConnection) (l : Conne
   pub heard : ReceivesAt c.at step (Reply reply) false progress new
   pub goes : GoesTo run o c.at d new next
 
-piece_past : (run : PlainRun) (o : Option ServerConnection) (l : Connection) (c : Caller) (d : Dumping) (step next : Step) (bytes way : List ℕ) (progress : Progress)
+piece_past : (run : PlainRun) (o : Option ServerConnection) (l : Connection) (c : WorldClient) (d : AttemptState) (step next : Step) (bytes way : List ℕ) (progress : Progress)
     (new : Standing) (reply : PlainReply)
     → c.at.stage ≡ Waiting step → new.stage ≡ ToSend next → l.back ≡ reply_text reply → FitsReplyReader (wanted_of step) reply → LeadsOn run o c.at d step reply
     → HearsPiece c.at step reply bytes way progress new → RepliesPast run o l c d step next progress new
@@ -108,7 +108,7 @@ piece_past run o l c d step next bytes way progress new reply at goes text brief
 piece_past run o l c d step next bytes way progress new reply at goes text brief leads (whole spelled none heard) =
     record { reply = reply; text = text; brief = brief; heard = heard; goes = leads progress new next heard goes }
 
-pub reply_past : OneReply → (b : Begun) (o : Option ServerConnection) (l : Connection) (c : Caller) (d : Dumping) (step next : Step) (progress : Progress) (new : Standing)
+pub reply_past : OneReply → (b : Begun) (o : Option ServerConnection) (l : Connection) (c : WorldClient) (d : AttemptState) (step next : Step) (progress : Progress) (new : Standing)
     → c.at.stage ≡ Waiting step → (r : IsStepReplied b o l c d step) → IsStepReply b.run o c.at d step (r.fed ++ l.back) → HasFedAt (Waiting step) c.reader []
     → FedAt (Waiting step) c.at [] l.back progress new → new.stage ≡ ToSend next → RepliesPast b.run o l c d step next progress new
 reply_past g b o l c d step next progress new at r (inl none) has feeds goes =

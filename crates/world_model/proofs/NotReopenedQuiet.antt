@@ -2,7 +2,7 @@
 use Rattle.std.proofs.Common.{◌≡◌, ℕ, ◌+◌, ◌≤◌, true, false, [], ◌∷◌, ◌++◌, length, map, Some, None, Contains, refl, sym, ap, subst, ◌∙◌, inl, inr, arith}
 use Rattle.std.proofs.lemmas.Option.{same_Some}
 use Rattle.dump_client.specs.Standing.{FedAt}
-use Rattle.world_model.specs.World.{World, Connection, Dumping, Caller, Count, numbered}
+use Rattle.world_model.specs.World.{World, Connection, AttemptState, WorldClient, Count, numbered}
 use Rattle.world_model.specs.Changes.{changed, connection_of, new_connection, HasDump}
 use Rattle.world_model.specs.Headline.{IsNotReopened}
 use Rattle.world_model.specs.Naming.{AreOpened, AreWritersLast}
@@ -20,7 +20,7 @@ quiet_late w u s stay opened writers late y d among has =
     late y d before (stay y.connection d has (writer_there w y opened writers before))
 
 -- of a count that was there
-pub quiet_stopped : (w u : World) → SameOpens w u → DumpsStay w u → AreOpened w → AreStopped w → (x : Count) (k : ℕ) (d : Dumping) → Contains w.counts x
+pub quiet_stopped : (w u : World) → SameOpens w u → DumpsStay w u → AreOpened w → AreStopped w → (x : Count) (k : ℕ) (d : AttemptState) → Contains w.counts x
     → IsNotReopened u x → HasOpenedSince u x k → HasDump u k d → d.sent ≤ looked_requests
 quiet_stopped w u s stay opened stopped x k d counted not_reopened since has =
     let before = quiet_since w u s x k since in
@@ -96,16 +96,16 @@ strangers_backs f w u j y owned connections here stranger k l own at = elim (cha
 ]
 
 -- the client is in no attempt
-pub rested_not_reopened : (w u : World) → SameOpens w u → DumpsStay w u → AreOpened w → AreWritersLast w → u.counts ≡ w.counts → IsOwned u → (c : Caller)
+pub rested_not_reopened : (w u : World) → SameOpens w u → DumpsStay w u → AreOpened w → AreWritersLast w → u.counts ≡ w.counts → IsOwned u → (c : WorldClient)
     → u.caller ≡ Some c → is_in_attempt c.at.stage ≡ false → AreNotReopened w → AreNotReopened u
 rested_not_reopened w u s stay opened writers counts owned c there off p =
     idle_not_reopened w u s stay opened writers counts (λ k own. (
     let mine = (owned.own k own).1 in
-    let inside : is_in_attempt c.at.stage ≡ true = subst (λ (z : Caller). is_in_attempt z.at.stage ≡ true) (same_Some mine.0 c (sym mine.1 ∙ there)) mine.2 in
+    let inside : is_in_attempt c.at.stage ≡ true = subst (λ (z : WorldClient). is_in_attempt z.at.stage ≡ true) (same_Some mine.0 c (sym mine.1 ∙ there)) mine.2 in
     let clash : false ≡ true = sym off ∙ inside in cc)) p
 
 -- an attempt starts on a connection that opened nothing
-pub connected_not_reopened : (w : World) (c : Caller) → AreOpened w → AreWritersLast w → AreNotReopened w → AreNotReopened (client_connected w c)
+pub connected_not_reopened : (w : World) (c : WorldClient) → AreOpened w → AreWritersLast w → AreNotReopened w → AreNotReopened (client_connected w c)
 connected_not_reopened w c opened writers p = record {
   paired = p.paired;
   late = quiet_late w (client_connected w c) s stay opened writers p.late;

@@ -11,7 +11,7 @@ use Rattle.dump_client.specs.declared.step.TapeOp.TheVariants.{Rewind, RewindAga
 use Rattle.dump_client.specs.declared.stage.Stage.TheVariants.{ToSend, Waiting}
 use Rattle.dump_client.specs.declared.stage.Progress.{Progress}
 use Rattle.dump_client.specs.declared.stage.Progress.TheVariants as came
-use Rattle.world_model.specs.World.{World, Connection, Dumping, Begun, Caller, Count}
+use Rattle.world_model.specs.World.{World, Connection, AttemptState, Begun, WorldClient, Count}
 use Rattle.world_model.specs.Changes.{side_of, connection_of, HasDump, noted_sent}
 use Rattle.world_model.specs.Headline.{IsNotReopened}
 use Rattle.world_model.specs.Naming.{AreOpened}
@@ -28,8 +28,8 @@ use Rattle.world_model.proofs.NotReopenedBack.{SameOpens, GoesBack, quiet_not_re
 use Rattle.world_model.proofs.NotReopenedPast.{nothing_past}
 
 -- the attempt that sends, or another's
-sent_dump : (w : World) (t : Sender w) (k : ℕ) (d : Dumping) → HasDump (moved w (asks t)) k d
-    → ((k ≡ t.k) × ((e : Dumping) × HasDump w t.k e × (d ≡ noted_sent e))) ⊎ HasDump w k d
+sent_dump : (w : World) (t : Sender w) (k : ℕ) (d : AttemptState) → HasDump (moved w (asks t)) k d
+    → ((k ≡ t.k) × ((e : AttemptState) × HasDump w t.k e × (d ≡ noted_sent e))) ⊎ HasDump w k d
 sent_dump w t k d (l, at, dump) = elim (changed_is (sent_connection (next_text t.c t.b.payload t.step)) w.connections t.k k l at) [
   | inl (same, (x, was, new)) ↦ (
       let m = mapped noted_sent x.dump d (sym (ap (λ (y : Connection). y.dump) new) ∙ dump) in
@@ -43,7 +43,7 @@ same_opens w t = record { opens = refl; lists = refl; writings = refl }
 sent_back : (w : World) (t : Sender w) → GoesBack w (moved w (asks t))
 sent_back w t = record {
   dumps = λ k d has within. elim (sent_dump w t k d has) [
-    | inl (same, (e, was, new)) ↦ (e, subst (λ n. HasDump w n e) (sym same) was, ap (λ (y : Dumping). y.run) (sym new))
+    | inl (same, (e, was, new)) ↦ (e, subst (λ n. HasDump w n e) (sym same) was, ap (λ (y : AttemptState). y.run) (sym new))
     | inr was ↦ (d, was, refl)
   ];
   opens = λ m o at. at;
@@ -51,7 +51,7 @@ sent_back w t = record {
 }
 
 -- it is the client's turn, and it has heard nothing
-its_turn : (w : World) (t : Sender w) (x : Connection) (e : Dumping) → AreTold w → connection_of w t.k ≡ Some x → x.dump ≡ Some e
+its_turn : (w : World) (t : Sender w) (x : Connection) (e : AttemptState) → AreTold w → connection_of w t.k ≡ Some x → x.dump ≡ Some e
     → (b : Begun) × IsAttempt w.begun t.c e t.step b × IsItsTurn b (side_of w.server t.k) x t.c e t.step
 its_turn w t x e told at dump =
     subst (λ s. IsConnectionToldAt s w.begun (side_of w.server t.k) x t.c e) t.stage ((told.each t.k x at).own e t.c dump t.own t.there)
@@ -70,7 +70,7 @@ early_steps run first next (Operation (Unload end)) other few = absurd (omega (a
 early_steps run first next Close other few = absurd (omega (arith, few))
 
 -- where the reel is that of a count it is stopped before the second rewind
-stopped_here : (w : World) (t : Sender w) (x : Count) (e : Dumping) → AreTold w → AreNotReopened w → HasDump w t.k e → Contains w.counts x → IsNotReopened w x
+stopped_here : (w : World) (t : Sender w) (x : Count) (e : AttemptState) → AreTold w → AreNotReopened w → HasDump w t.k e → Contains w.counts x → IsNotReopened w x
     → HasOpenedSince w x t.k → (noted_sent e).sent ≤ looked_requests
 stopped_here w t x e told p (l, at, dump) counted not_reopened since =
     let (b, attempt, turn) = its_turn w t l e told at dump in
@@ -85,7 +85,7 @@ stopped_here w t x e told p (l, at, dump) counted not_reopened since =
     omega (arith, one, early, sent, many)
 
 -- after it was sent nothing of the reply is there
-nothing_yet : (w : World) (t : Sender w) (l : Connection) (c : Caller) (fed : List ℕ) (progress : Progress) (new : Standing) → IsOwned w → AreTold w
+nothing_yet : (w : World) (t : Sender w) (l : Connection) (c : WorldClient) (fed : List ℕ) (progress : Progress) (new : Standing) → IsOwned w → AreTold w
     → connection_of (moved w (asks t)) t.k ≡ Some l
     → (moved w (asks t)).caller ≡ Some c → HasFedAt c.at.stage c.reader fed → FedAt c.at.stage c.at fed l.back progress new
     → new.stage ≡ ToSend (Operation RewindAgain) → ⊥
@@ -96,13 +96,13 @@ nothing_yet w t l c fed progress new owned told at there had feeds goes =
           let one : mine.0 ≡ x = same_Some mine.0 x (sym mine.2 ∙ was) in
           let turn = its_turn w t x mine.1 told was (ap (λ (y : Connection). y.dump) (sym one) ∙ mine.4) in
           let back : l.back ≡ [] = ap (λ (y : Connection). y.back) is ∙ turn.2.back in
-          waits_on (subst (λ (z : Caller). HasFedAt z.at.stage z.reader fed) (sym caller_is) had)
-          (subst (λ way. FedAt (Waiting t.step) now.at fed way progress new) back (subst (λ (z : Caller). FedAt z.at.stage z.at fed l.back progress new)
+          waits_on (subst (λ (z : WorldClient). HasFedAt z.at.stage z.reader fed) (sym caller_is) had)
+          (subst (λ way. FedAt (Waiting t.step) now.at fed way progress new) back (subst (λ (z : WorldClient). FedAt z.at.stage z.at fed l.back progress new)
           (sym caller_is) feeds)))
       | inr (other, on) ↦ other refl
     ]
   where
-    now : Caller
+    now : WorldClient
     now = caller t.c.number (standing t.c.at.run t.c.at.counts (Waiting t.step)) t.reader
 
     caller_is : now ≡ c
@@ -120,7 +120,7 @@ asked_not_reopened w t owned told opened p = record {
   late = λ y d among has. elim (sent_dump w t y.connection d has) [
     | inl (same, (e, was, new)) ↦ (
         let many = p.late y e among (subst (λ n. HasDump w n e) (sym same) was) in
-        let carried = ap (λ (z : Dumping). z.carried) new in
+        let carried = ap (λ (z : AttemptState). z.carried) new in
         omega (arith, many, carried))
     | inr was ↦ p.late y d among was
   ];
@@ -128,14 +128,14 @@ asked_not_reopened w t owned told opened p = record {
       let before = quiet_not_reopened w (moved w (asks t)) (same_opens w t) (sent_back w t) opened x not_reopened in
       elim (sent_dump w t k d has) [
         | inl (same, (e, was, new)) ↦
-            subst (λ (z : Dumping). z.sent ≤ looked_requests) (sym new) (stopped_here w t x e told p was counted before (subst (HasOpenedSince w x) same since))
+            subst (λ (z : AttemptState). z.sent ≤ looked_requests) (sym new) (stopped_here w t x e told p was counted before (subst (HasOpenedSince w x) same since))
         | inr was ↦ p.stopped x k d counted before since was
       ]);
   listed = λ k i m c step o list own there at other opens mine from lists. (
       let is : caller t.c.number (standing t.c.at.run t.c.at.counts (Waiting t.step)) t.reader ≡ c = same_Some _ c there in
-      let its : step ≡ t.step = subst (λ (z : Caller). IsAtStep z.at.stage step) (sym is) at in
+      let its : step ≡ t.step = subst (λ (z : WorldClient). IsAtStep z.at.stage step) (sym is) at in
       p.listed k i m t.c t.step o list own t.there (subst (λ s. IsAtStep s t.step) (sym t.stage) refl) (λ close. other (its ∙ close)) opens mine from lists
-      ∙ ap (λ (z : Caller). z.at.counts) is);
+      ∙ ap (λ (z : WorldClient). z.at.counts) is);
   looked = λ k l c fed progress new x own at there had feeds goes counted not_reopened since. (
       let same : k ≡ t.k = same_Some k t.k (sym own ∙ t.own) in
       nothing_yet w t l c fed progress new owned told (ap (connection_of (moved w (asks t))) (sym same) ∙ at) there had feeds goes);

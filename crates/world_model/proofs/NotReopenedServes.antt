@@ -10,7 +10,7 @@ use Rattle.dump_run.specs.declared.count.VolumeCount.{VolumeCount}
 use Rattle.dump_client.specs.declared.step.Step.{Step}
 use Rattle.dump_client.specs.declared.step.Step.TheVariants.{Open, Operation, Look, Label, Block, Close}
 use Rattle.dump_client.specs.declared.step.TapeOp.TheVariants.{Rewind, RewindAgain, Mark, Unload}
-use Rattle.world_model.specs.World.{World, Connection, Dumping, Begun, Count, Opening, Writing, numbered}
+use Rattle.world_model.specs.World.{World, Connection, AttemptState, Begun, Count, Opening, Writing, numbered}
 use Rattle.world_model.specs.Changes.{HasDump, opening, opened_reel, list_in, writing, reel_written, noted}
 use Rattle.world_model.specs.Headline.{IsNotReopened}
 use Rattle.world_model.specs.Attempts.{AreSingle, AreCountsEarned}
@@ -54,7 +54,7 @@ served_back w v paired = record {
     | inl (same, (x, e, was, its, new)) ↦ (
       e,
       (x, ap (numbered w.connections) same ∙ was, its),
-      sym (noted_same e v.request v.reply).run ∙ sym (ap (λ (y : Dumping). y.run) new),
+      sym (noted_same e v.request v.reply).run ∙ sym (ap (λ (y : AttemptState). y.run) new),
     )
     | inr (other, was) ↦ (d, (l, was, dump), refl)
   ];
@@ -86,7 +86,7 @@ served_since w v x k own (i, m, place, less, opened) = elim (was_placed_new w v 
 ]
 
 -- a write comes after the look
-write_step : (b : Begun) (d : Dumping) (step : Step) (next : ℕ) (s : TapeLibrary) (session : PlainSession) (reel : List ℕ)
+write_step : (b : Begun) (d : AttemptState) (step : Step) (next : ℕ) (s : TapeLibrary) (session : PlainSession) (reel : List ℕ)
     → reel_written (request_in b d step) s session ≡ Some reel → 3 < steps_len b.run d.first next step
 write_step b d Open next s session reel is = absurd cc
 write_step b d (Operation Rewind) next s session reel is = absurd cc
@@ -102,8 +102,8 @@ pub served_late : OneReading → DroppedWrites → (w : World) (v : Turn w) → 
 served_late g h w v told late y d among (l, at, dump) = by_writing (writing_is w.writings v.k (length w.opens) (reel_written v.request v.library v.session) y
     among)
   where
-    more : (x : Connection) (e : Dumping) → (p : IsServed w v x e) → d ≡ noted v.request v.reply e → d.carried ≡ e.carried + 1
-    more x e p new = ap (λ (z : Dumping). z.carried) new ∙ carried_more e v.request v.reply p.few
+    more : (x : Connection) (e : AttemptState) → (p : IsServed w v x e) → d ≡ noted v.request v.reply e → d.carried ≡ e.carried + 1
+    more x e p new = ap (λ (z : AttemptState). z.carried) new ∙ carried_more e v.request v.reply p.few
 
     by_writing : Contains w.writings y ⊎ ((reel : List ℕ) × (reel_written v.request v.library v.session ≡ Some reel) × (y ≡ writing v.k (length w.opens) reel))
         → looked_requests < d.carried
@@ -125,7 +125,7 @@ served_late g h w v told late y d among (l, at, dump) = by_writing (writing_is w
     ]
 
 -- no more was sent than one request that was not carried out
-few_sent : (w : World) (k : ℕ) (d : Dumping) → AreTold w → HasDump w k d → d.sent ≤ d.carried + 1
+few_sent : (w : World) (k : ℕ) (d : AttemptState) → AreTold w → HasDump w k d → d.sent ≤ d.carried + 1
 few_sent w k d told has = elim ((told.each k has.0 has.1).sent d has.2) [
   | inl settled ↦ (let same = settled.sent in omega (arith, same))
   | inr (b, step, begun, pending) ↦ (let one = pending.sent in omega (arith, one))
@@ -135,7 +135,7 @@ pub served_stopped : OneReading → DroppedWrites → (w : World) (v : Turn w) �
     → AreStopped (turned w v)
 served_stopped g h w v a earned single x k d counted not_reopened since (l, at, dump) = elim (served_dump w v k l d at dump) [
   | inl (same, (y, e, was, its, new)) ↦ (
-      let sent = ap (λ (z : Dumping). z.sent) new ∙ (noted_same e v.request v.reply).sent in
+      let sent = ap (λ (z : AttemptState). z.sent) new ∙ (noted_same e v.request v.reply).sent in
       elim (served_since w v x k own since) [
         | inl earlier ↦ (
             let few = a.not_reopened.stopped x k e counted before earlier (y, ap (numbered w.connections) same ∙ was, its) in

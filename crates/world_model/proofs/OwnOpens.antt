@@ -4,7 +4,7 @@ use Rattle.dump_client.specs.Standing.{IsAtStep}
 use Rattle.dump_client.specs.declared.step.Step.{Step}
 use Rattle.dump_client.specs.declared.stage.Stage.{Stage}
 use Rattle.dump_client.specs.declared.stage.Stage.TheVariants.{ToSend, Waiting}
-use Rattle.world_model.specs.World.{World, Connection, Dumping, Begun, Caller, Count}
+use Rattle.world_model.specs.World.{World, Connection, AttemptState, Begun, WorldClient, Count}
 use Rattle.world_model.specs.Changes.{side_of, HasDump}
 use Rattle.world_model.specs.Naming.{IsUnopenedSince}
 use Rattle.world_model.specs.Headline.{IsNotReopened}
@@ -22,7 +22,7 @@ pub unwritten : (w : World) (k : ℕ) (reel : List ℕ) → IsWorldKept w → Is
 unwritten w k reel kept = last_alone w k reel kept.writers
 
 -- the own connection is of the client's run
-own_number : (begun : List Begun) (w : World) (k : ℕ) (l : Connection) (c : Caller) (d : Dumping) (stage : Stage)
+own_number : (begun : List Begun) (w : World) (k : ℕ) (l : Connection) (c : WorldClient) (d : AttemptState) (stage : Stage)
     → IsConnectionToldAt stage begun (side_of w.server k) l c d → (step : Step) → IsAtStep stage step → d.run ≡ c.number
 own_number begun w k l c d (ToSend s) (b, attempt, turn) step at = attempt.number
 own_number begun w k l c d (Waiting s) (b, attempt, asked) step at = attempt.number

@@ -4,7 +4,7 @@ use Rattle.std.proofs.lemmas.Option.{same_Some}
 use Rattle.rmt_wire.specs.Request.{PlainRequest}
 use Rattle.rmt_wire.specs.Reply.{PlainReply}
 use Rattle.rmt_wire.specs.ReplyReader.{reply_held}
-use Rattle.dump_client.specs.Going.{StandsAfter}
+use Rattle.dump_client.specs.Going.{AgreesWithProgress}
 use Rattle.dump_client.specs.Position.{after_end}
 use Rattle.dump_client.specs.Standing.{Standing, standing, Becomes, FedAt, CutAt, stage_after}
 use Rattle.dump_client.specs.declared.stage.Answer.{Answer}
@@ -15,8 +15,8 @@ use Rattle.dump_client.specs.declared.stage.Stage.{Stage}
 use Rattle.dump_client.specs.declared.stage.Stage.TheVariants.{Ready, ToSend, Waiting, Asking, Finished, Abandoned}
 use Rattle.dump_client.specs.declared.step.Step.{Step}
 use Rattle.dump_client.specs.declared.step.Step.TheVariants.{Open, Close}
-use Rattle.world_model.specs.World.{World, Connection, Dumping, Caller, numbered}
-use Rattle.world_model.specs.Changes.{changed, connection_of, new_connection, over_here, over_there, answered, noted, noted_sent}
+use Rattle.world_model.specs.World.{World, Connection, AttemptState, WorldClient, numbered}
+use Rattle.world_model.specs.Changes.{changed, connection_of, new_connection, without_server, without_peer, answered, noted, noted_sent}
 use Rattle.world_model.specs.Rows.{NoRun, is_run_done}
 use Rattle.world_model.specs.Steps.{sent_connection, caller, next_text, client_connected, fresh}
 use Rattle.world_model.specs.Owning.{is_in_attempt, IsClients, IsOwned}
@@ -27,12 +27,12 @@ use Rattle.world_model.proofs.Numbers.{no_number, changed_is, changed_there, map
 -- what calls of a client tell of where it stands
 abbrev pub Standings : Type 0
 Standings =
-    ((old new : Standing) (bytes piece : List ℕ) (progress : Progress) → FedAt old.stage old bytes piece progress new → StandsAfter old progress new)
-    × ((old new : Standing) (progress : Progress) → CutAt old.stage old progress new → StandsAfter old progress new)
+    ((old new : Standing) (bytes piece : List ℕ) (progress : Progress) → FedAt old.stage old bytes piece progress new → AgreesWithProgress old progress new)
+    × ((old new : Standing) (progress : Progress) → CutAt old.stage old progress new → AgreesWithProgress old progress new)
 
 -- the client is in an attempt
-abbrev IsInAttempt : Option Caller → Type 0
-IsInAttempt o = (c : Caller) × (o ≡ Some c) × IsTrue (is_in_attempt c.at.stage)
+abbrev IsInAttempt : Option WorldClient → Type 0
+IsInAttempt o = (c : WorldClient) × (o ≡ Some c) × IsTrue (is_in_attempt c.at.stage)
 
 abbrev Attempts : World → Type 0
 Attempts w = IsInAttempt w.caller
@@ -66,8 +66,8 @@ same_attempt w u same = (λ (c, is, inside). (c, same ∙ is, inside), λ (c, is
 
 -- a change of connections that leaves each the client's, or no one of its
 abbrev KeepsOurs : (Connection → Connection) → Type 0
-KeepsOurs f = (l : Connection) → (IsTrue l.other × ((d : Dumping) × (l.dump ≡ Some d)) → IsTrue (f l).other × ((d : Dumping) × ((f l).dump ≡ Some d)))
-    × (IsTrue (f l).other × ((d : Dumping) × ((f l).dump ≡ Some d)) → IsTrue l.other × ((d : Dumping) × (l.dump ≡ Some d)))
+KeepsOurs f = (l : Connection) → (IsTrue l.other × ((d : AttemptState) × (l.dump ≡ Some d)) → IsTrue (f l).other × ((d : AttemptState) × ((f l).dump ≡ Some d)))
+    × (IsTrue (f l).other × ((d : AttemptState) × ((f l).dump ≡ Some d)) → IsTrue l.other × ((d : AttemptState) × (l.dump ≡ Some d)))
 
 clients_on : (f : Connection → Connection) → KeepsOurs f → (w u : World) (j : ℕ) → u.connections ≡ changed f w.connections j → (k : ℕ) → IsClients w k → IsClients u k
 clients_on f keeps w u j is k (l, d, at, other, dump) = elim (changed_there f w.connections j k l at) [
@@ -78,7 +78,7 @@ clients_on f keeps w u j is k (l, d, at, other, dump) = elim (changed_there f w.
 clients_back : (f : Connection → Connection) → KeepsOurs f → (w u : World) (j : ℕ) → u.connections ≡ changed f w.connections j → (k : ℕ) → IsClients u k → IsClients w k
 clients_back f keeps w u j is k (l, d, at, other, dump) = elim (changed_is f w.connections j k l (ap (λ xs. numbered xs k) (sym is) ∙ at)) [
   | inl (same, (x, was, new)) ↦ (
-      let ours = (keeps x).1 (subst (λ (y : Connection). IsTrue y.other × ((d : Dumping) × (y.dump ≡ Some d))) new (other, (d, dump))) in
+      let ours = (keeps x).1 (subst (λ (y : Connection). IsTrue y.other × ((d : AttemptState) × (y.dump ≡ Some d))) new (other, (d, dump))) in
       (x, ours.1.0, ap (numbered w.connections) same ∙ was, ours.0, ours.1.1))
   | inr (beside, on) ↦ (l, d, on, other, dump)
 ]
@@ -94,13 +94,13 @@ same_connections w u is own on back o = owned_as w u own on back
     (λ k (l, d, at, other, dump). (l, d, ap (λ xs. numbered xs k) (sym is) ∙ at, other, dump)) o
 
 -- once the client's side of its own connection is over, no connection is its
-over_clients : (w u : World) (k : ℕ) → u.connections ≡ changed over_there w.connections k → IsOwned w → w.own ≡ Some k → (j : ℕ) → IsClients u j → ⊥
-over_clients w u k is o own j (l, d, at, other, dump) = elim (changed_is over_there w.connections k j l (ap (λ xs. numbered xs j) (sym is) ∙ at)) [
+over_clients : (w u : World) (k : ℕ) → u.connections ≡ changed without_peer w.connections k → IsOwned w → w.own ≡ Some k → (j : ℕ) → IsClients u j → ⊥
+over_clients w u k is o own j (l, d, at, other, dump) = elim (changed_is without_peer w.connections k j l (ap (λ xs. numbered xs j) (sym is) ∙ at)) [
   | inl (same, (x, was, new)) ↦ (let off : l.other ≡ false = ap (λ (y : Connection). y.other) new in not_both l.other off other)
   | inr (beside, on) ↦ beside (same_Some j k (sym (o.only j (l, d, on, other, dump)) ∙ own))
 ]
 
-over_owned : (w u : World) (k : ℕ) → u.connections ≡ changed over_there w.connections k → u.own ≡ None → w.own ≡ Some k → (Attempts u → ⊥) → IsOwned w → IsOwned u
+over_owned : (w u : World) (k : ℕ) → u.connections ≡ changed without_peer w.connections k → u.own ≡ None → w.own ≡ Some k → (Attempts u → ⊥) → IsOwned w → IsOwned u
 over_owned w u k is none own idle o = owned_none u none idle (over_clients w u k is o own)
 
 -- a stranger's connection is changed
@@ -132,14 +132,14 @@ pass_ours n l = (λ ours. ours, λ ours. ours)
 cut_ours : KeepsOurs (λ l. record l { cut = true })
 cut_ours l = (λ ours. ours, λ ours. ours)
 
-here_ours : KeepsOurs over_here
+here_ours : KeepsOurs without_server
 here_ours l = (λ ours. ours, λ ours. ours)
 
 -- what is noted of an attempt
-noted_there : (f : Dumping → Dumping) (o : Option Dumping) → ((d : Dumping) × (o ≡ Some d)) → (d : Dumping) × (option_map f o ≡ Some d)
+noted_there : (f : AttemptState → AttemptState) (o : Option AttemptState) → ((d : AttemptState) × (o ≡ Some d)) → (d : AttemptState) × (option_map f o ≡ Some d)
 noted_there f o (d, is) = (f d, ap (option_map f) is)
 
-noted_was : (f : Dumping → Dumping) (o : Option Dumping) → ((d : Dumping) × (option_map f o ≡ Some d)) → (d : Dumping) × (o ≡ Some d)
+noted_was : (f : AttemptState → AttemptState) (o : Option AttemptState) → ((d : AttemptState) × (option_map f o ≡ Some d)) → (d : AttemptState) × (o ≡ Some d)
 noted_was f None (d, is) = absurd cc
 noted_was f (Some x) (d, is) = (x, refl)
 
@@ -158,9 +158,9 @@ waits_attempt : (s : Stage) (step : Step) → s ≡ Waiting step → IsTrue (is_
 waits_attempt s step is = subst (λ x. IsTrue (is_in_attempt x)) (sym is) refl
 
 -- a client of one stage, which is in no attempt
-rests : (o : Option Caller) (c : Caller) (stage : Stage) → o ≡ Some c → c.at.stage ≡ stage → is_in_attempt stage ≡ false → IsInAttempt o → ⊥
+rests : (o : Option WorldClient) (c : WorldClient) (stage : Stage) → o ≡ Some c → c.at.stage ≡ stage → is_in_attempt stage ≡ false → IsInAttempt o → ⊥
 rests o c stage there at off (d, is, inside) =
-    not_both (is_in_attempt d.at.stage) (ap (λ (x : Caller). is_in_attempt x.at.stage) (sym (same_Some c d (sym there ∙ is))) ∙ ap is_in_attempt at ∙ off) inside
+    not_both (is_in_attempt d.at.stage) (ap (λ (x : WorldClient). is_in_attempt x.at.stage) (sym (same_Some c d (sym there ∙ is))) ∙ ap is_in_attempt at ∙ off) inside
 
 done_rests : (stage : Stage) → IsTrue (is_run_done stage) → is_in_attempt stage ≡ false
 done_rests Finished is = refl
@@ -172,7 +172,7 @@ no_run_rests w (inl none) (c, is, inside) = let clash = sym none ∙ is in cc
 no_run_rests w (inr (c, there, done)) attempts = rests w.caller c c.at.stage there refl (done_rests c.at.stage done) attempts
 
 -- an attempt starts on a connection more
-connected_owned : (w : World) (c : Caller) → w.caller ≡ Some c → c.at.stage ≡ Ready → IsOwned w → IsOwned (client_connected w c)
+connected_owned : (w : World) (c : WorldClient) → w.caller ≡ Some c → c.at.stage ≡ Ready → IsOwned w → IsOwned (client_connected w c)
 connected_owned w c there ready o =
     let idle = rests w.caller c Ready there ready refl in
     let place : suc (length w.connections) ≡ length w.connections + 1 = omega arith in
@@ -203,13 +203,13 @@ stranger_owned w u is own same o =
     ]) o
 
 -- the server's sides of all connections are over
-restarted_owned : (w u : World) → u.connections ≡ map over_here w.connections → u.own ≡ w.own → u.caller ≡ w.caller → IsOwned w → IsOwned u
+restarted_owned : (w u : World) → u.connections ≡ map without_server w.connections → u.own ≡ w.own → u.caller ≡ w.caller → IsOwned w → IsOwned u
 restarted_owned w u is own same o =
     let a = same_attempt w u same in
     owned_as w u own a.0 a.1
-    (λ k (l, d, at, other, dump). (over_here l, d, ap (λ xs. numbered xs k) is ∙ at_map over_here w.connections k l at, other, dump))
+    (λ k (l, d, at, other, dump). (without_server l, d, ap (λ xs. numbered xs k) is ∙ at_map without_server w.connections k l at, other, dump))
     (λ k (l, d, at, other, dump). (
-    let found = map_at over_here w.connections k l (ap (λ xs. numbered xs k) (sym is) ∙ at) in
+    let found = map_at without_server w.connections k l (ap (λ xs. numbered xs k) (sym is) ∙ at) in
     (found.0, d, found.1, subst IsTrue (ap (λ (x : Connection). x.other) found.2) other, sym (ap (λ (x : Connection). x.dump) found.2) ∙ dump))) o
 
 -- a client that is in an attempt sends, or waits
@@ -219,14 +219,14 @@ no_attempt (Waiting step) inside idle = (idle step).1 refl
 no_attempt stage inside idle = cc
 
 -- what came of a call of the client: it goes on in its attempt, or is in none
-goes_attempt : (old new : Standing) (progress : Progress) → is_over progress ≡ false → IsTrue (is_in_attempt old.stage) → StandsAfter old progress new → IsTrue (is_in_attempt new.stage)
+goes_attempt : (old new : Standing) (progress : Progress) → is_over progress ≡ false → IsTrue (is_in_attempt old.stage) → AgreesWithProgress old progress new → IsTrue (is_in_attempt new.stage)
 goes_attempt old new moved.Send on inside (step, at) = sends_attempt new.stage step at
 goes_attempt old new moved.Waiting on inside (step, at) = waits_attempt new.stage step at
 goes_attempt old new moved.Idle on inside (stays, idle) = absurd (no_attempt old.stage inside idle)
 goes_attempt old new (moved.Failed fault) on inside stands = absurd cc
 goes_attempt old new moved.Ended on inside stands = absurd cc
 
-over_attempt : (old new : Standing) (progress : Progress) → is_over progress ≡ true → StandsAfter old progress new → is_in_attempt new.stage ≡ false
+over_attempt : (old new : Standing) (progress : Progress) → is_over progress ≡ true → AgreesWithProgress old progress new → is_in_attempt new.stage ≡ false
 over_attempt old new (moved.Failed fault) over stands = ap is_in_attempt stands
 over_attempt old new moved.Ended over stands = elim stands [ inl done ↦ ap is_in_attempt done | inr ready ↦ ap is_in_attempt ready ]
 over_attempt old new progress over stands = absurd cc
@@ -269,14 +269,14 @@ owned_moved g w (asks t) o =
 owned_moved g w (fails k n c reader there stage own) o = over_owned w _ k refl refl own (rests _ _ Asking refl refl refl) o
 owned_moved g w (reaches k n s l reached live at grows) o = moved_owned (λ l. record l { toward = drop n l.toward }) (pass_ours n) w _ k refl refl refl o
 owned_moved g w (serves t) o = moved_owned (answered t.request t.reply) (answered_ours t.request t.reply) w _ t.k refl refl refl o
-owned_moved g w (ends k) o = moved_owned over_here here_ours w _ k refl refl refl o
+owned_moved g w (ends k) o = moved_owned without_server here_ours w _ k refl refl refl o
 owned_moved g w restarts o = restarted_owned w _ refl refl refl o
 owned_moved g w (cuts k) o = moved_owned (λ l. record l { cut = true }) cut_ours w _ k refl refl refl o
 owned_moved g w (talks k l t at none) o = strangers_owned (talked t) (talked_dump t) w _ k l refl refl refl at none o
 owned_moved g w (hears t on) o =
     let own = o.only t.k (t.l, t.d, t.there, t.other, t.dump) in
     let a = (o.own t.k own).1 in
-    let inside = subst (λ (x : Caller). IsTrue (is_in_attempt x.at.stage)) (same_Some a.0 t.c (sym a.1 ∙ t.client)) a.2 in
+    let inside = subst (λ (x : WorldClient). IsTrue (is_in_attempt x.at.stage)) (same_Some a.0 t.c (sym a.1 ∙ t.client)) a.2 in
     changed_owned (λ l. record l { back = drop t.n l.back }) (drop_ours t.n) w _ t.k refl refl
     (λ x. (_, refl, goes_attempt t.c.at t.at t.progress on inside (g.0 t.c.at t.at t.fed (take t.n t.l.back) t.progress t.feeds))) (λ x. (t.c, t.client, inside)) o
 owned_moved g w (hears_last t failure over) o =

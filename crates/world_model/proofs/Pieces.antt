@@ -2,7 +2,7 @@
 use Rattle.std.proofs.Common.{◌≡◌, ℕ, false, List, [], ◌++◌, append_assoc, take, drop, Option, Some, None, Result, Ok, Err, sym, ap, subst, ◌∙◌}
 use Rattle.std.proofs.lemmas.List.{append-nil, take-append-drop}
 use Rattle.rmt_wire.specs.Reply.{PlainReply, SpellsReply, reply_text}
-use Rattle.rmt_wire.specs.ReplyParts.{ReplyGives}
+use Rattle.rmt_wire.specs.ReplyParts.{ReplyParsesAs}
 use Rattle.rmt_wire.specs.ReplyReader.{ReplyHeld}
 use Rattle.rmt_wire.specs.declared.fault.WireFault.{WireFault}
 use Rattle.dump_client.specs.Script.{wanted_of}
@@ -23,7 +23,7 @@ pub data HearsPiece (old : Standing) (step : Step) (reply : PlainReply) (bytes w
   whole : SpellsReply bytes reply (wanted_of step) → way ≡ [] → ReceivesAt old step (Reply reply) false progress new → HearsPiece old step reply bytes way progress new
 
 hearing_of : OneReply → (old new : Standing) (step : Step) (reply : PlainReply) (bytes rest way : List ℕ) (progress : Progress) (seen : Result (Option PlainReply) WireFault)
-    → FitsReplyReader (wanted_of step) reply → reply_text reply ≡ bytes ++ way → ReplyGives (Some (wanted_of step)) bytes seen rest → Makes old step bytes seen rest progress new → HearsPiece old step reply bytes way progress new
+    → FitsReplyReader (wanted_of step) reply → reply_text reply ≡ bytes ++ way → ReplyParsesAs (Some (wanted_of step)) bytes seen rest → Makes old step bytes seen rest progress new → HearsPiece old step reply bytes way progress new
 hearing_of g old new step reply bytes rest way progress (Ok None) brief text gives (moved, is) = waits moved is text
 hearing_of g old new step reply bytes rest way progress (Ok (Some found)) brief text gives hears =
     let all = reply_whole g (wanted_of step) (reply_text reply) bytes way rest reply found brief.spelled text gives in

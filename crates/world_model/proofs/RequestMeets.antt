@@ -21,7 +21,7 @@ use Rattle.rmt_server.specs.Session.{PlainReel, PlainSession, SessionView, sessi
 use Rattle.rmt_server.specs.Session.Status.{NothingOpen}
 use Rattle.rmt_server.specs.Session.PlainSession.{Idle, Offline, Online}
 use Rattle.rmt_server.specs.TroubledServe.{drive_in, with_holder, holder_of, TroubledServeStep, TroubledOpens, TroubledReelStep, TroubledMoveStep, TroubledOpStep, TroubledDoneStep}
-use Rattle.world_model.specs.World.{World, Connection, Dumping, with_numbered}
+use Rattle.world_model.specs.World.{World, Connection, AttemptState, with_numbered}
 use Rattle.world_model.specs.Events.PlainEvent.{Serve}
 use Rattle.world_model.specs.Changes.{side_of, connection_of}
 use Rattle.world_model.specs.Standing.{AreHeld}
@@ -43,7 +43,7 @@ carries_happens w u k trouble c = (
 )
 
 -- it is the one that was sent and not carried out
-sent_next : OneReading → DroppedWrites → (w : World) (v : Turn w) (l : Connection) (d : Dumping) → IsConnectionSent w.begun (Some v.s) l d → IsNextSent w d v.request
+sent_next : OneReading → DroppedWrites → (w : World) (v : Turn w) (l : Connection) (d : AttemptState) → IsConnectionSent w.begun (Some v.s) l d → IsNextSent w d v.request
 sent_next g h w v l d (inl settled) = absurd (nothing_there h v.s l.toward v.bytes v.rest v.request settled.unserved v.unread v.gives)
 sent_next g h w v l d (inr (b, step, at, p)) =
     let all = serve_pending g h b v.s l.toward d step v.bytes v.rest v.request v.reply v.reached v.session p v.unread v.gives v.left in
@@ -59,7 +59,7 @@ sent_next g h w v l d (inr (b, step, at, p)) =
       asks = all.0;
     }
 
-pub next_request : OneReading → DroppedWrites → (w : World) (v : Turn w) (l : Connection) (d : Dumping) → AreTold w → connection_of w v.k ≡ Some l → l.dump ≡ Some d
+pub next_request : OneReading → DroppedWrites → (w : World) (v : Turn w) (l : Connection) (d : AttemptState) → AreTold w → connection_of w v.k ≡ Some l → l.dump ≡ Some d
     → IsNextSent w d v.request
 next_request g h w v l d told at dump = sent_next g h w v l d (subst (λ o. IsConnectionSent w.begun o l d) v.live ((told.each v.k l at).sent d dump))
 

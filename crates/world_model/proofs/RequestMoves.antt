@@ -17,7 +17,7 @@ use Rattle.rmt_server.specs.TroubledServe.{TroubledServeStep, TroubledMoveStep, 
 use Rattle.dump_client.specs.declared.step.Step.{Step}
 use Rattle.dump_client.specs.declared.step.Step.TheVariants.{Operation}
 use Rattle.dump_client.specs.declared.step.TapeOp.TheVariants.{Rewind, RewindAgain, Mark, Unload}
-use Rattle.world_model.specs.World.{World, Connection, Dumping, Begun}
+use Rattle.world_model.specs.World.{World, Connection, AttemptState, Begun}
 use Rattle.world_model.specs.Changes.{side_of, connection_of, first_name, written_reel, opening}
 use Rattle.world_model.specs.Standing.{IsFirstAway, online_drive_in}
 use Rattle.world_model.specs.Kept.{IsWorldKept}
@@ -38,7 +38,7 @@ op_of (Op op count) = op
 op_of request = 0
 
 -- the step is that of the MTOFFL
-move_step : (b : Begun) (d : Dumping) (step : Step) (count : ℕ) → request_in b d step ≡ Op MTOFFL count → (next : ℕ) × (step ≡ Operation (Unload next))
+move_step : (b : Begun) (d : AttemptState) (step : Step) (count : ℕ) → request_in b d step ≡ Op MTOFFL count → (next : ℕ) × (step ≡ Operation (Unload next))
 unfolding op_of
 move_step b d (Operation Rewind) count is = let clash : 5 ≡ 6 = ap op_of is in absurd (omega (arith, clash))
 move_step b d (Operation RewindAgain) count is = let clash : 5 ≡ 6 = ap op_of is in absurd (omega (arith, clash))
@@ -70,13 +70,13 @@ first_put [] reel away = absurd away
 first_put (x ∷ xs) reel away = refl
 
 -- what stands on the reel is the volume
-stands_whole : (w : World) (k : ℕ) (s : ServerConnection) (b : Begun) (d : Dumping) (drive : ℕ) (reel : PlainReel) → side_of w.server k ≡ Some s → s.session ≡ Online drive Both reel
+stands_whole : (w : World) (k : ℕ) (s : ServerConnection) (b : Begun) (d : AttemptState) (drive : ℕ) (reel : PlainReel) → side_of w.server k ≡ Some s → s.session ≡ Online drive Both reel
     → d.label ≡ true → d.mark ≡ true → IsReelWritten w k b d (first_name (drive_at w.server.library drive).stack)
     → entries_of reel.tape ≡ whole_volume b.run b.payload d.volume d.first d.blocks
 stands_whole w k s b d drive reel live online labelled marked written =
     written.stands (entries_of reel.tape) (inr (k, s, live, (drive, Both, reel, online, refl, refl))) ∙ labelled_as b.run b.payload d true labelled marked
 
-moved_whole : (w : World) (v : Turn w) (l : Connection) (d : Dumping) (p : IsServed w v l d) (next n : ℕ) → IsWorldKept w → connection_of w v.k ≡ Some l → l.dump ≡ Some d
+moved_whole : (w : World) (v : Turn w) (l : Connection) (d : AttemptState) (p : IsServed w v l d) (next n : ℕ) → IsWorldKept w → connection_of w v.k ≡ Some l → l.dump ≡ Some d
     → HasDone p.b.run (Some v.s) d (Operation (Unload next)) → v.request ≡ Op MTOFFL 1 → v.reply ≡ Done n → IsWholeInBin w v.k d (turned w v)
 moved_whole w v l d p next n kept at dump done asks replies =
     let on = done.stands v.s refl in
@@ -106,7 +106,7 @@ moved_whole w v l d p next n kept at dump done asks replies =
           ∙ ap (λ e. w.server.library.bin ++ slot name (Some (kept_reel e reel.capacity)) ∷ []) whole;
     }
 
-pub whole_at_the_move : OneReading → DroppedWrites → (w : World) (v : Turn w) (l : Connection) (d : Dumping) → IsWorldKept w → connection_of w v.k ≡ Some l → l.dump ≡ Some d
+pub whole_at_the_move : OneReading → DroppedWrites → (w : World) (v : Turn w) (l : Connection) (d : AttemptState) → IsWorldKept w → connection_of w v.k ≡ Some l → l.dump ≡ Some d
     → IsMoveDone v.request v.reply → IsWholeInBin w v.k d (turned w v)
 whole_at_the_move g h w v l d kept at dump ((count, asks), (n, replies)) =
     let p = served_step g h w v kept.told l d at dump in

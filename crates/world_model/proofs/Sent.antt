@@ -8,8 +8,8 @@ use Rattle.dump_client.specs.Lawful.{steps_before, steps_to, steps_to_block, blo
 use Rattle.dump_client.specs.declared.step.Step.{Step}
 use Rattle.dump_client.specs.declared.step.Step.TheVariants.{Open, Operation, Look, Label, Block, Close}
 use Rattle.dump_client.specs.declared.step.TapeOp.TheVariants.{Rewind, RewindAgain, Mark, Unload}
-use Rattle.world_model.specs.World.{Dumping}
-use Rattle.world_model.specs.Sending.{HasDone, VolumeHasBlocks, StandsFor}
+use Rattle.world_model.specs.World.{AttemptState}
+use Rattle.world_model.specs.Sending.{HasDone, VolumeHasBlocks, IsSessionBefore}
 
 -- a block more, where one is left
 abbrev pub one_if : Bool → ℕ
@@ -60,7 +60,7 @@ before_length run first next Close =
     omega (arith, all, many)
 
 -- what comes before the close was carried out still
-pub still_unloaded : (run : PlainRun) (d e : Dumping) → e.first ≡ d.first → e.blocks ≡ d.blocks → d.carried ≤ e.carried
+pub still_unloaded : (run : PlainRun) (d e : AttemptState) → e.first ≡ d.first → e.blocks ≡ d.blocks → d.carried ≤ e.carried
     → length (steps_before run d.first (d.first + d.blocks) Close) ≤ d.carried → length (steps_before run e.first (e.first + e.blocks) Close) ≤ e.carried
 still_unloaded run d e first blocks more was =
     let same : length (steps_before run e.first (e.first + e.blocks) Close) ≡ length (steps_before run d.first (d.first + d.blocks) Close)
@@ -88,7 +88,7 @@ few_steps run first blocks (Operation (Unload end)) has within = let most = one_
 few_steps run first blocks Close has within = let most = one_at_most (nat_lt (first + blocks) run.blocks) in omega (arith, within, most)
 
 -- an attempt has few steps
-pub done_few : (run : PlainRun) (o : Option ServerConnection) (d : Dumping) (step : Step) → IsRun run → HasDone run o d step → d.carried + 1 < 2 ^ 64
+pub done_few : (run : PlainRun) (o : Option ServerConnection) (d : AttemptState) (step : Step) → IsRun run → HasDone run o d step → d.carried + 1 < 2 ^ 64
 done_few run o d step good h =
     let few = few_steps run d.first d.blocks step h.blocks h.within in
     let many = h.carried ∙ before_length run d.first (d.first + d.blocks) step in
@@ -96,7 +96,7 @@ done_few run o d step good h =
     omega (arith, few, many, limit)
 
 -- the side is over, or its session stays
-pub moved_done : (run : PlainRun) (o p : Option ServerConnection) (d : Dumping) (step : Step)
+pub moved_done : (run : PlainRun) (o p : Option ServerConnection) (d : AttemptState) (step : Step)
     → ((s : ServerConnection) → p ≡ Some s → (x : ServerConnection) × (o ≡ Some x) × (s.session ≡ x.session)) → HasDone run o d step → HasDone run p d step
 moved_done run o p d step same h = record {
   carried = h.carried;
@@ -105,5 +105,5 @@ moved_done run o p d step same h = record {
   blocks = h.blocks;
   within = h.within;
   mark = h.mark;
-  stands = λ s at. (let x = same s at in subst (StandsFor step) (sym x.2) (h.stands x.0 x.1));
+  stands = λ s at. (let x = same s at in subst (IsSessionBefore step) (sym x.2) (h.stands x.0 x.1));
 }

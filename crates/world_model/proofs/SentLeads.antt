@@ -24,9 +24,9 @@ use Rattle.dump_client.specs.declared.step.TapeOp.TheVariants.{Rewind, RewindAga
 use Rattle.dump_client.specs.declared.stage.Stage.TheVariants.{ToSend, Asking, Ready, Finished}
 use Rattle.dump_client.specs.declared.stage.Progress.{Progress}
 use Rattle.dump_run.specs.declared.count.VolumeCount.{VolumeCount}
-use Rattle.world_model.specs.World.{Dumping}
+use Rattle.world_model.specs.World.{AttemptState}
 use Rattle.world_model.specs.Changes.{noted, noted_error, accepted}
-use Rattle.world_model.specs.Sending.{HasDone, is_labelled, is_marked, VolumeHasBlocks, StandsFor, GoesTo, AreCounted}
+use Rattle.world_model.specs.Sending.{HasDone, is_labelled, is_marked, VolumeHasBlocks, IsSessionBefore, GoesTo, AreCounted}
 use Rattle.world_model.specs.Standing.{IsOnlineWith}
 use Rattle.world_model.proofs.Sent.{steps_len, one_if, before_length, raised_one}
 
@@ -52,21 +52,21 @@ one_further carried run first a b step next few was more =
     omega (arith, one, was, before, after, more)
 
 -- Where the client goes on once it hears this, by what the reply makes of it.
-abbrev pub LeadsFrom : Option ServerConnection → Standing → Dumping → Dumping → Step → PlainReply → Type 0
+abbrev pub LeadsFrom : Option ServerConnection → Standing → AttemptState → AttemptState → Step → PlainReply → Type 0
 LeadsFrom o old d noted step reply =
     (progress : Progress) (new : Standing) (next : Step) → Becomes old (after_reply old.run old.counts d.first step reply) false progress new
     → new.stage ≡ ToSend next → GoesTo old.run o old noted new next
 
 -- the numbers with a request more
-abbrev pub on_by_one : Dumping → Dumping
+abbrev pub on_by_one : AttemptState → AttemptState
 on_by_one d = record d { carried = raised d.carried }
 
 -- The client goes on to a step, of which no write comes between: the numbers stay but for the request that was carried out.
-goes_on : (old : Standing) (s x : ServerConnection) (d : Dumping) (step next : Step) (counts : List VolumeCount) (new : Standing) → d.carried + 1 < 2 ^ 64
+goes_on : (old : Standing) (s x : ServerConnection) (d : AttemptState) (step next : Step) (counts : List VolumeCount) (new : Standing) → d.carried + 1 < 2 ^ 64
     → HasDone old.run (Some s) d step → new ≡ standing old.run counts (ToSend next)
     → steps_len old.run d.first (d.first + d.blocks) next ≡ steps_len old.run d.first (d.first + d.blocks) step + 1
     → is_labelled step ≡ is_labelled next → is_marked step ≡ is_marked next → VolumeHasBlocks old.run d.first next d.blocks
-    → StandsFor next x.session → AreCounted next old.counts (on_by_one d) counts → GoesTo old.run (Some x) old (on_by_one d) new next
+    → IsSessionBefore next x.session → AreCounted next old.counts (on_by_one d) counts → GoesTo old.run (Some x) old (on_by_one d) new next
 goes_on old s x d step next counts new few h is more label mark blocks stands counted = record {
   done = record {
     carried = one_further d.carried old.run d.first (d.first + d.blocks) (d.first + d.blocks) step next few h.carried more;
@@ -75,14 +75,14 @@ goes_on old s x d step next counts new few h is more label mark blocks stands co
     blocks = blocks;
     within = h.within;
     mark = h.mark ∙ mark;
-    stands = λ y here. subst (λ (z : ServerConnection). StandsFor next z.session) (same_Some x y here) stands;
+    stands = λ y here. subst (λ (z : ServerConnection). IsSessionBefore next z.session) (same_Some x y here) stands;
   };
   same_run = ap (λ (z : Standing). z.run) is;
   counts = subst (λ c. AreCounted next old.counts (on_by_one d) c) (sym (ap (λ (z : Standing). z.counts) is)) counted;
 }
 
 -- nothing is open before, and the drive afterwards
-pub open_leads : (old : Standing) (s x : ServerConnection) (d : Dumping) (device : List ℕ) (reply : PlainReply) → HasDone old.run (Some s) d Open → d.carried + 1 < 2 ^ 64
+pub open_leads : (old : Standing) (s x : ServerConnection) (d : AttemptState) (device : List ℕ) (reply : PlainReply) → HasDone old.run (Some s) d Open → d.carried + 1 < 2 ^ 64
     → ((n : ℕ) → reply ≡ Done n → (reel : PlainReel) × IsOnlineWith x.session reel × (reel.tape.before ≡ []))
     → LeadsFrom (Some x) old d (noted (OpenDevice device O_RDWR) reply d) Open reply
 open_leads old s x d device (Done n) h few stands progress new next (moved, is) at =
@@ -92,7 +92,7 @@ open_leads old s x d device (Data bytes) h few stands progress new next (moved, 
 open_leads old s x d device (Error n text) h few stands progress new next (moved, is) at = absurd (not_asking old.run old.counts new next is at)
 
 -- after an operation that was done once
-op_tested : (old : Standing) (o : Option ServerConnection) (noted : Dumping) (op : TapeOp) (b : Bool)
+op_tested : (old : Standing) (o : Option ServerConnection) (noted : AttemptState) (op : TapeOp) (b : Bool)
     → ((progress : Progress) (new : Standing) (next : Step) → Becomes old (after_done op) false progress new → new.stage ≡ ToSend next → GoesTo old.run o old noted new next)
     → (progress : Progress) (new : Standing) (next : Step) → Becomes old (if b then after_done op else after_noise (Operation op)) false progress new
     → new.stage ≡ ToSend next → GoesTo old.run o old noted new next
@@ -100,27 +100,27 @@ op_tested old o noted op true leads progress new next becomes at = leads progres
 op_tested old o noted op false leads progress new next (moved, is) at = absurd (not_asking old.run old.counts new next is at)
 
 -- any other reply to it fails
-op_leads : (old : Standing) (o : Option ServerConnection) (d noted : Dumping) (op : TapeOp) (reply : PlainReply)
+op_leads : (old : Standing) (o : Option ServerConnection) (d noted : AttemptState) (op : TapeOp) (reply : PlainReply)
     → ((n : ℕ) → reply ≡ Done n → (progress : Progress) (new : Standing) (next : Step) → Becomes old (after_done op) false progress new → new.stage ≡ ToSend next
     → GoesTo old.run o old noted new next) → LeadsFrom o old d noted (Operation op) reply
 op_leads old o d noted op (Done n) leads progress new next becomes at = op_tested old o noted op (n == 1) (leads n refl) progress new next becomes at
 op_leads old o d noted op (Data bytes) leads progress new next (moved, is) at = absurd (not_asking old.run old.counts new next is at)
 op_leads old o d noted op (Error n text) leads progress new next (moved, is) at = absurd (not_asking old.run old.counts new next is at)
 
-pub rewind_leads : (old : Standing) (s x : ServerConnection) (d : Dumping) (reply : PlainReply) → HasDone old.run (Some s) d (Operation Rewind) → d.carried + 1 < 2 ^ 64
-    → ((n : ℕ) → reply ≡ Done n → StandsFor Look x.session) → LeadsFrom (Some x) old d (on_by_one d) (Operation Rewind) reply
+pub rewind_leads : (old : Standing) (s x : ServerConnection) (d : AttemptState) (reply : PlainReply) → HasDone old.run (Some s) d (Operation Rewind) → d.carried + 1 < 2 ^ 64
+    → ((n : ℕ) → reply ≡ Done n → IsSessionBefore Look x.session) → LeadsFrom (Some x) old d (on_by_one d) (Operation Rewind) reply
 rewind_leads old s x d reply h few stands = op_leads old (Some x) d (on_by_one d) Rewind reply (λ n is progress new next (moved, becomes) at.
     subst (GoesTo old.run (Some x) old (on_by_one d) new) (arrives old.run old.counts new Look next becomes at)
     (goes_on old s x d (Operation Rewind) Look old.counts new few h becomes refl refl refl h.blocks (stands n is) refl))
 
-pub again_leads : (old : Standing) (s x : ServerConnection) (d : Dumping) (reply : PlainReply) → HasDone old.run (Some s) d (Operation RewindAgain) → d.carried + 1 < 2 ^ 64
-    → ((n : ℕ) → reply ≡ Done n → StandsFor Label x.session) → LeadsFrom (Some x) old d (on_by_one d) (Operation RewindAgain) reply
+pub again_leads : (old : Standing) (s x : ServerConnection) (d : AttemptState) (reply : PlainReply) → HasDone old.run (Some s) d (Operation RewindAgain) → d.carried + 1 < 2 ^ 64
+    → ((n : ℕ) → reply ≡ Done n → IsSessionBefore Label x.session) → LeadsFrom (Some x) old d (on_by_one d) (Operation RewindAgain) reply
 again_leads old s x d reply h few stands = op_leads old (Some x) d (on_by_one d) RewindAgain reply (λ n is progress new next (moved, becomes) at.
     subst (GoesTo old.run (Some x) old (on_by_one d) new) (arrives old.run old.counts new Label next becomes at)
     (goes_on old s x d (Operation RewindAgain) Label old.counts new few h becomes refl refl refl h.blocks (stands n is) refl))
 
 -- a first record that is the label of no counted volume
-shown_leads : (old : Standing) (s x : ServerConnection) (d : Dumping) (o : Option ℕ) → HasDone old.run (Some s) d Look → d.carried + 1 < 2 ^ 64
+shown_leads : (old : Standing) (s x : ServerConnection) (d : AttemptState) (o : Option ℕ) → HasDone old.run (Some s) d Look → d.carried + 1 < 2 ^ 64
     → ((reel : PlainReel) × IsOnlineWith x.session reel) → (progress : Progress) (new : Standing) (next : Step)
     → Becomes old (after_label old.run d.first o) false progress new → new.stage ≡ ToSend next → GoesTo old.run (Some x) old (on_by_one d) new next
 shown_leads old s x d None h few stands progress new next (moved, is) at =
@@ -128,7 +128,7 @@ shown_leads old s x d None h few stands progress new next (moved, is) at =
     (goes_on old s x d Look (Operation RewindAgain) old.counts new few h is refl refl refl h.blocks stands refl)
 shown_leads old s x d (Some volume) h few stands progress new next (moved, is) at = absurd (not_asking old.run old.counts new next is at)
 
-pub look_leads : (old : Standing) (s x : ServerConnection) (d : Dumping) (reply : PlainReply) → HasDone old.run (Some s) d Look → d.carried + 1 < 2 ^ 64
+pub look_leads : (old : Standing) (s x : ServerConnection) (d : AttemptState) (reply : PlainReply) → HasDone old.run (Some s) d Look → d.carried + 1 < 2 ^ 64
     → ((reel : PlainReel) × IsOnlineWith x.session reel) → LeadsFrom (Some x) old d (on_by_one d) Look reply
 look_leads old s x d (Done n) h few stands progress new next (moved, is) at = absurd (not_asking old.run old.counts new next is at)
 look_leads old s x d (Data bytes) h few stands progress new next becomes at =
@@ -136,7 +136,7 @@ look_leads old s x d (Data bytes) h few stands progress new next becomes at =
 look_leads old s x d (Error n text) h few stands progress new next (moved, is) at = absurd (not_asking old.run old.counts new next is at)
 
 -- The session stays online, and the numbers are those before a block, or before the mark where none is left.
-record StandsBefore (run : PlainRun) (x : ServerConnection) (d : Dumping) (number : ℕ) : Type 0 where
+record StandsBefore (run : PlainRun) (x : ServerConnection) (d : AttemptState) (number : ℕ) : Type 0 where
   carried : d.carried ≡ 5 + (number - d.first)
   fault : d.fault ≡ false
   label : d.label ≡ true
@@ -145,7 +145,7 @@ record StandsBefore (run : PlainRun) (x : ServerConnection) (d : Dumping) (numbe
   mark : d.mark ≡ false
   online : (reel : PlainReel) × IsOnlineWith x.session reel
 
-next_done : (run : PlainRun) (x : ServerConnection) (d : Dumping) (number : ℕ) (b : Bool) → nat_lt number run.blocks ≡ b → StandsBefore run x d number
+next_done : (run : PlainRun) (x : ServerConnection) (d : AttemptState) (number : ℕ) (b : Bool) → nat_lt number run.blocks ≡ b → StandsBefore run x d number
     → HasDone run (Some x) d (if b then Block number else Operation (Mark number))
 next_done run x d number true test h = record {
   carried = h.carried ∙ sym (before_length run d.first (d.first + d.blocks) (Block number));
@@ -154,7 +154,7 @@ next_done run x d number true test h = record {
   blocks = (h.at, grind (arith, nat_tests));
   within = (let at = h.at in let within = h.within in omega (arith, at, within));
   mark = h.mark;
-  stands = λ y here. subst (λ (z : ServerConnection). StandsFor (Block number) z.session) (same_Some x y here) h.online;
+  stands = λ y here. subst (λ (z : ServerConnection). IsSessionBefore (Block number) z.session) (same_Some x y here) h.online;
 }
 next_done run x d number false test h = record {
   carried = (
@@ -167,15 +167,15 @@ next_done run x d number false test h = record {
   blocks = h.at;
   within = (let at = h.at in let within = h.within in omega (arith, at, within));
   mark = h.mark;
-  stands = λ y here. subst (λ (z : ServerConnection). StandsFor (Operation (Mark number)) z.session) (same_Some x y here) h.online;
+  stands = λ y here. subst (λ (z : ServerConnection). IsSessionBefore (Operation (Mark number)) z.session) (same_Some x y here) h.online;
 }
 
-not_counted : (old new : Standing) (d : Dumping) (number : ℕ) (b : Bool) → new.counts ≡ old.counts → AreCounted (if b then Block number else Operation (Mark number)) old.counts d new.counts
+not_counted : (old new : Standing) (d : AttemptState) (number : ℕ) (b : Bool) → new.counts ≡ old.counts → AreCounted (if b then Block number else Operation (Mark number)) old.counts d new.counts
 not_counted old new d number true is = is
 not_counted old new d number false is = is
 
 -- the client goes on to a block or the mark
-goes_next : (old new : Standing) (x : ServerConnection) (d : Dumping) (number : ℕ) (next : Step) → StandsBefore old.run x d number
+goes_next : (old new : Standing) (x : ServerConnection) (d : AttemptState) (number : ℕ) (next : Step) → StandsBefore old.run x d number
     → new ≡ standing old.run old.counts (ToSend (block_or_mark old.run number)) → new.stage ≡ ToSend next → GoesTo old.run (Some x) old d new next
 goes_next old new x d number next h is at =
     subst (GoesTo old.run (Some x) old d new) (arrives old.run old.counts new (block_or_mark old.run number) next is at) record {
@@ -184,13 +184,13 @@ goes_next old new x d number next h is at =
       counts = not_counted old new d number (nat_lt number old.run.blocks) (ap (λ (z : Standing). z.counts) is);
     }
 
-pub label_accepted : (d : Dumping) → d.label ≡ false → accepted d ≡ record d { label = true }
+pub label_accepted : (d : AttemptState) → d.label ≡ false → accepted d ≡ record d { label = true }
 label_accepted d is = ap (λ b. if b then record d { blocks = raised d.blocks } else record d { label = true }) is
 
-pub block_accepted : (d : Dumping) → d.label ≡ true → accepted d ≡ record d { blocks = raised d.blocks }
+pub block_accepted : (d : AttemptState) → d.label ≡ true → accepted d ≡ record d { blocks = raised d.blocks }
 block_accepted d is = ap (λ b. if b then record d { blocks = raised d.blocks } else record d { label = true }) is
 
-label_tested : (old : Standing) (s x : ServerConnection) (d : Dumping) (b c : Bool) → HasDone old.run (Some s) d Label → d.carried + 1 < 2 ^ 64
+label_tested : (old : Standing) (s x : ServerConnection) (d : AttemptState) (b c : Bool) → HasDone old.run (Some s) d Label → d.carried + 1 < 2 ^ 64
     → ((reel : PlainReel) × IsOnlineWith x.session reel) → (progress : Progress) (new : Standing) (next : Step)
     → Becomes old (if b then after_step old.run d.first Label else if c then at_end_of_reel d.first Label else after_write old.run d.first Label 5 3) false progress new
     → new.stage ≡ ToSend next → GoesTo old.run (Some x) old (on_by_one (accepted d)) new next
@@ -199,7 +199,7 @@ label_tested old s x d true c h few stands progress new next (moved, is) at =
     let was = h.carried in
     let none = h.blocks in
     let within = h.within in
-    subst (λ (e : Dumping). GoesTo old.run (Some x) old (on_by_one e) new next) (sym (label_accepted d h.label))
+    subst (λ (e : AttemptState). GoesTo old.run (Some x) old (on_by_one e) new next) (sym (label_accepted d h.label))
     (goes_next old new x (on_by_one (record d { label = true })) d.first next record {
       carried = omega (arith, one, was);
       fault = h.fault;
@@ -217,7 +217,7 @@ error_tested : (old new : Standing) (next : Step) (n first : ℕ) (progress : Pr
 error_tested old new next n first progress true C (moved, is) at = absurd (not_asking old.run old.counts new next is at)
 error_tested old new next n first progress false C (moved, is) at = absurd (not_asking old.run old.counts new next is at)
 
-pub label_leads : (old : Standing) (s x : ServerConnection) (d : Dumping) (bytes : List ℕ) (reply : PlainReply) → HasDone old.run (Some s) d Label → d.carried + 1 < 2 ^ 64
+pub label_leads : (old : Standing) (s x : ServerConnection) (d : AttemptState) (bytes : List ℕ) (reply : PlainReply) → HasDone old.run (Some s) d Label → d.carried + 1 < 2 ^ 64
     → ((reel : PlainReel) × IsOnlineWith x.session reel) → LeadsFrom (Some x) old d (noted (Write bytes) reply d) Label reply
 label_leads old s x d bytes (Done zero) h few stands progress new next (moved, is) at = absurd (not_asking old.run old.counts new next is at)
 label_leads old s x d bytes (Done (suc m)) h few stands progress new next becomes at =
@@ -227,7 +227,7 @@ label_leads old s x d bytes (Error n text) h few stands progress new next become
     error_tested old new next n d.first progress (n == ENOSPC) (GoesTo old.run (Some x) old (noted (Write bytes) (Error n text) d) new next) becomes at
 
 -- there is no room for a block, after one that was written
-end_tested : (old : Standing) (s x : ServerConnection) (d : Dumping) (number : ℕ) (t : Bool) → HasDone old.run (Some s) d (Block number) → d.carried + 1 < 2 ^ 64
+end_tested : (old : Standing) (s x : ServerConnection) (d : AttemptState) (number : ℕ) (t : Bool) → HasDone old.run (Some s) d (Block number) → d.carried + 1 < 2 ^ 64
     → ((reel : PlainReel) × IsOnlineWith x.session reel) → (progress : Progress) (new : Standing) (next : Step)
     → Becomes old (if t then leads_to (Operation (Mark number)) Open else at_end_of_reel d.first Open) false progress new
     → new.stage ≡ ToSend next → GoesTo old.run (Some x) old (on_by_one d) new next
@@ -238,7 +238,7 @@ end_tested old s x d number true h few stands progress new next (moved, is) at =
     (goes_on old s x d (Block number) (Operation (Mark number)) old.counts new few h is (omega (arith, last)) refl refl h.blocks.0 stands refl)
 end_tested old s x d number false h few stands progress new next (moved, is) at = absurd (not_asking old.run old.counts new next is at)
 
-block_tested : (old : Standing) (s x : ServerConnection) (d : Dumping) (number m : ℕ) (b c : Bool) → (suc m == 0) ≡ c → IsRun old.run → HasDone old.run (Some s) d (Block number)
+block_tested : (old : Standing) (s x : ServerConnection) (d : AttemptState) (number m : ℕ) (b c : Bool) → (suc m == 0) ≡ c → IsRun old.run → HasDone old.run (Some s) d (Block number)
     → d.carried + 1 < 2 ^ 64 → ((reel : PlainReel) × IsOnlineWith x.session reel) → (progress : Progress) (new : Standing) (next : Step)
     → Becomes old
     (if b then after_step old.run d.first (Block number) else if c then at_end_of_reel d.first (Block number) else after_write old.run d.first Label 5 3) false progress new
@@ -251,7 +251,7 @@ block_tested old s x d number m true c test good h few stands progress new next 
     let was = h.carried ∙ before_length old.run d.first (d.first + d.blocks) (Block number) in
     let here = h.blocks.0 in
     let below = h.blocks.1 in
-    subst (λ (e : Dumping). GoesTo old.run (Some x) old (on_by_one e) new next) (sym (block_accepted d h.label))
+    subst (λ (e : AttemptState). GoesTo old.run (Some x) old (on_by_one e) new next) (sym (block_accepted d h.label))
     (goes_next old new x (on_by_one (record d { blocks = raised d.blocks })) (number + 1) next record {
       carried = omega (arith, one, was, here);
       fault = h.fault;
@@ -264,7 +264,7 @@ block_tested old s x d number m true c test good h few stands progress new next 
 block_tested old s x d number m false true test good h few stands progress new next becomes at = absurd (grind (arith, nat_tests))
 block_tested old s x d number m false false test good h few stands progress new next (moved, is) at = absurd (not_asking old.run old.counts new next is at)
 
-none_tested : (old : Standing) (s x : ServerConnection) (d : Dumping) (number : ℕ) (b : Bool) → (0 == old.run.block_bytes) ≡ b → IsRun old.run → HasDone old.run (Some s) d (Block number)
+none_tested : (old : Standing) (s x : ServerConnection) (d : AttemptState) (number : ℕ) (b : Bool) → (0 == old.run.block_bytes) ≡ b → IsRun old.run → HasDone old.run (Some s) d (Block number)
     → d.carried + 1 < 2 ^ 64 → ((reel : PlainReel) × IsOnlineWith x.session reel) → (progress : Progress) (new : Standing) (next : Step)
     → Becomes old (if b then after_step old.run d.first (Block number) else at_end_of_reel d.first (Block number)) false progress new
     → new.stage ≡ ToSend next → GoesTo old.run (Some x) old (on_by_one d) new next
@@ -272,18 +272,18 @@ none_tested old s x d number true test good h few stands progress new next becom
 none_tested old s x d number false test good h few stands progress new next becomes at =
     end_tested old s x d number (nat_lt d.first number) h few stands progress new next becomes at
 
-refused_tested : (old : Standing) (s x : ServerConnection) (d : Dumping) (number n : ℕ) (b : Bool) → (n == ENOSPC) ≡ b → HasDone old.run (Some s) d (Block number)
+refused_tested : (old : Standing) (s x : ServerConnection) (d : AttemptState) (number n : ℕ) (b : Bool) → (n == ENOSPC) ≡ b → HasDone old.run (Some s) d (Block number)
     → d.carried + 1 < 2 ^ 64 → ((reel : PlainReel) × IsOnlineWith x.session reel) → (progress : Progress) (new : Standing) (next : Step)
     → Becomes old (if b then at_end_of_reel d.first (Block number) else after_error d.first Open n) false progress new
     → new.stage ≡ ToSend next → GoesTo old.run (Some x) old (on_by_one (noted_error d n)) new next
 refused_tested old s x d number n true test h few stands progress new next becomes at =
     let other : (n == EIO) ≡ false = grind (arith, nat_tests) in
     let same : noted_error d n ≡ d = ap (λ b. if b then record d { fault = true } else d) other in
-    subst (λ (e : Dumping). GoesTo old.run (Some x) old (on_by_one e) new next) (sym same)
+    subst (λ (e : AttemptState). GoesTo old.run (Some x) old (on_by_one e) new next) (sym same)
     (end_tested old s x d number (nat_lt d.first number) h few stands progress new next becomes at)
 refused_tested old s x d number n false test h few stands progress new next (moved, is) at = absurd (not_asking old.run old.counts new next is at)
 
-pub block_leads : (old : Standing) (s x : ServerConnection) (d : Dumping) (number : ℕ) (bytes : List ℕ) (reply : PlainReply) → IsRun old.run → HasDone old.run (Some s) d (Block number)
+pub block_leads : (old : Standing) (s x : ServerConnection) (d : AttemptState) (number : ℕ) (bytes : List ℕ) (reply : PlainReply) → IsRun old.run → HasDone old.run (Some s) d (Block number)
     → d.carried + 1 < 2 ^ 64 → ((reel : PlainReel) × IsOnlineWith x.session reel) → LeadsFrom (Some x) old d (noted (Write bytes) reply d) (Block number) reply
 block_leads old s x d number bytes (Done zero) good h few stands progress new next becomes at =
     none_tested old s x d number (0 == old.run.block_bytes) refl good h few stands progress new next becomes at
@@ -293,7 +293,7 @@ block_leads old s x d number bytes (Data given) good h few stands progress new n
 block_leads old s x d number bytes (Error n text) good h few stands progress new next becomes at =
     refused_tested old s x d number n (n == ENOSPC) refl h few stands progress new next becomes at
 
-pub mark_leads : (old : Standing) (s x : ServerConnection) (d : Dumping) (end : ℕ) (reply : PlainReply) → HasDone old.run (Some s) d (Operation (Mark end)) → d.carried + 1 < 2 ^ 64
+pub mark_leads : (old : Standing) (s x : ServerConnection) (d : AttemptState) (end : ℕ) (reply : PlainReply) → HasDone old.run (Some s) d (Operation (Mark end)) → d.carried + 1 < 2 ^ 64
     → ((reel : PlainReel) × IsOnlineWith x.session reel) → LeadsFrom (Some x) old d (noted (Op MTWEOF 1) reply d) (Operation (Mark end)) reply
 mark_leads old s x d end reply h few stands = op_leads old (Some x) d (noted (Op MTWEOF 1) reply d) (Mark end) reply (λ n done progress new next (moved, is) at.
     subst (λ r. GoesTo old.run (Some x) old (noted (Op MTWEOF 1) r d) new next) (sym done)
@@ -305,14 +305,14 @@ mark_leads old s x d end reply h few stands = op_leads old (Some x) d (noted (Op
         blocks = h.blocks;
         within = h.within;
         mark = refl;
-        stands = λ y here. subst (λ (z : ServerConnection). StandsFor (Operation (Unload end)) z.session) (same_Some x y here) stands;
+        stands = λ y here. subst (λ (z : ServerConnection). IsSessionBefore (Operation (Unload end)) z.session) (same_Some x y here) stands;
       };
       same_run = ap (λ (z : Standing). z.run) is;
       counts = ap (λ (z : Standing). z.counts) is;
     }))
 
-pub unload_leads : (old : Standing) (s x : ServerConnection) (d : Dumping) (end : ℕ) (reply : PlainReply) → HasDone old.run (Some s) d (Operation (Unload end)) → d.carried + 1 < 2 ^ 64
-    → ((n : ℕ) → reply ≡ Done n → StandsFor Close x.session) → LeadsFrom (Some x) old d (on_by_one d) (Operation (Unload end)) reply
+pub unload_leads : (old : Standing) (s x : ServerConnection) (d : AttemptState) (end : ℕ) (reply : PlainReply) → HasDone old.run (Some s) d (Operation (Unload end)) → d.carried + 1 < 2 ^ 64
+    → ((n : ℕ) → reply ≡ Done n → IsSessionBefore Close x.session) → LeadsFrom (Some x) old d (on_by_one d) (Operation (Unload end)) reply
 unload_leads old s x d end reply h few stands = op_leads old (Some x) d (on_by_one d) (Unload end) reply (λ n done progress new next (moved, is) at.
     let here = h.blocks in
     let same = ap (λ n. one_if (nat_lt n old.run.blocks)) h.blocks in
@@ -320,7 +320,7 @@ unload_leads old s x d end reply h few stands = op_leads old (Some x) d (on_by_o
     (goes_on old s x d (Operation (Unload end)) Close (counted_to old.counts end) new few h is (omega (arith, same, here)) refl refl tt (stands n done) (ap (counted_to old.counts) here)))
 
 -- after the close the attempt is over
-pub close_leads : (old : Standing) (x : ServerConnection) (d noted : Dumping) (reply : PlainReply) → LeadsFrom (Some x) old d noted Close reply
+pub close_leads : (old : Standing) (x : ServerConnection) (d noted : AttemptState) (reply : PlainReply) → LeadsFrom (Some x) old d noted Close reply
 close_leads old x d noted (Done n) progress new next (moved, over) at = absurd (not_over old.run old.counts new next over at)
 close_leads old x d noted (Data bytes) progress new next (moved, over) at = absurd (not_over old.run old.counts new next over at)
 close_leads old x d noted (Error n text) progress new next (moved, over) at = absurd (not_over old.run old.counts new next over at)

@@ -6,7 +6,7 @@ use Rattle.rmt_wire.specs.Request.{PlainRequest, SpellsRequest, request_text}
 use Rattle.rmt_wire.specs.Request.PlainRequest.{Close as CloseDevice, Write, WriteDropped, Op}
 use Rattle.rmt_wire.specs.Reply.{PlainReply, reply_text}
 use Rattle.rmt_wire.specs.Reply.PlainReply.{Done, Data, Error}
-use Rattle.rmt_wire.specs.RequestParts.{Gives}
+use Rattle.rmt_wire.specs.RequestParts.{ParsesAs}
 use Rattle.rmt_wire.specs.RequestReader.{RequestHeld, Unread}
 use Rattle.rmt_wire.specs.declared.errno.TheConstants.{EIO}
 use Rattle.rmt_wire.specs.declared.mtio.TheConstants.{MTWEOF}
@@ -26,7 +26,7 @@ use Rattle.dump_client.specs.declared.step.Step.TheVariants.{Open, Operation, Lo
 use Rattle.dump_client.specs.declared.step.TapeOp.TheVariants.{Rewind, RewindAgain, Mark, Unload}
 use Rattle.dump_client.specs.declared.stage.Stage.{Stage}
 use Rattle.dump_client.specs.declared.stage.Stage.TheVariants.{ToSend, Waiting}
-use Rattle.world_model.specs.World.{Connection, Dumping, Begun, Caller, numbered}
+use Rattle.world_model.specs.World.{Connection, AttemptState, Begun, WorldClient, numbered}
 use Rattle.world_model.specs.Changes.{sent_on, noted, noted_by, noted_write, noted_marks, answered}
 use Rattle.world_model.specs.Sending.{HasDone, AreUnserved, request_in, IsPending, IsConnectionSettled, IsConnectionSent, LeadsOn, FitsReplyReader, IsStepReply, IsAttempt, IsStepAsked, IsStepReplied, IsConnectionToldAt, IsGood}
 use Rattle.world_model.proofs.Sent.{raised_one}
@@ -35,40 +35,40 @@ use Rattle.world_model.proofs.SentSteps.{ReplyTexts, plain_brief, shown_brief, w
 use Rattle.world_model.proofs.SentLeads.{LeadsFrom, open_leads, rewind_leads, look_leads, again_leads, label_leads, block_leads, mark_leads, unload_leads, close_leads}
 
 -- what a note of a request leaves
-pub record SameAttempt (d e : Dumping) : Type 0 where
+pub record SameAttempt (d e : AttemptState) : Type 0 where
   pub run : e.run ≡ d.run
   pub volume : e.volume ≡ d.volume
   pub first : e.first ≡ d.first
   pub sent : e.sent ≡ d.sent
   pub carried : e.carried ≡ d.carried
 
-same_attempt : (d : Dumping) → SameAttempt d d
+same_attempt : (d : AttemptState) → SameAttempt d d
 same_attempt d = record { run = refl; volume = refl; first = refl; sent = refl; carried = refl }
 
-accepted_same : (d : Dumping) (b : Bool) → SameAttempt d (if b then record d { blocks = raised d.blocks } else record d { label = true })
+accepted_same : (d : AttemptState) (b : Bool) → SameAttempt d (if b then record d { blocks = raised d.blocks } else record d { label = true })
 accepted_same d true = record { run = refl; volume = refl; first = refl; sent = refl; carried = refl }
 accepted_same d false = record { run = refl; volume = refl; first = refl; sent = refl; carried = refl }
 
-error_same : (d : Dumping) (b : Bool) → SameAttempt d (if b then record d { fault = true } else d)
+error_same : (d : AttemptState) (b : Bool) → SameAttempt d (if b then record d { fault = true } else d)
 error_same d true = record { run = refl; volume = refl; first = refl; sent = refl; carried = refl }
 error_same d false = same_attempt d
 
-write_same : (d : Dumping) (reply : PlainReply) → SameAttempt d (noted_write d reply)
+write_same : (d : AttemptState) (reply : PlainReply) → SameAttempt d (noted_write d reply)
 write_same d (Done zero) = same_attempt d
 write_same d (Done (suc n)) = accepted_same d d.label
 write_same d (Data bytes) = same_attempt d
 write_same d (Error n text) = error_same d (n == EIO)
 
-marks_same : (d : Dumping) (reply : PlainReply) → SameAttempt d (noted_marks d reply)
+marks_same : (d : AttemptState) (reply : PlainReply) → SameAttempt d (noted_marks d reply)
 marks_same d (Done n) = record { run = refl; volume = refl; first = refl; sent = refl; carried = refl }
 marks_same d (Data bytes) = same_attempt d
 marks_same d (Error n text) = error_same d (n == EIO)
 
-op_same : (d : Dumping) (reply : PlainReply) (b : Bool) → SameAttempt d (if b then noted_marks d reply else d)
+op_same : (d : AttemptState) (reply : PlainReply) (b : Bool) → SameAttempt d (if b then noted_marks d reply else d)
 op_same d reply true = marks_same d reply
 op_same d reply false = same_attempt d
 
-pub noted_same : (d : Dumping) (request : PlainRequest) (reply : PlainReply) → SameAttempt d (noted_by d request reply)
+pub noted_same : (d : AttemptState) (request : PlainRequest) (reply : PlainReply) → SameAttempt d (noted_by d request reply)
 noted_same d (Write bytes) reply = write_same d reply
 noted_same d (Op op count) reply = op_same d reply (op == MTWEOF)
 noted_same d x reply = same_attempt d
@@ -81,20 +81,20 @@ empty_start a b is =
     (nil_from_length a (omega (arith, size, both)), nil_from_length b (omega (arith, size, both)))
 
 pub nothing_there : DroppedWrites → (s : ServerConnection) (way bytes rest : List ℕ) (found : PlainRequest) → AreUnserved (Some s) way [] → Unread s.reached bytes
-    → Gives bytes (Ok (Some found)) rest → ⊥
+    → ParsesAs bytes (Ok (Some found)) rest → ⊥
 nothing_there g s way bytes rest found (reached, unread, is) other gives =
     let none = (empty_start reached way is).0 in
     let same = one_read g s.reached [] bytes nothing_long (subst (Unread s.reached) none unread) other in
-    nothing_given rest found (subst (λ l. Gives l (Ok (Some found)) rest) (sym same) gives)
+    nothing_given rest found (subst (λ l. ParsesAs l (Ok (Some found)) rest) (sym same) gives)
 
 -- no request of the client's is a write that is too long to be kept
-pub never_dropped : (b : Begun) (d : Dumping) (step : Step) (n : ℕ) → request_in b d step ≢ WriteDropped n
+pub never_dropped : (b : Begun) (d : AttemptState) (step : Step) (n : ℕ) → request_in b d step ≢ WriteDropped n
 never_dropped b d Open n is = cc
 never_dropped b d step n is = cc
 
 -- what is carried out then is the request that was sent last
-pub serve_pending : OneReading → DroppedWrites → (b : Begun) (s : ServerConnection) (way : List ℕ) (d : Dumping) (step : Step) (bytes rest : List ℕ) (found : PlainRequest) (reply : PlainReply)
-    (reached : RequestHeld) (session : PlainSession) → IsPending b (Some s) way d step → Unread s.reached bytes → Gives bytes (Ok (Some found)) rest → Unread reached rest
+pub serve_pending : OneReading → DroppedWrites → (b : Begun) (s : ServerConnection) (way : List ℕ) (d : AttemptState) (step : Step) (bytes rest : List ℕ) (found : PlainRequest) (reply : PlainReply)
+    (reached : RequestHeld) (session : PlainSession) → IsPending b (Some s) way d step → Unread s.reached bytes → ParsesAs bytes (Ok (Some found)) rest → Unread reached rest
     → (found ≡ request_in b d step) × IsConnectionSettled (Some (side reached session)) way (noted found reply d)
 serve_pending g h b s way d step bytes rest found reply reached session p unread gives left = unserved_by p.unserved
   where
@@ -116,8 +116,8 @@ serve_pending g h b s way d step bytes rest found reply reached session p unread
           },
         )
 
-pub serve_sent : OneReading → DroppedWrites → (begun : List Begun) (s : ServerConnection) (l : Connection) (d : Dumping) (bytes rest : List ℕ) (found : PlainRequest) (reply : PlainReply)
-    (reached : RequestHeld) (session : PlainSession) → IsConnectionSent begun (Some s) l d → Unread s.reached bytes → Gives bytes (Ok (Some found)) rest → Unread reached rest
+pub serve_sent : OneReading → DroppedWrites → (begun : List Begun) (s : ServerConnection) (l : Connection) (d : AttemptState) (bytes rest : List ℕ) (found : PlainRequest) (reply : PlainReply)
+    (reached : RequestHeld) (session : PlainSession) → IsConnectionSent begun (Some s) l d → Unread s.reached bytes → ParsesAs bytes (Ok (Some found)) rest → Unread reached rest
     → IsConnectionSent begun (Some (side reached session)) (answered found reply l) (noted found reply d)
 serve_sent g h begun s l d bytes rest found reply reached session (inl settled) unread gives left =
     absurd (nothing_there h s l.toward bytes rest found settled.unserved unread gives)
@@ -126,7 +126,7 @@ serve_sent g h begun s l d bytes rest found reply reached session (inr (b, step,
 
 -- the reply to each step, and where it leads
 pub served_leads : ReplyTexts → (old : Standing) (payload : List (List ℕ)) (trouble : Trouble) (holders : List ℕ) (library library' : TapeLibrary) (s : ServerConnection) (reached : RequestHeld)
-    (session : PlainSession) (d : Dumping) (step : Step) (reply : PlainReply) → IsRun old.run → HasDone old.run (Some s) d step → d.carried + 1 < 2 ^ 64
+    (session : PlainSession) (d : AttemptState) (step : Step) (reply : PlainReply) → IsRun old.run → HasDone old.run (Some s) d step → d.carried + 1 < 2 ^ 64
     → SpellsRequest (request_text (request_of old.run payload d.volume d.first step)) (request_of old.run payload d.volume d.first step)
     → TroubledServeStep trouble holders (session_view library s.session) (request_of old.run payload d.volume d.first step) reply (session_view library' session)
     → FitsReplyReader (wanted_of step) reply × LeadsFrom (Some (side reached session)) old d (noted (request_of old.run payload d.volume d.first step) reply d) step reply
@@ -170,12 +170,12 @@ served_leads t old payload trouble holders library library' s reached session d 
     )
 
 -- the step's own first block is that of the checkpoint, but at the close, whose reply ends the attempt
-from_checkpoint : (o : Option ServerConnection) (old : Standing) (d noted : Dumping) (step : Step) (reply : PlainReply) → d.first ≡ (checkpoint_of old.counts).1
+from_checkpoint : (o : Option ServerConnection) (old : Standing) (d noted : AttemptState) (step : Step) (reply : PlainReply) → d.first ≡ (checkpoint_of old.counts).1
     → LeadsFrom o old d noted step reply → LeadsOn old.run o old noted step reply
 from_checkpoint o old d noted step reply first leads progress new next becomes at =
     leads progress new next (subst (λ n. Becomes old (after_reply old.run old.counts n step reply) false progress new) (sym first) becomes) at
 
-at_checkpoint : (o : Option ServerConnection) (old : Standing) (d noted : Dumping) (step : Step) (reply : PlainReply) → d.first ≡ (attempt_at step old.counts).1
+at_checkpoint : (o : Option ServerConnection) (old : Standing) (d noted : AttemptState) (step : Step) (reply : PlainReply) → d.first ≡ (attempt_at step old.counts).1
     → LeadsFrom o old d noted step reply → LeadsOn old.run o old noted step reply
 at_checkpoint o old d noted Open reply first leads = from_checkpoint o old d noted Open reply first leads
 at_checkpoint o old d noted (Operation op) reply first leads = from_checkpoint o old d noted (Operation op) reply first leads
@@ -185,9 +185,9 @@ at_checkpoint o old d noted (Block number) reply first leads = from_checkpoint o
 at_checkpoint o old d noted step reply first leads = leads
 
 -- the client's own connection, at which it waits
-asked_replied : ReplyTexts → OneReading → DroppedWrites → (b : Begun) (s : ServerConnection) (l : Connection) (c : Caller) (d : Dumping) (step : Step) (bytes rest : List ℕ) (found : PlainRequest)
+asked_replied : ReplyTexts → OneReading → DroppedWrites → (b : Begun) (s : ServerConnection) (l : Connection) (c : WorldClient) (d : AttemptState) (step : Step) (bytes rest : List ℕ) (found : PlainRequest)
     (reply : PlainReply) (reached : RequestHeld) (trouble : Trouble) (holders : List ℕ) (library library' : TapeLibrary) (session : PlainSession) → IsRun b.run → b.run ≡ c.at.run
-    → d.first ≡ (attempt_at step c.at.counts).1 → IsStepAsked b (Some s) l c d step → Unread s.reached bytes → Gives bytes (Ok (Some found)) rest → Unread reached rest
+    → d.first ≡ (attempt_at step c.at.counts).1 → IsStepAsked b (Some s) l c d step → Unread s.reached bytes → ParsesAs bytes (Ok (Some found)) rest → Unread reached rest
     → TroubledServeStep trouble holders (session_view library s.session) found reply (session_view library' session)
     → IsStepReplied b (Some (side reached session)) (answered found reply l) c (noted found reply d) step
 asked_replied t g h b s l c d step bytes rest found reply reached trouble holders library library' session good run first a unread gives left served =
@@ -216,7 +216,7 @@ asked_replied t g h b s l c d step bytes rest found reply reached trouble holder
     on_way true leads brief = inl a.back
     on_way false leads brief = inr (reply, ap (λ x. x ++ reply_text reply) a.back, brief, leads)
 
-noted_attempt : (begun : List Begun) (c : Caller) (d : Dumping) (step : Step) (b : Begun) (found : PlainRequest) (reply : PlainReply) → IsAttempt begun c d step b
+noted_attempt : (begun : List Begun) (c : WorldClient) (d : AttemptState) (step : Step) (b : Begun) (found : PlainRequest) (reply : PlainReply) → IsAttempt begun c d step b
     → IsAttempt begun c (noted found reply d) step b
 noted_attempt begun c d step b found reply a =
     let keeps = noted_same d found reply in
@@ -228,9 +228,9 @@ noted_attempt begun c d step b found reply a =
       first = keeps.first ∙ a.first;
     }
 
-pub serve_told : ReplyTexts → OneReading → DroppedWrites → (begun : List Begun) (stage : Stage) (s : ServerConnection) (l : Connection) (c : Caller) (d : Dumping) (bytes rest : List ℕ)
+pub serve_told : ReplyTexts → OneReading → DroppedWrites → (begun : List Begun) (stage : Stage) (s : ServerConnection) (l : Connection) (c : WorldClient) (d : AttemptState) (bytes rest : List ℕ)
     (found : PlainRequest) (reply : PlainReply) (reached : RequestHeld) (trouble : Trouble) (holders : List ℕ) (library library' : TapeLibrary) (session : PlainSession)
-    → ((n : ℕ) (b : Begun) → numbered begun n ≡ Some b → IsGood b) → IsConnectionToldAt stage begun (Some s) l c d → Unread s.reached bytes → Gives bytes (Ok (Some found)) rest
+    → ((n : ℕ) (b : Begun) → numbered begun n ≡ Some b → IsGood b) → IsConnectionToldAt stage begun (Some s) l c d → Unread s.reached bytes → ParsesAs bytes (Ok (Some found)) rest
     → Unread reached rest → TroubledServeStep trouble holders (session_view library s.session) found reply (session_view library' session)
     → IsConnectionToldAt stage begun (Some (side reached session)) (answered found reply l) c (noted found reply d)
 serve_told t g h begun (ToSend step) s l c d bytes rest found reply reached trouble holders library library' session good (b, attempt, turn) unread gives left served =

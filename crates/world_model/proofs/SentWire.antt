@@ -9,11 +9,11 @@ use Rattle.rmt_wire.specs.Request.PlainRequest.{Open, WriteDropped}
 use Rattle.rmt_wire.specs.Reply.{PlainReply, Wanted, SpellsReply, reply_text}
 use Rattle.rmt_wire.specs.Reply.PlainReply.{Done, Data, Error}
 use Rattle.rmt_wire.specs.ReplyFront.{text_len, kept_text, kept_behind, kept_of}
-use Rattle.rmt_wire.specs.ReplyParts.{ReplyGives}
+use Rattle.rmt_wire.specs.ReplyParts.{ReplyParsesAs}
 use Rattle.rmt_wire.specs.ReplyReader.{ReplyHeld, ReplyUnread}
-use Rattle.rmt_wire.specs.Seen.{Seen, number_front}
+use Rattle.rmt_wire.specs.Parsed.{Parsed, number_front}
 use Rattle.rmt_wire.specs.declared.number.Place.TheVariants as places
-use Rattle.rmt_wire.specs.RequestParts.{Gives, IsDroppedLine}
+use Rattle.rmt_wire.specs.RequestParts.{ParsesAs, IsDroppedLine}
 use Rattle.rmt_wire.specs.RequestReader.{RequestHeld, held, Unread, UnreadAt, dropped_line}
 use Rattle.rmt_wire.specs.declared.fault.WireFault.{WireFault}
 use Rattle.world_model.specs.Sending.{FitsReplyReader}
@@ -21,8 +21,8 @@ use Rattle.world_model.specs.Sending.{FitsReplyReader}
 -- At each place a reader can give one thing only.
 abbrev pub OneReading : Type 0
 OneReading =
-    (bytes rest other : List ℕ) (answer another : Result (Option PlainRequest) WireFault) → Gives bytes answer rest
-    → Gives bytes another other → (answer ≡ another) × (rest ≡ other)
+    (bytes rest other : List ℕ) (answer another : Result (Option PlainRequest) WireFault) → ParsesAs bytes answer rest
+    → ParsesAs bytes another other → (answer ≡ another) × (rest ≡ other)
 
 -- a write is to be dropped exactly where the grammar says so
 abbrev pub DroppedWrites : Type 0
@@ -69,7 +69,7 @@ nothing_long (number, behind, count, spelled, large, is) = cc
 
 -- after the text of a request there is room for all that such a line would drop
 long_gives : (number behind pad : List ℕ) (count : ℕ) → SpellsNumber number count → RECORD_LIMIT < count → count ≤ length (behind ++ pad)
-    → Gives (87 ∷ (number ++ line_feed ∷ (behind ++ pad))) (Ok (Some (WriteDropped count))) (drop count (behind ++ pad))
+    → ParsesAs (87 ∷ (number ++ line_feed ∷ (behind ++ pad))) (Ok (Some (WriteDropped count))) (drop count (behind ++ pad))
 long_gives number behind pad count spelled large room = (
   87 ∷ (number ++ line_feed ∷ take count (behind ++ pad)),
   (number, take count (behind ++ pad), spelled, large, length-take-le count (behind ++ pad) room, refl),
@@ -87,15 +87,15 @@ text_not_long g text bytes more request spelled kept is (number, behind, count, 
     let stream : text ++ pad ≡ 87 ∷ (number ++ line_feed ∷ (behind ++ (more ++ pad)))
     = ap (λ l. l ++ pad) is ∙ append_assoc bytes more pad ∙ ap (λ l. l ++ (more ++ pad)) begins
     ∙ ap (λ l. 87 ∷ l) (append_assoc number (line_feed ∷ behind) (more ++ pad)) in
-    let whole : Gives (text ++ pad) (Ok (Some request)) pad = (text, spelled, refl) in
+    let whole : ParsesAs (text ++ pad) (Ok (Some request)) pad = (text, spelled, refl) in
     let other = long_gives number behind (more ++ pad) count numeral large (omega (arith, size, one, two)) in
     let same = (g (text ++ pad) pad _ (Ok (Some request)) (Ok (Some (WriteDropped count))) whole
-    (subst (λ l. Gives l (Ok (Some (WriteDropped count))) (drop count (behind ++ (more ++ pad)))) (sym stream) other)).0 in
+    (subst (λ l. ParsesAs l (Ok (Some (WriteDropped count))) (drop count (behind ++ (more ++ pad)))) (sym stream) other)).0 in
     kept count (cc)
 
 -- What is given of a text that spells a request, or of a beginning of it, is that request, and then nothing is left.
 pub gives_whole : OneReading → (text bytes way rest : List ℕ) (request found : PlainRequest) → SpellsRequest text request → text ≡ bytes ++ way
-    → Gives bytes (Ok (Some found)) rest → (found ≡ request) × (rest ≡ []) × (way ≡ [])
+    → ParsesAs bytes (Ok (Some found)) rest → (found ≡ request) × (rest ≡ []) × (way ≡ [])
 gives_whole g text bytes way rest request found spelled is (front, spells, split) =
     let stream : text ≡ front ++ (rest ++ way) = is ∙ ap (λ l. l ++ way) split ∙ append_assoc front rest way in
     let same = g text [] (rest ++ way) (Ok (Some request)) (Ok (Some found)) (text, spelled, sym (append-nil text)) (front, spells, stream) in
@@ -108,7 +108,7 @@ nothing_spelled : (request : PlainRequest) → SpellsRequest [] request → ⊥
 nothing_spelled (Open device mode) (line, one, two, is) = cc
 nothing_spelled request spelled = cc
 
-pub nothing_given : (rest : List ℕ) (found : PlainRequest) → Gives [] (Ok (Some found)) rest → ⊥
+pub nothing_given : (rest : List ℕ) (found : PlainRequest) → ParsesAs [] (Ok (Some found)) rest → ⊥
 nothing_given rest found ([], spells, is) = nothing_spelled found spells
 nothing_given rest found (b ∷ front, spells, is) = cc
 
@@ -135,7 +135,7 @@ text_kept text false is short =
     let cut = ap (λ n. length (take n text)) same in
     absurd (omega (arith, short, size, cut, front))
 
-behind_kept : (o : Seen (ℕ × ℕ)) (bytes : List ℕ) → length (kept_behind o bytes) < 255 → kept_behind o bytes ≡ bytes
+behind_kept : (o : Parsed (ℕ × ℕ)) (bytes : List ℕ) → length (kept_behind o bytes) < 255 → kept_behind o bytes ≡ bytes
 behind_kept (Ok (Some n)) bytes short =
     let size = length-append (take (n.1 + 1) bytes) (kept_text (drop (n.1 + 1) bytes)) in
     ap (λ l. take (n.1 + 1) bytes ++ l)
@@ -170,7 +170,7 @@ text_no_more text =
     let rest = length-drop (text_len text) text in
     omega (arith, size, all, front, rest)
 
-behind_no_more : (o : Seen (ℕ × ℕ)) (bytes : List ℕ) → length (kept_behind o bytes) ≤ length bytes
+behind_no_more : (o : Parsed (ℕ × ℕ)) (bytes : List ℕ) → length (kept_behind o bytes) ≤ length bytes
 behind_no_more (Ok (Some n)) bytes =
     let size = length-append (take (n.1 + 1) bytes) (kept_text (drop (n.1 + 1) bytes)) in
     let less = text_no_more (drop (n.1 + 1) bytes) in
@@ -261,7 +261,7 @@ OneReply =
     → (more ≡ []) × (reply ≡ other)
 
 pub reply_whole : OneReply → (wanted : Wanted) (text bytes way rest : List ℕ) (reply found : PlainReply) → SpellsReply text reply wanted
-    → text ≡ bytes ++ way → ReplyGives (Some wanted) bytes (Ok (Some found)) rest → (found ≡ reply) × (rest ≡ []) × (way ≡ [])
+    → text ≡ bytes ++ way → ReplyParsesAs (Some wanted) bytes (Ok (Some found)) rest → (found ≡ reply) × (rest ≡ []) × (way ≡ [])
 reply_whole g wanted text bytes way rest reply found spelled is (front, spells, split) =
     let stream : text ≡ front ++ (rest ++ way) = is ∙ ap (λ l. l ++ way) split ∙ append_assoc front rest way in
     let same = g wanted front (rest ++ way) found reply spells (subst (λ l. SpellsReply l reply wanted) stream spelled) in
@@ -271,7 +271,7 @@ reply_whole g wanted text bytes way rest reply found spelled is (front, spells, 
 
 -- a beginning of a reply has no fault
 pub reply_no_fault : (wanted : Wanted) (text bytes way rest : List ℕ) (reply : PlainReply) (fault : WireFault) → SpellsReply text reply wanted
-    → text ≡ bytes ++ way → ReplyGives (Some wanted) bytes (Err fault) rest → ⊥
+    → text ≡ bytes ++ way → ReplyParsesAs (Some wanted) bytes (Err fault) rest → ⊥
 reply_no_fault wanted text bytes way rest reply fault spelled is (f, none, same) =
     let stream : text ≡ (f.seen ++ f.byte ∷ []) ++ (f.later ++ way)
     = is ∙ ap (λ l. l ++ way) f.split ∙ append_assoc f.seen (f.byte ∷ f.later) way ∙ sym (append_assoc f.seen (f.byte ∷ []) (f.later ++ way)) in

@@ -19,7 +19,7 @@ use Rattle.dump_client.specs.declared.stage.Stage.{Stage}
 use Rattle.dump_client.specs.declared.stage.Stage.TheVariants.{ToSend, Waiting}
 use Rattle.dump_client.specs.declared.step.Step.{Step}
 use Rattle.dump_client.proofs.Received.{over_can}
-use Rattle.world_model.specs.World.{World, Connection, Dumping, Caller, Kept}
+use Rattle.world_model.specs.World.{World, Connection, AttemptState, WorldClient, Kept}
 use Rattle.world_model.specs.Events.{PlainEvent}
 use Rattle.world_model.specs.Events.PlainEvent.{StartRun, Connect, Send, ToServer, Serve, ToClient, EndAtClient, ClientRestart, Respond, Arrange, Enter, Save}
 use Rattle.world_model.specs.Changes.{side_of, connection_of}
@@ -32,7 +32,7 @@ use Rattle.world_model.proofs.SentWire.{DroppedWrites, brief_begins}
 use Rattle.world_model.proofs.StepsHeard.{SomeAnswer, cut_can, waits_can, asks_can, held_can, pushed_can}
 use Rattle.world_model.proofs.StepsServed.{serve_can}
 
-sends_can : SomeAnswer → (failing : Bool) (w : World) (k : ℕ) (c : Caller) (payload : List (List ℕ)) (step : Step) → (u : World) × Sends failing w k c payload step u
+sends_can : SomeAnswer → (failing : Bool) (w : World) (k : ℕ) (c : WorldClient) (payload : List (List ℕ)) (step : Step) → (u : World) × Sends failing w k c payload step u
 sends_can g true w k c payload step = (_, (reply_held None [], refl))
 sends_can g false w k c payload step = (_, (reply_held (Some (wanted_of step)) (kept_of []), asks_can g (wanted_of step), refl))
 
@@ -56,14 +56,14 @@ finds_can w k trouble s (Ok (Some request)) rest some =
     )
 
 -- the client of a live connection of the client's
-client_of : (w : World) (k : ℕ) (l : Connection) (d : Dumping) → IsWorldKept w → connection_of w k ≡ Some l → IsTrue l.other → l.dump ≡ Some d
-    → (w.own ≡ Some k) × ((c : Caller) × (w.caller ≡ Some c) × IsTrue (is_in_attempt c.at.stage))
+client_of : (w : World) (k : ℕ) (l : Connection) (d : AttemptState) → IsWorldKept w → connection_of w k ≡ Some l → IsTrue l.other → l.dump ≡ Some d
+    → (w.own ≡ Some k) × ((c : WorldClient) × (w.caller ≡ Some c) × IsTrue (is_in_attempt c.at.stage))
 client_of w k l d kept at other dump =
     let own = kept.owned.only k (l, d, at, other, dump) in
     (own, (kept.owned.own k own).1)
 
 -- what a client that waits hears of a part of what is on the way
-hears_at : SomeAnswer → (w : World) (l : Connection) (k n : ℕ) (d : Dumping) (c : Caller) (stage : Stage) → c.at.stage ≡ stage → IsTrue (is_in_attempt stage) → 1 ≤ n
+hears_at : SomeAnswer → (w : World) (l : Connection) (k n : ℕ) (d : AttemptState) (c : WorldClient) (stage : Stage) → c.at.stage ≡ stage → IsTrue (is_in_attempt stage) → 1 ≤ n
     → n ≤ length l.back → IsConnectionToldAt stage w.begun (side_of w.server k) l c d
     → (fed : List ℕ) × (at : Standing) × (reader : ReplyHeld) × (progress : Progress) × HasFedAt stage c.reader fed × FedAt stage c.at fed (take n l.back) progress at
     × HasFedAt at.stage reader (unanswered at.stage (fed ++ take n l.back))
@@ -105,7 +105,7 @@ hears_at g w l k n d c (Waiting step) is attempt some within (b, mine, inr repli
 ]
 hears_at g w l k n d c stage is attempt some within told = absurd cc
 
-hears_can : SomeAnswer → (w : World) (k n : ℕ) (l : Connection) (o : Option Dumping) → l.dump ≡ o → IsWorldKept w → connection_of w k ≡ Some l → IsTrue l.other → 1 ≤ n → n ≤ length l.back
+hears_can : SomeAnswer → (w : World) (k n : ℕ) (l : Connection) (o : Option AttemptState) → l.dump ≡ o → IsWorldKept w → connection_of w k ≡ Some l → IsTrue l.other → 1 ≤ n → n ≤ length l.back
     → (u : World) × Hears o w k n (take n l.back) u
 hears_can g w k n l None is kept at other some within = (_, refl)
 hears_can g w k n l (Some d) is kept at other some within =
@@ -113,7 +113,7 @@ hears_can g w k n l (Some d) is kept at other some within =
     let h = hears_at g w l k n d c c.at.stage refl attempt some within ((kept.told.each k l at).own d c is own there) in
     (_, (c, h.0, h.1, h.2, h.3, there, h.4, h.5, h.6, refl))
 
-sees_can : (w : World) (k : ℕ) (l : Connection) (o : Option Dumping) → l.dump ≡ o → IsWorldKept w → connection_of w k ≡ Some l → IsTrue l.other → (u : World) × SeesEnd o w k u
+sees_can : (w : World) (k : ℕ) (l : Connection) (o : Option AttemptState) → l.dump ≡ o → IsWorldKept w → connection_of w k ≡ Some l → IsTrue l.other → (u : World) × SeesEnd o w k u
 sees_can w k l None is kept at other = (_, refl)
 sees_can w k l (Some d) is kept at other =
     let (own, (c, there, attempt)) = client_of w k l d kept at other is in

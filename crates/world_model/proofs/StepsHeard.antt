@@ -6,7 +6,7 @@ use Rattle.rmt_wire.specs.Reply.{PlainReply, Wanted, SpellsReply}
 use Rattle.rmt_wire.specs.Reply.PlainReply.{Done, Data}
 use Rattle.rmt_wire.specs.Reply.Wanted.{Number, DataUpTo}
 use Rattle.rmt_wire.specs.ReplyFront.{kept_of}
-use Rattle.rmt_wire.specs.ReplyParts.{ReplyGives}
+use Rattle.rmt_wire.specs.ReplyParts.{ReplyParsesAs}
 use Rattle.rmt_wire.specs.ReplyReader.{reply_held}
 use Rattle.rmt_wire.specs.RequestParts.{IsDroppedLine}
 use Rattle.rmt_wire.specs.RequestReader.{RequestHeld, held, Unread, UnreadAt, dropped_line}
@@ -27,7 +27,7 @@ use Rattle.world_model.proofs.SentWire.{DroppedWrites, no_more_kept}
 -- Of the bytes since a reply was waited for a reader can give something.
 abbrev pub SomeAnswer : Type 0
 SomeAnswer = (wanted : Option Wanted) (bytes : List ℕ)
-    → (answer : Result (Option PlainReply) WireFault) × (rest : List ℕ) × ReplyGives wanted bytes answer rest
+    → (answer : Result (Option PlainReply) WireFault) × (rest : List ℕ) × ReplyParsesAs wanted bytes answer rest
 
 -- The connection ends.
 pub cut_can : (old : Standing) (stage : Stage) → IsTrue (is_in_attempt stage)
@@ -42,7 +42,7 @@ pub waits_can : SomeAnswer → (old : Standing) (step : Step) (fed piece : List 
     × (((new ≡ old) × IsReaderWaiting (wanted_of step) (reply_held (Some (wanted_of step)) (kept_of (fed ++ piece))) (fed ++ piece)) ⊎ IsAtRest new.stage)
 waits_can g old step fed piece short = of_answer (g (Some (wanted_of step)) (fed ++ piece))
   where
-    of_answer : (answer : Result (Option PlainReply) WireFault) × (rest : List ℕ) × ReplyGives (Some (wanted_of step)) (fed ++ piece) answer rest
+    of_answer : (answer : Result (Option PlainReply) WireFault) × (rest : List ℕ) × ReplyParsesAs (Some (wanted_of step)) (fed ++ piece) answer rest
         → (progress : Progress) × (new : Standing) × FedAt (Waiting step) old fed piece progress new
         × (((new ≡ old) × IsReaderWaiting (wanted_of step) (reply_held (Some (wanted_of step)) (kept_of (fed ++ piece))) (fed ++ piece)) ⊎ IsAtRest new.stage)
     of_answer (Ok None, rest, gives) = (
@@ -78,7 +78,7 @@ not_empty (b ∷ seen) later byte is = cc
 pub asks_can : SomeAnswer → (wanted : Wanted) → IsReaderWaiting wanted (reply_held (Some wanted) (kept_of [])) []
 asks_can g wanted = of_answer (g (Some wanted) [])
   where
-    of_answer : (answer : Result (Option PlainReply) WireFault) × (rest : List ℕ) × ReplyGives (Some wanted) [] answer rest
+    of_answer : (answer : Result (Option PlainReply) WireFault) × (rest : List ℕ) × ReplyParsesAs (Some wanted) [] answer rest
         → IsReaderWaiting wanted (reply_held (Some wanted) (kept_of [])) []
     of_answer (Ok None, rest, gives) = record {
       unread = record { waits = refl; keeps = refl };

@@ -4,7 +4,7 @@ use Rattle.std.specs.Option.{option_map}
 use Rattle.std.proofs.lemmas.Bool.Decides.{eqb_tells, nat_tests}
 use Rattle.std.proofs.lemmas.Option.{same_Some}
 use Rattle.rmt_wire.specs.Request.{PlainRequest}
-use Rattle.rmt_wire.specs.RequestParts.{Gives}
+use Rattle.rmt_wire.specs.RequestParts.{ParsesAs}
 use Rattle.rmt_wire.specs.RequestReader.{Unread}
 use Rattle.rmt_wire.specs.declared.fault.WireFault.{WireFault}
 use Rattle.rmt_server.specs.ServerState.{ServerConnection}
@@ -19,10 +19,10 @@ use Rattle.dump_client.specs.declared.step.TapeOp.TheVariants.{Rewind, RewindAga
 use Rattle.dump_client.specs.declared.stage.Stage.TheVariants.{ToSend}
 use Rattle.dump_client.specs.declared.stage.Progress.{Progress}
 use Rattle.dump_client.specs.declared.stage.Progress.TheVariants as moved
-use Rattle.world_model.specs.World.{World, Connection, Dumping, Begun, Caller, numbered, Kept}
+use Rattle.world_model.specs.World.{World, Connection, AttemptState, Begun, WorldClient, numbered, Kept}
 use Rattle.world_model.specs.Events.{PlainEvent}
 use Rattle.world_model.specs.Events.PlainEvent.{StartRun, Connect, Send, ToServer, Serve, ToClient, Cut, EndAtServer, EndAtClient, ServerRestart, ClientRestart, Respond, Arrange, Stranger, Says, Enter, Save}
-use Rattle.world_model.specs.Changes.{changed, side_of, new_connection, over_there, over_here, noted_sent, sent_on, came_to, with_no_failure}
+use Rattle.world_model.specs.Changes.{changed, side_of, new_connection, without_peer, without_server, noted_sent, sent_on, after_client_call, with_no_failure}
 use Rattle.world_model.specs.First.{PlainDriveSpec, AreGoodDrives, first_world}
 use Rattle.world_model.specs.Steps.{Happens, Sends, Finds, Hears, SeesEnd, Runs, none, one_more, forgotten_from, sent_connection, is_failing, fresh, ResumesRun}
 use Rattle.world_model.specs.Kept.{IsWorldKept}
@@ -102,7 +102,7 @@ step_is run first blocks carried label (Operation (Unload next)) many is has =
 step_is run first blocks carried label Close many is has = placed label carried blocks _ 8 (first + blocks) Close is (omega (arith, many)) refl
 
 -- an attempt has one next request
-one_next : (w : World) (d : Dumping) (request other : PlainRequest) → IsNextSent w d request → IsNextSent w d other → request ≡ other
+one_next : (w : World) (d : AttemptState) (request other : PlainRequest) → IsNextSent w d request → IsNextSent w d other → request ≡ other
 one_next w d request other n m =
     let b : n.begun ≡ m.begun = same_Some n.begun m.begun (sym n.begun_as ∙ m.begun_as) in
     let one = step_is n.begun.run d.first d.blocks d.carried d.label n.step (n.before ∙ before_length n.begun.run d.first (d.first + d.blocks) n.step) n.label n.blocks in
@@ -114,7 +114,7 @@ one_next w d request other n m =
 -- each attempt on connection k was there so, or is new
 Dumped : ℕ → List Connection → List Connection → Type 0
 Dumped k xs ys =
-    (l : Connection) (d : Dumping) → numbered ys k ≡ Some l → l.dump ≡ Some d
+    (l : Connection) (d : AttemptState) → numbered ys k ≡ Some l → l.dump ≡ Some d
     → ((x : Connection) × (numbered xs k ≡ Some x) × (x.dump ≡ Some d)) ⊎ ((length xs < k) × (d.sent ≡ d.carried))
 
 same_dumped : (k : ℕ) (xs : List Connection) → Dumped k xs xs
@@ -141,36 +141,36 @@ mapped_dumped k xs f keeps l d at is =
     let m = map_at f xs k l at in
     inl (m.0, m.1, sym (keeps m.0) ∙ ap (λ (x : Connection). x.dump) (sym m.2) ∙ is)
 
-joined_dumped : (k : ℕ) (xs : List Connection) (new : Connection) → ((d : Dumping) → new.dump ≡ Some d → d.sent ≡ d.carried) → Dumped k xs (xs ++ new ∷ [])
+joined_dumped : (k : ℕ) (xs : List Connection) (new : Connection) → ((d : AttemptState) → new.dump ≡ Some d → d.sent ≡ d.carried) → Dumped k xs (xs ++ new ∷ [])
 unfolding Dumped
 joined_dumped k xs new bare l d at is = elim (pushed_is xs new k l at) [
   | inl on ↦ inl (l, on, is)
   | inr (last, its) ↦ inr (omega (arith, last), bare d (ap (λ (x : Connection). x.dump) (sym its) ∙ is))
 ]
 
-came_dumped : (k : ℕ) (xs : List Connection) (v : World) (j : ℕ) (at : Standing) (progress : Progress) → Dumped k xs v.connections → Dumped k xs (came_to v j at progress).connections
-came_dumped k xs v j at (moved.Failed fault) t = changed_dumped k xs v.connections over_there j (λ x. refl) t
-came_dumped k xs v j at moved.Ended t = changed_dumped k xs v.connections over_there j (λ x. refl) t
+came_dumped : (k : ℕ) (xs : List Connection) (v : World) (j : ℕ) (at : Standing) (progress : Progress) → Dumped k xs v.connections → Dumped k xs (after_client_call v j at progress).connections
+came_dumped k xs v j at (moved.Failed fault) t = changed_dumped k xs v.connections without_peer j (λ x. refl) t
+came_dumped k xs v j at moved.Ended t = changed_dumped k xs v.connections without_peer j (λ x. refl) t
 came_dumped k xs v j at progress t = t
 
 -- by the world after it
 dumped_as : (k : ℕ) (w u v : World) → u ≡ v → Dumped k w.connections v.connections → Dumped k w.connections u.connections
 dumped_as k w u v is t = subst (λ (x : World). Dumped k w.connections x.connections) (sym is) t
 
-hears_dumped : (o : Option Dumping) (k : ℕ) (w : World) (j n : ℕ) (piece : List ℕ) (u : World) → Hears o w j n piece u → Dumped k w.connections u.connections
+hears_dumped : (o : Option AttemptState) (k : ℕ) (w : World) (j n : ℕ) (piece : List ℕ) (u : World) → Hears o w j n piece u → Dumped k w.connections u.connections
 hears_dumped None k w j n piece u is = dumped_as k w u _ is (changed_dumped k w.connections w.connections (λ x. record x { back = drop n x.back }) j (λ x. refl) (same_dumped k w.connections))
 hears_dumped (Some dump) k w j n piece u (c, fed, at, reader, progress, there, had, feeds, has, is) =
     dumped_as k w u _ is
     (came_dumped k w.connections _ j at progress (changed_dumped k w.connections w.connections (λ x. record x { back = drop n x.back }) j (λ x. refl) (same_dumped k w.connections)))
 
-sees_dumped : (o : Option Dumping) (k : ℕ) (w : World) (j : ℕ) (u : World) → SeesEnd o w j u → Dumped k w.connections u.connections
-sees_dumped None k w j u is = dumped_as k w u _ is (changed_dumped k w.connections w.connections over_there j (λ x. refl) (same_dumped k w.connections))
+sees_dumped : (o : Option AttemptState) (k : ℕ) (w : World) (j : ℕ) (u : World) → SeesEnd o w j u → Dumped k w.connections u.connections
+sees_dumped None k w j u is = dumped_as k w u _ is (changed_dumped k w.connections w.connections without_peer j (λ x. refl) (same_dumped k w.connections))
 sees_dumped (Some dump) k w j u (c, at, reader, progress, there, cuts, has, is) =
-    dumped_as k w u _ is (came_dumped k w.connections _ j at progress (changed_dumped k w.connections w.connections over_there j (λ x. refl) (same_dumped k w.connections)))
+    dumped_as k w u _ is (came_dumped k w.connections _ j at progress (changed_dumped k w.connections w.connections without_peer j (λ x. refl) (same_dumped k w.connections)))
 
 forgotten_dumped : (k : ℕ) (w : World) (o : Option ℕ) → Dumped k w.connections (forgotten_from (with_no_failure w) o).connections
 forgotten_dumped k w None = same_dumped k w.connections
-forgotten_dumped k w (Some j) = changed_dumped k w.connections w.connections over_there j (λ x. refl) (same_dumped k w.connections)
+forgotten_dumped k w (Some j) = changed_dumped k w.connections w.connections without_peer j (λ x. refl) (same_dumped k w.connections)
 
 back_dumped : (k : ℕ) (w : World) (o : Option Kept) (u : World) → ResumesRun o w u → Dumped k w.connections u.connections
 back_dumped k w None u is = dumped_as k w u _ is (forgotten_dumped k w w.own)
@@ -187,7 +187,7 @@ still_dumped k w (StartRun run payload) u still (may, (reader, is)) = dumped_as 
 still_dumped k w Connect u still (may, (c, there, ready, is)) =
     dumped_as k w u _ is
     (joined_dumped k w.connections (new_connection (Some (fresh c)))
-    (λ d new. (let same = same_Some (fresh c) d new in sym (ap (λ (x : Dumping). x.sent) same) ∙ ap (λ (x : Dumping). x.carried) same)))
+    (λ d new. (let same = same_Some (fresh c) d new in sym (ap (λ (x : AttemptState). x.sent) same) ∙ ap (λ (x : AttemptState). x.carried) same)))
 still_dumped k w (Send fails) u still happens = absurd still
 still_dumped k w (ToServer j n) u still (may, (s, l, reached, live, at, grows, is)) =
     dumped_as k w u _ is (changed_dumped k w.connections w.connections (λ x. record x { toward = drop n x.toward }) j (λ x. refl) (same_dumped k w.connections))
@@ -196,9 +196,9 @@ still_dumped k w (ToClient j n) u still (may, (l, at, hears)) = hears_dumped l.d
 still_dumped k w (Cut j) u still (may, is) =
     dumped_as k w u _ is (changed_dumped k w.connections w.connections (λ x. record x { cut = true }) j (λ x. refl) (same_dumped k w.connections))
 still_dumped k w (EndAtServer j) u still (may, is) =
-    dumped_as k w u _ is (changed_dumped k w.connections w.connections over_here j (λ x. refl) (same_dumped k w.connections))
+    dumped_as k w u _ is (changed_dumped k w.connections w.connections without_server j (λ x. refl) (same_dumped k w.connections))
 still_dumped k w (EndAtClient j) u still (may, (l, at, sees)) = sees_dumped l.dump k w j u sees
-still_dumped k w ServerRestart u still (may, is) = dumped_as k w u _ is (mapped_dumped k w.connections over_here (λ x. refl))
+still_dumped k w ServerRestart u still (may, is) = dumped_as k w u _ is (mapped_dumped k w.connections without_server (λ x. refl))
 still_dumped k w ClientRestart u still (may, back) = back_dumped k w w.kept u back
 still_dumped k w Save u still (may, (c, there, is)) = dumped_as k w u _ is (same_dumped k w.connections)
 still_dumped k w (Respond answer) u still (may, (c, reader, there, asks, is)) = dumped_as k w u _ is (same_dumped k w.connections)
@@ -222,7 +222,7 @@ record GoesOn (w u : World) : Type 0 where
 goes_on : (w : World) (event : PlainEvent) (u : World) → Happens w event u → GoesOn w u
 goes_on w event u happens = let m = happened w event u happens in subst (GoesOn w) (sym m.1) record { begun = begun_more w m.0; connections = connections_more w m.0 }
 
-next_on : (w u : World) (d : Dumping) (request : PlainRequest) → GoesOn w u → IsNextSent w d request → IsNextSent u d request
+next_on : (w u : World) (d : AttemptState) (request : PlainRequest) → GoesOn w u → IsNextSent w d request → IsNextSent u d request
 next_on w u d request on n = record {
   begun = n.begun;
   step = n.step;
@@ -253,7 +253,7 @@ still_talked w u k sent carried more done on dumped nothing idle t =
     })
 
 -- the client sends its next request
-sent_is_next : (w u : World) (c : Caller) (b x : Begun) (o : Option ServerConnection) (l : Connection) (d : Dumping) (step : Step) → IsWorldKept w → GoesOn w u → IsAttempt w.begun c d step x
+sent_is_next : (w u : World) (c : WorldClient) (b x : Begun) (o : Option ServerConnection) (l : Connection) (d : AttemptState) (step : Step) → IsWorldKept w → GoesOn w u → IsAttempt w.begun c d step x
     → IsItsTurn x o l c d step → numbered w.begun c.number ≡ Some b
     → IsNextSent u (noted_sent d) (request_of c.at.run b.payload (checkpoint_of c.at.counts).0 (checkpoint_of c.at.counts).1 step)
 sent_is_next w u c b x o l d step kept on attempt turn begun =
@@ -283,7 +283,7 @@ own_within w k kept own past =
     let within = numbered_within w.connections k l.0 l.2 in
     omega (arith, within, past)
 
-asks_talked : (w u : World) (k : ℕ) (c : Caller) (b : Begun) (step : Step) (f : Connection → Connection) (sent carried : List PlainRequest) → IsWorldKept w → GoesOn w u → w.own ≡ Some k
+asks_talked : (w u : World) (k : ℕ) (c : WorldClient) (b : Begun) (step : Step) (f : Connection → Connection) (sent carried : List PlainRequest) → IsWorldKept w → GoesOn w u → w.own ≡ Some k
     → w.caller ≡ Some c → c.at.stage ≡ ToSend step → numbered w.begun c.number ≡ Some b → u.connections ≡ changed f w.connections k → ((l : Connection) → (f l).dump ≡ option_map noted_sent l.dump)
     → IsTalked w k sent carried
     → IsTalked u k (sent ++ request_of c.at.run b.payload (checkpoint_of c.at.counts).0 (checkpoint_of c.at.counts).1 step ∷ []) carried
@@ -305,12 +305,12 @@ asks_talked w u k c b step f sent carried kept on own there stage begun connecti
     request : PlainRequest
     request = request_of c.at.run b.payload (checkpoint_of c.at.counts).0 (checkpoint_of c.at.counts).1 step
 
-sends_talked : (failing : Bool) (w u : World) (k j : ℕ) (c : Caller) (b : Begun) (step : Step) (sent carried more done : List PlainRequest) → IsWorldKept w → GoesOn w u
+sends_talked : (failing : Bool) (w u : World) (k j : ℕ) (c : WorldClient) (b : Begun) (step : Step) (sent carried more done : List PlainRequest) → IsWorldKept w → GoesOn w u
     → w.own ≡ Some j → w.caller ≡ Some c → c.at.stage ≡ ToSend step → numbered w.begun c.number ≡ Some b → Sends failing w j c b.payload step u
     → more ≡ sent_here failing (j == k) (request_of c.at.run b.payload (checkpoint_of c.at.counts).0 (checkpoint_of c.at.counts).1 step) → done ≡ [] → IsTalked w k sent carried
     → IsTalked u k (sent ++ more) (carried ++ done)
 sends_talked true w u k j c b step sent carried more done kept on own there stage begun (reader, is) some nothing t =
-    still_talked w u k sent carried more done on (dumped_as k w u _ is (changed_dumped k w.connections w.connections over_there j (λ x. refl) (same_dumped k w.connections))) some nothing t
+    still_talked w u k sent carried more done on (dumped_as k w u _ is (changed_dumped k w.connections w.connections without_peer j (λ x. refl) (same_dumped k w.connections))) some nothing t
 sends_talked false w u k j c b step sent carried more done kept on own there stage begun (reader, fed, is) some nothing t = elim (eqb_tells j k) [
   | inr (unequal, other) ↦
       still_talked w u k sent carried more done on (dumped_as k w u _ is (other_dumped k w.connections _ j other)) (some ∙ ap (λ e. one_if_here e request) unequal) nothing t
@@ -344,7 +344,7 @@ serves_talked g h w v sent carried kept on t = record {
         elim (t.told e (x, was, its)) [
           | inl (equal, all) ↦ absurd (omega (arith, equal, next))
           | inr (r, last, all) ↦ inl (
-            subst (λ (z : Dumping). z.sent ≡ z.carried) (sym new) (keeps ∙ next ∙ sym more),
+            subst (λ (z : AttemptState). z.sent ≡ z.carried) (sym new) (keeps ∙ next ∙ sym more),
             ap (λ q. carried ++ q ∷ []) (one_next w e v.request r n last) ∙ sym all,
           )
         ]
@@ -352,11 +352,11 @@ serves_talked g h w v sent carried kept on t = record {
 }
 
 finds_talked : OneReading → DroppedWrites → (w u : World) (k j : ℕ) (trouble : Trouble) (s : ServerConnection) (found : Result (Option PlainRequest) WireFault) (bytes rest : List ℕ)
-    (sent carried more done : List PlainRequest) → IsWorldKept w → GoesOn w u → side_of w.server j ≡ Some s → Unread s.reached bytes → Gives bytes found rest
+    (sent carried more done : List PlainRequest) → IsWorldKept w → GoesOn w u → side_of w.server j ≡ Some s → Unread s.reached bytes → ParsesAs bytes found rest
     → Finds w j trouble s found rest u → more ≡ [] → done ≡ carried_here (j == k) found → IsTalked w k sent carried → IsTalked u k (sent ++ more) (carried ++ done)
 finds_talked g h w u k j trouble s (Ok None) bytes rest sent carried more done kept on live unread gives finds nothing some t = absurd finds
 finds_talked g h w u k j trouble s (Err fault) bytes rest sent carried more done kept on live unread gives is nothing some t =
-    still_talked w u k sent carried more done on (dumped_as k w u _ is (changed_dumped k w.connections w.connections over_here j (λ x. refl) (same_dumped k w.connections))) nothing some t
+    still_talked w u k sent carried more done on (dumped_as k w u _ is (changed_dumped k w.connections w.connections without_server j (λ x. refl) (same_dumped k w.connections))) nothing some t
 finds_talked g h w u k j trouble s (Ok (Some request)) bytes rest sent carried more done kept on live unread gives finds nothing some t = elim (eqb_tells j k) [
   | inr (unequal, other) ↦
       still_talked w u k sent carried more done on (dumped_as k w u _ c.is (other_dumped k w.connections _ j other)) nothing (some ∙ ap (λ e. one_if_here e request) unequal) t
@@ -377,13 +377,13 @@ talked_after : OneReading → DroppedWrites → (w u : World) (event : PlainEven
     → Sent k w event more → CarriedOut k w event u done → IsTalked w k sent carried → IsTalked u k (sent ++ more) (carried ++ done)
 talked_after g h w u (Send fails) k sent carried more done kept (may, (c, step, j, b, there, stage, own, begun, sends)) on (c', step', j', b', there', stage', own', begun', is) nothing t =
     let cs : c' ≡ c = same_Some c' c (sym there' ∙ there) in
-    let stages : ToSend step' ≡ ToSend step = sym stage' ∙ ap (λ (x : Caller). x.at.stage) cs ∙ stage in
+    let stages : ToSend step' ≡ ToSend step = sym stage' ∙ ap (λ (x : WorldClient). x.at.stage) cs ∙ stage in
     let steps : step' ≡ step = cc in
     let js : j' ≡ j = same_Some j' j (sym own' ∙ own) in
-    let bs : b' ≡ b = same_Some b' b (sym begun' ∙ ap (λ (x : Caller). numbered w.begun x.number) cs ∙ begun) in
+    let bs : b' ≡ b = same_Some b' b (sym begun' ∙ ap (λ (x : WorldClient). numbered w.begun x.number) cs ∙ begun) in
     let some
     = is
-    ∙ ap (λ (x : Caller). sent_here (is_failing fails step') (j' == k) (request_of x.at.run b'.payload (checkpoint_of x.at.counts).0 (checkpoint_of x.at.counts).1 step')) cs
+    ∙ ap (λ (x : WorldClient). sent_here (is_failing fails step') (j' == k) (request_of x.at.run b'.payload (checkpoint_of x.at.counts).0 (checkpoint_of x.at.counts).1 step')) cs
     ∙ ap (λ (y : Begun). sent_here (is_failing fails step') (j' == k) (request_of c.at.run y.payload (checkpoint_of c.at.counts).0 (checkpoint_of c.at.counts).1 step')) bs
     ∙ ap (λ p. sent_here (is_failing fails p) (j' == k) (request_of c.at.run b.payload (checkpoint_of c.at.counts).0 (checkpoint_of c.at.counts).1 p)) steps
     ∙ ap (λ i. sent_here (is_failing fails step) (i == k) (request_of c.at.run b.payload (checkpoint_of c.at.counts).0 (checkpoint_of c.at.counts).1 step)) js in

@@ -5,8 +5,8 @@ use Rattle.std.proofs.lemmas.List.{length-map, length-append}
 use Rattle.rmt_wire.specs.RequestReader.{held}
 use Rattle.rmt_server.specs.ServerState.{ServerState, ServerConnection, side}
 use Rattle.rmt_server.specs.Session.PlainSession.{Idle}
-use Rattle.world_model.specs.World.{World, Connection, Dumping, numbered, with_numbered}
-use Rattle.world_model.specs.Changes.{changed, side_of, new_connection, with_side, sent_on, over_there, over_here, ended_from, ended, all_ended, answered}
+use Rattle.world_model.specs.World.{World, Connection, AttemptState, numbered, with_numbered}
+use Rattle.world_model.specs.Changes.{changed, side_of, new_connection, with_side, sent_on, without_peer, without_server, ended_from, ended, all_ended, answered}
 use Rattle.world_model.specs.Steps.{sent_connection, next_text}
 use Rattle.world_model.specs.Kept.{IsTidy, AreTidy}
 use Rattle.world_model.proofs.Moves.{Talking, says, drops, leaves, talked, Move, connects, asks, fails, reaches, serves, ends, restarts, cuts, talks, hears, hears_last, sees, gives_up, joins, moved}
@@ -40,10 +40,10 @@ live_tidy : (s : ServerConnection) (l : Connection) → (l.other ≡ false → l
 live_tidy s l there = record { here = λ e. absurd cc; there = there; nothing = λ e. absurd cc }
 
 -- what the two ends of a connection say of it when they are over
-over_here_tidy : (s : Option ServerConnection) (l : Connection) → IsTidy s (over_here l)
+over_here_tidy : (s : Option ServerConnection) (l : Connection) → IsTidy s (without_server l)
 over_here_tidy s l = record { here = λ e. refl; there = λ e. refl; nothing = λ e. refl }
 
-over_there_tidy : KeepsTidy over_there
+over_there_tidy : KeepsTidy without_peer
 over_there_tidy s l t = record { here = λ e. refl; there = λ e. refl; nothing = t.nothing }
 
 sent_nothing : (cut : Bool) (way bytes : List ℕ) → cut ≡ true → sent_on cut way bytes ≡ way
@@ -86,10 +86,10 @@ ended_other : (h : ServerState) (k j : ℕ) (o : Option ServerConnection) → ((
 ended_other h k j None other = refl
 ended_other h k j (Some s) other = with_other h.sides k j None other
 
-ended_tidy : (w u : World) (k : ℕ) → u.server.sides ≡ (ended w.server k).sides → u.connections ≡ changed over_here w.connections k → AreTidy w → AreTidy u
+ended_tidy : (w u : World) (k : ℕ) → u.server.sides ≡ (ended w.server k).sides → u.connections ≡ changed without_server w.connections k → AreTidy w → AreTidy u
 ended_tidy w u k sides connections t = record {
-  paired = ap length sides ∙ ended_length w.server k (side_of w.server k) ∙ t.paired ∙ sym (ap length connections ∙ length_changed over_here w.connections k);
-  each = λ j l at. elim (changed_is over_here w.connections k j l (ap (λ ls. numbered ls j) (sym connections) ∙ at)) [
+  paired = ap length sides ∙ ended_length w.server k (side_of w.server k) ∙ t.paired ∙ sym (ap length connections ∙ length_changed without_server w.connections k);
+  each = λ j l at. elim (changed_is without_server w.connections k j l (ap (λ ls. numbered ls j) (sym connections) ∙ at)) [
     | inl (same, (x, was, new)) ↦ subst (λ y. IsTidy (side_of u.server j) y) (sym new) (over_here_tidy (side_of u.server j) x)
     | inr (other, on) ↦ subst (λ o. IsTidy (option_and_then (λ s. s) o) l)
         (sym (ap (λ ss. numbered ss j) sides ∙ ended_other w.server k j (side_of w.server k) other)) (t.each j l on)
@@ -100,15 +100,15 @@ all_ended_length : (h : ServerState) (n : ℕ) → length (all_ended h n).sides 
 all_ended_length h zero = refl
 all_ended_length h (suc n) = ended_length (all_ended h n) (suc n) (side_of (all_ended h n) (suc n)) ∙ all_ended_length h n
 
-restarted_tidy : (w u : World) → u.server.sides ≡ (all_ended w.server (length w.server.sides)).sides → u.connections ≡ map over_here w.connections → AreTidy w → AreTidy u
+restarted_tidy : (w u : World) → u.server.sides ≡ (all_ended w.server (length w.server.sides)).sides → u.connections ≡ map without_server w.connections → AreTidy w → AreTidy u
 restarted_tidy w u sides connections t = record {
-  paired = ap length sides ∙ all_ended_length w.server (length w.server.sides) ∙ t.paired ∙ sym (ap length connections ∙ length-map w.connections over_here);
-  each = λ j l at. (let found = map_at over_here w.connections j l (ap (λ ls. numbered ls j) (sym connections) ∙ at) in
+  paired = ap length sides ∙ all_ended_length w.server (length w.server.sides) ∙ t.paired ∙ sym (ap length connections ∙ length-map w.connections without_server);
+  each = λ j l at. (let found = map_at without_server w.connections j l (ap (λ ls. numbered ls j) (sym connections) ∙ at) in
       subst (λ y. IsTidy (side_of u.server j) y) (sym found.2) (over_here_tidy (side_of u.server j) found.0));
 }
 
 -- a connection more
-joined_tidy : (w u : World) (dump : Option Dumping) → u.server.sides ≡ (with_side w.server).sides → u.connections ≡ w.connections ++ new_connection dump ∷ [] → AreTidy w → AreTidy u
+joined_tidy : (w u : World) (dump : Option AttemptState) → u.server.sides ≡ (with_side w.server).sides → u.connections ≡ w.connections ++ new_connection dump ∷ [] → AreTidy w → AreTidy u
 joined_tidy w u dump sides connections t = record {
   paired = ap length sides ∙ length-append w.server.sides (Some (side (held [] 0) Idle) ∷ []) ∙ ap (λ n. n + 1) t.paired
       ∙ sym (ap length connections ∙ length-append w.connections (new_connection dump ∷ []));
@@ -138,7 +138,7 @@ pub tidy_moved : (w : World) (m : Move w) → AreTidy w → AreTidy (moved w m)
 tidy_moved w (connects c there ready) t = joined_tidy w _ _ refl refl t
 tidy_moved w joins t = joined_tidy w _ None refl refl t
 tidy_moved w (asks a) t = changed_tidy (sent_connection (next_text a.c a.b.payload a.step)) (sent_tidy _) w _ a.k refl refl t
-tidy_moved w (fails k n c reader there stage own) t = changed_tidy over_there over_there_tidy w _ k refl refl t
+tidy_moved w (fails k n c reader there stage own) t = changed_tidy without_peer over_there_tidy w _ k refl refl t
 tidy_moved w (reaches k n s l reached live at grows) t =
     side_tidy (λ x. record x { toward = drop n x.toward }) (λ x there. there) w _ k s (side reached s.session) live refl refl t
 tidy_moved w (serves v) t = side_tidy (answered v.request v.reply) (λ l there. there) w _ v.k v.s (side v.reached v.session) v.live refl refl t
@@ -147,7 +147,7 @@ tidy_moved w restarts t = restarted_tidy w _ refl refl t
 tidy_moved w (cuts k) t = changed_tidy (λ l. record l { cut = true }) cut_tidy w _ k refl refl t
 tidy_moved w (talks k l a at none) t = changed_tidy (talked a) (talked_tidy a) w _ k refl refl t
 tidy_moved w (hears a on) t = changed_tidy (λ l. record l { back = drop a.n l.back }) (heard_tidy a.n) w _ a.k refl refl t
-tidy_moved w (hears_last a failure over) t = changed_tidy over_there over_there_tidy w _ a.k refl refl t
-tidy_moved w (sees a failure) t = changed_tidy over_there over_there_tidy w _ a.k refl refl t
-tidy_moved w (gives_up x k own) t = changed_tidy over_there over_there_tidy w _ k refl refl t
+tidy_moved w (hears_last a failure over) t = changed_tidy without_peer over_there_tidy w _ a.k refl refl t
+tidy_moved w (sees a failure) t = changed_tidy without_peer over_there_tidy w _ a.k refl refl t
+tidy_moved w (gives_up x k own) t = changed_tidy without_peer over_there_tidy w _ k refl refl t
 tidy_moved w m t = same_tidy w _ refl refl t

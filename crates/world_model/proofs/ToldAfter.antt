@@ -4,7 +4,7 @@ use Rattle.std.proofs.lemmas.Option.{same_Some}
 use Rattle.world_model.specs.World.{World, Connection}
 use Rattle.world_model.specs.First.{PlainDriveSpec, first_world}
 use Rattle.world_model.specs.Changes.{new_connection}
-use Rattle.world_model.specs.Kept.{AreTidy, AreBooked, HasLawful}
+use Rattle.world_model.specs.Kept.{AreTidy, AreBooked, IsClientLawful}
 use Rattle.world_model.specs.Owning.{IsOwned}
 use Rattle.world_model.specs.Sending.{AreTold}
 use Rattle.world_model.proofs.Numbers.{no_number}
@@ -30,7 +30,7 @@ pub record Sayings : Type 0 where
 pub first_told : (drives : List PlainDriveSpec) → AreTold (first_world drives)
 first_told drives = record { good = λ n b at. absurd (no_number n b at); each = λ k l at. absurd (no_number k l at) }
 
-told_by : Sayings → (w : World) (m : Move w) → HasLawful w → IsOwned w → AreTidy w → AreBooked w → AreTold w → AreTold (moved w m)
+told_by : Sayings → (w : World) (m : Move w) → IsClientLawful w → IsOwned w → AreTidy w → AreBooked w → AreTold w → AreTold (moved w m)
 told_by g w (begins run payload reader none good long) lawful owned tidy booked t =
     begun_told w _ _ (started_good run payload good long) refl refl refl (no_run_idle w none owned) t
 told_by g w (connects c there ready) lawful owned tidy booked t = connected_told w c tidy booked (lawful c there) there ready t
@@ -54,7 +54,7 @@ told_by g w (answers c answer reader there stage) lawful owned tidy booked t =
 told_by g w joins lawful owned tidy booked t = joined_told w _ None tidy.paired refl refl refl (λ j within own. (own, refl)) (strangers _ _ _ (new_connection None) refl) t
 told_by g w m lawful owned tidy booked t = same_told w _ refl refl refl (λ k own. (own, refl)) t
 
-pub told_moved : OneReading → DroppedWrites → OneReply → (w : World) (m : Move w) → HasLawful w → IsOwned w → AreTidy w → AreBooked w → AreTold w → AreTold (moved w m)
+pub told_moved : OneReading → DroppedWrites → OneReply → (w : World) (m : Move w) → IsClientLawful w → IsOwned w → AreTidy w → AreBooked w → AreTold w → AreTold (moved w m)
 told_moved reading dropped reply w m lawful owned tidy booked t = told_by record {
   requests = request_texts;
   replies = reply_texts;

@@ -6,7 +6,7 @@ use Rattle.std.proofs.lemmas.Option.{same_Some}
 use Rattle.rmt_wire.specs.RequestReader.{RequestHeld, Unread}
 use Rattle.rmt_server.specs.ServerState.{ServerState, ServerConnection, side}
 use Rattle.world_model.specs.World.{World, Connection, numbered, with_numbered}
-use Rattle.world_model.specs.Changes.{changed, side_of, connection_of, over_there, over_here, ended_from, all_ended, answered, noted}
+use Rattle.world_model.specs.Changes.{changed, side_of, connection_of, without_peer, without_server, ended_from, all_ended, answered, noted}
 use Rattle.world_model.specs.Kept.{AreTidy}
 use Rattle.world_model.specs.Sending.{IsConnectionSent, IsConnectionToldAt, IsConnectionTold, AreTold}
 use Rattle.world_model.specs.Steps.{IsPushed}
@@ -77,10 +77,10 @@ connection_moves w u k o p l y begun own caller m back dump h = record {
 }
 
 over_connection : (w u : World) (k : ℕ) (l : Connection) → u.begun ≡ w.begun → u.own ≡ w.own → u.caller ≡ w.caller → side_of u.server k ≡ None → IsConnectionTold w k (side_of w.server k) l
-    → IsConnectionTold u k (side_of u.server k) (over_here l)
+    → IsConnectionTold u k (side_of u.server k) (without_server l)
 over_connection w u k l begun own caller over h =
-    subst (λ o. IsConnectionTold u k o (over_here l)) (sym over)
-    (connection_moves w u k (side_of w.server k) None l (over_here l) begun own caller (lost_move (side_of w.server k) l.toward) refl refl h)
+    subst (λ o. IsConnectionTold u k o (without_server l)) (sym over)
+    (connection_moves w u k (side_of w.server k) None l (without_server l) begun own caller (lost_move (side_of w.server k) l.toward) refl refl h)
 
 -- the connection is cut
 pub cut_told : (w : World) (k : ℕ) → AreTold w → AreTold (moved w (cuts k))
@@ -91,14 +91,14 @@ cut_told w k t =
 -- the server's side is over
 pub ended_told : (w : World) (k : ℕ) → AreTold w → AreTold (moved w (ends k))
 ended_told w k t =
-    changed_told w _ k over_here refl refl (λ j other. ended_beside w.server k j (side_of w.server k) other) (λ j other mine. (mine, refl))
+    changed_told w _ k without_server refl refl (λ j other. ended_beside w.server k j (side_of w.server k) other) (λ j other mine. (mine, refl))
     (λ l at h. over_connection w (moved w (ends k)) k l refl refl refl (ended_here w.server k (side_of w.server k) refl) h) t
 
 pub restarted_told : (w : World) → AreTidy w → AreTold w → AreTold (moved w restarts)
 restarted_told w tidy t = record {
   good = t.good;
   each = λ j y at. (
-      let x = map_at over_here w.connections j y at in
+      let x = map_at without_server w.connections j y at in
       let within = numbered_within w.connections j x.0 x.1 in
       let paired = tidy.paired in
       subst (λ l. IsConnectionTold (moved w restarts) j (side_of (moved w restarts).server j) l) (sym x.2)
@@ -106,11 +106,11 @@ restarted_told w tidy t = record {
 }
 
 -- the client's side is over, and there is no attempt
-pub left_told : (w u : World) (k : ℕ) → u.begun ≡ w.begun → u.server.sides ≡ w.server.sides → u.connections ≡ changed over_there w.connections k → u.own ≡ None → AreTold w → AreTold u
+pub left_told : (w u : World) (k : ℕ) → u.begun ≡ w.begun → u.server.sides ≡ w.server.sides → u.connections ≡ changed without_peer w.connections k → u.own ≡ None → AreTold w → AreTold u
 left_told w u k begun sides connections none t =
     let same : (j : ℕ) → side_of u.server j ≡ side_of w.server j = λ j. ap (λ ss. option_and_then (λ s. s) (numbered ss j)) sides in
-    changed_told w u k over_there begun connections (λ j other. same j) (λ j other mine. (let clash = sym none ∙ mine in absurd cc))
-    (λ l at h. still_sent w u k l (over_there l) begun (same k) refl refl (λ mine. (let clash = sym none ∙ mine in absurd cc)) h) t
+    changed_told w u k without_peer begun connections (λ j other. same j) (λ j other mine. (let clash = sym none ∙ mine in absurd cc))
+    (λ l at h. still_sent w u k l (without_peer l) begun (same k) refl refl (λ mine. (let clash = sym none ∙ mine in absurd cc)) h) t
 
 -- bytes reach the server
 pub reached_told : (w : World) (k n : ℕ) (s : ServerConnection) (l : Connection) (reached : RequestHeld) (live : side_of w.server k ≡ Some s) (at : connection_of w k ≡ Some l)

@@ -19,7 +19,7 @@ use Rattle.dump_client.specs.declared.stage.Stage.{Stage}
 use Rattle.dump_client.specs.declared.stage.Stage.TheVariants.{Ready, ToSend, Waiting, Asking, Finished}
 use Rattle.dump_client.specs.declared.stage.Progress.{Progress}
 use Rattle.dump_client.proofs.Received.{HeardAs, has_failed, goes_to, has_counted, has_ended, counted_last, heard_as}
-use Rattle.world_model.specs.World.{World, Connection, Dumping, Begun, Caller}
+use Rattle.world_model.specs.World.{World, Connection, AttemptState, Begun, WorldClient}
 use Rattle.world_model.specs.Changes.{side_of}
 use Rattle.world_model.specs.Steps.{caller}
 use Rattle.world_model.specs.Owning.{IsOwned}
@@ -41,7 +41,7 @@ pushed_attempt counts x =
     let same : length (counts ++ x ∷ []) - 1 ≡ length counts = omega (arith, size) in
     ap (λ n. checkpoint_of (take n (counts ++ x ∷ []))) same ∙ ap checkpoint_of (take_at counts (x ∷ []) (length counts) refl)
 
-next_attempt : (counts new : List VolumeCount) (d : Dumping) (next : Step) → AreCounted next counts d new → attempt_at next new ≡ checkpoint_of counts
+next_attempt : (counts new : List VolumeCount) (d : AttemptState) (next : Step) → AreCounted next counts d new → attempt_at next new ≡ checkpoint_of counts
 next_attempt counts new d Close is = ap (attempt_at Close) is ∙ pushed_attempt counts (count_to (checkpoint_of counts) (d.first + d.blocks))
 next_attempt counts new d step is = ap checkpoint_of is
 
@@ -61,7 +61,7 @@ unlike_close old new step next reply progress hears at is =
     after_close old new reply progress next (subst (λ s. ReceivesAt old s (Reply reply) false progress new) is hears) at
 
 -- the client goes on with its attempt
-goes_attempt : (begun : List Begun) (c : Caller) (reader : ReplyHeld) (new : Standing) (d : Dumping) (o : Option ServerConnection) (step next : Step) (b : Begun) → step ≢ Close
+goes_attempt : (begun : List Begun) (c : WorldClient) (reader : ReplyHeld) (new : Standing) (d : AttemptState) (o : Option ServerConnection) (step next : Step) (b : Begun) → step ≢ Close
     → GoesTo b.run o c.at d new next → IsAttempt begun c d step b → IsAttempt begun (caller c.number new reader) d next b
 goes_attempt begun c reader new d o step next b other g a =
     let same : attempt_at step c.at.counts ≡ attempt_at next new.counts
@@ -87,7 +87,7 @@ waits_no_more old new progress step (has_ended tells over) at = over_waits old.r
 waits_no_more old new progress step (counted_last end followed tells over) at = over_waits old.run (counted_to old.counts end) new step over at
 
 -- it heard the whole reply, so it waits no more
-whole_stage : (begun : List Begun) (o : Option ServerConnection) (l : Connection) (c : Caller) (d : Dumping) (step : Step) (b : Begun) (reader : ReplyHeld) (new : Standing) (way bytes : List ℕ)
+whole_stage : (begun : List Begun) (o : Option ServerConnection) (l : Connection) (c : WorldClient) (d : AttemptState) (step : Step) (b : Begun) (reader : ReplyHeld) (new : Standing) (way bytes : List ℕ)
     (reply : PlainReply) (progress : Progress) (stage : Stage) → new.stage ≡ stage → HasFedAt stage reader (unanswered stage bytes)
     → ReceivesAt c.at step (Reply reply) false progress new → LeadsOn b.run o c.at d step reply → IsStepReplied b o l c d step → IsAttempt begun c d step b → way ≡ []
     → IsConnectionToldAt stage begun o (record l { back = way }) (caller c.number new reader) d
@@ -102,7 +102,7 @@ whole_stage begun o l c d step b reader new way bytes reply progress (Waiting ot
 whole_stage begun o l c d step b reader new way bytes reply progress stage at has hears leads replied attempt none = tt
 
 -- what comes of the bytes that it heard
-hearing_told : (begun : List Begun) (o : Option ServerConnection) (l : Connection) (c : Caller) (d : Dumping) (step : Step) (b : Begun) (reader : ReplyHeld) (new : Standing)
+hearing_told : (begun : List Begun) (o : Option ServerConnection) (l : Connection) (c : WorldClient) (d : AttemptState) (step : Step) (b : Begun) (reader : ReplyHeld) (new : Standing)
     (bytes way : List ℕ) (reply : PlainReply) (progress : Progress) → c.at.stage ≡ Waiting step
     → IsStepReplied b o l c d step → IsAttempt begun c d step b → FitsReplyReader (wanted_of step) reply → LeadsOn b.run o c.at d step reply
     → HearsPiece c.at step reply bytes way progress new → HasFedAt new.stage reader (unanswered new.stage bytes)
@@ -132,7 +132,7 @@ hearing_told begun o l c d step b reader new bytes way reply progress stage repl
 pub some_way : (l : Connection) (n : ℕ) → 1 ≤ n → n ≤ length l.back → l.back ≡ [] → ⊥
 some_way l n first within none = let size : length l.back ≡ 0 = ap length none in omega (arith, first, within, size)
 
-heard_reply : OneReply → (begun : List Begun) (o : Option ServerConnection) (l : Connection) (c : Caller) (d : Dumping) (step : Step) (b : Begun) (reader : ReplyHeld) (new : Standing) (fed : List ℕ)
+heard_reply : OneReply → (begun : List Begun) (o : Option ServerConnection) (l : Connection) (c : WorldClient) (d : AttemptState) (step : Step) (b : Begun) (reader : ReplyHeld) (new : Standing) (fed : List ℕ)
     (n : ℕ) (progress : Progress) → 1 ≤ n → n ≤ length l.back → c.at.stage ≡ Waiting step → (r : IsStepReplied b o l c d step) → IsStepReply b.run o c.at d step (r.fed ++ l.back)
     → IsAttempt begun c d step b → HasFedAt (Waiting step) c.reader fed → FedAt (Waiting step) c.at fed (take n l.back) progress new
     → HasFedAt new.stage reader (unanswered new.stage (fed ++ take n l.back)) → IsConnectionToldAt new.stage begun o (record l { back = drop n l.back }) (caller c.number new reader) d
@@ -144,11 +144,11 @@ heard_reply g begun o l c d step b reader new fed n progress first within stage 
     hearing_told begun o l c d step b reader new (fed ++ take n l.back) (drop n l.back) reply progress stage r attempt brief leads
     (hearing g c.reader c.at new step reply r.fed fed l.back n progress brief is r.has had feeds) has
 
-rests : (begun : List Begun) (o : Option ServerConnection) (y : Connection) (c : Caller) (d : Dumping) (reader : ReplyHeld) (new : Standing) (stage : Stage) → c.at.stage ≡ stage → new ≡ c.at
+rests : (begun : List Begun) (o : Option ServerConnection) (y : Connection) (c : WorldClient) (d : AttemptState) (reader : ReplyHeld) (new : Standing) (stage : Stage) → c.at.stage ≡ stage → new ≡ c.at
     → IsConnectionToldAt stage begun o y (caller c.number new reader) d → IsConnectionToldAt new.stage begun o y (caller c.number new reader) d
 rests begun o y c d reader new stage at is told = subst (λ s. IsConnectionToldAt s begun o y (caller c.number new reader) d) (sym (ap (λ (s : Standing). s.stage) is ∙ at)) told
 
-heard_told : OneReply → (stage : Stage) (begun : List Begun) (o : Option ServerConnection) (l : Connection) (c : Caller) (d : Dumping) (reader : ReplyHeld) (new : Standing) (fed : List ℕ) (n : ℕ)
+heard_told : OneReply → (stage : Stage) (begun : List Begun) (o : Option ServerConnection) (l : Connection) (c : WorldClient) (d : AttemptState) (reader : ReplyHeld) (new : Standing) (fed : List ℕ) (n : ℕ)
     (progress : Progress) → 1 ≤ n → n ≤ length l.back → c.at.stage ≡ stage → IsConnectionToldAt stage begun o l c d → HasFedAt stage c.reader fed
     → FedAt stage c.at fed (take n l.back) progress new → HasFedAt new.stage reader (unanswered new.stage (fed ++ take n l.back))
     → IsConnectionToldAt new.stage begun o (record l { back = drop n l.back }) (caller c.number new reader) d
@@ -169,7 +169,7 @@ hears_told g w t on owned told =
           let same : t.l ≡ x = same_Some t.l x (sym t.there ∙ here) in
           let back = ap (λ (z : Connection). length z.back) same in
           let some = t.within in
-          subst (λ (z : Caller). IsConnectionToldAt z.at.stage w.begun (side_of w.server t.k) (record x { back = drop t.n x.back }) z d) (same_Some (caller t.c.number t.at t.reader) y now)
+          subst (λ (z : WorldClient). IsConnectionToldAt z.at.stage w.begun (side_of w.server t.k) (record x { back = drop t.n x.back }) z d) (same_Some (caller t.c.number t.at t.reader) y now)
           (heard_told g t.c.at.stage w.begun (side_of w.server t.k) x t.c d t.reader t.at t.fed t.n t.progress t.some (omega (arith, some, back)) refl
           (h.own d t.c is_d own t.client) t.had
           (subst (λ (z : Connection). FedAt t.c.at.stage t.c.at t.fed (take t.n z.back) t.progress t.at) same t.feeds)

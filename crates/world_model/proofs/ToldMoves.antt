@@ -13,7 +13,7 @@ use Rattle.dump_client.specs.declared.step.Step.{Step}
 use Rattle.dump_client.specs.declared.stage.Stage.{Stage}
 use Rattle.dump_client.specs.declared.stage.Stage.TheVariants.{ToSend, Waiting}
 use Rattle.rmt_wire.specs.Reply.{PlainReply}
-use Rattle.world_model.specs.World.{World, Connection, Dumping, Begun, Caller, numbered}
+use Rattle.world_model.specs.World.{World, Connection, AttemptState, Begun, WorldClient, numbered}
 use Rattle.world_model.specs.Changes.{changed, side_of, connection_of, new_connection, with_side}
 use Rattle.world_model.specs.Sending.{AreUnserved, request_in, IsPending, IsConnectionSettled, IsConnectionSent, LeadsOn, IsStepReply, IsConnectionToldAt, IsConnectionTold, IsGood, AreTold}
 use Rattle.world_model.proofs.Numbers.{changed_is, pushed_is, numbered_more, numbered_last, numbered_within, numbered_there, numbered_first}
@@ -25,7 +25,7 @@ pub record Moves (o p : Option ServerConnection) (way new : List ℕ) : Type 0 w
   pub stays : (bytes : List ℕ) → AreUnserved o way bytes → AreUnserved p new bytes ⊎ AreUnserved p new []
   pub nothing : AreUnserved o way [] → AreUnserved p new []
 
-pub settled_moves : (o p : Option ServerConnection) (way new : List ℕ) (d : Dumping) → Moves o p way new → IsConnectionSettled o way d → IsConnectionSettled p new d
+pub settled_moves : (o p : Option ServerConnection) (way new : List ℕ) (d : AttemptState) → Moves o p way new → IsConnectionSettled o way d → IsConnectionSettled p new d
 settled_moves o p way new d m h = record { sent = h.sent; unserved = m.nothing h.unserved }
 
 unserved_moves : (o p : Option ServerConnection) (way new bytes : List ℕ) → Moves o p way new → AreUnserved o way bytes ⊎ AreUnserved o way []
@@ -33,7 +33,7 @@ unserved_moves : (o p : Option ServerConnection) (way new bytes : List ℕ) → 
 unserved_moves o p way new bytes m (inl on) = m.stays bytes on
 unserved_moves o p way new bytes m (inr none) = inr (m.nothing none)
 
-pub pending_moves : (b : Begun) (o p : Option ServerConnection) (way new : List ℕ) (d : Dumping) (step : Step) → Moves o p way new → IsPending b o way d step → IsPending b p new d step
+pub pending_moves : (b : Begun) (o p : Option ServerConnection) (way new : List ℕ) (d : AttemptState) (step : Step) → Moves o p way new → IsPending b o way d step → IsPending b p new d step
 pending_moves b o p way new d step m h = record {
   done = moved_done b.run o p d step m.session h.done;
   sent = h.sent;
@@ -42,22 +42,22 @@ pending_moves b o p way new d step m h = record {
   unserved = unserved_moves o p way new (request_text (request_in b d step)) m h.unserved;
 }
 
-pub sent_moves : (begun : List Begun) (o p : Option ServerConnection) (l y : Connection) (d : Dumping) → Moves o p l.toward y.toward → IsConnectionSent begun o l d → IsConnectionSent begun p y d
+pub sent_moves : (begun : List Begun) (o p : Option ServerConnection) (l y : Connection) (d : AttemptState) → Moves o p l.toward y.toward → IsConnectionSent begun o l d → IsConnectionSent begun p y d
 sent_moves begun o p l y d m (inl settled) = inl (settled_moves o p l.toward y.toward d m settled)
 sent_moves begun o p l y d m (inr (b, step, at, pending)) = inr (b, step, at, pending_moves b o p l.toward y.toward d step m pending)
 
-leads_moves : (run : PlainRun) (o p : Option ServerConnection) (old : Standing) (d : Dumping) (step : Step) (reply : PlainReply)
+leads_moves : (run : PlainRun) (o p : Option ServerConnection) (old : Standing) (d : AttemptState) (step : Step) (reply : PlainReply)
     → ((s : ServerConnection) → p ≡ Some s → (x : ServerConnection) × (o ≡ Some x) × (s.session ≡ x.session)) → LeadsOn run o old d step reply → LeadsOn run p old d step reply
 leads_moves run o p old d step reply m leads progress new next becomes at =
     let g = leads progress new next becomes at in
     record { done = moved_done run o p d next m g.done; same_run = g.same_run; counts = g.counts }
 
-reply_moves : (run : PlainRun) (o p : Option ServerConnection) (old : Standing) (d : Dumping) (step : Step) (bytes : List ℕ)
+reply_moves : (run : PlainRun) (o p : Option ServerConnection) (old : Standing) (d : AttemptState) (step : Step) (bytes : List ℕ)
     → ((s : ServerConnection) → p ≡ Some s → (x : ServerConnection) × (o ≡ Some x) × (s.session ≡ x.session)) → IsStepReply run o old d step bytes → IsStepReply run p old d step bytes
 reply_moves run o p old d step bytes m (inl none) = inl none
 reply_moves run o p old d step bytes m (inr (reply, is, brief, leads)) = inr (reply, is, brief, leads_moves run o p old d step reply m leads)
 
-pub told_moves : (stage : Stage) (begun : List Begun) (o p : Option ServerConnection) (l y : Connection) (c : Caller) (d : Dumping) → Moves o p l.toward y.toward → y.back ≡ l.back
+pub told_moves : (stage : Stage) (begun : List Begun) (o p : Option ServerConnection) (l y : Connection) (c : WorldClient) (d : AttemptState) → Moves o p l.toward y.toward → y.back ≡ l.back
     → IsConnectionToldAt stage begun o l c d → IsConnectionToldAt stage begun p y c d
 told_moves (ToSend step) begun o p l y c d m back (b, attempt, turn) = (
   b,
@@ -152,7 +152,7 @@ changed_told w u k f begun connections beside own here t = record {
 }
 
 -- a connection more
-pub joined_told : (w u : World) (dump : Option Dumping) → length w.server.sides ≡ length w.connections → u.begun ≡ w.begun → u.connections ≡ w.connections ++ new_connection dump ∷ []
+pub joined_told : (w u : World) (dump : Option AttemptState) → length w.server.sides ≡ length w.connections → u.begun ≡ w.begun → u.connections ≡ w.connections ++ new_connection dump ∷ []
     → u.server.sides ≡ (with_side w.server).sides → ((j : ℕ) → j ≤ length w.connections → u.own ≡ Some j → (w.own ≡ Some j) × (u.caller ≡ w.caller))
     → IsConnectionTold u (suc (length w.connections)) (Some (side (held [] 0) Idle)) (new_connection dump) → AreTold w → AreTold u
 joined_told w u dump paired begun connections sides own here t = record {

@@ -23,7 +23,7 @@ use Rattle.dump_client.specs.declared.step.TapeOp.{TapeOp}
 use Rattle.dump_client.specs.declared.step.TapeOp.TheVariants.{Rewind, RewindAgain, Mark, Unload}
 use Rattle.dump_client.specs.declared.stage.Stage.{Stage}
 use Rattle.dump_client.specs.declared.stage.Stage.TheVariants.{Ready, ToSend, Waiting, Asking}
-use Rattle.world_model.specs.World.{World, Connection, Dumping, Begun, Caller, numbered}
+use Rattle.world_model.specs.World.{World, Connection, AttemptState, Begun, WorldClient, numbered}
 use Rattle.world_model.specs.Changes.{side_of, connection_of, new_connection, sent_on, noted_sent}
 use Rattle.world_model.specs.Rows.{NoRun, is_run_done}
 use Rattle.world_model.specs.Steps.{caller, fresh, client_connected, sent_connection, next_text}
@@ -40,7 +40,7 @@ use Rattle.world_model.proofs.Moves.{Sender}
 use Rattle.world_model.proofs.ToldEvents.{mapped}
 
 -- a client that has no run under way has no connection of its own
-idle_none : (w : World) → IsOwned w → ((c : Caller) → w.caller ≡ Some c → IsTrue (is_in_attempt c.at.stage) → ⊥) → (k : ℕ) → w.own ≡ Some k → ⊥
+idle_none : (w : World) → IsOwned w → ((c : WorldClient) → w.caller ≡ Some c → IsTrue (is_in_attempt c.at.stage) → ⊥) → (k : ℕ) → w.own ≡ Some k → ⊥
 idle_none w o idle k own = let c = (o.own k own).1 in idle c.0 c.1 c.2
 
 done_idle : (stage : Stage) → IsTrue (is_run_done stage) → IsTrue (is_in_attempt stage) → ⊥
@@ -58,7 +58,7 @@ cut_most zero size payload i = omega arith
 cut_most (suc n) size payload zero = take_most size payload
 cut_most (suc n) size payload (suc i) = cut_most n size (drop size payload) i
 
-more_sent : (begun more : List Begun) (o : Option ServerConnection) (l : Connection) (d : Dumping) → IsConnectionSent begun o l d → IsConnectionSent (begun ++ more) o l d
+more_sent : (begun more : List Begun) (o : Option ServerConnection) (l : Connection) (d : AttemptState) → IsConnectionSent begun o l d → IsConnectionSent (begun ++ more) o l d
 more_sent begun more o l d (inl settled) = inl settled
 more_sent begun more o l d (inr (b, step, at, pending)) = inr (b, step, numbered_more begun more d.run b at, pending)
 
@@ -91,13 +91,13 @@ started_good run payload good size = record {
 pub no_run_idle : (w : World) → NoRun w → IsOwned w → (k : ℕ) → w.own ≡ Some k → ⊥
 no_run_idle w (inl gone) o = idle_none w o (λ c there attempt. (let clash = sym gone ∙ there in absurd cc))
 no_run_idle w (inr (x, is, done)) o =
-    idle_none w o (λ c there attempt. done_idle c.at.stage (subst (λ (z : Caller). IsTrue (is_run_done z.at.stage)) (same_Some x c (sym is ∙ there)) done) attempt)
+    idle_none w o (λ c there attempt. done_idle c.at.stage (subst (λ (z : WorldClient). IsTrue (is_run_done z.at.stage)) (same_Some x c (sym is ∙ there)) done) attempt)
 
 -- the operator answered, so there is no attempt
-pub asking_idle : (w : World) (x : Caller) → w.caller ≡ Some x → x.at.stage ≡ Asking → IsOwned w → (k : ℕ) → w.own ≡ Some k → ⊥
+pub asking_idle : (w : World) (x : WorldClient) → w.caller ≡ Some x → x.at.stage ≡ Asking → IsOwned w → (k : ℕ) → w.own ≡ Some k → ⊥
 asking_idle w x is asks o = idle_none w o (λ c there attempt. (
     let same = same_Some x c (sym is ∙ there) in
-    let stage : c.at.stage ≡ Asking = ap (λ (z : Caller). z.at.stage) (sym same) ∙ asks in
+    let stage : c.at.stage ≡ Asking = ap (λ (z : WorldClient). z.at.stage) (sym same) ∙ asks in
     let clash : IsTrue (is_in_attempt Asking) = subst (λ s. IsTrue (is_in_attempt s)) stage attempt in cc))
 
 -- the block at which the next volume begins is within the run
@@ -106,7 +106,7 @@ left_within run counts (inl none) = subst (λ l. (checkpoint_of l).1 ≤ run.blo
 left_within run counts (inr less) = omega (arith, less)
 
 -- an attempt starts
-pub connected_told : (w : World) (c : Caller) → AreTidy w → AreBooked w → IsLawful c.at → w.caller ≡ Some c → c.at.stage ≡ Ready → AreTold w → AreTold (client_connected w c)
+pub connected_told : (w : World) (c : WorldClient) → AreTidy w → AreBooked w → IsLawful c.at → w.caller ≡ Some c → c.at.stage ≡ Ready → AreTold w → AreTold (client_connected w c)
 connected_told w c tidy booked lawful there ready t =
     joined_told w (client_connected w c) (Some (fresh c)) tidy.paired refl refl refl
     (λ j within mine. (let same : length w.connections + 1 ≡ j = same_Some (length w.connections + 1) j mine in absurd (omega (arith, same, within))))
@@ -115,7 +115,7 @@ connected_told w c tidy booked lawful there ready t =
       own = λ d x is mine now. (
           let dump = same_Some (fresh c) d is in
           let client = same_Some (caller c.number (standing c.at.run c.at.counts (ToSend Open)) (reply_held None [])) x now in
-          subst (λ (z : Caller). IsConnectionToldAt z.at.stage w.begun (Some (side (held [] 0) Idle)) (new_connection (Some (fresh c))) z d) client
+          subst (λ (z : WorldClient). IsConnectionToldAt z.at.stage w.begun (Some (side (held [] 0) Idle)) (new_connection (Some (fresh c))) z d) client
           (subst (IsConnectionToldAt (ToSend Open) w.begun (Some (side (held [] 0) Idle)) (new_connection (Some (fresh c)))
           (caller c.number (standing c.at.run c.at.counts (ToSend Open)) (reply_held None []))) dump
           (b.0, record { begun_as = b.1; run = b.2; number = refl; volume = refl; first = refl }, record { done = done; settled = settled; back = refl; fed = fed })));
@@ -193,7 +193,7 @@ sent_unserved (Some s) false way text here (mine, unread, is) =
     inl (mine, unread, ap (λ l. l ++ text) is ∙ append_assoc mine way text)
 
 -- the numbers once it was sent
-noted_done : (run : PlainRun) (o : Option ServerConnection) (d : Dumping) (step : Step) → HasDone run o d step → HasDone run o (noted_sent d) step
+noted_done : (run : PlainRun) (o : Option ServerConnection) (d : AttemptState) (step : Step) → HasDone run o d step → HasDone run o (noted_sent d) step
 noted_done run o d step h = record {
   carried = h.carried;
   fault = h.fault;
@@ -205,7 +205,7 @@ noted_done run o d step h = record {
 }
 
 -- the client sends what its turn is
-sent_pending : RequestTexts → ShortLabels → (b : Begun) (o : Option ServerConnection) (l : Connection) (c : Caller) (d : Dumping) (step : Step) (begun : List Begun) → IsGood b → IsLawful c.at
+sent_pending : RequestTexts → ShortLabels → (b : Begun) (o : Option ServerConnection) (l : Connection) (c : WorldClient) (d : AttemptState) (step : Step) (begun : List Begun) → IsGood b → IsLawful c.at
     → (o ≡ None → l.cut ≡ true) → IsAttempt begun c d step b → IsItsTurn b o l c d step
     → IsPending b o (sent_on l.cut l.toward (next_text c b.payload step)) (noted_sent d) step
 sent_pending x g b o l c d step begun good lawful here attempt turn =
@@ -226,7 +226,7 @@ sent_pending x g b o l c d step begun good lawful here attempt turn =
           mine (sent_unserved o l.cut l.toward (next_text c b.payload step) here turn.settled.unserved);
     }
 
-sends_pending : RequestTexts → ShortLabels → (w : World) (k : ℕ) (l : Connection) (c : Caller) (x : Begun) (d : Dumping) (step : Step) (reader : ReplyHeld) → AreTidy w → IsLawful c.at → AreTold w
+sends_pending : RequestTexts → ShortLabels → (w : World) (k : ℕ) (l : Connection) (c : WorldClient) (x : Begun) (d : AttemptState) (step : Step) (reader : ReplyHeld) → AreTidy w → IsLawful c.at → AreTold w
     → w.own ≡ Some k → connection_of w k ≡ Some l → l.dump ≡ Some d → w.caller ≡ Some c → c.at.stage ≡ ToSend step → numbered w.begun c.number ≡ Some x
     → HasFedAt (Waiting step) reader []
     → (b : Begun) × IsAttempt w.begun (caller c.number (standing c.at.run c.at.counts (Waiting step)) reader) (noted_sent d) step b
@@ -259,12 +259,12 @@ asked_told t g w a tidy lawful told =
       own = λ d y is now here. (
           let m = mapped noted_sent l.dump d is in
           let p = sends_pending t g w a.k l a.c a.b m.0 a.step a.reader tidy lawful told a.own at m.1 a.there a.stage a.mine a.fed in
-          subst (λ (z : Caller). IsConnectionToldAt z.at.stage w.begun (side_of w.server a.k) (sent_connection text l) z d) (same_Some waits y here)
+          subst (λ (z : WorldClient). IsConnectionToldAt z.at.stage w.begun (side_of w.server a.k) (sent_connection text l) z d) (same_Some waits y here)
           (subst (IsConnectionToldAt (Waiting a.step) w.begun (side_of w.server a.k) (sent_connection text l) waits) (sym m.2) (p.0, p.1, inl p.2)));
     }) told
   where
     text : List ℕ
     text = next_text a.c a.b.payload a.step
 
-    waits : Caller
+    waits : WorldClient
     waits = caller a.c.number (standing a.c.at.run a.c.at.counts (Waiting a.step)) a.reader

@@ -18,7 +18,7 @@ use Rattle.dump_client.specs.Standing.{Standing, checkpoint_of}
 use Rattle.dump_run.specs.declared.count.VolumeCount.{VolumeCount}
 use Rattle.dump_client.specs.declared.stage.Progress.{Progress}
 use Rattle.dump_client.specs.declared.stage.Progress.TheVariants.{Failed, Ended}
-use Rattle.world_model.specs.World.{World, Connection, Dumping, Caller, Count, Opening, Writing, numbered, with_numbered}
+use Rattle.world_model.specs.World.{World, Connection, AttemptState, WorldClient, Count, Opening, Writing, numbered, with_numbered}
 
 -- the list with `f x` in place of the member of this number, which is `x`
 abbrev pub changed_from : {X : Type 0} → (X → X) → List X → ℕ → Option X → List X
@@ -38,7 +38,7 @@ abbrev pub connection_of : World → ℕ → Option Connection
 connection_of w k = numbered w.connections k
 
 -- connection `k` is one of the client's, and `d` is the attempt on it
-abbrev pub HasDump : World → ℕ → Dumping → Type 0
+abbrev pub HasDump : World → ℕ → AttemptState → Type 0
 HasDump w k d = (l : Connection) × (connection_of w k ≡ Some l) × (l.dump ≡ Some d)
 
 -- the world after an event that made nothing fail
@@ -46,7 +46,7 @@ abbrev pub with_no_failure : World → World
 with_no_failure w = record w { failure = None }
 
 -- a connection on which nothing was sent
-abbrev pub new_connection : Option Dumping → Connection
+abbrev pub new_connection : Option AttemptState → Connection
 new_connection dump = record { toward = []; back = []; cut = false; other = true; dump = dump }
 
 -- the server with one more side, which has read nothing and has nothing open
@@ -54,7 +54,7 @@ abbrev pub with_side : ServerState → ServerState
 with_side h = server h.library h.holders (h.sides ++ Some (side (held [] 0) Idle) ∷ [])
 
 -- the world with a new connection, of this attempt or of a stranger
-abbrev pub joined : World → Option Dumping → World
+abbrev pub joined : World → Option AttemptState → World
 joined w dump = record w { server = with_side w.server; connections = w.connections ++ new_connection dump ∷ [] }
 
 -- the bytes in transit after more were sent, which are lost after a cut
@@ -63,16 +63,16 @@ sent_on true way bytes = way
 sent_on false way bytes = way ++ bytes
 
 -- The peer left: the connection is cut, and what was in transit to the peer is lost.
-abbrev pub over_there : Connection → Connection
-over_there l = record l { back = []; cut = true; other = false }
+abbrev pub without_peer : Connection → Connection
+without_peer l = record l { back = []; cut = true; other = false }
 
 -- The server's side ended: the connection is cut, and what was in transit to the server is lost.
-abbrev pub over_here : Connection → Connection
-over_here l = record l { toward = []; cut = true }
+abbrev pub without_server : Connection → Connection
+without_server l = record l { toward = []; cut = true }
 
 -- the peer of connection `k` left
 abbrev pub other_left : World → ℕ → World
-other_left w k = record w { connections = changed over_there w.connections k }
+other_left w k = record w { connections = changed without_peer w.connections k }
 
 -- the client left its own connection, which ends the attempt
 abbrev pub given_up : World → ℕ → World
@@ -95,11 +95,11 @@ all_ended h (suc k) = ended (all_ended h k) (suc k)
 
 -- the world after the server's side of connection `k` ended
 abbrev pub ended_at : World → ℕ → World
-ended_at w k = record w { server = ended w.server k; connections = changed over_here w.connections k }
+ended_at w k = record w { server = ended w.server k; connections = changed without_server w.connections k }
 
 -- the world after the server restarted: each server's side ended
 abbrev pub restarted : World → World
-restarted w = record w { server = all_ended w.server (length w.server.sides); connections = map over_here w.connections }
+restarted w = record w { server = all_ended w.server (length w.server.sides); connections = map without_server w.connections }
 
 -- the name of the first reel of a stack, and the empty name if it has none
 abbrev pub first_name : {X : Type 0} → List (ReelSlot X) → List ℕ
@@ -121,7 +121,7 @@ abbrev pub opening : ℕ → List ℕ → Opening
 opening k reel = record { connection = k; reel = reel }
 
 -- the client's list of counts, which is empty if there is no client
-abbrev pub list_in : Option Caller → List VolumeCount
+abbrev pub list_in : Option WorldClient → List VolumeCount
 list_in None = []
 list_in (Some c) = c.at.counts
 
@@ -142,34 +142,34 @@ writing k after reel = record { connection = k; reel = reel; after = after }
 
 -- an attempt after a write was accepted: the first is that of the label, the others are those of
 -- blocks
-abbrev pub accepted : Dumping → Dumping
+abbrev pub accepted : AttemptState → AttemptState
 accepted d = if d.label then record d { blocks = raised d.blocks } else record d { label = true }
 
 -- an attempt after a write was answered by error `n`, which is a device fault if it is EIO
-abbrev pub noted_error : Dumping → ℕ → Dumping
+abbrev pub noted_error : AttemptState → ℕ → AttemptState
 noted_error d n = if n == EIO then record d { fault = true } else d
 
 -- an attempt after the reply to a write of a record
-abbrev pub noted_write : Dumping → PlainReply → Dumping
+abbrev pub noted_write : AttemptState → PlainReply → AttemptState
 noted_write d (Done zero) = d
 noted_write d (Done (suc n)) = accepted d
 noted_write d (Data bytes) = d
 noted_write d (Error n text) = noted_error d n
 
 -- an attempt after the reply to MTWEOF
-abbrev pub noted_marks : Dumping → PlainReply → Dumping
+abbrev pub noted_marks : AttemptState → PlainReply → AttemptState
 noted_marks d (Done n) = record d { mark = true }
 noted_marks d (Data bytes) = d
 noted_marks d (Error n text) = noted_error d n
 
 -- the outcome of the attempt's writes after this request and its reply; MTWEOF writes marks
-abbrev pub noted_by : Dumping → PlainRequest → PlainReply → Dumping
+abbrev pub noted_by : AttemptState → PlainRequest → PlainReply → AttemptState
 noted_by d (Write bytes) reply = noted_write d reply
 noted_by d (Op op count) reply = if op == MTWEOF then noted_marks d reply else d
 noted_by d request reply = d
 
 -- an attempt after one of its requests was carried out
-abbrev pub noted : PlainRequest → PlainReply → Dumping → Dumping
+abbrev pub noted : PlainRequest → PlainReply → AttemptState → AttemptState
 noted request reply d = let d' = noted_by d request reply in record d' { carried = raised d'.carried }
 
 -- the connection after a request was carried out, with the reply in transit to the peer
@@ -178,7 +178,7 @@ answered request reply l =
     record l { back = sent_on l.cut l.back (reply_text reply); dump = option_map (noted request reply) l.dump }
 
 -- an attempt after one more of its requests was sent
-abbrev pub noted_sent : Dumping → Dumping
+abbrev pub noted_sent : AttemptState → AttemptState
 noted_sent d = record d { sent = raised d.sent }
 
 -- the reel of the connection's first opening, and the empty name if it has none
@@ -197,7 +197,7 @@ counted_from w number k counts = record w { counts = w.counts ++ map (counts_of 
 
 -- The world after a call of the client. If its attempt failed or ended, it left its connection. A
 -- failure is recorded with its volume.
-abbrev pub came_to : World → ℕ → Standing → Progress → World
-came_to w k at (Failed fault) = record (given_up w k) { failure = Some ((checkpoint_of at.counts).0, fault) }
-came_to w k at Ended = given_up w k
-came_to w k at progress = w
+abbrev pub after_client_call : World → ℕ → Standing → Progress → World
+after_client_call w k at (Failed fault) = record (given_up w k) { failure = Some ((checkpoint_of at.counts).0, fault) }
+after_client_call w k at Ended = given_up w k
+after_client_call w k at progress = w

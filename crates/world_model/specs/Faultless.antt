@@ -25,14 +25,14 @@ use Rattle.dump_client.specs.declared.stage.Stage.TheVariants.{Ready, ToSend, Wa
 use Rattle.dump_client.specs.declared.stage.Progress.{Progress}
 use Rattle.dump_client.specs.declared.stage.Progress.TheVariants as moved
 use Rattle.dump_run.specs.declared.count.VolumeCount.{VolumeCount}
-use Rattle.world_model.specs.World.{World, Connection, Dumping, Begun, Caller, Count, Opening, numbered}
+use Rattle.world_model.specs.World.{World, Connection, AttemptState, Begun, WorldClient, Count, Opening, numbered}
 use Rattle.world_model.specs.Events.{PlainEvent}
 use Rattle.world_model.specs.Events.PlainEvent.{StartRun, Connect, Send, ToServer, Serve, ToClient}
 use Rattle.world_model.specs.First.{PlainDriveSpec}
 use Rattle.world_model.specs.Changes.{side_of, connection_of, opening}
 use Rattle.world_model.specs.Rows.{StandsIn}
 use Rattle.world_model.specs.Sending.{AreUnserved, AreCounted, FitsReplyReader}
-use Rattle.world_model.specs.Standing.{StandsOn}
+use Rattle.world_model.specs.Standing.{ReelHolds}
 use Rattle.world_model.specs.Written.{attempt_written}
 use Rattle.world_model.specs.Written.{whole_volume}
 
@@ -67,14 +67,14 @@ IsFaultlessFailure capacity run fault = ⊥
 abbrev pub FailsFaultless : PlainDriveSpec → World → Type 0
 FailsFaultless drive w =
     (volume : ℕ) (fault : AttemptFault) → w.failure ≡ Some (volume, fault)
-    → (c : Caller) × (w.caller ≡ Some c) × IsFaultlessFailure drive.capacity c.at.run fault
+    → (c : WorldClient) × (w.caller ≡ Some c) × IsFaultlessFailure drive.capacity c.at.run fault
 
 -- the reel of the count holds the count's volume, and nothing else
 pub record HoldsVolume (w : World) (x : Count) : Type 0 where
   pub begun : Begun
   pub begun_as : numbered w.begun x.run ≡ Some begun
-  pub stands : StandsOn w.server x.reel (whole_volume begun.run begun.payload x.volume x.first x.count)
-  pub alone : (entries : List PlainEntry) → StandsOn w.server x.reel entries
+  pub stands : ReelHolds w.server x.reel (whole_volume begun.run begun.payload x.volume x.first x.count)
+  pub alone : (entries : List PlainEntry) → ReelHolds w.server x.reel entries
       → entries ≡ whole_volume begun.run begun.payload x.volume x.first x.count
 
 -- whether the client is between attempts: ready or finished
@@ -136,7 +136,7 @@ pub record IsFree (drive : PlainDriveSpec) (t : Stock) : Type 0 where
 
 -- Connection `k` has the next reel in the drive. The reel holds what the attempt wrote and is
 -- positioned at its end. From the label up to the mark, the reel has room for the mark.
-pub record IsLatched (drive : PlainDriveSpec) (t : Stock) (k : ℕ) (b : Begun) (d : Dumping) (session : PlainSession) : Type 0 where
+pub record IsLatched (drive : PlainDriveSpec) (t : Stock) (k : ℕ) (b : Begun) (d : AttemptState) (session : PlainSession) : Type 0 where
   pub name : List ℕ
   pub others : List (List ℕ)
   pub next : names_left drive t ≡ name ∷ others
@@ -147,7 +147,7 @@ pub record IsLatched (drive : PlainDriveSpec) (t : Stock) (k : ℕ) (b : Begun) 
   pub room : d.label ≡ true → d.mark ≡ false → offset_of (attempt_written b.run b.payload d) + 4 ≤ drive.capacity
 
 -- The next reel is the last in the bin, and holds the attempt's volume, which is not counted yet.
-pub record IsMoved (drive : PlainDriveSpec) (t : Stock) (k : ℕ) (b : Begun) (d : Dumping) (session : PlainSession) : Type 0 where
+pub record IsMoved (drive : PlainDriveSpec) (t : Stock) (k : ℕ) (b : Begun) (d : AttemptState) (session : PlainSession) : Type 0 where
   pub name : List ℕ
   pub others : List (List ℕ)
   pub next : names_left drive t ≡ name ∷ others
@@ -164,7 +164,7 @@ pub record IsOffline (drive : PlainDriveSpec) (t : Stock) (k : ℕ) (session : P
   pub offline : session ≡ Offline 0 Both
 
 -- the reels, holders and session before a step of the attempt of connection `k`
-abbrev pub StandsBefore : Step → PlainDriveSpec → Stock → ℕ → Begun → Dumping → PlainSession → Type 0
+abbrev pub StandsBefore : Step → PlainDriveSpec → Stock → ℕ → Begun → AttemptState → PlainSession → Type 0
 StandsBefore Open drive t k b d session = IsFree drive t × (session ≡ Idle)
 StandsBefore Close drive t k b d session = IsOffline drive t k session
 StandsBefore step drive t k b d session = IsLatched drive t k b d session
@@ -173,7 +173,7 @@ StandsBefore step drive t k b d session = IsLatched drive t k b d session
 -- leads to. If that is the close, the volume in the bin is not counted yet. If the attempt failed,
 -- the cause is one of those above, and the bin has the counted reels. If the attempt ended, no
 -- session has the drive open.
-abbrev pub StandsThen : Progress → Stage → PlainDriveSpec → Stock → ℕ → Begun → Dumping → PlainSession → Type 0
+abbrev pub StandsThen : Progress → Stage → PlainDriveSpec → Stock → ℕ → Begun → AttemptState → PlainSession → Type 0
 StandsThen moved.Send (ToSend Close) drive t k b d session = IsMoved drive t k b d session
 StandsThen moved.Send (ToSend step) drive t k b d session = StandsBefore step drive t k b d session
 StandsThen (moved.Failed fault) Asking drive t k b d session =
@@ -183,7 +183,7 @@ StandsThen moved.Ended Finished drive t k b d session = IsFree drive t
 StandsThen progress stage drive t k b d session = ⊥
 
 -- the counts that the client has once a reply is heard
-abbrev pub CountsThen : Stage → List VolumeCount → Dumping → List VolumeCount → Type 0
+abbrev pub CountsThen : Stage → List VolumeCount → AttemptState → List VolumeCount → Type 0
 CountsThen (ToSend next) counts d new = AreCounted next counts d new
 CountsThen stage counts d new = new ≡ counts
 
@@ -191,11 +191,11 @@ CountsThen stage counts d new = new ≡ counts
 pub record Attempt : Type 0 where
   pub connection : ℕ
   pub begun : Begun
-  pub dump : Dumping
+  pub dump : AttemptState
   pub session : PlainSession
 
 -- the attempt of run `b` on connection `k`, with this session
-abbrev pub attempt_on : ℕ → Begun → Dumping → PlainSession → Attempt
+abbrev pub attempt_on : ℕ → Begun → AttemptState → PlainSession → Attempt
 attempt_on k b d session = record { connection = k; begun = b; dump = d; session = session }
 
 -- Whatever the reply to this step leads to, the reels, holders, session and counts are then as
@@ -206,7 +206,7 @@ Leads drive t a old step reply =
     → StandsThen progress new.stage drive t a.connection a.begun a.dump a.session × CountsThen new.stage old.counts a.dump new.counts
 
 -- the connection of the client's attempt, on which no fault occurred
-pub record IsOwnConnection (w : World) (k : ℕ) (l : Connection) (d : Dumping) (b : Begun) (s : ServerConnection) : Type 0 where
+pub record IsOwnConnection (w : World) (k : ℕ) (l : Connection) (d : AttemptState) (b : Begun) (s : ServerConnection) : Type 0 where
   pub own : w.own ≡ Some k
   pub there : connection_of w k ≡ Some l
   pub whole : l.cut ≡ false
@@ -221,7 +221,7 @@ pub record IsStepUnanswered (drive : PlainDriveSpec) (w : World) (a : Attempt) (
 
 -- The request was carried out. The reply is what the client heard, together with what is in transit
 -- to it. The reels of the counts come first in the bin.
-pub record IsStepAnswered (drive : PlainDriveSpec) (w : World) (a : Attempt) (l : Connection) (c : Caller) (step : Step) : Type 0 where
+pub record IsStepAnswered (drive : PlainDriveSpec) (w : World) (a : Attempt) (l : Connection) (c : WorldClient) (step : Step) : Type 0 where
   pub served : AreUnserved (side_of w.server a.connection) l.toward []
   pub fed : List ℕ
   pub has : HasFedAt (Waiting step) c.reader fed
@@ -232,19 +232,19 @@ pub record IsStepAnswered (drive : PlainDriveSpec) (w : World) (a : Attempt) (l 
   pub leads : Leads drive (stock_of w) a c.at step reply
 
 -- the places of the reels, by the stage of the client
-abbrev pub ReelsStandAt : Stage → PlainDriveSpec → World → Caller → Type 0
+abbrev pub ReelsStandAt : Stage → PlainDriveSpec → World → WorldClient → Type 0
 ReelsStandAt (ToSend step) drive w c =
-    (k : ℕ) × (l : Connection) × (d : Dumping) × (b : Begun) × (s : ServerConnection) × IsOwnConnection w k l d b s
+    (k : ℕ) × (l : Connection) × (d : AttemptState) × (b : Begun) × (s : ServerConnection) × IsOwnConnection w k l d b s
     × StandsBefore step drive (stock_of w) k b d s.session
 ReelsStandAt (Waiting step) drive w c =
-    (k : ℕ) × (l : Connection) × (d : Dumping) × (b : Begun) × (s : ServerConnection) × IsOwnConnection w k l d b s
+    (k : ℕ) × (l : Connection) × (d : AttemptState) × (b : Begun) × (s : ServerConnection) × IsOwnConnection w k l d b s
     × (IsStepUnanswered drive w (attempt_on k b d s.session) l step ⊎ IsStepAnswered drive w (attempt_on k b d s.session) l c step)
 ReelsStandAt Asking drive w c = w.server.library.bin ≡ volume_slots drive (stock_of w)
 ReelsStandAt Abandoned drive w c = ⊥
 ReelsStandAt stage drive w c = IsFree drive (stock_of w)
 
 -- the places of the reels, with this client or with none
-abbrev pub StandsWith : Option Caller → PlainDriveSpec → World → Type 0
+abbrev pub StandsWith : Option WorldClient → PlainDriveSpec → World → Type 0
 StandsWith None drive w = IsFree drive (stock_of w)
 StandsWith (Some c) drive w = ReelsStandAt c.at.stage drive w c
 
@@ -252,7 +252,7 @@ StandsWith (Some c) drive w = ReelsStandAt c.at.stage drive w c
 -- is unserved on any but its own. The reels of the counts are the first of the first world's stack,
 -- in order.
 pub record IsFaultlessWorld (drive : PlainDriveSpec) (w : World) : Type 0 where
-  pub clients : (j : ℕ) (l : Connection) → connection_of w j ≡ Some l → (d : Dumping) × (l.dump ≡ Some d)
+  pub clients : (j : ℕ) (l : Connection) → connection_of w j ≡ Some l → (d : AttemptState) × (l.dump ≡ Some d)
   pub still : (j : ℕ) (l : Connection) → connection_of w j ≡ Some l → w.own ≢ Some j → AreUnserved (side_of w.server j) l.toward []
   pub reels : map (λ (x : Count). x.reel) w.counts ≡ take (length w.counts) drive.reels
   pub stands : StandsWith w.caller drive w

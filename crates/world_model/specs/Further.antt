@@ -7,7 +7,7 @@ use Rattle.dump_run.specs.declared.count.VolumeCount.{VolumeCount}
 use Rattle.dump_client.specs.Standing.{IsAtStep}
 use Rattle.dump_client.specs.declared.step.Step.{Step}
 use Rattle.dump_client.specs.declared.step.Step.TheVariants.{Close}
-use Rattle.world_model.specs.World.{World, Dumping, Begun, Caller, Count, Opening, Writing, numbered}
+use Rattle.world_model.specs.World.{World, AttemptState, Begun, WorldClient, Count, Opening, Writing, numbered}
 use Rattle.world_model.specs.Changes.{side_of, HasDump, first_name, counts_of}
 use Rattle.world_model.specs.Events.{PlainEvent}
 use Rattle.world_model.specs.Events.PlainEvent.{ToClient}
@@ -20,7 +20,7 @@ use Rattle.world_model.specs.Written.{attempt_written, IsQuiet, IsBeforeOffline}
 -- On each of the client's connections, as many requests were carried out as were sent, or one
 -- fewer.
 abbrev pub SentRequests : World → Type 0
-SentRequests w = (k : ℕ) (d : Dumping) → HasDump w k d → (d.sent ≡ d.carried) ⊎ (d.sent ≡ d.carried + 1)
+SentRequests w = (k : ℕ) (d : AttemptState) → HasDump w k d → (d.sent ≡ d.carried) ⊎ (d.sent ≡ d.carried + 1)
 
 -- A latched reel is the first on the stack of the drive that its session holds, and no other
 -- session has it.
@@ -32,7 +32,7 @@ pub record LatchedReels (w : World) : Type 0 where
 
 -- The reel holds what the attempt wrote, and nothing else. While the attempt's session has that
 -- reel online, and MTOFFL was not carried out, the reel is positioned at its end.
-pub record IsOnReel (w : World) (k : ℕ) (d : Dumping) (reel : List ℕ) : Type 0 where
+pub record IsOnReel (w : World) (k : ℕ) (d : AttemptState) (reel : List ℕ) : Type 0 where
   pub begun : Begun
   pub begun_as : numbered w.begun d.run ≡ Some begun
   pub holds : ReelHoldsJust w.server reel (attempt_written begun.run begun.payload d)
@@ -43,7 +43,7 @@ pub record IsOnReel (w : World) (k : ℕ) (d : Dumping) (reel : List ℕ) : Type
 -- it met a device fault, and no other session has written on the reel since the attempt opened it.
 abbrev pub LabelledReels : World → Type 0
 LabelledReels w =
-    (k : ℕ) (d : Dumping) (reel : List ℕ) → HasDump w k d → d.label ≡ true → IsQuiet w k d reel → IsOnReel w k d reel
+    (k : ℕ) (d : AttemptState) (reel : List ℕ) → HasDump w k d → d.label ≡ true → IsQuiet w k d reel → IsOnReel w k d reel
 
 -- If the reel of a count was not reopened, only the count's own session has written on it since
 -- that session opened it.
@@ -56,22 +56,22 @@ ReelsNotReopened w =
 -- This holds for each count of its run whose volume and first block are in the client's list.
 abbrev pub OwnOpens : World → Type 0
 OwnOpens w =
-    (k i : ℕ) (c : Caller) (step : Step) (o : Opening) (x : Count) (v : VolumeCount) → w.own ≡ Some k → w.caller ≡ Some c
+    (k i : ℕ) (c : WorldClient) (step : Step) (o : Opening) (x : Count) (v : VolumeCount) → w.own ≡ Some k → w.caller ≡ Some c
     → IsAtStep c.at.stage step → step ≢ Close → numbered w.opens i ≡ Some o → o.connection ≡ k → x.run ≡ c.number
     → Contains c.at.counts v → v.volume ≡ x.volume → v.first ≡ x.first → IsOwnOpen w x i o
 
 -- Each volume of the client's list was counted under the number of its run. Numbers above those of
 -- the runs begun have no counts.
 pub record ClientsCounts (w : World) : Type 0 where
-  pub listed : (c : Caller) → w.caller ≡ Some c → AreCountedIn w c.number c.at.counts
+  pub listed : (c : WorldClient) → w.caller ≡ Some c → AreCountedIn w c.number c.at.counts
   pub none : (run : ℕ) → length w.begun < run → counts_in w.counts run ≡ []
 
 -- The client hears on connection `k`, and the counts of the world grow by exactly what its own list
 -- grows by.
 pub record IsToldOf (w : World) (k : ℕ) (u : World) : Type 0 where
-  pub before : Caller
+  pub before : WorldClient
   pub was : w.caller ≡ Some before
-  pub after : Caller
+  pub after : WorldClient
   pub is : u.caller ≡ Some after
   pub number : after.number ≡ before.number
   pub more : List VolumeCount

@@ -3,7 +3,7 @@
 use Rattle.std.specs.Prelude.{◌≡◌, ℕ, ◌+◌, ◌<◌, ◌≤◌, List, [], Contains, Some}
 use Rattle.dump_client.specs.Position.{Covers}
 use Rattle.dump_run.specs.declared.count.VolumeCount.{VolumeCount}
-use Rattle.world_model.specs.World.{World, Dumping, Begun, Count, Opening, Entered, numbered}
+use Rattle.world_model.specs.World.{World, AttemptState, Begun, Count, Opening, Entered, numbered}
 use Rattle.world_model.specs.Changes.{opening, HasDump}
 use Rattle.world_model.specs.History.{HasCountOf, AreCountedIn, dates_after}
 use Rattle.world_model.specs.Standing.{HasReel, ReelHoldsJust, HasOpen}
@@ -18,7 +18,7 @@ use Rattle.world_model.specs.Written.{whole_volume}
 -- has a count of that volume and first block.
 abbrev pub IsOwnOpen : World → Count → ℕ → Opening → Type 0
 IsOwnOpen w x m o =
-    (d : Dumping) × HasDump w o.connection d × (d.run ≡ x.run)
+    (d : AttemptState) × HasDump w o.connection d × (d.run ≡ x.run)
     × (list : List VolumeCount) × (numbered w.lists m ≡ Some list) × HasCountOf list x.volume x.first
 
 -- The count's connection opened the reel for writing, and every later open of that reel for writing

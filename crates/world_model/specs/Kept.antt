@@ -7,7 +7,7 @@ use Rattle.dump_run.specs.Run.{IsRun}
 use Rattle.dump_run.specs.Counts.{AreVolumes}
 use Rattle.dump_client.specs.Lawful.{IsLawful}
 use Rattle.dump_client.specs.declared.stage.Stage.TheVariants.{Finished}
-use Rattle.world_model.specs.World.{World, Connection, Begun, Caller, Entered, Kept, numbered}
+use Rattle.world_model.specs.World.{World, Connection, Begun, WorldClient, Entered, Kept, numbered}
 use Rattle.world_model.specs.Changes.{side_of, connection_of}
 use Rattle.world_model.specs.History.{counts_in, dates_after}
 use Rattle.world_model.specs.Standing.{AreHeld, AreThere, IsFirstAway, IsOnlineAt}
@@ -57,23 +57,23 @@ pub record IsKeptRun (w : World) (k : Kept) : Type 0 where
 -- run is entered only if it is finished. Dumpdates has those entries and no others, in the order in
 -- which they were made.
 pub record AreBooked (w : World) : Type 0 where
-  pub last : (c : Caller) → w.caller ≡ Some c → c.number ≡ length w.begun
-  pub begun : (c : Caller) → w.caller ≡ Some c → (b : Begun) × (numbered w.begun c.number ≡ Some b) × (b.run ≡ c.at.run)
-  pub listed : (c : Caller) → w.caller ≡ Some c → AreCountedIn w c.number c.at.counts
+  pub last : (c : WorldClient) → w.caller ≡ Some c → c.number ≡ length w.begun
+  pub begun : (c : WorldClient) → w.caller ≡ Some c → (b : Begun) × (numbered w.begun c.number ≡ Some b) × (b.run ≡ c.at.run)
+  pub listed : (c : WorldClient) → w.caller ≡ Some c → AreCountedIn w c.number c.at.counts
   pub kept : (k : Kept) → w.kept ≡ Some k → IsKeptRun w k
   pub none : (run : ℕ) → length w.begun < run → counts_in w.counts run ≡ []
   pub earned : (e : Entered) → Contains w.entered e → IsEarned w e
   pub once : AreOnce w.entered
-  pub finished : (c : Caller) (e : Entered) → w.caller ≡ Some c → Contains w.entered e → e.run ≡ c.number → c.at.stage ≡ Finished
+  pub finished : (c : WorldClient) (e : Entered) → w.caller ≡ Some c → Contains w.entered e → e.run ≡ c.number → c.at.stage ≡ Finished
   pub dates : w.dates ≡ dates_after w.begun [] w.entered
 
 -- The client, if there is one, is lawful.
-abbrev pub HasLawful : World → Type 0
-HasLawful w = (c : Caller) → w.caller ≡ Some c → IsLawful c.at
+abbrev pub IsClientLawful : World → Type 0
+IsClientLawful w = (c : WorldClient) → w.caller ≡ Some c → IsLawful c.at
 
 -- everything that each event preserves
 pub record IsWorldKept (w : World) : Type 0 where
-  pub lawful : HasLawful w
+  pub lawful : IsClientLawful w
   pub owned : IsOwned w
   pub told : AreTold w
   pub single : AreSingle w

@@ -1,7 +1,7 @@
 -- Which events are possible. Public contracts depend on it (through Steps).
 use Rattle.std.specs.Prelude.{◌≡◌, ◌⊎◌, ◌≢◌, ℕ, ◌+◌, ◌*◌, ◌≤◌, Bool, true, false, IsTrue, List, length, slice_index_or, Contains, Option, Some, None, Result, Ok}
 use Rattle.rmt_wire.specs.Request.{PlainRequest}
-use Rattle.rmt_wire.specs.RequestParts.{Gives}
+use Rattle.rmt_wire.specs.RequestParts.{ParsesAs}
 use Rattle.rmt_wire.specs.RequestReader.{RequestHeld, Unread, taken_of}
 use Rattle.rmt_wire.specs.declared.limits.TheConstants.{READER_LIMIT}
 use Rattle.rmt_wire.specs.declared.fault.WireFault.{WireFault}
@@ -13,14 +13,14 @@ use Rattle.dump_run.specs.Run.{IsRun}
 use Rattle.dump_client.specs.declared.step.Step.{Step}
 use Rattle.dump_client.specs.declared.stage.Stage.{Stage}
 use Rattle.dump_client.specs.declared.stage.Stage.TheVariants.{Ready, ToSend, Asking, Finished, Abandoned}
-use Rattle.world_model.specs.World.{World, Connection, Caller, Entered}
+use Rattle.world_model.specs.World.{World, Connection, WorldClient, Entered}
 use Rattle.world_model.specs.Events.{PlainEvent}
 use Rattle.world_model.specs.Events.PlainEvent.{StartRun, Connect, Send, ToServer, Serve, ToClient, Cut, EndAtServer, EndAtClient, ServerRestart, ClientRestart, Respond, Arrange, Stranger, Says, Enter, Save}
 use Rattle.world_model.specs.Changes.{side_of, connection_of}
 
 -- There is a client, and `p` holds of its stage.
 abbrev pub StandsIn : World → (Stage → Type 0) → Type 0
-StandsIn w p = (c : Caller) × (w.caller ≡ Some c) × p c.at.stage
+StandsIn w p = (c : WorldClient) × (w.caller ≡ Some c) × p c.at.stage
 
 -- whether the run is finished or abandoned
 abbrev pub is_run_done : Stage → Bool
@@ -54,7 +54,7 @@ HasRoomFor h n = (bytes : List ℕ) → Unread h bytes → n + taken_of bytes �
 
 -- the unread bytes begin with a whole request, or with a fault
 abbrev pub IsRequestFound : RequestHeld → Result (Option PlainRequest) WireFault → Type 0
-IsRequestFound h found = (bytes : List ℕ) × (rest : List ℕ) × Unread h bytes × Gives bytes found rest × (found ≢ Ok None)
+IsRequestFound h found = (bytes : List ℕ) × (rest : List ℕ) × Unread h bytes × ParsesAs bytes found rest × (found ≢ Ok None)
 
 -- The drive exists and has no holder. The reels are distinct, and each is in the bin or on the
 -- stack of the drive.
@@ -64,7 +64,7 @@ MayArrange h drive reels =
     × IsTrue (are_distinct reels) × IsTrue (list_all (is_piled h.library d) reels)
 
 -- the client's run is not abandoned, and not both finished and entered
-abbrev pub MayBeKept : World → Caller → Type 0
+abbrev pub MayBeKept : World → WorldClient → Type 0
 MayBeKept w c = (c.at.stage ≢ Abandoned) × (c.at.stage ≡ Finished → IsRunEntered w c.number → ⊥)
 
 -- the event is possible in this world
@@ -81,11 +81,11 @@ Possible w (Cut k) = (l : Connection) × (connection_of w k ≡ Some l) × (l.cu
 Possible w (EndAtServer k) = (s : ServerConnection) × (l : Connection) × IsLiveHere w k s × (connection_of w k ≡ Some l) × IsTrue l.cut
 Possible w (EndAtClient k) = (l : Connection) × IsLiveThere w k l × IsTrue l.cut
 Possible w ServerRestart = Unit {0}
-Possible w ClientRestart = (c : Caller) × (w.caller ≡ Some c)
+Possible w ClientRestart = (c : WorldClient) × (w.caller ≡ Some c)
 Possible w (Respond answer) = StandsIn w (λ stage. stage ≡ Asking)
 Possible w (Arrange drive reels) = MayArrange w.server drive reels
 Possible w Stranger = Unit {0}
 Possible w (Says k bytes) = (l : Connection) × IsLiveThere w k l × (l.dump ≡ None)
 Possible w Enter =
-    (c : Caller) × (w.caller ≡ Some c) × (c.at.stage ≡ Finished) × (IsRunEntered w c.number → ⊥)
-Possible w Save = (c : Caller) × (w.caller ≡ Some c) × MayBeKept w c
+    (c : WorldClient) × (w.caller ≡ Some c) × (c.at.stage ≡ Finished) × (IsRunEntered w c.number → ⊥)
+Possible w Save = (c : WorldClient) × (w.caller ≡ Some c) × MayBeKept w c

@@ -24,7 +24,7 @@ use Rattle.dump_run.specs.declared.count.VolumeCount.{VolumeCount}
 use Rattle.dump_client.specs.declared.stage.Progress.{Progress}
 use Rattle.dump_client.specs.declared.stage.Stage.{Stage}
 use Rattle.dump_client.specs.declared.stage.Stage.TheVariants.{ToSend, Waiting}
-use Rattle.world_model.specs.World.{World, Connection, Dumping, Begun, Caller, numbered}
+use Rattle.world_model.specs.World.{World, Connection, AttemptState, Begun, WorldClient, numbered}
 use Rattle.world_model.specs.Changes.{side_of, connection_of}
 use Rattle.world_model.specs.Standing.{IsOnlineWith}
 
@@ -54,25 +54,25 @@ VolumeHasBlocks run first step blocks = blocks ≡ 0
 -- The session before a step. Before the open it has nothing open. Before the first rewind, the look
 -- and the label, the reel is online at its beginning. Before the close, after MTOFFL, the reel is
 -- in the bin. Before every other step the reel is online at any position.
-abbrev pub StandsFor : Step → PlainSession → Type 0
-StandsFor Open session = session ≡ Idle
-StandsFor (Operation Rewind) session = (reel : PlainReel) × IsOnlineWith session reel × (reel.tape.before ≡ [])
-StandsFor Look session = (reel : PlainReel) × IsOnlineWith session reel × (reel.tape.before ≡ [])
-StandsFor Label session = (reel : PlainReel) × IsOnlineWith session reel × (reel.tape.before ≡ [])
-StandsFor Close session = (drive : ℕ) × (session ≡ Offline drive Both)
-StandsFor step session = (reel : PlainReel) × IsOnlineWith session reel
+abbrev pub IsSessionBefore : Step → PlainSession → Type 0
+IsSessionBefore Open session = session ≡ Idle
+IsSessionBefore (Operation Rewind) session = (reel : PlainReel) × IsOnlineWith session reel × (reel.tape.before ≡ [])
+IsSessionBefore Look session = (reel : PlainReel) × IsOnlineWith session reel × (reel.tape.before ≡ [])
+IsSessionBefore Label session = (reel : PlainReel) × IsOnlineWith session reel × (reel.tape.before ≡ [])
+IsSessionBefore Close session = (drive : ℕ) × (session ≡ Offline drive Both)
+IsSessionBefore step session = (reel : PlainReel) × IsOnlineWith session reel
 
 -- Everything before this step of the attempt was done, and nothing else. Exactly the requests
 -- before it were carried out, without a device fault, and the writes among them were accepted.
--- While the server's side is live, its session is as before this step (`StandsFor`).
-pub record HasDone (run : PlainRun) (o : Option ServerConnection) (d : Dumping) (step : Step) : Type 0 where
+-- While the server's side is live, its session is as before this step (`IsSessionBefore`).
+pub record HasDone (run : PlainRun) (o : Option ServerConnection) (d : AttemptState) (step : Step) : Type 0 where
   pub carried : d.carried ≡ length (steps_before run d.first (d.first + d.blocks) step)
   pub fault : d.fault ≡ false
   pub label : d.label ≡ is_labelled step
   pub blocks : VolumeHasBlocks run d.first step d.blocks
   pub within : d.first + d.blocks ≤ run.blocks
   pub mark : d.mark ≡ is_marked step
-  pub stands : (s : ServerConnection) → o ≡ Some s → StandsFor step s.session
+  pub stands : (s : ServerConnection) → o ≡ Some s → IsSessionBefore step s.session
 
 -- These bytes reached the server's side or are in transit to it, and no request in them was carried
 -- out. There are none once that side has ended.
@@ -81,12 +81,12 @@ AreUnserved None way bytes = (way ≡ []) × (bytes ≡ [])
 AreUnserved (Some s) way bytes = (reached : List ℕ) × Unread s.reached reached × (bytes ≡ reached ++ way)
 
 -- the request of a step of that attempt
-abbrev pub request_in : Begun → Dumping → Step → PlainRequest
+abbrev pub request_in : Begun → AttemptState → Step → PlainRequest
 request_in b d step = request_of b.run b.payload d.volume d.first step
 
 -- The request of this step was sent and not carried out. Either its whole text is unserved, or the
 -- text was lost and nothing is unserved.
-pub record IsPending (b : Begun) (o : Option ServerConnection) (way : List ℕ) (d : Dumping) (step : Step) : Type 0 where
+pub record IsPending (b : Begun) (o : Option ServerConnection) (way : List ℕ) (d : AttemptState) (step : Step) : Type 0 where
   pub done : HasDone b.run o d step
   pub sent : d.sent ≡ d.carried + 1
   pub few : d.sent < 2 ^ 64
@@ -94,31 +94,31 @@ pub record IsPending (b : Begun) (o : Option ServerConnection) (way : List ℕ) 
   pub unserved : AreUnserved o way (request_text (request_in b d step)) ⊎ AreUnserved o way []
 
 -- everything that was sent was carried out
-pub record IsConnectionSettled (o : Option ServerConnection) (way : List ℕ) (d : Dumping) : Type 0 where
+pub record IsConnectionSettled (o : Option ServerConnection) (way : List ℕ) (d : AttemptState) : Type 0 where
   pub sent : d.sent ≡ d.carried
   pub unserved : AreUnserved o way []
 
 -- On a connection of the client's, everything that was sent was carried out, or everything but the
 -- last request.
-abbrev pub IsConnectionSent : List Begun → Option ServerConnection → Connection → Dumping → Type 0
+abbrev pub IsConnectionSent : List Begun → Option ServerConnection → Connection → AttemptState → Type 0
 IsConnectionSent begun o l d =
     IsConnectionSettled o l.toward d
     ⊎ ((b : Begun) × (step : Step) × (numbered begun d.run ≡ Some b) × IsPending b o l.toward d step)
 
 -- at the close, the volume is counted with the blocks that were written; before it, the counts stay
 -- the same
-abbrev pub AreCounted : Step → List VolumeCount → Dumping → List VolumeCount → Type 0
+abbrev pub AreCounted : Step → List VolumeCount → AttemptState → List VolumeCount → Type 0
 AreCounted Close counts d new = new ≡ counted_to counts (d.first + d.blocks)
 AreCounted step counts d new = new ≡ counts
 
 -- The client continues with the step `next`, before which everything was done.
-pub record GoesTo (run : PlainRun) (o : Option ServerConnection) (old : Standing) (d : Dumping) (new : Standing) (next : Step) : Type 0 where
+pub record GoesTo (run : PlainRun) (o : Option ServerConnection) (old : Standing) (d : AttemptState) (new : Standing) (next : Step) : Type 0 where
   pub done : HasDone run o d next
   pub same_run : new.run ≡ old.run
   pub counts : AreCounted next old.counts d new.counts
 
 -- if the reply leads the client to another step, everything before that step was done
-abbrev pub LeadsOn : PlainRun → Option ServerConnection → Standing → Dumping → Step → PlainReply → Type 0
+abbrev pub LeadsOn : PlainRun → Option ServerConnection → Standing → AttemptState → Step → PlainReply → Type 0
 LeadsOn run o old d step reply =
     (progress : Progress) (new : Standing) (next : Step) → ReceivesAt old step (Reply reply) false progress new
     → new.stage ≡ ToSend next → GoesTo run o old d new next
@@ -136,14 +136,14 @@ pub record FitsReplyReader (wanted : Wanted) (reply : PlainReply) : Type 0 where
 
 -- The reply to this step is what the client heard, together with what is in transit to it. If the
 -- reply was lost, these are no bytes.
-abbrev pub IsStepReply : PlainRun → Option ServerConnection → Standing → Dumping → Step → List ℕ → Type 0
+abbrev pub IsStepReply : PlainRun → Option ServerConnection → Standing → AttemptState → Step → List ℕ → Type 0
 IsStepReply run o at d step bytes =
     (bytes ≡ []) ⊎ ((reply : PlainReply) × (bytes ≡ reply_text reply) × FitsReplyReader (wanted_of step) reply
     × LeadsOn run o at d step reply)
 
 -- the attempt `d` is the client's own: it is of the client's run, and of the volume that the client
 -- is writing
-pub record IsAttempt (begun : List Begun) (c : Caller) (d : Dumping) (step : Step) (b : Begun) : Type 0 where
+pub record IsAttempt (begun : List Begun) (c : WorldClient) (d : AttemptState) (step : Step) (b : Begun) : Type 0 where
   pub begun_as : numbered begun d.run ≡ Some b
   pub run : b.run ≡ c.at.run
   pub number : d.run ≡ c.number
@@ -152,27 +152,27 @@ pub record IsAttempt (begun : List Begun) (c : Caller) (d : Dumping) (step : Ste
 
 -- the client is about to send the request of this step, and it has heard nothing since the last
 -- reply
-pub record IsItsTurn (b : Begun) (o : Option ServerConnection) (l : Connection) (c : Caller) (d : Dumping) (step : Step) : Type 0 where
+pub record IsItsTurn (b : Begun) (o : Option ServerConnection) (l : Connection) (c : WorldClient) (d : AttemptState) (step : Step) : Type 0 where
   pub done : HasDone b.run o d step
   pub settled : IsConnectionSettled o l.toward d
   pub back : l.back ≡ []
   pub fed : HasFedAt (ToSend step) c.reader []
 
 -- the request of this step was sent, and not carried out
-pub record IsStepAsked (b : Begun) (o : Option ServerConnection) (l : Connection) (c : Caller) (d : Dumping) (step : Step) : Type 0 where
+pub record IsStepAsked (b : Begun) (o : Option ServerConnection) (l : Connection) (c : WorldClient) (d : AttemptState) (step : Step) : Type 0 where
   pub pending : IsPending b o l.toward d step
   pub back : l.back ≡ []
   pub fed : HasFedAt (Waiting step) c.reader []
 
 -- the request of this step was carried out
-pub record IsStepReplied (b : Begun) (o : Option ServerConnection) (l : Connection) (c : Caller) (d : Dumping) (step : Step) : Type 0 where
+pub record IsStepReplied (b : Begun) (o : Option ServerConnection) (l : Connection) (c : WorldClient) (d : AttemptState) (step : Step) : Type 0 where
   pub settled : IsConnectionSettled o l.toward d
   pub fed : List ℕ
   pub has : HasFedAt (Waiting step) c.reader fed
   pub reply : IsStepReply b.run o c.at d step (fed ++ l.back)
 
 -- facts about the client's own connection, by the client's stage
-abbrev pub IsConnectionToldAt : Stage → List Begun → Option ServerConnection → Connection → Caller → Dumping → Type 0
+abbrev pub IsConnectionToldAt : Stage → List Begun → Option ServerConnection → Connection → WorldClient → AttemptState → Type 0
 IsConnectionToldAt (ToSend step) begun o l c d = (b : Begun) × IsAttempt begun c d step b × IsItsTurn b o l c d step
 IsConnectionToldAt (Waiting step) begun o l c d =
     (b : Begun) × IsAttempt begun c d step b × (IsStepAsked b o l c d step ⊎ IsStepReplied b o l c d step)
@@ -180,8 +180,8 @@ IsConnectionToldAt stage begun o l c d = Unit {0}
 
 -- all facts about a connection; a stranger's has none
 pub record IsConnectionTold (w : World) (k : ℕ) (o : Option ServerConnection) (l : Connection) : Type 0 where
-  pub sent : (d : Dumping) → l.dump ≡ Some d → IsConnectionSent w.begun o l d
-  pub own : (d : Dumping) (c : Caller) → l.dump ≡ Some d → w.own ≡ Some k → w.caller ≡ Some c → IsConnectionToldAt c.at.stage w.begun o l c d
+  pub sent : (d : AttemptState) → l.dump ≡ Some d → IsConnectionSent w.begun o l d
+  pub own : (d : AttemptState) (c : WorldClient) → l.dump ≡ Some d → w.own ≡ Some k → w.caller ≡ Some c → IsConnectionToldAt c.at.stage w.begun o l c d
 
 -- The run is within its limits, and each block of the payload fits a record. The payload has all
 -- blocks of the run, each of the run's block size.

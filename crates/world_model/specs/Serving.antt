@@ -5,7 +5,7 @@ use Rattle.rmt_wire.specs.Request.{PlainRequest}
 use Rattle.rmt_wire.specs.Request.PlainRequest.{Open, Op}
 use Rattle.rmt_wire.specs.Reply.{PlainReply}
 use Rattle.rmt_wire.specs.Reply.PlainReply.{Done, Error}
-use Rattle.rmt_wire.specs.RequestParts.{Gives}
+use Rattle.rmt_wire.specs.RequestParts.{ParsesAs}
 use Rattle.rmt_wire.specs.RequestReader.{RequestHeld, Unread}
 use Rattle.rmt_wire.specs.declared.mtio.TheConstants.{MTOFFL}
 use Rattle.tape.specs.declared.trouble.Trouble.{Trouble}
@@ -16,7 +16,7 @@ use Rattle.rmt_server.specs.Session.{PlainSession, SessionView, session_view, st
 use Rattle.rmt_server.specs.TroubledServe.{drive_in, with_holder, holder_of, TroubledServe}
 use Rattle.dump_client.specs.Lawful.{steps_before}
 use Rattle.dump_client.specs.declared.step.Step.{Step}
-use Rattle.world_model.specs.World.{World, Dumping, Begun, numbered}
+use Rattle.world_model.specs.World.{World, AttemptState, Begun, numbered}
 use Rattle.world_model.specs.Changes.{side_of, opening}
 use Rattle.world_model.specs.Steps.{carried}
 use Rattle.world_model.specs.Sending.{is_labelled, is_marked, VolumeHasBlocks, request_in}
@@ -36,7 +36,7 @@ pub record ServerTurn (w : World) (k : ℕ) (trouble : Trouble) (u : World) : Ty
   pub holders : List ℕ
   pub live : side_of w.server k ≡ Some s
   pub unread : Unread s.reached bytes
-  pub gives : Gives bytes (Ok (Some request)) rest
+  pub gives : ParsesAs bytes (Ok (Some request)) rest
   pub left : Unread reached rest
   pub served : TroubledServe trouble w.server.holders k (session_view w.server.library s.session) request reply (session_view library session) holders
   pub is : u ≡ carried w k request reply reached library session holders
@@ -44,7 +44,7 @@ pub record ServerTurn (w : World) (k : ℕ) (trouble : Trouble) (u : World) : Ty
 -- `request` is the one request of the attempt that was sent and not carried out. It is that of the
 -- step after those that were carried out. Exactly the writes that come before that step were
 -- accepted.
-pub record IsNextSent (w : World) (d : Dumping) (request : PlainRequest) : Type 0 where
+pub record IsNextSent (w : World) (d : AttemptState) (request : PlainRequest) : Type 0 where
   pub begun : Begun
   pub step : Step
   pub begun_as : numbered w.begun d.run ≡ Some begun
@@ -119,7 +119,7 @@ OthersStay w k u =
 
 -- The reel that the session opened and had in its drive is now the last in the bin. It holds the
 -- whole volume of the attempt.
-pub record IsWholeInBin (w : World) (k : ℕ) (d : Dumping) (u : World) : Type 0 where
+pub record IsWholeInBin (w : World) (k : ℕ) (d : AttemptState) (u : World) : Type 0 where
   pub begun : Begun
   pub begun_as : numbered w.begun d.run ≡ Some begun
   pub within : d.first + d.blocks ≤ begun.run.blocks

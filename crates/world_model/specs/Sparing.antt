@@ -10,7 +10,7 @@ use Rattle.dump_client.specs.declared.step.Step.TheVariants.{Operation, Close}
 use Rattle.dump_client.specs.declared.step.TapeOp.TheVariants.{RewindAgain}
 use Rattle.dump_client.specs.declared.stage.Stage.TheVariants.{ToSend}
 use Rattle.dump_client.specs.declared.stage.Progress.{Progress}
-use Rattle.world_model.specs.World.{World, Connection, Dumping, Caller, Count, Opening, Writing, numbered}
+use Rattle.world_model.specs.World.{World, Connection, AttemptState, WorldClient, Count, Opening, Writing, numbered}
 use Rattle.world_model.specs.Changes.{HasDump, connection_of, opening}
 use Rattle.world_model.specs.Headline.{IsNotReopened}
 
@@ -25,20 +25,20 @@ looked_requests = 3
 
 -- On each of the client's connections that wrote, more than those requests were carried out.
 abbrev pub AreLateWriters : World → Type 0
-AreLateWriters w = (y : Writing) (d : Dumping) → Contains w.writings y → HasDump w y.connection d → looked_requests < d.carried
+AreLateWriters w = (y : Writing) (d : AttemptState) → Contains w.writings y → HasDump w y.connection d → looked_requests < d.carried
 
 -- Suppose that the reel of a count was not reopened. Then each of the client's connections that
 -- opened it after the count's own sent at most those requests.
 abbrev pub AreStopped : World → Type 0
 AreStopped w =
-    (x : Count) (k : ℕ) (d : Dumping) → Contains w.counts x → IsNotReopened w x → HasOpenedSince w x k → HasDump w k d
+    (x : Count) (k : ℕ) (d : AttemptState) → Contains w.counts x → IsNotReopened w x → HasOpenedSince w x k → HasDump w k d
     → d.sent ≤ looked_requests
 
 -- While the client is in an attempt, before its close, its list stays the same. Each open for
 -- writing, from that of the attempt's connection on, has that list.
 abbrev pub AreListedNow : World → Type 0
 AreListedNow w =
-    (k i m : ℕ) (c : Caller) (step : Step) (o : Opening) (list : List VolumeCount) → w.own ≡ Some k → w.caller ≡ Some c
+    (k i m : ℕ) (c : WorldClient) (step : Step) (o : Opening) (list : List VolumeCount) → w.own ≡ Some k → w.caller ≡ Some c
     → IsAtStep c.at.stage step → step ≢ Close → numbered w.opens i ≡ Some o → o.connection ≡ k → i ≤ m
     → numbered w.lists m ≡ Some list → list ≡ c.at.counts
 
@@ -46,7 +46,7 @@ AreListedNow w =
 -- reopened. This holds however much of the look's reply it has heard.
 abbrev pub HasLooked : World → Type 0
 HasLooked w =
-    (k : ℕ) (l : Connection) (c : Caller) (fed : List ℕ) (progress : Progress) (new : Standing) (x : Count) → w.own ≡ Some k
+    (k : ℕ) (l : Connection) (c : WorldClient) (fed : List ℕ) (progress : Progress) (new : Standing) (x : Count) → w.own ≡ Some k
     → connection_of w k ≡ Some l → w.caller ≡ Some c → HasFedAt c.at.stage c.reader fed → FedAt c.at.stage c.at fed l.back progress new
     → new.stage ≡ ToSend (Operation RewindAgain) → Contains w.counts x → IsNotReopened w x → HasOpenedSince w x k → ⊥
 

@@ -78,9 +78,9 @@ abbrev pub IsInDrive : ServerState → List ℕ → List PlainEntry → Type 0
 IsInDrive h name entries = (k : ℕ) × (s : ServerConnection) × (side_of h k ≡ Some s) × HasInDrive h.library s.session name entries
 
 -- The reel of that name, wherever it is, holds these entries.
-abbrev pub StandsOn : ServerState → List ℕ → List PlainEntry → Type 0
-StandsOn h name entries = ReelLiesOn h.library name entries ⊎ IsInDrive h name entries
+abbrev pub ReelHolds : ServerState → List ℕ → List PlainEntry → Type 0
+ReelHolds h name entries = ReelLiesOn h.library name entries ⊎ IsInDrive h name entries
 
 -- The reel of that name holds these entries, and no others.
 abbrev pub ReelHoldsJust : ServerState → List ℕ → List PlainEntry → Type 0
-ReelHoldsJust h name entries = StandsOn h name entries × ((others : List PlainEntry) → StandsOn h name others → others ≡ entries)
+ReelHoldsJust h name entries = ReelHolds h name entries × ((others : List PlainEntry) → ReelHolds h name others → others ≡ entries)

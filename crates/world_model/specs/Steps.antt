@@ -2,7 +2,7 @@
 use Rattle.std.specs.Prelude.{◌≡◌, ℕ, ◌+◌, Bool, true, false, List, [], ◌∷◌, ◌++◌, length, take, drop, option_map, option_to_list, Option, Some, None, Result, Ok, Err}
 use Rattle.rmt_wire.specs.Request.{PlainRequest, request_text}
 use Rattle.rmt_wire.specs.Reply.{PlainReply}
-use Rattle.rmt_wire.specs.RequestParts.{Gives}
+use Rattle.rmt_wire.specs.RequestParts.{ParsesAs}
 use Rattle.rmt_wire.specs.RequestReader.{RequestHeld, Unread}
 use Rattle.rmt_wire.specs.ReplyReader.{ReplyHeld, reply_held}
 use Rattle.rmt_wire.specs.declared.fault.WireFault.{WireFault}
@@ -26,14 +26,14 @@ use Rattle.dump_client.specs.declared.stage.Answer.TheVariants.{Retry, Abandon}
 use Rattle.dump_client.specs.declared.stage.Stage.TheVariants.{Ready, ToSend, Waiting, Asking}
 use Rattle.dump_client.specs.declared.stage.Progress.{Progress}
 use Rattle.dump_client.specs.declared.fault.AttemptFault.TheVariants.{SourceFault}
-use Rattle.world_model.specs.World.{World, Connection, Dumping, Begun, Caller, Kept, numbered, with_numbered}
+use Rattle.world_model.specs.World.{World, Connection, AttemptState, Begun, WorldClient, Kept, numbered, with_numbered}
 use Rattle.world_model.specs.Events.{PlainEvent}
 use Rattle.world_model.specs.Events.PlainEvent.{StartRun, Connect, Send, ToServer, Serve, ToClient, Cut, EndAtServer, EndAtClient, ServerRestart, ClientRestart, Respond, Arrange, Stranger, Says, Enter, Save}
 use Rattle.world_model.specs.Rows.{Possible}
-use Rattle.world_model.specs.Changes.{changed, side_of, connection_of, with_no_failure, joined, sent_on, other_left, given_up, ended_at, restarted, opened_reel, opening, list_in, reel_written, writing, answered, noted_sent, counted_from, came_to}
+use Rattle.world_model.specs.Changes.{changed, side_of, connection_of, with_no_failure, joined, sent_on, other_left, given_up, ended_at, restarted, opened_reel, opening, list_in, reel_written, writing, answered, noted_sent, counted_from, after_client_call}
 
 -- the client of run `number`, in this state and with this reader
-abbrev pub caller : ℕ → Standing → ReplyHeld → Caller
+abbrev pub caller : ℕ → Standing → ReplyHeld → WorldClient
 caller number at reader = record { number = number; at = at; reader = reader }
 
 -- A run with the next number was begun, and its client is ready. A saved run is dropped.
@@ -46,7 +46,7 @@ begun w run payload reader = record w {
 }
 
 -- the attempt of the client's next volume, which has done nothing
-abbrev pub fresh : Caller → Dumping
+abbrev pub fresh : WorldClient → AttemptState
 fresh c = record {
   run = c.number;
   volume = (checkpoint_of c.at.counts).0;
@@ -60,7 +60,7 @@ fresh c = record {
 }
 
 -- the world after the client started an attempt, on a new connection of its own
-abbrev pub client_connected : World → Caller → World
+abbrev pub client_connected : World → WorldClient → World
 client_connected w c = record (joined w (Some (fresh c))) {
   caller = Some (caller c.number (standing c.at.run c.at.counts (ToSend Open)) (reply_held None []));
   own = Some (length w.connections + 1);
@@ -73,7 +73,7 @@ is_failing true (Block n) = true
 is_failing fails step = false
 
 -- the world after the attempt failed at a read of the payload
-abbrev pub failed_read : World → ℕ → Caller → ReplyHeld → World
+abbrev pub failed_read : World → ℕ → WorldClient → ReplyHeld → World
 failed_read w k c reader = record (given_up w k) {
   caller = Some (caller c.number (standing c.at.run c.at.counts Asking) reader);
   failure = Some ((checkpoint_of c.at.counts).0, SourceFault);
@@ -84,12 +84,12 @@ abbrev pub sent_connection : List ℕ → Connection → Connection
 sent_connection text l = record l { toward = sent_on l.cut l.toward text; dump = option_map noted_sent l.dump }
 
 -- the text of the client's request at this step
-abbrev pub next_text : Caller → List (List ℕ) → Step → List ℕ
+abbrev pub next_text : WorldClient → List (List ℕ) → Step → List ℕ
 next_text c payload step =
     request_text (request_of c.at.run payload (checkpoint_of c.at.counts).0 (checkpoint_of c.at.counts).1 step)
 
 -- the world after the client sent its request and waits for the reply
-abbrev pub asked : World → ℕ → Caller → List (List ℕ) → Step → ReplyHeld → World
+abbrev pub asked : World → ℕ → WorldClient → List (List ℕ) → Step → ReplyHeld → World
 asked w k c payload step reader = record w {
   connections = changed (sent_connection (next_text c payload step)) w.connections k;
   caller = Some (caller c.number (standing c.at.run c.at.counts (Waiting step)) reader);
@@ -98,7 +98,7 @@ asked w k c payload step reader = record w {
 
 -- The client sends its next request on its own connection `k`. If the flag is set, a read of the
 -- payload fails instead.
-abbrev pub Sends : Bool → World → ℕ → Caller → List (List ℕ) → Step → World → Type 0
+abbrev pub Sends : Bool → World → ℕ → WorldClient → List (List ℕ) → Step → World → Type 0
 Sends true w k c payload step u = (reader : ReplyHeld) × (u ≡ failed_read w k c reader)
 Sends false w k c payload step u =
     (reader : ReplyHeld) × HasFedAt (Waiting step) reader [] × (u ≡ asked w k c payload step reader)
@@ -137,29 +137,29 @@ Finds w k trouble s (Err fault) rest u = u ≡ ended_at (with_no_failure w) k
 
 -- The world after the client was fed `n` bytes. Its new counts are recorded, and if its attempt is
 -- over, it left the connection.
-abbrev pub heard : World → ℕ → ℕ → Caller → Standing → ReplyHeld → Progress → World
+abbrev pub heard : World → ℕ → ℕ → WorldClient → Standing → ReplyHeld → Progress → World
 heard w k n c at reader progress =
-    came_to (counted_from (record (with_no_failure w) {
+    after_client_call (counted_from (record (with_no_failure w) {
       connections = changed (λ l. record l { back = drop n l.back }) w.connections k;
       caller = Some (caller c.number at reader);
     })
     c.number k (drop (length c.at.counts) at.counts)) k at progress
 
 -- `n` bytes reach the peer: a stranger drops them, and the client is fed them
-abbrev pub Hears : Option Dumping → World → ℕ → ℕ → List ℕ → World → Type 0
+abbrev pub Hears : Option AttemptState → World → ℕ → ℕ → List ℕ → World → Type 0
 Hears None w k n piece u = u ≡ record (with_no_failure w) { connections = changed (λ l. record l { back = drop n l.back }) w.connections k }
 Hears (Some dump) w k n piece u =
-    (c : Caller) × (fed : List ℕ) × (at : Standing) × (reader : ReplyHeld) × (progress : Progress) × (w.caller ≡ Some c)
+    (c : WorldClient) × (fed : List ℕ) × (at : Standing) × (reader : ReplyHeld) × (progress : Progress) × (w.caller ≡ Some c)
     × HasFedAt c.at.stage c.reader fed × FedAt c.at.stage c.at fed piece progress at
     × HasFedAt at.stage reader (unanswered at.stage (fed ++ piece)) × (u ≡ heard w k n c at reader progress)
 
 -- the peer sees the end of the connection, and leaves it
-abbrev pub SeesEnd : Option Dumping → World → ℕ → World → Type 0
+abbrev pub SeesEnd : Option AttemptState → World → ℕ → World → Type 0
 SeesEnd None w k u = u ≡ other_left (with_no_failure w) k
 SeesEnd (Some dump) w k u =
-    (c : Caller) × (at : Standing) × (reader : ReplyHeld) × (progress : Progress) × (w.caller ≡ Some c)
+    (c : WorldClient) × (at : Standing) × (reader : ReplyHeld) × (progress : Progress) × (w.caller ≡ Some c)
     × CutAt c.at.stage c.at progress at × HasFedAt at.stage reader []
-    × (u ≡ came_to (record (given_up (with_no_failure w) k) { caller = Some (caller c.number at reader) }) k at progress)
+    × (u ≡ after_client_call (record (given_up (with_no_failure w) k) { caller = Some (caller c.number at reader) }) k at progress)
 
 -- the client left its own connection, if it has one
 abbrev pub forgotten_from : World → Option ℕ → World
@@ -184,7 +184,7 @@ abbrev pub entry_of : PlainRun → DatesEntry
 entry_of run = record { name = run.name; level = run.level; date = run.date }
 
 -- the world after the client's run was entered in dumpdates, which drops the saved run
-abbrev pub recorded : World → Caller → World
+abbrev pub recorded : World → WorldClient → World
 recorded w c = record (with_no_failure w) {
   entered = w.entered ++ record { run = c.number; listed = c.at.counts } ∷ [];
   kept = None;
@@ -194,16 +194,16 @@ recorded w c = record (with_no_failure w) {
 -- One event, and the world after it. `Possible` says whether the event is possible.
 abbrev pub WorldStep : World → PlainEvent → World → Type 0
 WorldStep w (StartRun run payload) u = (reader : ReplyHeld) × (u ≡ begun w run payload reader)
-WorldStep w Connect u = (c : Caller) × (w.caller ≡ Some c) × (c.at.stage ≡ Ready) × (u ≡ client_connected w c)
+WorldStep w Connect u = (c : WorldClient) × (w.caller ≡ Some c) × (c.at.stage ≡ Ready) × (u ≡ client_connected w c)
 WorldStep w (Send fails) u =
-    (c : Caller) × (step : Step) × (k : ℕ) × (b : Begun) × (w.caller ≡ Some c) × (c.at.stage ≡ ToSend step) × (w.own ≡ Some k)
+    (c : WorldClient) × (step : Step) × (k : ℕ) × (b : Begun) × (w.caller ≡ Some c) × (c.at.stage ≡ ToSend step) × (w.own ≡ Some k)
     × (numbered w.begun c.number ≡ Some b) × Sends (is_failing fails step) w k c b.payload step u
 WorldStep w (ToServer k n) u =
     (s : ServerConnection) × (l : Connection) × (reached : RequestHeld) × (side_of w.server k ≡ Some s) × (connection_of w k ≡ Some l)
     × IsPushed s.reached (take n l.toward) reached × (u ≡ reached_by w k n s reached)
 WorldStep w (Serve k trouble) u =
     (s : ServerConnection) × (found : Result (Option PlainRequest) WireFault) × (bytes : List ℕ) × (rest : List ℕ) × (side_of w.server k ≡ Some s)
-    × Unread s.reached bytes × Gives bytes found rest × Finds w k trouble s found rest u
+    × Unread s.reached bytes × ParsesAs bytes found rest × Finds w k trouble s found rest u
 WorldStep w (ToClient k n) u = (l : Connection) × (connection_of w k ≡ Some l) × Hears l.dump w k n (take n l.back) u
 WorldStep w (Cut k) u = u ≡ record (with_no_failure w) { connections = changed (λ l. record l { cut = true }) w.connections k }
 WorldStep w (EndAtServer k) u = u ≡ ended_at (with_no_failure w) k
@@ -211,7 +211,7 @@ WorldStep w (EndAtClient k) u = (l : Connection) × (connection_of w k ≡ Some 
 WorldStep w ServerRestart u = u ≡ restarted (with_no_failure w)
 WorldStep w ClientRestart u = ResumesRun w.kept w u
 WorldStep w (Respond answer) u =
-    (c : Caller) × (reader : ReplyHeld) × (w.caller ≡ Some c) × (c.at.stage ≡ Asking)
+    (c : WorldClient) × (reader : ReplyHeld) × (w.caller ≡ Some c) × (c.at.stage ≡ Asking)
     × (u ≡ record (with_no_failure w) {
       caller = Some (caller c.number (standing c.at.run c.at.counts (stage_after answer)) reader);
       kept = kept_after answer w.kept;
@@ -222,9 +222,9 @@ WorldStep w (Arrange drive reels) u =
 WorldStep w Stranger u = u ≡ joined (with_no_failure w) None
 WorldStep w (Says k bytes) u =
     u ≡ record (with_no_failure w) { connections = changed (λ l. record l { toward = sent_on l.cut l.toward bytes }) w.connections k }
-WorldStep w Enter u = (c : Caller) × (w.caller ≡ Some c) × (u ≡ recorded w c)
+WorldStep w Enter u = (c : WorldClient) × (w.caller ≡ Some c) × (u ≡ recorded w c)
 WorldStep w Save u =
-    (c : Caller) × (w.caller ≡ Some c) × (u ≡ record (with_no_failure w) { kept = Some (record { run = c.number; listed = c.at.counts }) })
+    (c : WorldClient) × (w.caller ≡ Some c) × (u ≡ record (with_no_failure w) { kept = Some (record { run = c.number; listed = c.at.counts }) })
 
 -- the event is possible, and this is the world after it
 abbrev pub Happens : World → PlainEvent → World → Type 0

@@ -2,7 +2,7 @@
 -- list of events. Public contracts cite it.
 use Rattle.std.specs.Prelude.{◌≡◌, ◌⊎◌, ℕ, ◌==◌, Bool, true, false, List, [], ◌∷◌, ◌++◌, Option, Some, Result, Ok}
 use Rattle.rmt_wire.specs.Request.{PlainRequest}
-use Rattle.rmt_wire.specs.RequestParts.{Gives}
+use Rattle.rmt_wire.specs.RequestParts.{ParsesAs}
 use Rattle.rmt_wire.specs.RequestReader.{Unread}
 use Rattle.rmt_wire.specs.declared.fault.WireFault.{WireFault}
 use Rattle.rmt_server.specs.ServerState.{ServerConnection}
@@ -10,7 +10,7 @@ use Rattle.dump_client.specs.Script.{request_of}
 use Rattle.dump_client.specs.Standing.{checkpoint_of}
 use Rattle.dump_client.specs.declared.step.Step.{Step}
 use Rattle.dump_client.specs.declared.stage.Stage.TheVariants.{ToSend}
-use Rattle.world_model.specs.World.{World, Dumping, Begun, Caller, numbered}
+use Rattle.world_model.specs.World.{World, AttemptState, Begun, WorldClient, numbered}
 use Rattle.world_model.specs.Events.{PlainEvent}
 use Rattle.world_model.specs.Events.PlainEvent.{Send, Serve}
 use Rattle.world_model.specs.Changes.{side_of, HasDump}
@@ -30,7 +30,7 @@ sent_here false here request = one_if_here here request
 -- the requests that the client sends on connection `k` in this event, which is one at most
 abbrev pub Sent : ℕ → World → PlainEvent → List PlainRequest → Type 0
 Sent k w (Send fails) requests =
-    (c : Caller) × (step : Step) × (j : ℕ) × (b : Begun) × (w.caller ≡ Some c) × (c.at.stage ≡ ToSend step) × (w.own ≡ Some j)
+    (c : WorldClient) × (step : Step) × (j : ℕ) × (b : Begun) × (w.caller ≡ Some c) × (c.at.stage ≡ ToSend step) × (w.own ≡ Some j)
     × (numbered w.begun c.number ≡ Some b)
     × (requests
     ≡ sent_here (is_failing fails step) (j == k)
@@ -46,7 +46,7 @@ carried_here here found = []
 abbrev pub CarriedOut : ℕ → World → PlainEvent → World → List PlainRequest → Type 0
 CarriedOut k w (Serve j trouble) u requests =
     (s : ServerConnection) × (found : Result (Option PlainRequest) WireFault) × (bytes : List ℕ) × (rest : List ℕ) × (side_of w.server j ≡ Some s)
-    × Unread s.reached bytes × Gives bytes found rest × Finds w j trouble s found rest u × (requests ≡ carried_here (j == k) found)
+    × Unread s.reached bytes × ParsesAs bytes found rest × Finds w j trouble s found rest u × (requests ≡ carried_here (j == k) found)
 CarriedOut k w event u requests = requests ≡ []
 
 -- Events one after the other, as in `Runs`. With them are all requests that the client sent on
@@ -61,6 +61,6 @@ pub data Talks (k : ℕ) (first : World) : List PlainEvent → World → List Pl
 -- all but the last. The last is then the next request of the attempt.
 abbrev pub IsBeginning : World → ℕ → List PlainRequest → List PlainRequest → Type 0
 IsBeginning w k sent carried =
-    (d : Dumping) → HasDump w k d
+    (d : AttemptState) → HasDump w k d
     → ((d.sent ≡ d.carried) × (carried ≡ sent))
     ⊎ ((request : PlainRequest) × IsNextSent w d request × (sent ≡ carried ++ request ∷ []))

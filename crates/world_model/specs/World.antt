@@ -13,7 +13,7 @@ use Rattle.rmt_server.specs.ServerState.{ServerState}
 -- and first block, and how many requests were sent and how many carried out. Then its writes:
 -- whether the label was accepted, how many blocks were, whether the mark was, and whether a write
 -- met a device fault.
-pub record Dumping : Type 0 where
+pub record AttemptState : Type 0 where
   pub run : ℕ
   pub volume : ℕ
   pub first : ℕ
@@ -33,7 +33,7 @@ pub record Connection : Type 0 where
   pub back : List ℕ
   pub cut : Bool
   pub other : Bool
-  pub dump : Option Dumping
+  pub dump : Option AttemptState
 
 -- a run that was begun, and its payload in blocks
 pub record Begun : Type 0 where
@@ -41,7 +41,7 @@ pub record Begun : Type 0 where
   pub payload : List (List ℕ)
 
 -- the client: the number of its run, its state (run, counts and stage), and its reader of replies
-pub record Caller : Type 0 where
+pub record WorldClient : Type 0 where
   pub number : ℕ
   pub at : Standing
   pub reader : ReplyHeld
@@ -87,7 +87,7 @@ pub record World : Type 0 where
   pub server : ServerState
   pub connections : List Connection
   pub begun : List Begun
-  pub caller : Option Caller
+  pub caller : Option WorldClient
   pub own : Option ℕ
   pub counts : List Count
   pub opens : List Opening

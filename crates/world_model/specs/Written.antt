@@ -8,7 +8,7 @@ use Rattle.dump_run.specs.Label.{label}
 use Rattle.dump_client.specs.Lawful.{steps_before}
 use Rattle.dump_client.specs.declared.step.Step.TheVariants.{Operation}
 use Rattle.dump_client.specs.declared.step.TapeOp.TheVariants.{Unload}
-use Rattle.world_model.specs.World.{World, Dumping, Writing, numbered}
+use Rattle.world_model.specs.World.{World, AttemptState, Writing, numbered}
 use Rattle.world_model.specs.Changes.{opening}
 
 -- `count` blocks from `first` on, one record each
@@ -31,7 +31,7 @@ mark_if true = Mark ∷ []
 mark_if false = []
 
 -- the accepted writes of an attempt: the label, its blocks from its first on, and the mark
-abbrev pub attempt_written : PlainRun → List (List ℕ) → Dumping → List PlainEntry
+abbrev pub attempt_written : PlainRun → List (List ℕ) → AttemptState → List PlainEntry
 attempt_written run payload d = label_if d.label run d.volume d.first ++ (block_records payload d.first d.blocks ++ mark_if d.mark)
 
 -- Connection `k` opened the reel for writing, and no other session has written on it since.
@@ -41,10 +41,10 @@ IsAlone w k reel = (i : ℕ) × (numbered w.opens i ≡ Some (opening k reel))
 
 -- No write of the attempt met a device fault, and no other session has written on the reel since
 -- the attempt's connection opened it.
-abbrev pub IsQuiet : World → ℕ → Dumping → List ℕ → Type 0
+abbrev pub IsQuiet : World → ℕ → AttemptState → List ℕ → Type 0
 IsQuiet w k d reel = (d.fault ≡ false) × IsAlone w k reel
 
 -- If the mark was accepted, no request after it was carried out, so MTOFFL was not.
-abbrev pub IsBeforeOffline : PlainRun → Dumping → Type 0
+abbrev pub IsBeforeOffline : PlainRun → AttemptState → Type 0
 IsBeforeOffline run d =
     d.mark ≡ true → d.carried ≤ length (steps_before run d.first (d.first + d.blocks) (Operation (Unload (d.first + d.blocks))))

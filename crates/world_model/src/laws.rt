@@ -4,7 +4,7 @@
 ghost use Rattle.std.specs.Prelude.{◌≡◌, ◌⊎◌, ℕ, List, ◌++◌};
 ghost use Rattle.rmt_wire.specs.Request.{PlainRequest};
 ghost use Rattle.tape.specs.declared.trouble.Trouble.{Trouble};
-ghost use Rattle.world_model.specs.World.{World, Dumping, Count};
+ghost use Rattle.world_model.specs.World.{World, AttemptState, Count};
 ghost use Rattle.world_model.specs.Changes.{HasDump, with_no_failure, ended_at};
 ghost use Rattle.world_model.specs.Events.{PlainEvent};
 ghost use Rattle.world_model.specs.Events.PlainEvent.{Serve};
@@ -121,12 +121,12 @@ pub fn kept()
 pub fn one_request()
     ensures carries { (w u : World) (k : ℕ) (trouble : Trouble) → Happens w (Serve k trouble) u →
         ServerTurn w k trouble u ⊎ (u ≡ ended_at (with_no_failure w) k) }
-    ensures next_request { (w u : World) (k : ℕ) (t : Trouble) (c : ServerTurn w k t u) (d : Dumping) →
+    ensures next_request { (w u : World) (k : ℕ) (t : Trouble) (c : ServerTurn w k t u) (d : AttemptState) →
         IsWorldKept w → HasDump w k d → IsNextSent w d c.request }
     ensures stale_requests { (w u : World) (k : ℕ) (trouble : Trouble) (c : ServerTurn w k trouble u) → IsWorldKept w →
         Meets w k c.s.session c.request c.reply u c.session }
     ensures others_stay { (w u : World) (k : ℕ) (trouble : Trouble) (c : ServerTurn w k trouble u) → IsWorldKept w → OthersStay w k u }
-    ensures whole_at_the_move { (w u : World) (k : ℕ) (t : Trouble) (c : ServerTurn w k t u) (d : Dumping) →
+    ensures whole_at_the_move { (w u : World) (k : ℕ) (t : Trouble) (c : ServerTurn w k t u) (d : AttemptState) →
         IsWorldKept w → HasDump w k d → IsMoveDone c.request c.reply → IsWholeInBin w k d u }
 {
     one_reading();

@@ -27,7 +27,7 @@ impl FileId {
     }
 
     /// Whether the metadata is that of this file and the file is a regular one.
-    pub(super) fn is_plain(self, known: &Metadata) -> bool {
+    pub(super) fn is_same_file(self, known: &Metadata) -> bool {
         known.is_file() && FileId::of(known) == self
     }
 }
@@ -56,7 +56,7 @@ pub(super) enum InBin {
 pub(super) fn look_in_bin<R: FolderSystem>(rt: &R, path: &str, id: FileId) -> io::Result<InBin> {
     Ok(match known_at(rt, path)? {
         None => InBin::Nothing,
-        Some(known) if id.is_plain(&known) => InBin::SameFile,
+        Some(known) if id.is_same_file(&known) => InBin::SameFile,
         Some(_) => InBin::Another,
     })
 }

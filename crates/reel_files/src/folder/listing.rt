@@ -157,12 +157,12 @@ fn open_locked<R: FolderSystem>(
         return Ok(None);
     };
     let opened = at(path, "stat", file.metadata())?;
-    if !id.is_plain(&opened) {
+    if !id.is_same_file(&opened) {
         return Ok(None);
     }
     at(path, "lock", take_lock(&file))?;
     match at(path, "stat", known_at(rt, path))? {
-        Some(locked) if id.is_plain(&locked) => Ok(Some((file, reads_only))),
+        Some(locked) if id.is_same_file(&locked) => Ok(Some((file, reads_only))),
         _ => Ok(None),
     }
 }

@@ -110,7 +110,7 @@ fn open_folders<R: FolderSystem>(rt: &R, stack: &str, bin: &str) -> Result<Folde
 /// Fails if the path does not lead to the file that was latched.
 fn look_again<R: FolderSystem>(rt: &R, file: &ReelFile) -> io::Result<()> {
     let found = fs::symlink_metadata(rt, file.from.as_str())?;
-    if file.id.is_plain(&found) {
+    if file.id.is_same_file(&found) {
         Ok(())
     } else {
         Err(io::Error::from(ErrorKind::StaleNetworkFileHandle))
@@ -199,7 +199,7 @@ fn leave_stack<R: FolderSystem>(
 fn remove_name<R: FolderSystem>(rt: &R, file: &ReelFile) -> io::Result<()> {
     let from = file.from.as_str();
     match known_at(rt, from)? {
-        Some(known) if file.id.is_plain(&known) => fs::remove_file(rt, from),
+        Some(known) if file.id.is_same_file(&known) => fs::remove_file(rt, from),
         _ => Ok(()),
     }
 }
@@ -214,8 +214,8 @@ fn undo_link<R: FolderSystem>(rt: &R, file: &ReelFile) -> io::Result<()> {
         return Ok(());
     };
     match known_at(rt, file.from.as_str())? {
-        Some(here) if FileId::of(&here).is_plain(&there) => fs::remove_file(rt, to),
-        _ if file.id.is_plain(&there) => Err(io::Error::from(ErrorKind::NotFound)),
+        Some(here) if FileId::of(&here).is_same_file(&there) => fs::remove_file(rt, to),
+        _ if file.id.is_same_file(&there) => Err(io::Error::from(ErrorKind::NotFound)),
         _ => Ok(()),
     }
 }

@@ -6,7 +6,7 @@ ghost use Rattle.drives.specs.Opening.{kinds};
 ghost use Rattle.rmt_server.specs.Access.{access_of};
 ghost use Rattle.rmt_server.specs.State.{state, IsAt, online_in};
 ghost use Rattle.rmt_server.specs.Replies.{number_reply};
-ghost use Rattle.rmt_server.specs.Opening.{LaysBack, IsClosed, Closes, OpensFor, OpensAnew};
+ghost use Rattle.rmt_server.specs.Opening.{LaysBack, IsClosed, Closes, OpensFor, OpensDevice};
 
 use crate::access::Access;
 use crate::refusal::Refusal;
@@ -97,7 +97,7 @@ pub(crate) fn open<H: Holds, S: Stacks>(
     mode: u32,
 ) -> Result<u32, Refusal>
     requires { IsAt (kinds H.Holds S.Stacks S.Reel.Reel) (state drives.old session_state.old) }
-    ensures opens { OpensAnew (kinds H.Holds S.Stacks S.Reel.Reel) (state drives.old session_state.old) device.now mode (number_reply result)
+    ensures opens { OpensDevice (kinds H.Holds S.Stacks S.Reel.Reel) (state drives.old session_state.old) device.now mode (number_reply result)
         (state drives.new session_state.new) }
     ensures number { IfOk result (λ n. n ≡ 0) }
 {

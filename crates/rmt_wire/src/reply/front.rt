@@ -2,7 +2,7 @@
 
 ghost use Rattle.std.specs.Prelude.{◌≡◌, ◌+◌, ◌<◌, ◌≤◌, ◌^◌, ◌++◌, length, take, drop, IfOk, IfSome};
 ghost use Rattle.rmt_wire.specs.Lent.{plain_wanted, lent_reply};
-ghost use Rattle.rmt_wire.specs.Seen.{number_front};
+ghost use Rattle.rmt_wire.specs.Parsed.{number_front};
 ghost use Rattle.rmt_wire.specs.declared.number.Place.TheVariants as places;
 ghost use Rattle.rmt_wire.specs.Reply as kinds;
 ghost use Rattle.rmt_wire.specs.ReplyFront as spec;
@@ -148,6 +148,6 @@ pub fn surplus(bytes: &[u8]) -> (usize, usize)
     if *letter != b'E' {
         return (0, 0);
     }
-    let (at, gone) = surplus_behind(rest);
-    (at + 1, gone)
+    let (at, discardable) = surplus_behind(rest);
+    (at + 1, discardable)
 }

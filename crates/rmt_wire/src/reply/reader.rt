@@ -4,7 +4,7 @@ ghost use Rattle.std.specs.Prelude.{◌≡◌, ℕ, ◌+◌, ◌-◌, ◌≤◌,
 ghost use Rattle.rmt_wire.specs.Reply as kinds;
 ghost use Rattle.rmt_wire.specs.Lent.{plain_wanted, plain_wanted_if_some};
 ghost use Rattle.rmt_wire.specs.ReplyReader as spec;
-ghost use Rattle.rmt_wire.specs.ReplyReader.{ReplyUnread, IsWithin, IsWithinIfSome, reply_taken_of, reply_told, ReplyIsNext, ReplyStaysFaulty};
+ghost use Rattle.rmt_wire.specs.ReplyReader.{ReplyUnread, IsWithin, IsWithinIfSome, reply_taken_of, plain_reply_result, ReplyIsNext, ReplyStaysFaulty};
 
 use crate::fault::WireFault;
 use crate::kept::{append, remove};
@@ -21,8 +21,8 @@ use std::marker::Model;
 fn front(unread: &[u8], wanted: Option<Wanted>) -> Result<Option<(Reply<'_>, usize)>, WireFault>
     requires { IsWithinIfSome (plain_wanted_if_some wanted) }
     ensures next { let held = spec.reply_held (plain_wanted_if_some wanted) unread.now in
-        ReplyIsNext held (spec.reply_told_front result) (spec.reply_held_after result held) }
-    ensures for_good { ReplyStaysFaulty (spec.reply_held (plain_wanted_if_some wanted) unread.now) (spec.reply_told_front result) }
+        ReplyIsNext held (spec.plain_reply_front_result result) (spec.reply_held_after result held) }
+    ensures for_good { ReplyStaysFaulty (spec.reply_held (plain_wanted_if_some wanted) unread.now) (spec.plain_reply_front_result result) }
     ensures within { IfOk result (λ o. IfSome o (λ r. r.1 ≤ length unread.now)) }
 {
     match wanted {
@@ -139,8 +139,8 @@ impl ReplyReader {
         let start = append(&mut self.buffer, start, &piece[..count]);
         self.start = start;
         if self.wanted.is_some() {
-            let (at, gone) = surplus(&self.buffer.as_slice()[start..]);
-            remove(&mut self.buffer, start + at, gone);
+            let (at, discardable) = surplus(&self.buffer.as_slice()[start..]);
+            remove(&mut self.buffer, start + at, discardable);
         }
         count
     }
@@ -155,8 +155,8 @@ impl ReplyReader {
     /// more than was wanted. If nothing is waited for, any byte is `TooMuchData`. If no reply is
     /// returned, the reader is unchanged.
     pub fn next(&mut self) -> Result<Option<Reply<'_>>, WireFault>
-        ensures* rests { sem 𝓛 (Rests the_row self.entry (λ new. ReplyIsNext self.old (reply_told result) new)) }
-        ensures for_good { ReplyStaysFaulty self.old (reply_told result) }
+        ensures* rests { sem 𝓛 (Rests the_row self.entry (λ new. ReplyIsNext self.old (plain_reply_result result) new)) }
+        ensures for_good { ReplyStaysFaulty self.old (plain_reply_result result) }
     {
         let start = self.start;
         match front(&self.buffer.as_slice()[start..], self.wanted)? {

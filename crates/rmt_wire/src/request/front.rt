@@ -31,7 +31,7 @@ pub fn write_at(bytes: &[u8], count: u32, len: usize) -> Option<(Request<'_>, us
 /// Returns the request that begins with the lines `head`, and its whole length. Returns None if its
 /// data are not complete.
 fn request_at(bytes: &[u8], head: Head) -> Option<(Request<'_>, usize)>
-    requires { spec.LiesIn (length bytes.now) head }
+    requires { spec.FitsIn (length bytes.now) head }
     ensures value { lent_front (Ok result) ≡ spec.request_at bytes.now head }
     ensures within { IfSome result (λ r. r.1 ≤ length bytes.now) }
 {

@@ -37,7 +37,7 @@ pub enum Head {
 #[tactic(auto, unfolding(crate::specs::RequestFront::open_head))]
 fn open_head(bytes: &[u8]) -> Result<Option<Head>, WireFault>
     ensures value { result ≡ spec.open_head bytes.now }
-    ensures within { IfOk result (λ o. IfSome o (spec.LiesIn (length bytes.now + 1))) }
+    ensures within { IfOk result (λ o. IfSome o (spec.FitsIn (length bytes.now + 1))) }
 {
     let Some(device) = line_front(bytes)? else {
         return Ok(None);
@@ -51,7 +51,7 @@ fn open_head(bytes: &[u8]) -> Result<Option<Head>, WireFault>
 fn mode_head(device: usize, line: &[u8]) -> Result<Option<Head>, WireFault>
     requires { device + length line.now + 2 < 2 ^ 64 }
     ensures value { result ≡ spec.mode_head device line.now }
-    ensures within { IfOk result (λ o. IfSome o (spec.LiesIn (device + length line.now + 2))) }
+    ensures within { IfOk result (λ o. IfSome o (spec.FitsIn (device + length line.now + 2))) }
 {
     let Some((mode, _)) = number_front(line, Place::Mode)? else {
         return Ok(None);
@@ -66,7 +66,7 @@ fn mode_head(device: usize, line: &[u8]) -> Result<Option<Head>, WireFault>
 #[tactic(auto, unfolding(crate::specs::RequestFront::close_head))]
 fn close_head(bytes: &[u8]) -> Result<Option<Head>, WireFault>
     ensures value { result ≡ spec.close_head bytes.now }
-    ensures within { IfOk result (λ o. IfSome o (spec.LiesIn (length bytes.now + 1))) }
+    ensures within { IfOk result (λ o. IfSome o (spec.FitsIn (length bytes.now + 1))) }
 {
     let Some(end) = line_front(bytes)? else {
         return Ok(None);
@@ -77,7 +77,7 @@ fn close_head(bytes: &[u8]) -> Result<Option<Head>, WireFault>
 #[tactic(auto, unfolding(crate::specs::RequestFront::write_head))]
 fn write_head(bytes: &[u8]) -> Result<Option<Head>, WireFault>
     ensures value { result ≡ spec.write_head bytes.now }
-    ensures within { IfOk result (λ o. IfSome o (spec.LiesIn (length bytes.now + 1))) }
+    ensures within { IfOk result (λ o. IfSome o (spec.FitsIn (length bytes.now + 1))) }
 {
     let Some((count, digits)) = number_front(bytes, Place::Line)? else {
         return Ok(None);
@@ -89,7 +89,7 @@ fn write_head(bytes: &[u8]) -> Result<Option<Head>, WireFault>
 #[tactic(auto, unfolding(crate::specs::RequestFront::read_head))]
 fn read_head(bytes: &[u8]) -> Result<Option<Head>, WireFault>
     ensures value { result ≡ spec.read_head bytes.now }
-    ensures within { IfOk result (λ o. IfSome o (spec.LiesIn (length bytes.now + 1))) }
+    ensures within { IfOk result (λ o. IfSome o (spec.FitsIn (length bytes.now + 1))) }
 {
     let Some((count, digits)) = number_front(bytes, Place::Line)? else {
         return Ok(None);
@@ -101,7 +101,7 @@ fn read_head(bytes: &[u8]) -> Result<Option<Head>, WireFault>
 #[tactic(auto, unfolding(crate::specs::RequestFront::op_head))]
 fn op_head(bytes: &[u8]) -> Result<Option<Head>, WireFault>
     ensures value { result ≡ spec.op_head bytes.now }
-    ensures within { IfOk result (λ o. IfSome o (spec.LiesIn (length bytes.now + 1))) }
+    ensures within { IfOk result (λ o. IfSome o (spec.FitsIn (length bytes.now + 1))) }
 {
     let Some((op, first)) = number_front(bytes, Place::Line)? else {
         return Ok(None);
@@ -115,7 +115,7 @@ fn op_head(bytes: &[u8]) -> Result<Option<Head>, WireFault>
 fn count_head(op: u32, first: usize, line: &[u8]) -> Result<Option<Head>, WireFault>
     requires { first + length line.now + 2 < 2 ^ 64 }
     ensures value { result ≡ spec.count_head (op, first) line.now }
-    ensures within { IfOk result (λ o. IfSome o (spec.LiesIn (first + length line.now + 2))) }
+    ensures within { IfOk result (λ o. IfSome o (spec.FitsIn (first + length line.now + 2))) }
 {
     let Some((count, second)) = number_front(line, Place::Line)? else {
         return Ok(None);
@@ -129,7 +129,7 @@ fn count_head(op: u32, first: usize, line: &[u8]) -> Result<Option<Head>, WireFa
 #[tactic(auto, unfolding(crate::specs::RequestFront::head_of, crate::specs::RequestFront::letter_head))]
 pub fn head_of(bytes: &[u8]) -> Result<Option<Head>, WireFault>
     ensures value { result ≡ spec.head_of bytes.now }
-    ensures within { IfOk result (λ o. IfSome o (spec.LiesIn (length bytes.now))) }
+    ensures within { IfOk result (λ o. IfSome o (spec.FitsIn (length bytes.now))) }
 {
     match bytes {
         [] => Ok(None),

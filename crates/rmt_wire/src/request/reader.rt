@@ -3,8 +3,8 @@
 ghost use Rattle.std.specs.Prelude.{◌≡◌, ℕ, ◌+◌, ◌-◌, ◌≤◌, ◌<◌, ◌↔◌, List, [], ◌++◌, length, take, drop, min, IfOk, IfSome, IsTrue};
 ghost use Rattle.rmt_wire.specs.RequestReader as spec;
 ghost use Rattle.rmt_wire.specs.Request.{PlainRequest};
-ghost use Rattle.rmt_wire.specs.RequestReader.{Unread, IsDropped, IsGiven, taken_of, told, IsNext, StaysFaulty};
-ghost use Rattle.rmt_wire.specs.RequestKept.{write_line, if_dropped, IsKnown, HasLetGo};
+ghost use Rattle.rmt_wire.specs.RequestReader.{Unread, IsDropped, IsGiven, taken_of, plain_next_result, IsNext, StaysFaulty};
+ghost use Rattle.rmt_wire.specs.RequestKept.{write_line, if_dropped, IsKnown, HasDiscarded};
 
 use crate::fault::WireFault;
 use crate::kept::{append, remove};
@@ -25,10 +25,10 @@ pub use stream::StreamFault;
 /// Returns how many of the `len` unread bytes can be discarded, because they are data of a dropped
 /// write at the front. That write has this line, and `dropped` bytes of its data were discarded
 /// before.
-fn gone(line: Option<(usize, u32)>, len: usize, dropped: u32) -> usize
+fn discardable(line: Option<(usize, u32)>, len: usize, dropped: u32) -> usize
     requires within { IfSome line (λ line. line.0 ≤ len) }
     requires dropped { IsDropped (if_dropped line) dropped }
-    ensures value { result ≡ spec.gone_at (if_dropped line) len dropped }
+    ensures value { result ≡ spec.discardable_at (if_dropped line) len dropped }
     ensures within { result ≤ len }
 {
     match dropped_line(line) {
@@ -39,11 +39,16 @@ fn gone(line: Option<(usize, u32)>, len: usize, dropped: u32) -> usize
 
 /// Discards the data of a dropped write at the front, as far as they came. Sets `line` if the
 /// write's line is complete, and adds to `dropped` how many bytes were discarded.
-fn let_go(buffer: &mut BytesMut, start: usize, line: &mut Option<(usize, u32)>, dropped: &mut u32)
+fn discard_data(
+    buffer: &mut BytesMut,
+    start: usize,
+    line: &mut Option<(usize, u32)>,
+    dropped: &mut u32,
+)
     requires start { start ≤ length buffer.old.items }
     requires line { IsKnown line.old (drop start buffer.old.items) }
     requires dropped { IsDropped (spec.dropped_line (drop start buffer.old.items)) dropped.old }
-    ensures gone { HasLetGo (spec.held (drop start buffer.old.items) dropped.old) (spec.held (drop start buffer.new.items) dropped.new) }
+    ensures discardable { HasDiscarded (spec.held (drop start buffer.old.items) dropped.old) (spec.held (drop start buffer.new.items) dropped.new) }
     ensures line { IsKnown line.new (drop start buffer.new.items) }
     ensures start { start ≤ length buffer.new.items }
     ensures fewer { length buffer.new.items ≤ length buffer.old.items }
@@ -54,9 +59,9 @@ fn let_go(buffer: &mut BytesMut, start: usize, line: &mut Option<(usize, u32)>, 
     let Some((len, count)) = dropped_line(*line) else {
         return;
     };
-    let gone = (unread.len() - len).min((count - *dropped) as usize);
-    remove(buffer, start + len, gone);
-    *dropped += gone as u32;
+    let discardable = (unread.len() - len).min((count - *dropped) as usize);
+    remove(buffer, start + len, discardable);
+    *dropped += discardable as u32;
 }
 
 /// Returns the request that `unread` begins with, and how many of the bytes kept it takes. Returns
@@ -70,8 +75,8 @@ fn front(
     requires line { line ≡ write_line unread.now }
     requires within { IfSome line (λ line. line.0 ≤ length unread.now) }
     requires dropped { IsDropped (spec.dropped_line unread.now) dropped }
-    ensures next { IsNext (spec.held unread.now dropped) (spec.told_front result) (spec.held_after result (spec.held unread.now dropped)) }
-    ensures for_good { StaysFaulty (spec.held unread.now dropped) (spec.told_front result) }
+    ensures next { IsNext (spec.held unread.now dropped) (spec.plain_front_result result) (spec.held_after result (spec.held unread.now dropped)) }
+    ensures for_good { StaysFaulty (spec.held unread.now dropped) (spec.plain_front_result result) }
     ensures within { IfOk result (λ o. IfSome o (λ r. r.1 ≤ length unread.now)) }
 {
     let Some((len, count)) = line else {
@@ -151,7 +156,7 @@ impl RequestReader {
     {
         let unread = &self.buffer.as_slice()[self.start..];
         let line = line_of(self.line, unread);
-        READER_LIMIT - (unread.len() - gone(line, unread.len(), self.dropped))
+        READER_LIMIT - (unread.len() - discardable(line, unread.len(), self.dropped))
     }
 
     /// Takes as many bytes of `piece` as there is room for, and returns how many.
@@ -162,7 +167,7 @@ impl RequestReader {
             IsGiven self.old pushed requests → IsGiven self.new (pushed ++ take result piece.now) requests }
         ensures limit { length self.new.kept ≤ READER_LIMIT }
     {
-        let_go(
+        discard_data(
             &mut self.buffer,
             self.start,
             &mut self.line,
@@ -172,7 +177,7 @@ impl RequestReader {
         let room = READER_LIMIT - (self.buffer.len() - start);
         let count = piece.len().min(room);
         self.start = append(&mut self.buffer, start, &piece[..count]);
-        let_go(
+        discard_data(
             &mut self.buffer,
             self.start,
             &mut self.line,
@@ -187,8 +192,8 @@ impl RequestReader {
     /// Fails at the first byte that rules out every request, and returns the same fault at each
     /// later call. If no request is returned, the reader is unchanged.
     pub fn next(&mut self) -> Result<Option<Request<'_>>, WireFault>
-        ensures* rests { sem 𝓛 (Rests the_row self.entry (λ new. IsNext self.old (told result) new)) }
-        ensures for_good { StaysFaulty self.old (told result) }
+        ensures* rests { sem 𝓛 (Rests the_row self.entry (λ new. IsNext self.old (plain_next_result result) new)) }
+        ensures for_good { StaysFaulty self.old (plain_next_result result) }
     {
         let start = self.start;
         let unread = &self.buffer.as_slice()[start..];

@@ -6,7 +6,7 @@ ghost use Rattle.tape.specs.Tape.PlainEntry.{Record};
 ghost use Rattle.tape.specs.Medium.{MediumStep};
 ghost use Rattle.tape.specs.Medium.MediumCall.{Append};
 ghost use Rattle.tape.specs.RecordFile.{image_of, length_bytes, medium_kind_of};
-ghost use Rattle.tape.specs.FileSteps.{IsMediumRun, LooksAlong, BeginsWith, IsImageWritten, ahead, first_length, size_by_length};
+ghost use Rattle.tape.specs.FileSteps.{AreMediumCalls, LooksAlong, BeginsWith, IsImageWritten, ahead, first_length, size_by_length};
 ghost use Rattle.tape.specs.declared.file_reel.walk.Way.TheVariants.{Back};
 
 use crate::entry::{MARK_SIZE, RECORD_FRAME};
@@ -42,7 +42,7 @@ fn length_in(bytes: [u8; 4]) -> u32
 
 /// Reads the length at an offset. Returns `None` if fewer than 4 bytes are there.
 fn length_at<M: Medium>(medium: &mut M, at: u64) -> Result<Option<u32>, MediumFailed>
-    ensures { IsMediumRun (medium_kind_of M.Medium)
+    ensures { AreMediumCalls (medium_kind_of M.Medium)
         (λ old new. (new ≡ old) × IfOk result (BeginsWith (drop at old))) 0 (IsErr result) medium.old medium.new }
 {
     let mut bytes = [0u8; 4];
@@ -108,7 +108,7 @@ pub(super) fn last_length<M: Medium>(medium: &mut M, at: u64) -> Result<Option<u
 /// Appends the image of a record: its length, its bytes, and its length again.
 fn append_record<M: Medium>(medium: &mut M, bytes: &[u8]) -> Result<(), MediumFailed>
     requires { IsRecord bytes.now }
-    ensures { IsMediumRun (medium_kind_of M.Medium)
+    ensures { AreMediumCalls (medium_kind_of M.Medium)
         (MediumStep (Append (image_of (Record bytes.now)) result)) (length bytes.now + 8) (IsErr result) medium.old medium.new }
 {
     let length = (bytes.len() as u32).to_le_bytes();
@@ -119,7 +119,7 @@ fn append_record<M: Medium>(medium: &mut M, bytes: &[u8]) -> Result<(), MediumFa
 fn append_zeros<M: Medium>(medium: &mut M, row: &[u8], count: u64) -> Result<(), MediumFailed>
     requires zeros { row.now ≡ replicate (length row.now) 0 }
     requires some { 0 < length row.now }
-    ensures { IsMediumRun (medium_kind_of M.Medium)
+    ensures { AreMediumCalls (medium_kind_of M.Medium)
         (MediumStep (Append (replicate count 0) result)) count (IsErr result) medium.old medium.new }
 {
     let mut done: u64 = 0;
@@ -141,7 +141,7 @@ pub(super) fn put_record<M: Medium>(
     bytes: &[u8],
 ) -> Result<(), MediumFailed>
     requires { IsRecord bytes.now }
-    ensures { IsMediumRun (medium_kind_of M.Medium)
+    ensures { AreMediumCalls (medium_kind_of M.Medium)
         (IsImageWritten at (image_of (Record bytes.now)) result) (length bytes.now + 8) (IsErr result) medium.old medium.new }
 {
     medium.cut(at)?;
@@ -153,7 +153,7 @@ pub(super) fn put_record<M: Medium>(
 /// Fails if the medium fails. The bytes are unchanged then, or they are cut at the offset and
 /// followed by the first bytes of the marks' images.
 pub(super) fn put_marks<M: Medium>(medium: &mut M, at: u64, count: u32) -> Result<(), MediumFailed>
-    ensures { IsMediumRun (medium_kind_of M.Medium)
+    ensures { AreMediumCalls (medium_kind_of M.Medium)
         (IsImageWritten at (replicate (4 * count) 0) result) (4 * count) (IsErr result) medium.old medium.new }
 {
     medium.cut(at)?;

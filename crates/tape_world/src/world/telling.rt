@@ -4,7 +4,7 @@ ghost use Rattle.std.specs.Option.{option_copied, option_map};
 ghost use Rattle.drives.specs.ListLibrary.{rest_slot};
 ghost use Rattle.rmt_server.specs.Memory.{session_seen};
 ghost use Rattle.world_model.specs.Changes.{side_of};
-ghost use Rattle.tape_world.specs.Telling.{client_told, caller_told, TellsStack, TellsWay, TellsPayload};
+ghost use Rattle.tape_world.specs.Telling.{client_told, caller_told, IsStackOf, IsOnWay, IsPayloadOf};
 
 use super::World;
 use crate::counts::Counts;
@@ -49,7 +49,7 @@ impl World {
     /// Returns the client, while there is one.
     pub fn client(&self) -> Option<&Client<ListBlocks>>
         ensures told { option_map client_told (option_copied result) ≡ option_map caller_told self.now.caller }
-        ensures payload { IfSome (option_copied result) (λ client. TellsPayload self.now client.source) }
+        ensures payload { IfSome (option_copied result) (λ client. IsPayloadOf self.now client.source) }
     {
         self.kept();
         let caller = self.world_state.caller.as_ref()?;
@@ -70,7 +70,7 @@ impl World {
     /// which is the client or a stranger. The server's reader can have room for fewer than are in
     /// transit. Returns none if there is no such connection.
     pub fn on_way(&self, connection: usize) -> Option<(usize, usize)>
-        ensures { TellsWay self.now connection result }
+        ensures { IsOnWay self.now connection result }
     {
         self.kept();
         let conn = find(&self.world_state.connections, connection)?;
@@ -85,7 +85,7 @@ impl World {
     /// Returns the reels of the first drive of that name, in the order of its stack. The first is
     /// latched, or is the next to be. Returns none if there is no such drive.
     pub fn stack(&self, drive: &[u8]) -> Option<&[ListedReel]>
-        ensures { TellsStack drive.now self.now.server.library (option_map (map rest_slot) (option_copied result)) }
+        ensures { IsStackOf drive.now self.now.server.library (option_map (map rest_slot) (option_copied result)) }
     {
         let drive = self.world_state.host.drive(drive)?;
         Some(self.world_state.host.stack(drive))

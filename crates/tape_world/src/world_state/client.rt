@@ -14,11 +14,11 @@ ghost use Rattle.tape_world.specs.declared.caller.Begun.{Begun as RealBegun};
 
 use super::WorldState;
 use super::saving::{change_kept, drop_kept};
-use crate::caller::{Begun, Caller};
+use crate::caller::{Begun, WorldClient};
 use crate::stop::EventStop;
 use dump_client::{Answer, AttemptFault, Client, ListBlocks, Progress, Run, State};
 use std::alloc::{AllocError, Global};
-use world_connections::{Connection, Dumping, find};
+use world_connections::{AttemptState, Connection, find};
 
 /// Copies the payload, as blocks of the run. Fails if an allocation fails.
 fn blocks_of(alloc: Global, run: &Run, payload: &[u8]) -> Result<ListBlocks, AllocError>
@@ -95,7 +95,7 @@ fn begin(
 }
 
 /// Replaces the client by this one, or by none.
-pub(super) fn change_caller(caller: &mut Option<Caller>, new: Option<Caller>)
+pub(super) fn change_caller(caller: &mut Option<WorldClient>, new: Option<WorldClient>)
     ensures { caller.new ≡ new }
 {
     *caller = new;
@@ -104,7 +104,7 @@ pub(super) fn change_caller(caller: &mut Option<Caller>, new: Option<Caller>)
 /// Starts an attempt of the client, which must be ready, and returns the attempt.
 ///
 /// Fails if an allocation fails. Nothing has changed then.
-fn start_attempt(caller: &mut Option<Caller>) -> Result<Dumping, EventStop>
+fn start_attempt(caller: &mut Option<WorldClient>) -> Result<AttemptState, EventStop>
     requires { IsReady caller.old }
     ensures { Starts caller.old result caller.new }
 {
@@ -115,11 +115,11 @@ fn start_attempt(caller: &mut Option<Caller>) -> Result<Dumping, EventStop>
     if caller.client.start().is_err() {
         return Err(EventStop::OutOfMemory);
     }
-    Ok(Dumping::new(caller.number, volume, first))
+    Ok(AttemptState::new(caller.number, volume, first))
 }
 
 /// Gives the operator's answer to the client, if there is one.
-fn give_answer(caller: &mut Option<Caller>, answer: Answer)
+fn give_answer(caller: &mut Option<WorldClient>, answer: Answer)
     ensures { ClientAnswers caller.old answer caller.new }
 {
     if let Some(caller) = caller {
@@ -129,7 +129,7 @@ fn give_answer(caller: &mut Option<Caller>, answer: Answer)
 
 /// Reports the end of its connection to the client, if there is one. Returns the volume and the
 /// cause if that makes the attempt fail.
-fn end_attempt(caller: &mut Option<Caller>) -> Option<(u32, AttemptFault)>
+fn end_attempt(caller: &mut Option<WorldClient>) -> Option<(u32, AttemptFault)>
     ensures { ClientSeesEnd caller.old result caller.new }
 {
     let Some(caller) = caller else {
@@ -143,7 +143,7 @@ fn end_attempt(caller: &mut Option<Caller>) -> Option<(u32, AttemptFault)>
 
 impl WorldState {
     /// Whether there is a client, and it is in this state.
-    pub(super) fn stands_in(&self, state: State) -> bool
+    pub(super) fn is_client_in(&self, state: State) -> bool
         ensures { (result ≡ true) ↔ StandsIn self.now (λ stage. state_of stage ≡ state) }
     {
         match &self.caller {
@@ -174,7 +174,7 @@ impl WorldState {
             return Err(EventStop::NotPossible);
         }
         let client = begin(self.alloc, &mut self.begun, run, payload)?;
-        let caller = Caller {
+        let caller = WorldClient {
             number: self.begun.len(),
             client,
         };
@@ -189,7 +189,7 @@ impl WorldState {
     pub(crate) fn connect(&mut self) -> Result<(), EventStop>
         ensures { IsEvent self.old Connect result self.new }
     {
-        if !self.stands_in(State::Ready) {
+        if !self.is_client_in(State::Ready) {
             return Err(EventStop::NotPossible);
         }
         self.connections.reserve(1)?;
@@ -208,7 +208,7 @@ impl WorldState {
     pub(crate) fn respond(&mut self, answer: Answer) -> Result<(), EventStop>
         ensures { IsEvent self.old (Respond answer) result self.new }
     {
-        if !self.stands_in(State::Asking) {
+        if !self.is_client_in(State::Asking) {
             return Err(EventStop::NotPossible);
         }
         give_answer(&mut self.caller, answer);

@@ -7,7 +7,7 @@ ghost use Rattle.tape_world.specs.Saving.{IsEntryOf};
 
 use super::WorldState;
 use super::saving::change_kept;
-use crate::caller::Caller;
+use crate::caller::WorldClient;
 use crate::history::Entered;
 use crate::stop::EventStop;
 use std::alloc::{AllocError, Global};
@@ -22,7 +22,7 @@ pub(super) fn has_entered(entered: &[Entered], run: usize) -> bool
 /// Returns the run of this client, with its counts.
 ///
 /// Fails only if an allocation fails.
-fn entered_of(alloc: Global, caller: &Caller) -> Result<Entered, AllocError>
+fn entered_of(alloc: Global, caller: &WorldClient) -> Result<Entered, AllocError>
     ensures { IfOk result (IsEntryOf caller.now) }
 {
     Ok(Entered {

@@ -11,7 +11,7 @@ ghost use Rattle.tape_world.specs.Seen.{name_at, book_names, seen_opening};
 ghost use Rattle.world_connections.specs.Connection.{plain_connection};
 
 use super::WorldState;
-use crate::caller::Caller;
+use crate::caller::WorldClient;
 use crate::history::{Count, History, Opening};
 use crate::stop::EventStop;
 use dump_client::{AttemptFault, Client, ListBlocks, Progress, State, VolumeCount};
@@ -55,7 +55,7 @@ fn count_at(counts: &[VolumeCount], place: usize) -> Option<VolumeCount>
 }
 
 /// Feeds these bytes to the client, which must be in an attempt.
-fn hear(caller: &mut Option<Caller>, piece: &[u8]) -> PieceHeard
+fn hear(caller: &mut Option<WorldClient>, piece: &[u8]) -> PieceHeard
     requires { IsAttempting caller.old }
     ensures { HasHeard caller.old piece.now result caller.new }
 {

@@ -12,7 +12,7 @@ ghost use Rattle.world_connections.specs.Connection.{plain_connection};
 use super::WorldState;
 use super::client::change_caller;
 use super::entering::has_entered;
-use crate::caller::{Begun, Caller, KeptRun};
+use crate::caller::{Begun, KeptRun, WorldClient};
 use crate::history::Entered;
 use crate::stop::EventStop;
 use dump_client::{Answer, Client, State};
@@ -40,7 +40,7 @@ pub(super) fn drop_kept(kept: &mut Option<KeptRun>, answer: Answer)
 /// checkpoint.
 ///
 /// Fails only if an allocation fails.
-fn kept_of(alloc: Global, caller: &Caller) -> Result<KeptRun, AllocError>
+fn kept_of(alloc: Global, caller: &WorldClient) -> Result<KeptRun, AllocError>
     ensures { IfOk result (IsKeptOf caller.now) }
 {
     let mut text = Vec::new(alloc);
@@ -54,7 +54,7 @@ fn kept_of(alloc: Global, caller: &Caller) -> Result<KeptRun, AllocError>
 
 /// Whether the run of this client can be saved: it is not abandoned, and not both finished and
 /// entered.
-fn may_keep(caller: &Caller, entered: &[Entered]) -> bool
+fn may_keep(caller: &WorldClient, entered: &[Entered]) -> bool
     ensures { (result ≡ true) ↔ MayKeep entered.now caller.now }
 {
     match caller.client.state() {
@@ -71,7 +71,7 @@ fn resume_run(
     alloc: Global,
     kept: &Option<KeptRun>,
     begun: &[Begun],
-) -> Result<Option<Caller>, AllocError>
+) -> Result<Option<WorldClient>, AllocError>
     requires { IsBacked begun.now kept.now }
     ensures { IfOk result (ResumesRunWith begun.now kept.now) }
 {
@@ -83,7 +83,7 @@ fn resume_run(
     source.trouble(false);
     one_checkpoint();
     match Client::resume(alloc, &kept.text, source) {
-        Ok(client) => Ok(Some(Caller {
+        Ok(client) => Ok(Some(WorldClient {
             number: kept.run,
             client,
         })),

@@ -14,7 +14,7 @@ ghost use Rattle.world_connections.specs.Connection.{plain_connection};
 ghost use Rattle.tape_world.specs.Serving.{HasRoom, IsNoted, IsOnlineIn, IsSameHistory, TurnServes, is_write, name_online_at, opened_in, written_in};
 
 use super::WorldState;
-use crate::caller::Caller;
+use crate::caller::WorldClient;
 use crate::history::{History, Opening, Writing};
 use crate::stop::EventStop;
 use drives::ListedReel;
@@ -208,7 +208,7 @@ fn note_list(
 /// Copies the client's counts. The list is empty if there is no client.
 ///
 /// Fails only if an allocation fails.
-fn counted_now(alloc: Global, caller: &Option<Caller>) -> Result<Vec<VolumeCount>, AllocError>
+fn counted_now(alloc: Global, caller: &Option<WorldClient>) -> Result<Vec<VolumeCount>, AllocError>
     ensures { IfOk result (λ list. list.items ≡ list_in (option_map seen_caller caller.now)) }
 {
     match caller {

@@ -10,7 +10,7 @@ ghost use Rattle.world_connections.specs.Connection.{plain_connection};
 ghost use Rattle.tape_world.specs.Talking.{Asks, IsToSend, talked};
 
 use super::WorldState;
-use crate::caller::Caller;
+use crate::caller::WorldClient;
 use crate::stop::EventStop;
 use dump_client::{AttemptFault, State};
 use rmt_wire::READER_LIMIT;
@@ -20,7 +20,11 @@ use world_connections::Connection;
 /// Writes the next request of the client, which must be about to send one, to `out`. Returns the
 /// volume and the cause if that makes the attempt fail. `out` must be empty, with room for
 /// `READER_LIMIT` bytes.
-fn ask(caller: &mut Option<Caller>, fails: bool, out: &mut Vec<u8>) -> Option<(u32, AttemptFault)>
+fn ask(
+    caller: &mut Option<WorldClient>,
+    fails: bool,
+    out: &mut Vec<u8>,
+) -> Option<(u32, AttemptFault)>
     requires sends { IsToSend caller.old }
     requires empty { out.old.items ≡ [] }
     requires room { READER_LIMIT ≤ vec_capacity out.old }
@@ -49,7 +53,7 @@ fn ask(caller: &mut Option<Caller>, fails: bool, out: &mut Vec<u8>) -> Option<(u
 fn send_on(
     alloc: Global,
     conn: &mut Connection,
-    caller: &mut Option<Caller>,
+    caller: &mut Option<WorldClient>,
     fails: bool,
 ) -> Result<Option<(u32, AttemptFault)>, AllocError>
     requires { IsToSend caller.old }
@@ -73,7 +77,7 @@ fn send_own(
     alloc: Global,
     connections: &mut [Connection],
     own: usize,
-    caller: &mut Option<Caller>,
+    caller: &mut Option<WorldClient>,
     fails: bool,
 ) -> Result<Option<(u32, AttemptFault)>, AllocError>
     requires first { 1 ≤ own }
@@ -94,7 +98,7 @@ impl WorldState {
         requires { IsWorldKept self.old }
         ensures { IsEvent self.old (Send fails) result self.new }
     {
-        if !self.stands_in(State::ToSend) {
+        if !self.is_client_in(State::ToSend) {
             return Err(EventStop::NotPossible);
         }
         let Some(own) = self.own else {

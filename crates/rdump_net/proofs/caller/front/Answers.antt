@@ -1,5 +1,5 @@
 use Rattle.std.proofs.Common.{Ok, ap, ◌∙◌, sym, subst, Some}
-use Rattle.rmt_wire.specs.ReplyParts.{ReplyGives}
+use Rattle.rmt_wire.specs.ReplyParts.{ReplyParsesAs}
 use Rattle.rdump_net.proofs.Heard.{next_none, next_some}
 use Rattle.rdump_net.proofs.caller.front.Goals as goal
 
@@ -9,7 +9,7 @@ returns-in-Ok-None c = next_none c.args.reader.now c.next.follows.lender-at-none
 pub returns-in-Ok : goal.returns-in-Ok
 returns-in-Ok c = λ wanted bytes u.
     let w = next_some c.args.reader.now c.next.follows.lender-at-none c.next.result c.in-Ok-Some.reply c.next.follows.holds-at-none (c.in-Ok-Some.is ∙ ap Ok c.in-Ok-Some.field-0-is) wanted bytes u in
-    (w.0, subst (λ r. ReplyGives (Some wanted) bytes (Ok (Some r)) w.0) (sym c.in-Ok.ensures) w.2, w.1)
+    (w.0, subst (λ r. ReplyParsesAs (Some wanted) bytes (Ok (Some r)) w.0) (sym c.in-Ok.ensures) w.2, w.1)
 
 pub returns-in-Err-keep : goal.returns-in-Err-keep
 returns-in-Err-keep c = λ wanted bytes u.

@@ -1,7 +1,7 @@
 use Rattle.std.proofs.Common.{◌≡◌, ◌+◌, ◌<◌, ◌≤◌, ◌^◌, Option, ℕ, IfSome, drop, subst, ap}
 use Rattle.rmt_wire.specs.declared.limits.TheConstants.{RECORD_LIMIT}
 use Rattle.tape.specs.RecordFile.{medium_kind_of}
-use Rattle.tape.specs.FileSteps.{IsMediumRun}
+use Rattle.tape.specs.FileSteps.{AreMediumCalls}
 use Rattle.tape.proofs.MediumRuns.{no_error}
 use Rattle.reel_check.specs.Finding.{IsTalliedUpTo}
 use Rattle.reel_check.proofs.ReelRuns.{look_then}
@@ -14,7 +14,7 @@ loop-length-preserved g c =
     let at = c.loop-length.at in
     let n = c.in-Some.length in
     let old = c.loop-length.tally in
-    let found : IsMediumRun (medium_kind_of g.M.Medium) (λ x y. (y ≡ x) × (IsTalliedUpTo x at old × IsNextLength (drop at x) c.in_ok-length.field-0)) 0 ⊥ c.args.medium.now c.next_length.new.medium
+    let found : AreMediumCalls (medium_kind_of g.M.Medium) (λ x y. (y ≡ x) × (IsTalliedUpTo x at old × IsNextLength (drop at x) c.in_ok-length.field-0)) 0 ⊥ c.args.medium.now c.next_length.new.medium
     = look_then c.loop-length.invariant c.in_ok-length.ensures.run no_error (λ f. absurd f) (λ x told next. (told, next_told x at old c.in_ok-length.field-0 told next)) in
     let P : Option ℕ → Type 0 = λ o. IfSome o (λ k. (k ≤ RECORD_LIMIT) × (at < 2 ^ 63)) in
     let limit = subst P c.in-Some.is c.in_ok-length.ensures.limit in

@@ -1,12 +1,12 @@
 use Rattle.std.proofs.Common.{◌-◌, ◌≡◌, ◌^◌}
 use Rattle.tape.specs.RecordFile.{medium_kind_of}
-use Rattle.tape.specs.FileSteps.{IsMediumRun}
+use Rattle.tape.specs.FileSteps.{AreMediumCalls}
 use Rattle.reel_check.specs.Finding.{IsTalliedUpTo}
 use Rattle.reel_check.proofs.check.add_entries.Given as goal
 
 abbrev pub invariant-loop-length : goal.invariant-loop-length
 invariant-loop-length g l =
-    IsMediumRun (medium_kind_of g.M.Medium) (λ old new. (new ≡ old) × IsTalliedUpTo old l.at l.tally) 0 ⊥ l.fn.medium l.medium
+    AreMediumCalls (medium_kind_of g.M.Medium) (λ old new. (new ≡ old) × IsTalliedUpTo old l.at l.tally) 0 ⊥ l.fn.medium l.medium
 
 abbrev pub decreases-loop-length : goal.decreases-loop-length
 decreases-loop-length g l = 2 ^ 64 - l.at

@@ -1,11 +1,11 @@
 use Rattle.std.proofs.Common.{◌-◌, ◌≡◌, ◌≤◌}
 use Rattle.tape.specs.RecordFile.{medium_kind_of}
-use Rattle.tape.specs.FileSteps.{IsMediumRun}
+use Rattle.tape.specs.FileSteps.{AreMediumCalls}
 use Rattle.reel_check.proofs.check.pass_bytes.Given as goal
 
 abbrev pub invariant-loop-passed : goal.invariant-loop-passed
 invariant-loop-passed g l = record {
-  run : IsMediumRun (medium_kind_of g.M.Medium) (λ old new. new ≡ old) 0 ⊥ l.fn.medium l.medium;
+  run : AreMediumCalls (medium_kind_of g.M.Medium) (λ old new. new ≡ old) 0 ⊥ l.fn.medium l.medium;
   within : l.passed ≤ l.fn.length;
 }
 

@@ -1,5 +1,5 @@
 use Rattle.std.proofs.Common.{◌≡◌, ◌≤◌, drop}
-use Rattle.rmt_wire.specs.Seen.{number_from, number_front}
+use Rattle.rmt_wire.specs.Parsed.{number_from, number_front}
 use Rattle.rmt_wire.proofs.number.number_front.Given as goal
 
 -- the number goes on as the rest says

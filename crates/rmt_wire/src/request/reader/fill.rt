@@ -6,7 +6,7 @@ ghost use Rattle.rmt_wire.specs.Counted.{raised};
 ghost use Rattle.rmt_wire.specs.RequestReader.{Unread, taken_of};
 ghost use Rattle.rmt_wire.specs.RequestFill.{IsFilled, IsNotFilled};
 
-use super::{RequestReader, let_go};
+use super::{RequestReader, discard_data};
 use crate::counted::Counted;
 use crate::kept::{append_read, remove};
 use crate::limits::READER_LIMIT;
@@ -39,7 +39,7 @@ impl RequestReader {
         let most = READER_LIMIT - self.buffer.len();
         let count = append_read(&mut self.buffer, most, stream)?;
         if count > 0 {
-            let_go(&mut self.buffer, 0, &mut self.line, &mut self.dropped);
+            discard_data(&mut self.buffer, 0, &mut self.line, &mut self.dropped);
         }
         Ok(count)
     }

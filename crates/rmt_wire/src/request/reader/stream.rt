@@ -1,9 +1,9 @@
 //! Reads the requests of a stream one by one.
 
 ghost use Rattle.std.specs.Prelude.{◌≡◌, ℕ, ◌<◌, List, IsTrue, IsFalse};
-ghost use Rattle.rmt_wire.specs.RequestParts.{IsOpen, HasNoSpelling};
+ghost use Rattle.rmt_wire.specs.RequestParts.{IsRequestPrefix, HasNoSpelling};
 ghost use Rattle.rmt_wire.specs.RequestReader.{Unread, taken_of};
-ghost use Rattle.rmt_wire.specs.RequestStream.{IsReadNext, CountsNext, told_next};
+ghost use Rattle.rmt_wire.specs.RequestStream.{IsReadNext, CountsNext, plain_read_next_result};
 ghost use Rattle.rmt_wire.specs.declared.limits.TheConstants.{READER_LIMIT};
 
 use super::line::line_of;
@@ -37,8 +37,8 @@ impl RequestReader {
     /// request. Then there is room for more.
     fn is_waiting(&mut self) -> bool
         ensures more { IsTrue result → (bytes : List ℕ) → Unread self.new bytes →
-            IsOpen bytes × HasNoSpelling bytes × (taken_of bytes < READER_LIMIT) }
-        ensures enough { IsFalse result → (bytes : List ℕ) → Unread self.new bytes → ¬ (IsOpen bytes × HasNoSpelling bytes) }
+            IsRequestPrefix bytes × HasNoSpelling bytes × (taken_of bytes < READER_LIMIT) }
+        ensures enough { IsFalse result → (bytes : List ℕ) → Unread self.new bytes → ¬ (IsRequestPrefix bytes × HasNoSpelling bytes) }
         ensures same { self.new ≡ self.old }
     {
         let unread = &self.buffer.as_slice()[self.start..];
@@ -66,8 +66,8 @@ impl RequestReader {
         requires { (bytes : List ℕ) × Unread self.old bytes }
         ensures* rests { sem 𝓛 (Rests the_row self.entry (λ new. IsReadNext
             (R.remaining stream.old.inner) (R.remaining stream.new.inner) stream.old.left stream.new.left
-            self.old (told_next result) new)) }
-        ensures counted { CountsNext (told_next result) stream.old.failures stream.new.failures }
+            self.old (plain_read_next_result result) new)) }
+        ensures counted { CountsNext (plain_read_next_result result) stream.old.failures stream.new.failures }
     {
         while self.is_waiting() {
             match self.fill(stream) {

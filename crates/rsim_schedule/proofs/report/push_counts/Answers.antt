@@ -1,6 +1,6 @@
 use Rattle.std.proofs.Common.{◌<◌, sym, ap, subst, ◌∙◌, length}
 use Rattle.std.specs.Prelude.{slice_get}
-use Rattle.tape_world.specs.Telling.{told_count}
+use Rattle.tape_world.specs.Telling.{plain_count}
 use Rattle.rsim_schedule.specs.Report.{count_line}
 use Rattle.rsim_schedule.proofs.Reported.{told_more, count_there}
 use Rattle.rsim_schedule.proofs.report.push_counts.Goals.{in-Some+in_ok-push_count, in_default}
@@ -12,7 +12,7 @@ loop-place-preserved c =
     elim c.match-get.branch [
       | in-Some+in_ok-push_count w ↦
           ap (λ v. v.items) w.text-is ∙ w.in_ok-push_count.ensures
-          ∙ told_more count_line c.args.text.now.items c.loop-place.text.items c.args.world.now.counts at (told_count w.in-Some.count)
+          ∙ told_more count_line c.args.text.now.items c.loop-place.text.items c.args.world.now.counts at (plain_count w.in-Some.count)
           (sym (w.in-Some.ensures ∙ ap (λ l. slice_get l at) c.counts-counts.ensures)) c.loop-place.invariant
       | in_default w ↦
           absurd (count_there c.args.world.now.counts at

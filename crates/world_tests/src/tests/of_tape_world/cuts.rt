@@ -9,7 +9,7 @@ use std::alloc::Global;
 use std::boxed::Box;
 use std::test::Fail;
 use tape::Trouble;
-use tape_world::{CountTold, DriveSpec, Event, World, run};
+use tape_world::{CountedVolume, DriveSpec, Event, World, run};
 
 static DRIVES: [DriveSpec<'static>; 1] = [DriveSpec {
     name: b"/dev/st0",
@@ -234,7 +234,7 @@ fn is_block(world: &World, reel: &[u8], place: usize, block: u32) -> bool {
 }
 
 /// Whether the reel has exactly the volume's blocks and one mark after the label.
-fn has_blocks(world: &World, told: &CountTold<'_>) -> bool {
+fn has_blocks(world: &World, told: &CountedVolume<'_>) -> bool {
     let mut place: usize = 1;
     for block in told.first..told.first.saturating_add(told.count) {
         if !is_block(world, told.reel, place, block) {
@@ -249,7 +249,7 @@ fn has_blocks(world: &World, told: &CountTold<'_>) -> bool {
 }
 
 /// Whether the reel has exactly the volume that was counted.
-fn has_volume(world: &World, told: &CountTold<'_>) -> bool {
+fn has_volume(world: &World, told: &CountedVolume<'_>) -> bool {
     let text = if told.volume == 1 { FIRST } else { SECOND };
     is_label(world, told.reel, text) && has_blocks(world, told)
 }

@@ -3,7 +3,7 @@
 
 use drives::ListedReel;
 use std::test::Fail;
-use tape_world::{CountTold, World};
+use tape_world::{CountedVolume, World};
 
 /// The text of the first label.
 const FIRST: &[u8] = b"name /usr\nlevel 0\ndate 951782400\nsince 0\nvolume 1\nfirst 0\n\0";
@@ -32,8 +32,8 @@ static ENTRIES: [(&[u8], usize, Option<usize>, &[u8]); 11] = [
 ];
 
 /// The volumes that were counted.
-static COUNTS: [CountTold<'static>; 2] = [
-    CountTold {
+static COUNTS: [CountedVolume<'static>; 2] = [
+    CountedVolume {
         run: 1,
         volume: 1,
         first: 0,
@@ -41,7 +41,7 @@ static COUNTS: [CountTold<'static>; 2] = [
         reel: b"r1",
         connection: 1,
     },
-    CountTold {
+    CountedVolume {
         run: 1,
         volume: 2,
         first: 2,

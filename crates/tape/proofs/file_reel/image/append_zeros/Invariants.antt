@@ -1,11 +1,11 @@
 use Rattle.std.proofs.Common.{◌≡◌, ◌≤◌, ◌-◌, ◌++◌, replicate, List, ℕ}
 use Rattle.tape.specs.RecordFile.{medium_kind_of}
-use Rattle.tape.specs.FileSteps.{IsMediumRun}
+use Rattle.tape.specs.FileSteps.{AreMediumCalls}
 use Rattle.tape.proofs.file_reel.image.append_zeros.Given as goal
 
 abbrev pub invariant-loop-done : goal.invariant-loop-done
 invariant-loop-done g l = record {
-  run : IsMediumRun (medium_kind_of g.M.Medium)
+  run : AreMediumCalls (medium_kind_of g.M.Medium)
       (λ (old new : List ℕ). new ≡ old ++ replicate l.done 0) l.done ⊥ l.fn.medium l.medium;
   within : l.done ≤ l.count;
 }

@@ -5,7 +5,7 @@ use Rattle.rmt_server.specs.ServerState.{ServerConnection}
 use Rattle.world_model.specs.World.{World}
 use Rattle.world_model.specs.First.{IsReadable}
 use Rattle.world_connections.specs.Connection.{plain_connection}
-use Rattle.tape_world.specs.Telling.{TellsWay}
+use Rattle.tape_world.specs.Telling.{IsOnWay}
 use Rattle.tape_world.specs.contracts.world_state.WorldState.{the_view}
 use Rattle.world_connections.proofs.Linked.{connection_is}
 use Rattle.tape_world.proofs.Server.{side_found}
@@ -19,7 +19,7 @@ returns-then-not-conn c =
     let is : option_copied c.find.result ≡ Some c.in_ok-conn.conn.now = search rules in
     let at = connection_is w c.self-inside.inside.0.0.connections.items c.deref.result.now c.args.connection (option_copied c.find.result) c.in_ok-conn.conn.now refl c.deref.ensures.value c.find.ensures is in
     let room = subst (λ (o : Option ServerConnection). HasRoom o c.room.result) (side_found w.server c.args.connection) c.room.ensures in
-    subst (λ (v : World). TellsWay v c.args.connection (Some (c.min-toward.result, 0))) (ap (λ i. i.world_state) c.self-inside.view_is ∙ c.self.view_is) (
+    subst (λ (v : World). IsOnWay v c.args.connection (Some (c.min-toward.result, 0))) (ap (λ i. i.world_state) c.self-inside.view_is ∙ c.self.view_is) (
       l,
       at,
       can_arrive w c.args.connection l c.room.result c.unwrap_or-room.result c.min-toward.result c.bytes.result.now (subst IsReadable (sym (ap (λ i. i.world_state) c.self-inside.view_is ∙ c.self.view_is)) c.kept.ensures.kept.readable) at room
@@ -34,7 +34,7 @@ returns c =
     let is : option_copied c.find.result ≡ Some c.in_ok-conn.conn.now = search rules in
     let at = connection_is w c.self-inside.inside.0.0.connections.items c.deref.result.now c.args.connection (option_copied c.find.result) c.in_ok-conn.conn.now refl c.deref.ensures.value c.find.ensures is in
     let room = subst (λ (o : Option ServerConnection). HasRoom o c.room.result) (side_found w.server c.args.connection) c.room.ensures in
-    subst (λ (v : World). TellsWay v c.args.connection (Some (c.min-toward.result, length c.bytes-2.result.now))) (ap (λ i. i.world_state) c.self-inside.view_is ∙ c.self.view_is) (
+    subst (λ (v : World). IsOnWay v c.args.connection (Some (c.min-toward.result, length c.bytes-2.result.now))) (ap (λ i. i.world_state) c.self-inside.view_is ∙ c.self.view_is) (
       l,
       at,
       can_arrive w c.args.connection l c.room.result c.unwrap_or-room.result c.min-toward.result c.bytes.result.now (subst IsReadable (sym (ap (λ i. i.world_state) c.self-inside.view_is ∙ c.self.view_is)) c.kept.ensures.kept.readable) at room

@@ -7,7 +7,7 @@ use Rattle.dump_client.specs.Standing.{standing, state_of}
 use Rattle.dump_client.specs.declared.step.Step.TheVariants.{Open}
 use Rattle.dump_client.specs.declared.stage.Stage.TheVariants.{ToSend}
 use Rattle.tape_host.specs.Servers.{joined}
-use Rattle.world_model.specs.World.{World, Caller}
+use Rattle.world_model.specs.World.{World, WorldClient}
 use Rattle.world_model.specs.Changes.{with_no_failure, new_connection}
 use Rattle.world_model.specs.Events.PlainEvent.{Connect}
 use Rattle.world_model.specs.Steps.{caller, client_connected, fresh}
@@ -31,9 +31,9 @@ invariant_of-self-2 c =
 pub returns : goal.returns
 returns c =
     let i = started c.self.inside.caller c.start_attempt.new.caller c.in_ok-dumping.dumping c.in_ok-dumping.ensures in
-    let ready = stands_ready c.args.self.now (c.stands_in.ensures.0 (search rules)) in
+    let ready = stands_ready c.args.self.now (c.is_client_in.ensures.0 (search rules)) in
     let at = ap (λ w. w.caller) (sym c.self.view_is) ∙ ap (option_map seen_caller) i.was in
-    let stage = ap (λ (x : Caller). x.at.stage) (same_Some (seen_caller i.before) ready.0 (sym at ∙ ready.1)) ∙ ready.2 in
+    let stage = ap (λ (x : WorldClient). x.at.stage) (same_Some (seen_caller i.before) ready.0 (sym at ∙ ready.1)) ∙ ready.2 in
     let number : c.len.result ≡ length c.self.inside.connections.items + 1
     = omega (arith, c.len.ensures, c.push_reserved.ensures.len, c.in_ok-reserve.ensures.len, c.self.inside.connections.ok.0) in
     let before = map plain_connection c.self.inside.connections.items in
@@ -84,10 +84,10 @@ invariant_of-self-in_err-dumping c = (
   known_same _ c.self.inside.host.server.library c.prepare.new.self.server.library (ap (λ h. h.server.library) c.in_ok-prepare.ensures) c.self.invariant.1,
 )
 
-pub returns-then-not-stands_in : goal.returns-then-not-stands_in
-returns-then-not-stands_in c = (
+pub returns-then-not-is_client_in : goal.returns-then-not-is_client_in
+returns-then-not-is_client_in c = (
   refl,
-  λ (x, is, ready). absurd (false≢true (sym c.if-not-stands_in.true ∙ c.stands_in.ensures.1 (x, is, ap state_of ready))),
+  λ (x, is, ready). absurd (false≢true (sym c.if-not-is_client_in.true ∙ c.is_client_in.ensures.1 (x, is, ap state_of ready))),
 )
 
 pub returns-in_err-reserve : goal.returns-in_err-reserve

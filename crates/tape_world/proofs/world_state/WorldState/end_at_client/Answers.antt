@@ -1,7 +1,7 @@
 use Rattle.std.proofs.Common.{rules, refl, sym, ap, subst, ◌∙◌, ◌≡◌, None, Some, option_map}
 use Rattle.std.specs.Option.{option_copied}
-use Rattle.world_model.specs.World.{World, Dumping}
-use Rattle.world_model.specs.Changes.{with_no_failure, other_left, over_there}
+use Rattle.world_model.specs.World.{World, AttemptState}
+use Rattle.world_model.specs.Changes.{with_no_failure, other_left, without_peer}
 use Rattle.tape_world.specs.Holding.{IsClients, IsOwned}
 use Rattle.tape_world.specs.contracts.world_state.WorldState.{the_view}
 use Rattle.tape_world.specs.Seen.{seen_caller}
@@ -25,7 +25,7 @@ returns-then-is_strangers c =
         at,
         strangers_step c.args.self.now _ c.args.connection c.in-Some.conn.now.dump none
             (ap (λ ls. record (with_no_failure (the_view c.self.inside)) { connections = ls })
-            (connections_after over_there c.self.inside.connections.len c.self.inside.connections.items c.deref_mut.result.now c.end_there.new.connections c.args.connection
+            (connections_after without_peer c.self.inside.connections.len c.self.inside.connections.items c.deref_mut.result.now c.end_there.new.connections c.args.connection
             c.self.inside.connections.ok.0 c.deref_mut.ensures.value c.end_there.ensures)
             ∙ ap (λ (w : World). other_left (with_no_failure w) c.args.connection) c.self.view_is),
       ),
@@ -33,7 +33,7 @@ returns-then-is_strangers c =
 
 pub invariant_of-self-2 : goal.invariant_of-self-2
 invariant_of-self-2 c =
-    let dump : (d : Dumping) × (c.in-Some.conn.now.dump ≡ Some d) = search rules in
+    let dump : (d : AttemptState) × (c.in-Some.conn.now.dump ≡ Some d) = search rules in
     let at = connection_is (the_view c.self.inside) c.self.inside.connections.items c.deref.result.now c.args.connection (option_copied c.find.result) c.in-Some.conn.now refl
     c.deref.ensures.value c.find.ensures (ap option_copied c.in-Some.is) in
     let clients : IsClients (the_view c.self.inside) c.args.connection = (plain_connection c.in-Some.conn.now, dump.0, at, c.if-not-conn.false, dump.1) in
@@ -45,7 +45,7 @@ invariant_of-self-2 c =
 
 pub returns : goal.returns
 returns c =
-    let dump : (d : Dumping) × (c.in-Some.conn.now.dump ≡ Some d) = search rules in
+    let dump : (d : AttemptState) × (c.in-Some.conn.now.dump ≡ Some d) = search rules in
     let here = connection_is (the_view c.self.inside) c.self.inside.connections.items c.deref.result.now c.args.connection (option_copied c.find.result) c.in-Some.conn.now refl
     c.deref.ensures.value c.find.ensures (ap option_copied c.in-Some.is) in
     let clients : IsClients (the_view c.self.inside) c.args.connection = (plain_connection c.in-Some.conn.now, dump.0, here, c.if-not-conn.false, dump.1) in
@@ -62,7 +62,7 @@ returns c =
             (ended_step c.args.self.now _ c.args.connection dump.0 c.self.inside.caller c.end_attempt-self-inside.new.caller c.end_attempt-self-inside.result
             (ap (λ w. w.caller) (sym c.self.view_is)) e
             (ap (λ ls. record (with_no_failure (the_view c.self.inside)) { connections = ls; own = None; caller = option_map seen_caller c.end_attempt-self-inside.new.caller; failure = c.end_attempt-self-inside.result })
-            (connections_after over_there c.self.inside.connections.len c.self.inside.connections.items c.deref_mut.result.now c.end_there.new.connections c.args.connection
+            (connections_after without_peer c.self.inside.connections.len c.self.inside.connections.items c.deref_mut.result.now c.end_there.new.connections c.args.connection
             c.self.inside.connections.ok.0 c.deref_mut.ensures.value c.end_there.ensures)
             ∙ ap (λ (w : World). ended_world w c.args.connection c.end_attempt-self-inside.result (option_map seen_caller c.end_attempt-self-inside.new.caller)) c.self.view_is)),
       ),

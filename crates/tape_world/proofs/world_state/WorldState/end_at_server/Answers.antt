@@ -2,7 +2,7 @@ use Rattle.std.proofs.Common.{arith, refl, ap, subst, sym, ◌∙◌}
 use Rattle.std.proofs.lemmas.Grind.{elements}
 use Rattle.std.specs.Option.{option_copied}
 use Rattle.world_model.specs.World.{World}
-use Rattle.world_model.specs.Changes.{with_no_failure, changed, ended_at, over_here}
+use Rattle.world_model.specs.Changes.{with_no_failure, changed, ended_at, without_server}
 use Rattle.world_model.specs.Events.PlainEvent.{EndAtServer}
 use Rattle.world_model.specs.Rows.{Possible}
 use Rattle.world_model.specs.Kept.{IsWorldKept}
@@ -44,12 +44,12 @@ pub returns : goal.returns
 returns c =
     let w = the_view c.self.inside in
     let connections
-    = connections_after over_here c.self.inside.connections.len c.self.inside.connections.items c.deref_mut.result.now c.end_here.new.connections c.args.connection c.self.inside.connections.ok.0
+    = connections_after without_server c.self.inside.connections.len c.self.inside.connections.items c.deref_mut.result.now c.end_here.new.connections c.args.connection c.self.inside.connections.ok.0
     c.deref_mut.ensures.value c.end_here.ensures in
     let servers = ap (λ h. h.server) c.end.ensures ∙ ended_is w.server c.args.connection in (
       subst (λ (v : World). Possible v (EndAtServer c.args.connection)) c.self.view_is (possible (goal.at.returns c).After-end),
       ap (λ ls. record (with_no_failure w) { server = c.end.new.self.server; connections = ls }) connections
-          ∙ ap (λ h. record (with_no_failure w) { server = h; connections = changed over_here w.connections c.args.connection }) servers ∙ ap (λ (v : World). ended_at (with_no_failure v) c.args.connection) c.self.view_is,
+          ∙ ap (λ h. record (with_no_failure w) { server = h; connections = changed without_server w.connections c.args.connection }) servers ∙ ap (λ (v : World). ended_at (with_no_failure v) c.args.connection) c.self.view_is,
     )
 
 pub returns-then-not-conn : goal.returns-then-not-conn

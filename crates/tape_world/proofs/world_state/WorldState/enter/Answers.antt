@@ -4,7 +4,7 @@ use Rattle.std.proofs.lemmas.Option.{same_Some}
 use Rattle.std.proofs.lemmas.List.{map-append}
 use Rattle.dumpdates.specs.Dates.{entered}
 use Rattle.dumpdates.specs.Stored.{plain_entry}
-use Rattle.world_model.specs.World.{World, Caller}
+use Rattle.world_model.specs.World.{World, WorldClient}
 use Rattle.world_model.specs.Changes.{with_no_failure}
 use Rattle.world_model.specs.Rows.{IsRunEntered}
 use Rattle.world_model.specs.Steps.{recorded}
@@ -19,7 +19,7 @@ returns-then-has_entered c =
     let at = ap (λ w. w.caller) (sym c.self.view_is) ∙ ap (option_map seen_caller) c.in-Some.is in
     let all = ap (λ w. w.entered) (sym c.self.view_is) ∙ ap (map seen_entered) (sym c.deref.ensures.value) in (
       refl,
-      λ (x, is, finished, fresh). fresh (subst (λ (y : Caller). IsRunEntered c.args.self.now y.number) (same_Some (seen_caller c.in-Some.caller) x (sym at ∙ is))
+      λ (x, is, finished, fresh). fresh (subst (λ (y : WorldClient). IsRunEntered c.args.self.now y.number) (same_Some (seen_caller c.in-Some.caller) x (sym at ∙ is))
           (found_entered c.args.self.now c.deref.result.now c.in-Some.caller.number all (sym c.has_entered.ensures ∙ c.if-has_entered.true))),
     )
 

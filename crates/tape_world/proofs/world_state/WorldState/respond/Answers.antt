@@ -12,7 +12,7 @@ use Rattle.tape_world.proofs.world_state.WorldState.respond.Goals as goal
 
 pub returns : goal.returns
 returns c =
-    let asks = c.stands_in.ensures.0 (search rules) in
+    let asks = c.is_client_in.ensures.0 (search rules) in
     let a = answered c.self.inside.caller c.give_answer.new.caller c.args.answer asks.0 (ap (λ w. w.caller) c.self.view_is ∙ asks.1) asks.2 c.give_answer.ensures in
     let at = ap (λ w. w.caller) (sym c.self.view_is) ∙ ap (option_map seen_caller) a.was in
     let new = caller a.before.number (standing a.before.client.at.run a.before.client.at.counts (stage_after c.args.answer)) a.after.client.reader in (
@@ -30,15 +30,15 @@ returns c =
       ),
     )
 
-pub returns-then-not-stands_in : goal.returns-then-not-stands_in
-returns-then-not-stands_in c = (
+pub returns-then-not-is_client_in : goal.returns-then-not-is_client_in
+returns-then-not-is_client_in c = (
   refl,
-  λ (x, is, asks). absurd (false≢true (sym c.if-not-stands_in.true ∙ c.stands_in.ensures.1 (x, is, ap state_of asks))),
+  λ (x, is, asks). absurd (false≢true (sym c.if-not-is_client_in.true ∙ c.is_client_in.ensures.1 (x, is, ap state_of asks))),
 )
 
 pub invariant_of-self : goal.invariant_of-self
 invariant_of-self c =
-    let asks = c.stands_in.ensures.0 c.if-not-stands_in.false in
+    let asks = c.is_client_in.ensures.0 c.if-not-is_client_in.false in
     let a = answered c.self.inside.caller c.give_answer.new.caller c.args.answer asks.0 (ap (λ w. w.caller) c.self.view_is ∙ asks.1) asks.2 c.give_answer.ensures in (
       (
         sourced_same c.self.inside.begun.items c.self.inside.caller c.give_answer.new.caller a.before a.after a.was a.is a.same c.self.invariant.0.0,

@@ -2,7 +2,7 @@ use Rattle.std.proofs.Common.{Some, map, option_map, refl, sym, ap, ◌∙◌}
 use Rattle.std.proofs.lemmas.Bool.{false≢true}
 use Rattle.std.proofs.lemmas.Option.{same_Some}
 use Rattle.std.proofs.Common.{subst}
-use Rattle.world_model.specs.World.{World, Caller}
+use Rattle.world_model.specs.World.{World, WorldClient}
 use Rattle.world_model.specs.Changes.{with_no_failure}
 use Rattle.world_model.specs.Rows.{MayBeKept}
 use Rattle.tape_world.specs.contracts.world_state.WorldState.{the_view}
@@ -16,7 +16,7 @@ returns-then-not-may_keep c =
     let entered = ap (λ w. w.entered) (sym c.self.view_is) ∙ ap (map seen_entered) (sym c.deref.ensures.value) in (
       refl,
       λ (x, is, may). false≢true (sym c.if-not-may_keep.true ∙ c.may_keep.ensures.1 (may_keep c.args.self.now c.deref.result.now c.in-Some.caller entered
-          (subst (λ (y : Caller). MayBeKept c.args.self.now y) (sym (same_Some (seen_caller c.in-Some.caller) x (sym at ∙ is))) may))),
+          (subst (λ (y : WorldClient). MayBeKept c.args.self.now y) (sym (same_Some (seen_caller c.in-Some.caller) x (sym at ∙ is))) may))),
     )
 
 pub invariant_of-self : goal.invariant_of-self

@@ -30,7 +30,7 @@ send_own-requires-clause-last c =
 
 pub send_own-requires-clause-sends : goal.send_own-requires-clause-sends
 send_own-requires-clause-sends c =
-    to_send c.args.self.now c.self.inside.caller (ap (λ w. w.caller) (sym c.self.view_is)) (c.stands_in.ensures.0 c.if-not-stands_in.false)
+    to_send c.args.self.now c.self.inside.caller (ap (λ w. w.caller) (sym c.self.view_is)) (c.is_client_in.ensures.0 c.if-not-is_client_in.false)
 
 -- the world in memory, after its own connection was kept or not
 now_is : (c : goal.After-self-2-1) → c.if-is_some.self-inside
@@ -77,10 +77,10 @@ invariant_of-self c = grind (arith, common_steps)
 pub returns-in_err-failure : goal.returns-in_err-failure
 returns-in_err-failure c = grind (arith, common_steps)
 
-pub returns-then-not-stands_in : goal.returns-then-not-stands_in
-returns-then-not-stands_in c = (
+pub returns-then-not-is_client_in : goal.returns-then-not-is_client_in
+returns-then-not-is_client_in c = (
   refl,
-  λ (x, is, at). absurd (false≢true (sym c.if-not-stands_in.true ∙ c.stands_in.ensures.1 (x, is, ap state_of at.1))),
+  λ (x, is, at). absurd (false≢true (sym c.if-not-is_client_in.true ∙ c.is_client_in.ensures.1 (x, is, ap state_of at.1))),
 )
 
 pub send_own-requires-clause-first : goal.send_own-requires-clause-first

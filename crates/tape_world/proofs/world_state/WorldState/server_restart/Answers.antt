@@ -1,7 +1,7 @@
 use Rattle.std.proofs.Common.{refl, sym, ap, subst, ◌∙◌}
 use Rattle.std.specs.Prelude.{length, map}
 use Rattle.world_model.specs.World.{World}
-use Rattle.world_model.specs.Changes.{with_no_failure, restarted, over_here}
+use Rattle.world_model.specs.Changes.{with_no_failure, restarted, without_server}
 use Rattle.world_model.specs.Events.PlainEvent.{ServerRestart}
 use Rattle.world_model.specs.Kept.{IsWorldKept}
 use Rattle.tape_world.specs.contracts.world_state.WorldState.{the_view}
@@ -27,6 +27,6 @@ returns c =
     c.end_all_here.ensures in
     let servers = ap (λ h. h.server) c.restart.ensures ∙ all_ended_is w.server (length w.server.sides) in (
       tt,
-      ap (λ ls. record (with_no_failure w) { server = c.restart.new.self.server; connections = ls }) connections ∙ ap (λ h. record (with_no_failure w) { server = h; connections = map over_here w.connections }) servers
+      ap (λ ls. record (with_no_failure w) { server = c.restart.new.self.server; connections = ls }) connections ∙ ap (λ h. record (with_no_failure w) { server = h; connections = map without_server w.connections }) servers
           ∙ ap (λ (v : World). restarted (with_no_failure v)) c.self.view_is,
     )

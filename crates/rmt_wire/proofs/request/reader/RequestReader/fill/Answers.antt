@@ -3,14 +3,14 @@ use Rattle.rmt_wire.specs.RequestReader.{Unread, held}
 use Rattle.rmt_wire.proofs.Filled.{more_dropped, more_known, filled, filled_with_none, nothing_came, none_more, room_left, at_front}
 use Rattle.rmt_wire.proofs.request.reader.RequestReader.fill.Goals as goal
 
-pub let_go-requires-clause-dropped : goal.let_go-requires-clause-dropped
-let_go-requires-clause-dropped g c =
+pub discard_data-requires-clause-dropped : goal.discard_data-requires-clause-dropped
+discard_data-requires-clause-dropped g c =
     let kept = drop c.self.inside.start c.self.inside.buffer.items in
     let came = c.in_ok-count.ensures.came in
     more_dropped kept came.0 _ c.self.inside.dropped (at_front c.self.inside.buffer.items _ came.0 _ c.self.inside.start c.remove.ensures.items came.2) c.self.invariant.3
 
-pub let_go-requires-clause-line : goal.let_go-requires-clause-line
-let_go-requires-clause-line g c =
+pub discard_data-requires-clause-line : goal.discard_data-requires-clause-line
+discard_data-requires-clause-line g c =
     let kept = drop c.self.inside.start c.self.inside.buffer.items in
     let came = c.in_ok-count.ensures.came in
     more_known kept came.0 _ c.self.inside.dropped (at_front c.self.inside.buffer.items _ came.0 _ c.self.inside.start c.remove.ensures.items came.2) c.self.inside.line c.self.invariant.5
@@ -19,7 +19,7 @@ pub returns-then-count-gt0-clause-came : goal.returns-then-count-gt0-clause-came
 returns-then-count-gt0-clause-came g c =
     let kept = drop c.self.inside.start c.self.inside.buffer.items in
     let came = c.in_ok-count.ensures.came in
-    filled kept came.0 _ c.self.inside.dropped (at_front c.self.inside.buffer.items _ came.0 _ c.self.inside.start c.remove.ensures.items came.2) _ c.let_go.ensures.gone _ _ _ _ c.self.view_is came.1 came.3
+    filled kept came.0 _ c.self.inside.dropped (at_front c.self.inside.buffer.items _ came.0 _ c.self.inside.start c.remove.ensures.items came.2) _ c.discard_data.ensures.discardable _ _ _ _ c.self.view_is came.1 came.3
 
 pub returns-else-count-gt0-clause-came : goal.returns-else-count-gt0-clause-came
 returns-else-count-gt0-clause-came g c =

@@ -1,6 +1,6 @@
 use Rattle.std.proofs.Common.{true}
 use Rattle.rsim_schedule.proofs.Played.{played_both, played_stop}
-use Rattle.rsim_schedule.proofs.making.make_round.Goals as goal
+use Rattle.rsim_schedule.proofs.making.run_round.Goals as goal
 
 pub returns-in_err-arrived : goal.returns-in_err-arrived
 returns-in_err-arrived g c =

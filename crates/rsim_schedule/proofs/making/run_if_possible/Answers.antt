@@ -1,7 +1,7 @@
 use Rattle.std.proofs.Common.{Bool, subst}
 use Rattle.rsim_schedule.specs.Playing.{IsPlayed}
 use Rattle.rsim_schedule.proofs.Played.{halt_whole}
-use Rattle.rsim_schedule.proofs.making.make_if_possible.Goals as goal
+use Rattle.rsim_schedule.proofs.making.run_if_possible.Goals as goal
 
 pub returns-in-Ok : goal.returns-in-Ok
 returns-in-Ok g c = c.in-Ok.ensures

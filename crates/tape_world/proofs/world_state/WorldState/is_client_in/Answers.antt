@@ -1,6 +1,6 @@
 use Rattle.std.proofs.Common.{rules, ap, sym}
 use Rattle.tape_world.proofs.Clients.{stands}
-use Rattle.tape_world.proofs.world_state.WorldState.stands_in.Goals as goal
+use Rattle.tape_world.proofs.world_state.WorldState.is_client_in.Goals as goal
 
 pub returns-in-Some : goal.returns-in-Some
 returns-in-Some c =

@@ -9,11 +9,11 @@ use Rattle.rmt_wire.specs.declared.number.Place.TheVariants as places
 
 -- the result of reading an A: the A, None if it is not complete, or the fault of a byte that rules
 -- it out
-abbrev pub Seen : Type 0 → Type 0
-Seen A = Result (Option A) WireFault
+abbrev pub Parsed : Type 0 → Type 0
+Parsed A = Result (Option A) WireFault
 
 -- reads on with `next` after an A that is complete
-abbrev pub after : {A B : Type 0} → Seen A → (A → Seen B) → Seen B
+abbrev pub after : {A B : Type 0} → Parsed A → (A → Parsed B) → Parsed B
 after (Err fault) next = Err fault
 after (Ok None) next = Ok None
 after (Ok (Some a)) next = next a
@@ -36,7 +36,7 @@ is_too_much (places.Data most) value = nat_lt most value
 
 -- The number that the bytes continue after `count` digits with this value, and how many digits it
 -- has. Too much data is checked before a bad number.
-abbrev pub number_from : Place → ℕ → ℕ → List ℕ → Seen (ℕ × ℕ)
+abbrev pub number_from : Place → ℕ → ℕ → List ℕ → Parsed (ℕ × ℕ)
 number_from place value count [] = Ok None
 number_from place value count (b ∷ bytes) =
     if is_digit b
@@ -46,5 +46,5 @@ number_from place value count (b ∷ bytes) =
     else (if nat_lt 0 count && ends_number place b then Ok (Some (value, count)) else Err BadNumber)
 
 -- the number that the bytes begin with, and how many digits it has
-abbrev pub number_front : Place → List ℕ → Seen (ℕ × ℕ)
+abbrev pub number_front : Place → List ℕ → Parsed (ℕ × ℕ)
 number_front place bytes = number_from place 0 0 bytes

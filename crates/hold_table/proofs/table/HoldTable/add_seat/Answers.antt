@@ -1,9 +1,9 @@
 use Rattle.std.proofs.Common.{◌∷◌, ◌++◌, ap, sym, ◌∙◌}
 use Rattle.atomic_table.specs.Seated.{TableId}
-use Rattle.hold_table.specs.Keeping.{Company, Sat, shown, first_of}
+use Rattle.hold_table.specs.Keeping.{SeatGroup, AtomicSeat, shown, first_of}
 use Rattle.hold_table.specs.Seats.{TableSeat, table_seat}
 use Rattle.hold_table.proofs.Allowed.{joins}
-use Rattle.hold_table.proofs.table.HoldTable.gather.Goals as goal
+use Rattle.hold_table.proofs.table.HoldTable.add_seat.Goals as goal
 
 pub join_seat-requires : goal.join_seat-requires
 join_seat-requires c = (
@@ -17,7 +17,7 @@ join_seat-requires c = (
 pub returns-clause-more : goal.returns-clause-more
 returns-clause-more c =
     let t : TableId = c.args.self.now in let seat = c.next.inside.seat in let x = first_of seat.me.0 in
-    ap (λ (m : Sat). shown t m.0) c.join_seat.ensures.2
-    ∙ ap (λ (d : Company). shown t (d ++ c.args.company.now.me.0)) (ap (λ m. m.0) c.next.invariant.0)
+    ap (λ (m : AtomicSeat). shown t m.0) c.join_seat.ensures.2
+    ∙ ap (λ (d : SeatGroup). shown t (d ++ c.args.company.now.me.0)) (ap (λ m. m.0) c.next.invariant.0)
     ∙ ap (λ (h : TableSeat). h ∷ shown t c.args.company.now.me.0)
     (ap (λ (z : TableId). table_seat z x.view x.made) (sym c.requires.next.same ∙ sym (ap (λ h. h.table) c.next.view_is)) ∙ c.next.view_is)

@@ -7,9 +7,9 @@ use std::fmt;
 
 /// The rule that the arguments of `rmtd` break. Its `Display` is the text for the user.
 #[derive(Clone, Copy)]
-pub(crate) enum Wrong<'a> {
+pub(crate) enum BrokenRule<'a> {
     /// Neither or both of `--stdio` and `--listen` are given.
-    Ways,
+    StdioOrListen,
     /// The capacity is not a number.
     Capacity,
     /// The number of connections is not a number.
@@ -24,49 +24,54 @@ pub(crate) enum Wrong<'a> {
     Again(&'a str),
 }
 
-impl Wrong<'_> {
+impl BrokenRule<'_> {
     /// Returns the kind of clap's error.
     pub(crate) fn kind(self) -> ErrorKind
         ensures { ¬ (IsShown result) }
     {
         match self {
-            Wrong::Ways | Wrong::Again(_) => ErrorKind::ArgumentConflict,
-            Wrong::Capacity | Wrong::Connections | Wrong::Drive(_) => ErrorKind::ValueValidation,
-            Wrong::NoBin(_) => ErrorKind::MissingRequiredArgument,
-            Wrong::TooMany(_) => ErrorKind::TooManyValues,
+            BrokenRule::StdioOrListen | BrokenRule::Again(_) => ErrorKind::ArgumentConflict,
+            BrokenRule::Capacity | BrokenRule::Connections | BrokenRule::Drive(_) =>
+                ErrorKind::ValueValidation,
+            BrokenRule::NoBin(_) => ErrorKind::MissingRequiredArgument,
+            BrokenRule::TooMany(_) => ErrorKind::TooManyValues,
         }
     }
 
     /// Returns the text before the argument at fault, that argument, and the text after it.
     fn parts(&self) -> (&str, &str, &str) {
         match self {
-            Wrong::Ways => (
+            BrokenRule::StdioOrListen => (
                 "one of --stdio and --listen <ADDRESS> is given, and not both",
                 "",
                 "",
             ),
-            Wrong::Capacity => (
+            BrokenRule::Capacity => (
                 "invalid value for '--capacity <BYTES>': a number is 0 to 9223372036854775807 in digits",
                 "",
                 "",
             ),
-            Wrong::Connections => (
+            BrokenRule::Connections => (
                 "invalid value for '--connections <N>': a number is 0 to 9223372036854775807 in digits",
                 "",
                 "",
             ),
-            Wrong::NoBin(argument) => (
+            BrokenRule::NoBin(argument) => (
                 "the drive '",
                 argument,
                 "' is given, and --bin <DIR> is not",
             ),
-            Wrong::TooMany(argument) => ("unexpected drive '", argument, "': there are at most 64"),
-            Wrong::Drive(argument) => (
+            BrokenRule::TooMany(argument) => (
+                "unexpected drive '",
+                argument,
+                "': there are at most 64",
+            ),
+            BrokenRule::Drive(argument) => (
                 "invalid drive '",
                 argument,
                 "': it is DEVICE=DIR, with a device of 1 to 255 bytes of one line, and a folder",
             ),
-            Wrong::Again(argument) => (
+            BrokenRule::Again(argument) => (
                 "invalid drive '",
                 argument,
                 "': its device is named before",
@@ -75,7 +80,7 @@ impl Wrong<'_> {
     }
 }
 
-impl fmt::Display for Wrong<'_> {
+impl fmt::Display for BrokenRule<'_> {
     fn fmt<W: fmt::Write>(&self, f: &mut fmt::Formatter<W>) -> fmt::Result {
         let (before, argument, after) = self.parts();
         f.write_str(before)?;
