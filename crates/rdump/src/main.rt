@@ -11,5 +11,5 @@ use std::process::ExitCode;
 fn main(rt: HostRuntime) -> ExitCode {
     let stderr = rt.stderr();
     let terminal = stderr.is_terminal().then_some(stderr);
-    ExitCode::from(rdump(&rt, terminal))
+    ExitCode::from(rdump(&rt, terminal).code())
 }

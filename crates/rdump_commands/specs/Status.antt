@@ -1,14 +1,17 @@
 -- The exit statuses of single commands of `rdump`. Public contracts cite it.
-use Rattle.std.specs.Prelude.{◌≡◌, ◌⊎◌, ℕ}
+use Rattle.std.specs.Prelude.{◌≡◌, ◌⊎◌}
+use Rattle.exit_status.specs.declared.status.ExitStatus.{ExitStatus}
+use Rattle.exit_status.specs.declared.status.ExitStatus.TheVariants.{Success, StartupError, Abnormal}
 
--- the status if no command is run: 0 for help and the version, 1 for wrong arguments
-abbrev pub IsHelpStatus : ℕ → Type 0
-IsHelpStatus status = (status ≡ 0) ⊎ (status ≡ 1)
+-- the status if no command is run: `Success` for help and the version, `StartupError` for wrong
+-- arguments
+abbrev pub IsHelpStatus : ExitStatus → Type 0
+IsHelpStatus status = (status ≡ Success) ⊎ (status ≡ StartupError)
 
 -- the status of `rdump dates`
-abbrev pub IsDatesStatus : ℕ → Type 0
-IsDatesStatus status = (status ≡ 0) ⊎ (status ≡ 1)
+abbrev pub IsDatesStatus : ExitStatus → Type 0
+IsDatesStatus status = (status ≡ Success) ⊎ (status ≡ StartupError)
 
 -- the status of `rdump mt`
-abbrev pub IsMtStatus : ℕ → Type 0
-IsMtStatus status = (status ≡ 0) ⊎ (status ≡ 3)
+abbrev pub IsMtStatus : ExitStatus → Type 0
+IsMtStatus status = (status ≡ Success) ⊎ (status ≡ Abnormal)

@@ -2,8 +2,9 @@
 ghost use Rattle.rdump_commands.specs.Status.{IsDatesStatus};
 
 use dumpdates::{Dates, DatesFault};
+use exit_status::ExitStatus;
 use rdump_files::dates;
-use rdump_system::{ClientSystem, FAILED, NO_DUMPDATES, print_fault, report, report_failures};
+use rdump_system::{ClientSystem, NO_DUMPDATES, print_fault, report, report_failures};
 use rmt_wire::Counted;
 use std::alloc::Global;
 use std::{fs, io};
@@ -12,9 +13,9 @@ use std::{fs, io};
 /// the base date of a dump of the name and level in `asked`. If it is not a dumpdates file,
 /// standard error says so, and its first bad line is printed on standard output.
 ///
-/// Returns the exit status: 0 if the answer was printed. Returns 1 if the file cannot be read or is
-/// not a dumpdates file, an allocation fails, or a write fails.
-pub fn run_dates<R: ClientSystem>(rt: &R, file: &str, asked: Option<(&str, u8)>) -> u8
+/// Returns the exit status: `Success` if the answer was printed. Returns `StartupError` if the file
+/// cannot be read or is not a dumpdates file, an allocation fails, or a write fails.
+pub fn run_dates<R: ClientSystem>(rt: &R, file: &str, asked: Option<(&str, u8)>) -> ExitStatus
     ensures { IsDatesStatus result }
 {
     let bytes = match fs::read(rt, file) {
@@ -22,8 +23,8 @@ pub fn run_dates<R: ClientSystem>(rt: &R, file: &str, asked: Option<(&str, u8)>)
         Err(error) => return report(rt, file, error),
     };
     let mut out = Counted::new(io::writer(rt));
-    let status = dates(rt.alloc(), &bytes, asked, &mut out).code();
-    if status == FAILED && is_bad(rt.alloc(), &bytes) {
+    let status = dates(rt.alloc(), &bytes, asked, &mut out);
+    if status == ExitStatus::StartupError && is_bad(rt.alloc(), &bytes) {
         print_fault(rt, file, NO_DUMPDATES);
     }
     report_failures(rt, out.failures(), status)

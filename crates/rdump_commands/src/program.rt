@@ -1,17 +1,18 @@
 //! The program: reads its arguments, and runs the command that they name.
 ghost use Rattle.std.specs.Prelude.{◌≡◌};
+ghost use Rattle.exit_status.specs.declared.status.ExitStatus.TheVariants.{StartupError};
 ghost use Rattle.rdump_commands.specs.Status.{IsHelpStatus};
-ghost use Rattle.rdump_system.specs.Status.{IsStatus};
 
 use crate::{run_dates, run_mt};
 use clap::error::ErrorKind;
+use exit_status::ExitStatus;
 use file_medium::reserve_std_fds;
 use printable::PlainLines;
 use rdump_args::{RdumpLine, rdump_args};
 use rdump_dump::run_dump;
 use rdump_list::run_ls;
 use rdump_read::run_read;
-use rdump_system::{ClientSystem, FAILED, report, report_no_memory, report_unwritten};
+use rdump_system::{ClientSystem, report, report_no_memory, report_unwritten};
 use std::convert::AsStr;
 use std::env;
 use std::io::{self, Write};
@@ -19,16 +20,15 @@ use std::io::{self, Write};
 /// Does what the arguments of the process ask for, and returns the exit status of `rdump`.
 /// `terminal` is standard error, if that is a terminal: it shows the progress of a dump.
 ///
-/// The status is 0 if everything was done. It is 1 if the command could not begin, because the
-/// arguments are wrong or a file cannot be read, for example. It is 3 if the command ended before
-/// it was done. Help and the version return 0. Errors are printed on standard error. A failed
-/// allocation is printed on standard output if nothing was sent yet, and in `rdump ls`.
+/// The status is `Success` if everything was done. It is `StartupError` if the command could not
+/// begin, because the arguments are wrong or a file cannot be read, for example. It is `Abnormal` if
+/// the command ended before it was done. Help and the version return `Success`. Errors are printed
+/// on standard error. A failed allocation is printed on standard output if nothing was sent yet, and
+/// in `rdump ls`.
 ///
 /// If the process was started without a standard stream, no file that it opens gets the descriptor
 /// of that stream.
-pub fn rdump<R: ClientSystem, T: Write + Copy + Drop>(rt: &R, terminal: Option<T>) -> u8
-    ensures { IsStatus result }
-{
+pub fn rdump<R: ClientSystem, T: Write + Copy + Drop>(rt: &R, terminal: Option<T>) -> ExitStatus {
     reserve_std_fds(rt);
     match arguments(rt) {
         Ok(arguments) => run_arguments(rt, arguments.as_slice(), terminal),
@@ -51,13 +51,11 @@ pub fn run_arguments<R: ClientSystem, S: AsStr, T: Write + Copy + Drop>(
     rt: &R,
     arguments: &[S],
     terminal: Option<T>,
-) -> u8
-    ensures { IsStatus result }
-{
+) -> ExitStatus {
     match rdump_args(rt.alloc(), arguments) {
         Ok(RdumpLine::Dump(line)) => run_dump(rt, &line, terminal),
         Ok(RdumpLine::Read(line)) => run_read(rt, line),
-        Ok(RdumpLine::List(line)) => run_ls(rt, line).code(),
+        Ok(RdumpLine::List(line)) => run_ls(rt, line),
         Ok(RdumpLine::Mt(line)) => run_mt(rt, line),
         Ok(RdumpLine::Dates { file, asked }) => run_dates(rt, file, asked),
         Err(error) => refuse(rt, error),
@@ -66,7 +64,7 @@ pub fn run_arguments<R: ClientSystem, S: AsStr, T: Write + Copy + Drop>(
 
 /// Prints why the arguments name no command, and returns the exit status. Help and the version are
 /// printed on standard output.
-fn refuse<R: ClientSystem>(rt: &R, error: clap::Error) -> u8
+fn refuse<R: ClientSystem>(rt: &R, error: clap::Error) -> ExitStatus
     ensures { IsHelpStatus result }
 {
     if error.kind() == ErrorKind::OutOfMemory {
@@ -76,20 +74,20 @@ fn refuse<R: ClientSystem>(rt: &R, error: clap::Error) -> u8
         return print_error(rt, &error);
     }
     if error.print(rt).is_err() {
-        return report_unwritten(rt, FAILED);
+        return report_unwritten(rt, ExitStatus::StartupError);
     }
-    0
+    ExitStatus::Success
 }
 
 /// Prints an error of the arguments on standard error, and returns the exit status. The error may
 /// quote the arguments, so control characters in it are printed as `?`.
-fn print_error<R: ClientSystem>(rt: &R, error: &clap::Error) -> u8
-    ensures { result ≡ 1 }
+fn print_error<R: ClientSystem>(rt: &R, error: &clap::Error) -> ExitStatus
+    ensures { result ≡ StartupError }
 {
     match format!(in rt.alloc(); "{error}") {
         Ok(text) => {
             let _ = rt.eprint(PlainLines(text.as_str()));
-            FAILED
+            ExitStatus::StartupError
         }
         Err(_) => report_no_memory(rt),
     }

@@ -1,6 +1,6 @@
 //! Starts or resumes a dump with a checkpoint file, up to its client.
 ghost use Rattle.std.specs.Prelude.{◌≡◌};
-ghost use Rattle.rdump_system.specs.Status.{IsStatus};
+ghost use Rattle.exit_status.specs.declared.status.ExitStatus.TheVariants.{StartupError};
 ghost use Rattle.rdump_files.specs.Payload.{IsRunsPayload};
 
 use crate::dump_command::{RunDates, dated, report_first};
@@ -9,12 +9,13 @@ use crate::dump_start::{DumpStart, refuse_files, refuse_unknown_new};
 use crate::dumping::run_kept;
 use crate::run_limit::refuse_run;
 use dump_client::{Blocks, Client, ResumeFault, Run};
+use exit_status::ExitStatus;
 use rdump_args::DumpLine;
 use rdump_files::{
     FileFailed, PayloadFile, ProgressLine, ReplacedFile, ResumedDumpFault, WholeFile, dumper_of,
     resume_dump, run_of,
 };
-use rdump_system::{ClientSystem, FAILED, print_fault, report, report_failed, report_no_memory};
+use rdump_system::{ClientSystem, print_fault, report, report_failed, report_no_memory};
 use std::io::{self, Write};
 use tape::Medium;
 
@@ -28,9 +29,8 @@ pub(crate) fn dump_from<R: ClientSystem, M: Medium + Drop, T: Write + Copy + Dro
     start: &mut DumpStart,
     dates: RunDates,
     terminal: Option<T>,
-) -> u8
+) -> ExitStatus
     requires { payload.size ≡ line.now.block }
-    ensures { IsStatus result }
 {
     let run = match run_of(line, dates.date, dates.since, &payload) {
         Ok(run) => run,
@@ -53,9 +53,8 @@ fn dump_kept<R: ClientSystem, M: Medium + Drop, T: Write + Copy + Drop>(
     payload: PayloadFile<M>,
     start: &DumpStart,
     terminal: Option<T>,
-) -> u8
+) -> ExitStatus
     requires { IsRunsPayload run payload }
-    ensures { IsStatus result }
 {
     let mut file = ReplacedFile::held(rt, rt.alloc(), path);
     match file.read(rt.alloc()) {
@@ -74,9 +73,8 @@ fn dump_from_start<R: ClientSystem, M: Medium + Drop, T: Write + Copy + Drop>(
     start: &DumpStart,
     file: &mut ReplacedFile<'_, R>,
     terminal: Option<T>,
-) -> u8
+) -> ExitStatus
     requires { IsRunsPayload run payload }
-    ensures { IsStatus result }
 {
     let dates = dates_of(&run);
     let gauge = terminal.map(|it| ProgressLine::new(rt, it));
@@ -96,9 +94,8 @@ fn resume<R: ClientSystem, M: Medium + Drop, T: Write + Copy + Drop>(
     start: &DumpStart,
     file: &mut ReplacedFile<'_, R>,
     terminal: Option<T>,
-) -> u8
+) -> ExitStatus
     requires { IsRunsPayload run.now payload }
-    ensures { IsStatus result }
 {
     let path = line.checkpoint.unwrap_or("");
     let dates = match Run::spelled(rt.alloc(), bytes) {
@@ -134,9 +131,7 @@ fn dump_reported<R: ClientSystem, B: Blocks, T: Write + Copy + Drop>(
     client: &mut Client<B>,
     file: &mut ReplacedFile<'_, R>,
     terminal: Option<T>,
-) -> u8
-    ensures { IsStatus result }
-{
+) -> ExitStatus {
     let path = line.checkpoint.unwrap_or("");
     if let Some(status) = refuse_unknown_new(rt, path, file) {
         return status;
@@ -169,8 +164,8 @@ fn report_going_on<R: ClientSystem, B: Blocks>(
 }
 
 /// Prints why the checkpoint at this path cannot be resumed, and returns the exit status.
-fn refuse_checkpoint<R: ClientSystem>(rt: &R, path: &str, fault: ResumedDumpFault) -> u8
-    ensures { result ≡ 1 }
+fn refuse_checkpoint<R: ClientSystem>(rt: &R, path: &str, fault: ResumedDumpFault) -> ExitStatus
+    ensures { result ≡ StartupError }
 {
     match fault {
         ResumedDumpFault::Unread(ResumeFault::OutOfMemory) => report_no_memory(rt),
@@ -190,12 +185,12 @@ fn refuse_checkpoint<R: ClientSystem>(rt: &R, path: &str, fault: ResumedDumpFaul
 }
 
 /// Prints why the checkpoint file at this path could not be read, and returns the exit status.
-fn report_unread<R: ClientSystem>(rt: &R, path: &str, failure: Option<&io::Error>) -> u8
-    ensures { result ≡ 1 }
+fn report_unread<R: ClientSystem>(rt: &R, path: &str, failure: Option<&io::Error>) -> ExitStatus
+    ensures { result ≡ StartupError }
 {
     match failure {
         Some(error) if error.kind() == io::ErrorKind::OutOfMemory => report_no_memory(rt),
-        Some(error) => report_failed(rt, path, error, FAILED),
+        Some(error) => report_failed(rt, path, error, ExitStatus::StartupError),
         None => print_fault(rt, path, "it could not be read"),
     }
 }

@@ -1,6 +1,6 @@
 //! `rdump dump`, up to the client of the dump.
 ghost use Rattle.std.specs.Prelude.{◌≡◌, IfErr, IfSome};
-ghost use Rattle.rdump_system.specs.Status.{IsStatus};
+ghost use Rattle.exit_status.specs.declared.status.ExitStatus.TheVariants.{StartupError};
 
 use crate::checkpoint_dump::dump_from;
 use crate::dump_end::report_end;
@@ -9,6 +9,7 @@ use crate::dumping::run_printed;
 use crate::run_limit::refuse_run;
 use dump_client::{Blocks, Client};
 use dumpdates::DatesFault;
+use exit_status::ExitStatus;
 use file_medium::FileMedium;
 use printable::plain;
 use rdump_args::DumpLine;
@@ -16,7 +17,7 @@ use rdump_files::{
     DumperFault, PayloadFile, ProgressLine, ReplacedFile, base_date, date_text, dumper,
     read_or_empty, read_steady, seconds_now,
 };
-use rdump_system::{ClientSystem, FAILED, NO_DUMPDATES, print_fault, report, report_no_memory};
+use rdump_system::{ClientSystem, NO_DUMPDATES, print_fault, report, report_no_memory};
 use rmt_wire::Counted;
 use std::fs::File;
 use std::io::{self, ErrorKind, Write};
@@ -35,15 +36,14 @@ use tape::{Medium, MediumFailed, MemoryMedium};
 /// The file is held during the whole dump. It is removed once the dump is complete and, if asked
 /// for, entered. It is also removed if the dump is abandoned.
 ///
-/// Returns the exit status: 0 if the dump is complete, everything was printed, and the dump is
-/// entered if asked for. Returns 1 if the dump could not begin, and 3 otherwise.
+/// Returns the exit status: `Success` if the dump is complete, everything was printed, and the dump
+/// is entered if asked for. Returns `StartupError` if the dump could not begin, and `Abnormal`
+/// otherwise.
 pub fn run_dump<R: ClientSystem, T: Write + Copy + Drop>(
     rt: &R,
     line: &DumpLine<'_>,
     terminal: Option<T>,
-) -> u8
-    ensures { IsStatus result }
-{
+) -> ExitStatus {
     match DumpStart::open(rt, line.payload) {
         Ok((file, mut start)) => dump_opened(rt, line, file, &mut start, terminal),
         Err(error) => report(rt, line.payload, error),
@@ -57,9 +57,7 @@ fn dump_opened<R: ClientSystem, T: Write + Copy + Drop>(
     file: File,
     start: &mut DumpStart,
     terminal: Option<T>,
-) -> u8
-    ensures { IsStatus result }
-{
+) -> ExitStatus {
     if start.is_lasting {
         return dump_medium(rt, line, FileMedium::new(file), start, terminal);
     }
@@ -79,9 +77,7 @@ fn dump_medium<R: ClientSystem, M: Medium + Drop, T: Write + Copy + Drop>(
     medium: M,
     start: &mut DumpStart,
     terminal: Option<T>,
-) -> u8
-    ensures { IsStatus result }
-{
+) -> ExitStatus {
     let payload = match PayloadFile::open(medium, line.block) {
         Ok(payload) => payload,
         Err(MediumFailed) => return print_fault(rt, line.payload, "its length could not be read"),
@@ -95,8 +91,12 @@ fn dump_medium<R: ClientSystem, M: Medium + Drop, T: Write + Copy + Drop>(
 
 /// Returns the date on which the dump builds, from the dumpdates file. If that file is at fault,
 /// prints why and returns the exit status.
-fn since_of<R: ClientSystem>(rt: &R, line: &DumpLine<'_>, start: &mut DumpStart) -> Result<u64, u8>
-    ensures { IfErr result (λ status. status ≡ 1) }
+fn since_of<R: ClientSystem>(
+    rt: &R,
+    line: &DumpLine<'_>,
+    start: &mut DumpStart,
+) -> Result<u64, ExitStatus>
+    ensures { IfErr result (λ status. status ≡ StartupError) }
 {
     let path = line.dumpdates;
     let added = start.files.add_dates(rt, rt.alloc(), path, line.update);
@@ -116,8 +116,8 @@ fn since_in<R: ClientSystem>(
     line: &DumpLine<'_>,
     start: &mut DumpStart,
     file: &[u8],
-) -> Result<u64, u8>
-    ensures { IfErr result (λ status. status ≡ 1) }
+) -> Result<u64, ExitStatus>
+    ensures { IfErr result (λ status. status ≡ StartupError) }
 {
     let level = u8::try_from(line.level).unwrap_or(u8::MAX);
     let mut out = Counted::new(io::writer(rt));
@@ -127,7 +127,7 @@ fn since_in<R: ClientSystem>(
             Some(status) => Err(status),
         },
         // The failed allocation is already printed.
-        Err(DatesFault::OutOfMemory) => Err(FAILED),
+        Err(DatesFault::OutOfMemory) => Err(ExitStatus::StartupError),
         Err(_) => Err(print_fault(rt, line.dumpdates, NO_DUMPDATES)),
     }
 }
@@ -140,8 +140,8 @@ fn look_at_update<R: ClientSystem>(
     line: &DumpLine<'_>,
     start: &mut DumpStart,
     file: &[u8],
-) -> Option<u8>
-    ensures { IfSome result (λ status. status ≡ 1) }
+) -> Option<ExitStatus>
+    ensures { IfSome result (λ status. status ≡ StartupError) }
 {
     if !line.update {
         return None;
@@ -161,9 +161,8 @@ fn dump_since<R: ClientSystem, M: Medium + Drop, T: Write + Copy + Drop>(
     start: &mut DumpStart,
     since: u64,
     terminal: Option<T>,
-) -> u8
+) -> ExitStatus
     requires { payload.size ≡ line.now.block }
-    ensures { IsStatus result }
 {
     match line.date.or(seconds_now(rt)) {
         Some(date) => dump_at(rt, line, payload, start, RunDates { date, since }, terminal),
@@ -179,9 +178,8 @@ fn dump_at<R: ClientSystem, M: Medium + Drop, T: Write + Copy + Drop>(
     start: &mut DumpStart,
     dates: RunDates,
     terminal: Option<T>,
-) -> u8
+) -> ExitStatus
     requires { payload.size ≡ line.now.block }
-    ensures { IsStatus result }
 {
     if let Some(path) = line.checkpoint {
         return dump_from(rt, line, path, payload, start, dates, terminal);
@@ -211,9 +209,7 @@ fn dump_alone<R: ClientSystem, B: Blocks, T: Write + Copy + Drop>(
     dates: RunDates,
     client: &mut Client<B>,
     terminal: Option<T>,
-) -> u8
-    ensures { IsStatus result }
-{
+) -> ExitStatus {
     if let Err(error) = report_first(rt, line, start, dates, terminal.is_some()) {
         return report(rt, line.dumpdates, error);
     }

@@ -1,11 +1,13 @@
 //! The data that a dump starts with besides its arguments.
 ghost use Rattle.std.specs.Prelude.{◌≡◌, IfSome};
+ghost use Rattle.exit_status.specs.declared.status.ExitStatus.TheVariants.{StartupError};
 
 use dumpdates::{Dates, DatesFault};
+use exit_status::ExitStatus;
 use printable::plain;
 use rdump_args::DumpLine;
 use rdump_files::{DumpFile, DumpFiles, PayloadLook, ReplacedFile, SameFile, open_payload};
-use rdump_system::{ClientSystem, FAILED, print_fault, report, report_no_memory};
+use rdump_system::{ClientSystem, print_fault, report, report_no_memory};
 use std::alloc::Global;
 use std::fs::{File, Metadata};
 use std::io;
@@ -52,8 +54,8 @@ impl DumpStart {
         rt: &R,
         line: &DumpLine<'_>,
         file: &[u8],
-    ) -> Option<u8>
-        ensures { IfSome result (λ status. status ≡ 1) }
+    ) -> Option<ExitStatus>
+        ensures { IfSome result (λ status. status ≡ StartupError) }
     {
         match latest_date(rt.alloc(), file, line.fs, line.level) {
             Ok(date) => {
@@ -93,8 +95,8 @@ pub(crate) fn refuse_files<R: ClientSystem>(
     line: &DumpLine<'_>,
     path: &str,
     added: io::Result<Option<SameFile>>,
-) -> Option<u8>
-    ensures { IfSome result (λ status. status ≡ 1) }
+) -> Option<ExitStatus>
+    ensures { IfSome result (λ status. status ≡ StartupError) }
 {
     match added {
         Ok(None) => None,
@@ -104,8 +106,8 @@ pub(crate) fn refuse_files<R: ClientSystem>(
 }
 
 /// Prints that the file at this path is also another one of the dump, and returns the exit status.
-fn refuse_one<R: ClientSystem>(rt: &R, line: &DumpLine<'_>, path: &str, one: SameFile) -> u8
-    ensures { result ≡ 1 }
+fn refuse_one<R: ClientSystem>(rt: &R, line: &DumpLine<'_>, path: &str, one: SameFile) -> ExitStatus
+    ensures { result ≡ StartupError }
 {
     let which = match one.file {
         DumpFile::NewDates | DumpFile::NewCheckpoint => "its .new",
@@ -119,7 +121,7 @@ fn refuse_one<R: ClientSystem>(rt: &R, line: &DumpLine<'_>, path: &str, one: Sam
     };
     let (path, other_path) = (plain(path), plain(other_path));
     let _ = eprintln!(rt; "rdump: {path}: {which} is {other} too: {other_path}");
-    FAILED
+    ExitStatus::StartupError
 }
 
 /// If a file that no run left has the name of the new file, prints that and returns the exit
@@ -128,8 +130,8 @@ pub(crate) fn refuse_unknown_new<R: ClientSystem>(
     rt: &R,
     path: &str,
     file: &ReplacedFile<'_, R>,
-) -> Option<u8>
-    ensures { IfSome result (λ status. status ≡ 1) }
+) -> Option<ExitStatus>
+    ensures { IfSome result (λ status. status ≡ StartupError) }
 {
     match file.find_unknown_new() {
         Ok(None) => None,

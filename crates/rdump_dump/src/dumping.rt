@@ -1,5 +1,6 @@
 //! Has a client dump to a server.
 ghost use Rattle.std.specs.Prelude.{◌≡◌, ◌⊎◌};
+ghost use Rattle.exit_status.specs.declared.status.ExitStatus.TheVariants.{Abnormal};
 ghost use Rattle.dump_client.specs.declared.stage.Stage.TheVariants.{Finished};
 ghost use Rattle.rdump_net.specs.declared.conclusion.Conclusion.TheVariants as ends;
 ghost use Rattle.rdump_dump.specs.Status.{IsDumpStatus, IsEndStatus};
@@ -15,12 +16,9 @@ use printable::plain;
 use rdump_args::DumpLine;
 use rdump_files::{Clearing, FileFailed, ReplacedFile, UpdateFault, dump_and_update, enter_dump};
 use rdump_net::{Conclusion, Peer, dump, dump_kept};
-use rdump_system::{ABNORMAL, ClientSystem, NO_DUMPDATES, report_failed, report_failures};
+use rdump_system::{ClientSystem, NO_DUMPDATES, report_failed, report_failures};
 use rmt_wire::Counted;
 use std::io::{self, Read, Write};
-
-/// The exit status of a complete dump.
-const COMPLETE: u8 = 0;
 
 /// Has a client dump to the server of `line`, as `rdump dump` does, and prints its lines on
 /// standard output. `terminal` is standard error, if that is a terminal. The line of progress on it
@@ -28,14 +26,14 @@ const COMPLETE: u8 = 0;
 /// question. Standard error reports why attempts failed. If `line` asks for `protect`, it must have
 /// the date of the dump.
 ///
-/// Returns the exit status: 0 if the run is finished, everything was printed, and the dump is
-/// entered if `line` asks for that. Returns 3 otherwise.
+/// Returns the exit status: `Success` if the run is finished, everything was printed, and the dump
+/// is entered if `line` asks for that. Returns `Abnormal` otherwise.
 pub fn run_client<R: ClientSystem, B: Blocks, T: Write + Copy + Drop>(
     rt: &R,
     line: &DumpLine<'_>,
     client: &mut Client<B>,
     terminal: Option<T>,
-) -> u8
+) -> ExitStatus
     ensures { IsDumpStatus client.new.at result }
 {
     run_printed(rt, line, client, terminal).status
@@ -45,7 +43,7 @@ pub fn run_client<R: ClientSystem, B: Blocks, T: Write + Copy + Drop>(
 #[derive(Clone, Copy)]
 pub(crate) struct Dumped {
     /// The exit status.
-    pub status: u8,
+    pub status: ExitStatus,
     /// Whether everything was printed.
     pub is_printed: bool,
 }
@@ -81,13 +79,13 @@ fn dump_over<R: ClientSystem, B: Blocks, P: Peer, I: Read, W: Write>(
     peer: &mut P,
     operator: &mut I,
     out: &mut Counted<W>,
-) -> u8
+) -> ExitStatus
     ensures { IsDumpStatus client.new.at result }
 {
     if line.update {
         dump_entered(rt, line.dumpdates, client, peer, operator, out)
     } else {
-        dump(rt.alloc(), client, peer, operator, out).code()
+        dump(rt.alloc(), client, peer, operator, out)
     }
 }
 
@@ -100,7 +98,7 @@ fn dump_entered<R: ClientSystem, B: Blocks, P: Peer, I: Read, W: Write>(
     peer: &mut P,
     operator: &mut I,
     out: &mut Counted<W>,
-) -> u8
+) -> ExitStatus
     ensures { IsDumpStatus client.new.at result }
 {
     let mut file = ReplacedFile::new(rt, rt.alloc(), dumpdates);
@@ -108,7 +106,7 @@ fn dump_entered<R: ClientSystem, B: Blocks, P: Peer, I: Read, W: Write>(
     if let Some(fault) = end.fault {
         report_unentered(rt, dumpdates, fault, file.failure());
     }
-    end.status.code()
+    end.status
 }
 
 /// Has a client dump as `run_client` does, and keeps its checkpoint in `file`. The file is removed
@@ -116,8 +114,8 @@ fn dump_entered<R: ClientSystem, B: Blocks, P: Peer, I: Read, W: Write>(
 /// is abandoned. Standard error reports why a checkpoint could not be written or removed. After a
 /// complete dump, it reports what a restore needs.
 ///
-/// Returns the exit status. It is 0 if the run is finished, everything was printed, the dump is
-/// entered if `line` asks for that, and `file` is removed. It is 3 otherwise.
+/// Returns the exit status. It is `Success` if the run is finished, everything was printed, the dump
+/// is entered if `line` asks for that, and `file` is removed. It is `Abnormal` otherwise.
 pub(crate) fn run_kept<R: ClientSystem, B: Blocks, T: Write + Copy + Drop>(
     rt: &R,
     line: &DumpLine<'_>,
@@ -125,7 +123,7 @@ pub(crate) fn run_kept<R: ClientSystem, B: Blocks, T: Write + Copy + Drop>(
     client: &mut Client<B>,
     file: &mut ReplacedFile<'_, R>,
     terminal: Option<T>,
-) -> u8
+) -> ExitStatus
     ensures { IsDumpStatus client.new.at result }
 {
     let mut peer = ReportingPeer::new(rt, line, terminal);
@@ -152,31 +150,31 @@ fn end_kept<R: ClientSystem, B: Blocks, W: Write>(
     end: Conclusion,
     out: &mut Counted<W>,
     file: &mut ReplacedFile<'_, R>,
-) -> u8
+) -> ExitStatus
     requires { end ≡ ends.Complete → client.now.at.stage ≡ Finished }
     ensures { IsDumpStatus client.now.at result }
 {
     match end {
         Conclusion::Complete if line.update => match enter(rt, line.dumpdates, client, out) {
-            COMPLETE => remove(rt, line, file, COMPLETE),
+            ExitStatus::Success => remove(rt, line, file, ExitStatus::Success),
             status => status,
         },
-        Conclusion::Complete => remove(rt, line, file, COMPLETE),
-        Conclusion::Abandoned => remove(rt, line, file, ABNORMAL),
-        Conclusion::PrintFailed => ABNORMAL,
+        Conclusion::Complete => remove(rt, line, file, ExitStatus::Success),
+        Conclusion::Abandoned => remove(rt, line, file, ExitStatus::Abnormal),
+        Conclusion::PrintFailed => ExitStatus::Abnormal,
         Conclusion::Unkept => report_unkept(rt, line, file.failure()),
     }
 }
 
 /// Removes the checkpoint file of `line`, and returns `status`. If that fails, prints why, and
-/// returns 3.
+/// returns `Abnormal`.
 fn remove<R: ClientSystem>(
     rt: &R,
     line: &DumpLine<'_>,
     file: &mut ReplacedFile<'_, R>,
-    status: u8,
-) -> u8
-    ensures { (result ≡ status) ⊎ (result ≡ 3) }
+    status: ExitStatus,
+) -> ExitStatus
+    ensures { (result ≡ status) ⊎ (result ≡ Abnormal) }
 {
     match file.remove() {
         Ok(()) => status,
@@ -191,8 +189,8 @@ fn checkpoint_of<'a>(line: &DumpLine<'a>) -> &'a str {
 
 /// Prints that a checkpoint file could not be removed, with the system's error, and returns the
 /// exit status.
-fn report_left<R: Eprint>(rt: &R, path: &str, failure: Option<&io::Error>) -> u8
-    ensures { result ≡ 3 }
+fn report_left<R: Eprint>(rt: &R, path: &str, failure: Option<&io::Error>) -> ExitStatus
+    ensures { result ≡ Abnormal }
 {
     let path = plain(path);
     match failure {
@@ -203,21 +201,21 @@ fn report_left<R: Eprint>(rt: &R, path: &str, failure: Option<&io::Error>) -> u8
             let _ = eprintln!(rt; "rdump: {path}: it could not be removed");
         }
     }
-    ABNORMAL
+    ExitStatus::Abnormal
 }
 
 /// Prints why a checkpoint could not be kept, with the system's error if the file failed. Returns
 /// the exit status.
-fn report_unkept<R: Eprint>(rt: &R, line: &DumpLine<'_>, failure: Option<&io::Error>) -> u8
-    ensures { result ≡ 3 }
+fn report_unkept<R: Eprint>(rt: &R, line: &DumpLine<'_>, failure: Option<&io::Error>) -> ExitStatus
+    ensures { result ≡ Abnormal }
 {
     let path = checkpoint_of(line);
     match failure {
-        Some(error) => report_failed(rt, path, error, ABNORMAL),
+        Some(error) => report_failed(rt, path, error, ExitStatus::Abnormal),
         None => {
             let path = plain(path);
             let _ = eprintln!(rt; "rdump: {path}: out of memory");
-            ABNORMAL
+            ExitStatus::Abnormal
         }
     }
 }
@@ -229,7 +227,7 @@ fn enter<R: ClientSystem, B: Blocks, W: Write>(
     dumpdates: &str,
     client: &Client<B>,
     out: &mut Counted<W>,
-) -> u8
+) -> ExitStatus
     ensures { IsEndStatus result }
 {
     let mut file = ReplacedFile::new(rt, rt.alloc(), dumpdates);
@@ -238,8 +236,8 @@ fn enter<R: ClientSystem, B: Blocks, W: Write>(
         report_unentered(rt, dumpdates, fault, file.failure());
     }
     match end.status {
-        ExitStatus::Success => COMPLETE,
-        _ => ABNORMAL,
+        ExitStatus::Success => ExitStatus::Success,
+        _ => ExitStatus::Abnormal,
     }
 }
 

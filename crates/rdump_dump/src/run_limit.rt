@@ -1,9 +1,11 @@
 //! Refuses a run whose limits the arguments violate.
 ghost use Rattle.std.specs.Prelude.{◌≡◌};
+ghost use Rattle.exit_status.specs.declared.status.ExitStatus.TheVariants.{StartupError};
 
 use dump_client::RunFault;
+use exit_status::ExitStatus;
 use rdump_args::{DumpLine, dump_error};
-use rdump_system::{ClientSystem, FAILED, report_no_memory};
+use rdump_system::{ClientSystem, report_no_memory};
 use std::alloc::{AllocError, Global};
 
 /// Prints which limit of a run the arguments violate, for a dump of this date, and returns the exit
@@ -13,14 +15,14 @@ pub(crate) fn refuse_run<R: ClientSystem>(
     line: &DumpLine<'_>,
     date: u64,
     fault: RunFault,
-) -> u8
-    ensures { result ≡ 1 }
+) -> ExitStatus
+    ensures { result ≡ StartupError }
 {
     let Ok(error) = error_of(rt.alloc(), line, date, fault) else {
         return report_no_memory(rt);
     };
     let _ = error.print(rt);
-    FAILED
+    ExitStatus::StartupError
 }
 
 /// Returns the message for a limit that is violated, with the usage of the command.

@@ -1,17 +1,14 @@
 //! `rdump read`.
 ghost use Rattle.rdump_read.specs.Status.{IsReadStatus};
-ghost use Rattle.rdump_system.specs.Status.{IsStatus};
 ghost use Rattle.rdump_args.specs.Rdump.{IsReadLine};
 
 use crate::out_file::OutFile;
 use crate::stack::read_stack;
 use crate::volume::{ReadEnd, read_volume};
+use exit_status::ExitStatus;
 use rdump_args::ReadLine;
-use rdump_system::{ABNORMAL, ClientSystem, report, report_failed};
+use rdump_system::{ClientSystem, report, report_failed};
 use std::io;
-
-/// The exit status if everything was read.
-const WHOLE: u8 = 0;
 
 /// Reads a volume back into a file, as `rdump read` does, and prints its label.
 ///
@@ -40,12 +37,11 @@ const WHOLE: u8 = 0;
 /// known. At the end, a regular file or a block device is synced, and so is the folder of a file
 /// that is created here.
 ///
-/// Returns the exit status: 0 if everything was read and synced, and nothing is known to be
-/// missing. Returns 1 if the file could not be opened, or if `place` or a length requires a regular
-/// file and it is not one. Returns 3 otherwise.
-pub fn run_read<R: ClientSystem>(rt: &R, line: ReadLine<'_>) -> u8
+/// Returns the exit status: `Success` if everything was read and synced, and nothing is known to be
+/// missing. Returns `StartupError` if the file could not be opened, or if `place` or a length
+/// requires a regular file and it is not one. Returns `Abnormal` otherwise.
+pub fn run_read<R: ClientSystem>(rt: &R, line: ReadLine<'_>) -> ExitStatus
     requires { IsReadLine line }
-    ensures { IsStatus result }
 {
     match OutFile::open(rt, rt.alloc(), &line) {
         Ok(file) => read_into(rt, &line, file),
@@ -54,7 +50,7 @@ pub fn run_read<R: ClientSystem>(rt: &R, line: ReadLine<'_>) -> u8
 }
 
 /// Reads what `line` asks for into this file, and returns the exit status.
-fn read_into<R: ClientSystem>(rt: &R, line: &ReadLine<'_>, file: OutFile) -> u8
+fn read_into<R: ClientSystem>(rt: &R, line: &ReadLine<'_>, file: OutFile) -> ExitStatus
     requires { IsReadLine line.now }
     ensures { IsReadStatus result }
 {
@@ -68,24 +64,28 @@ fn read_into<R: ClientSystem>(rt: &R, line: &ReadLine<'_>, file: OutFile) -> u8
 }
 
 /// Reads one volume into a file, and returns the exit status.
-fn read_one<R: ClientSystem>(rt: &R, line: &ReadLine<'_>, file: &OutFile) -> u8
+fn read_one<R: ClientSystem>(rt: &R, line: &ReadLine<'_>, file: &OutFile) -> ExitStatus
     requires { IsReadLine line.now }
     ensures { IsReadStatus result }
 {
     match read_volume(rt, line, None, file).end {
         ReadEnd::Whole if file.has_begun() => finish_file(rt, line, file),
-        ReadEnd::Whole => WHOLE,
-        _ => ABNORMAL,
+        ReadEnd::Whole => ExitStatus::Success,
+        _ => ExitStatus::Abnormal,
     }
 }
 
 /// Cuts a file to the length in `line`, if there is one, and syncs it. Returns the exit status.
-pub(crate) fn finish_file<R: ClientSystem>(rt: &R, line: &ReadLine<'_>, file: &OutFile) -> u8
+pub(crate) fn finish_file<R: ClientSystem>(
+    rt: &R,
+    line: &ReadLine<'_>,
+    file: &OutFile,
+) -> ExitStatus
     ensures { IsReadStatus result }
 {
     match cut_and_sync(rt, line, file) {
-        Ok(()) => WHOLE,
-        Err(error) => report_failed(rt, line.out, &error, ABNORMAL),
+        Ok(()) => ExitStatus::Success,
+        Err(error) => report_failed(rt, line.out, &error, ExitStatus::Abnormal),
     }
 }
 

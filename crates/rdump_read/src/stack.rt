@@ -7,13 +7,14 @@ use crate::out_file::OutFile;
 use crate::read_command::finish_file;
 use crate::volume::{ReadEnd, VolumeRead, read_volume};
 use dump_run::VolumeLabel;
+use exit_status::ExitStatus;
 use printable::plain;
 use rdump_args::ReadLine;
-use rdump_system::{ABNORMAL, ClientSystem, report_no_memory};
+use rdump_system::{ClientSystem, report_no_memory};
 
 /// Reads the volumes of a stack into a file, each to its place, as `rdump read --all` does. Returns
 /// the exit status.
-pub(crate) fn read_stack<R: ClientSystem>(rt: &R, line: &ReadLine<'_>, file: &OutFile) -> u8
+pub(crate) fn read_stack<R: ClientSystem>(rt: &R, line: &ReadLine<'_>, file: &OutFile) -> ExitStatus
     requires { IsReadLine line.now }
     ensures { IsReadStatus result }
 {
@@ -22,7 +23,7 @@ pub(crate) fn read_stack<R: ClientSystem>(rt: &R, line: &ReadLine<'_>, file: &Ou
     let below = end_of_length(line.length, file.block());
     let has_gap = report_blocks_read(rt, blocks_read.sorted(), file.was_empty(), below);
     match end {
-        ReadEnd::Whole | ReadEnd::Failed => ABNORMAL,
+        ReadEnd::Whole | ReadEnd::Failed => ExitStatus::Abnormal,
         ReadEnd::NoReel => end_stack(rt, line, file, has_gap),
         ReadEnd::NoRecord | ReadEnd::OtherDump => end_dump(rt, line, file, has_gap),
     }
@@ -30,13 +31,18 @@ pub(crate) fn read_stack<R: ClientSystem>(rt: &R, line: &ReadLine<'_>, file: &Ou
 
 /// Ends the read of a stack that has no more reels: cuts and syncs the file, and returns the exit
 /// status.
-fn end_stack<R: ClientSystem>(rt: &R, line: &ReadLine<'_>, file: &OutFile, has_gap: bool) -> u8
+fn end_stack<R: ClientSystem>(
+    rt: &R,
+    line: &ReadLine<'_>,
+    file: &OutFile,
+    has_gap: bool,
+) -> ExitStatus
     ensures { IsReadStatus result }
 {
     let status = finish_file(rt, line, file);
     let is_short = report_short(rt, line, file);
     if has_gap || is_short {
-        ABNORMAL
+        ExitStatus::Abnormal
     } else {
         status
     }
@@ -45,12 +51,17 @@ fn end_stack<R: ClientSystem>(rt: &R, line: &ReadLine<'_>, file: &OutFile, has_g
 /// Ends the read of a dump if the next reel is not one of it. Cuts and syncs the file if nothing is
 /// missing below the length in `line`. Without a length, the dump may continue on further reels.
 /// Returns the exit status.
-fn end_dump<R: ClientSystem>(rt: &R, line: &ReadLine<'_>, file: &OutFile, has_gap: bool) -> u8
+fn end_dump<R: ClientSystem>(
+    rt: &R,
+    line: &ReadLine<'_>,
+    file: &OutFile,
+    has_gap: bool,
+) -> ExitStatus
     ensures { IsReadStatus result }
 {
     let is_short = report_short(rt, line, file);
     if line.length.is_none() || has_gap || is_short {
-        ABNORMAL
+        ExitStatus::Abnormal
     } else {
         finish_file(rt, line, file)
     }

@@ -7,12 +7,13 @@ use crate::out_file::{BlockFault, OutFile};
 use crate::reel_peer::{ReelPeer, ReelState};
 use crate::volume_blocks::{BlockSizes, VolumeBlocks};
 use dump_run::VolumeLabel;
+use exit_status::ExitStatus;
 use printable::plain;
 use rdump_args::ReadLine;
 use rdump_net::{
     AfterVolume, ReadFault, ReelFront, SocketPeer, VolumeRequest, copy_volume, look_at_reel,
 };
-use rdump_system::{ABNORMAL, ClientSystem, may_be_terminal, report_failed, report_unwritten};
+use rdump_system::{ClientSystem, may_be_terminal, report_failed, report_unwritten};
 use rmt_wire::Counted;
 use rmt_wire::errno::ENXIO;
 use std::cell::Cell;
@@ -274,7 +275,7 @@ fn end_of<R: ClientSystem>(
 fn report_block_fault<R: ClientSystem>(rt: &R, line: &ReadLine<'_>, fault: &BlockFault) {
     match fault {
         BlockFault::Failed(error) => {
-            report_failed(rt, line.out, error, ABNORMAL);
+            report_failed(rt, line.out, error, ExitStatus::Abnormal);
         }
         BlockFault::OtherLength { bytes, before } => {
             let to = plain(line.to);
@@ -289,10 +290,10 @@ fn report_block_fault<R: ClientSystem>(rt: &R, line: &ReadLine<'_>, fault: &Bloc
 fn report_read<R: ClientSystem>(rt: &R, to: &str, fault: ReadFault, failure: Option<&io::Error>) {
     match (fault, failure) {
         (ReadFault::OutputFailed, _) => {
-            report_unwritten(rt, ABNORMAL);
+            report_unwritten(rt, ExitStatus::Abnormal);
         }
         (ReadFault::ConnectionEnded, Some(error)) => {
-            report_failed(rt, to, error, ABNORMAL);
+            report_failed(rt, to, error, ExitStatus::Abnormal);
         }
         _ => {
             let to = plain(to);

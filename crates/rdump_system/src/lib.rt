@@ -1,10 +1,8 @@
-//! What every command of `rdump` needs: its part of the runtime, the messages for errors, and the
-//! exit statuses.
+//! What every command of `rdump` needs: its part of the runtime, and the messages for errors.
 //!
 //! `ClientSystem` is the part of the runtime that the commands use. `print_fault` and the functions
-//! `report` and `report_..` print on standard error what failed, and return an exit status.
-//! `FAILED` and `ABNORMAL` are the statuses of a command that failed. `may_be_terminal` checks
-//! whether standard output may be a terminal.
+//! `report` and `report_..` print on standard error what failed, and return the exit status.
+//! `may_be_terminal` checks whether standard output may be a terminal.
 #![tactic(auto)]
 
 mod fault;
@@ -12,8 +10,8 @@ mod system;
 mod terminal;
 
 pub use fault::{
-    ABNORMAL, FAILED, NO_DUMPDATES, print_fault, report, report_failed, report_failures,
-    report_no_memory, report_unwritten,
+    NO_DUMPDATES, print_fault, report, report_failed, report_failures, report_no_memory,
+    report_unwritten,
 };
 pub use system::ClientSystem;
 pub use terminal::may_be_terminal;

@@ -7,6 +7,7 @@ use super::fixture::{PayloadDumper, TWO_BYTES, client, line, payload};
 use super::lines::{EMPTY, FULL, LAST};
 use super::progress::Seen;
 use dump_client::ResumeFault;
+use exit_status::ExitStatus;
 use rdump_commands::run_arguments;
 use rdump_files::{ReplacedFile, ResumedDumpFault, WholeFile, resume_dump, run_of};
 use rdump_net::{Conclusion, Keeper, dump_kept};
@@ -218,15 +219,15 @@ static WORDS: [&str; 20] = [
 ];
 
 /// The checkpoint file at the start, the exit status, and whether the file is there at the end.
-static STARTS: [(&[u8], u8, bool); 4] = [
-    (b"", 1, true),
-    (ANOTHER, 1, true),
-    (ONE, 3, false),
-    (BOTH, 0, false),
+static STARTS: [(&[u8], ExitStatus, bool); 4] = [
+    (b"", ExitStatus::StartupError, true),
+    (ANOTHER, ExitStatus::StartupError, true),
+    (ONE, ExitStatus::Abnormal, false),
+    (BOTH, ExitStatus::Success, false),
 ];
 
 /// Whether a dump with such a file ends as the row says.
-fn starts_so(rt: &HostRuntime, text: &[u8], status: u8, stays: bool) -> Result<bool, Fail> {
+fn starts_so(rt: &HostRuntime, text: &[u8], status: ExitStatus, stays: bool) -> Result<bool, Fail> {
     fs::write(rt, "checkpoint", text)?;
     let ended = run_arguments(rt, &WORDS, NO_TERMINAL);
     let is_left = fs::exists(rt, "checkpoint")?;

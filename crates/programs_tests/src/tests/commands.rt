@@ -4,6 +4,7 @@
 use super::check_row;
 use super::fixture::{TWO_BYTES, client, line};
 use super::store::OLD;
+use exit_status::ExitStatus;
 use rdump_args::{MtLine, ReadLine};
 use rdump_commands::{rdump, run_arguments, run_client, run_dates, run_dump, run_mt, run_read};
 use std::fs;
@@ -18,19 +19,22 @@ const NO_TERMINAL: Option<Stderr> = None;
 const NOWHERE: &str = "127.0.0.1:1";
 
 /// Arguments, and the exit status of `rdump`.
-type Row = (&'static [&'static str], u8);
+type Row = (&'static [&'static str], ExitStatus);
 
 /// The help, the version, wrong arguments, a missing file, and a missing server.
 static ROWS: [Row; 5] = [
-    (&["rdump", "--help"], 0),
-    (&["rdump", "--version"], 0),
-    (&["rdump", "tape"], 1),
-    (&["rdump", "dates", "--file", "none"], 1),
+    (&["rdump", "--help"], ExitStatus::Success),
+    (&["rdump", "--version"], ExitStatus::Success),
+    (&["rdump", "tape"], ExitStatus::StartupError),
+    (
+        &["rdump", "dates", "--file", "none"],
+        ExitStatus::StartupError,
+    ),
     (
         &[
             "rdump", "mt", "--to", NOWHERE, "--device", "d", "rewind", "1",
         ],
-        3,
+        ExitStatus::Abnormal,
     ),
 ];
 
@@ -49,7 +53,7 @@ fn statuses_of_arguments(rt: HostRuntime) {
 /// The arguments of the process that runs the tests are not valid for `rdump`.
 #[test]
 fn arguments_of_another_program(rt: HostRuntime) {
-    assert!(rt; rdump(&rt, NO_TERMINAL) == 1);
+    assert!(rt; rdump(&rt, NO_TERMINAL) == ExitStatus::StartupError);
 }
 
 #[test]
@@ -57,19 +61,20 @@ fn a_dates_file(rt: HostRuntime) -> Result<(), Fail> {
     fs::write(&rt, "asked", OLD)?;
     let status = run_dates(&rt, "asked", Some(("/usr", 2)));
     fs::remove_file(&rt, "asked")?;
-    assert!(rt; status == 0);
+    assert!(rt; status == ExitStatus::Success);
     Ok(())
 }
 
 #[test]
 fn a_payload_that_is_not_there(rt: HostRuntime) {
-    assert!(rt; run_dump(&rt, &line(TWO_BYTES), NO_TERMINAL) == 1);
+    assert!(rt; run_dump(&rt, &line(TWO_BYTES), NO_TERMINAL) == ExitStatus::StartupError);
 }
 
-/// Whether a dump ends with status 3, because there is no server and the operator's input is empty.
+/// Whether a dump ends with `Abnormal`, because there is no server and the operator's input is empty.
 fn is_abandoned(rt: &HostRuntime) -> bool {
     match client(rt.alloc(), TWO_BYTES) {
-        Some(mut client) => run_client(rt, &line(TWO_BYTES), &mut client, NO_TERMINAL) == 3,
+        Some(mut client) => run_client(rt, &line(TWO_BYTES), &mut client, NO_TERMINAL)
+            == ExitStatus::Abnormal,
         None => false,
     }
 }
@@ -90,7 +95,7 @@ fn a_volume_of_no_server(rt: HostRuntime) {
         all: false,
         length: None,
     };
-    assert!(rt; run_read(&rt, line) == 3);
+    assert!(rt; run_read(&rt, line) == ExitStatus::Abnormal);
     assert!(rt; fs::remove_file(&rt, "volume").is_err());
 }
 
@@ -108,7 +113,7 @@ fn a_volume_of_no_server_by_a_link(rt: HostRuntime) -> Result<(), Fail> {
     symlink(&rt, "far", "led")?;
     let status = run_read(&rt, line);
     fs::remove_file(&rt, "led")?;
-    assert!(rt; status == 3);
+    assert!(rt; status == ExitStatus::Abnormal);
     assert!(rt; fs::remove_file(&rt, "far").is_err());
     Ok(())
 }
@@ -121,5 +126,5 @@ fn an_operation_at_no_server(rt: HostRuntime) {
         op: 5,
         count: 1,
     };
-    assert!(rt; run_mt(&rt, line) == 3);
+    assert!(rt; run_mt(&rt, line) == ExitStatus::Abnormal);
 }

@@ -1,2 +1,0 @@
--- Status: the exit statuses of `rdump`.
-pub mod Status
