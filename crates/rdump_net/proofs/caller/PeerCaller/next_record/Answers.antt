@@ -16,6 +16,6 @@ pub returns-in-Error : goal.returns-in-Error
 returns-in-Error g c =
     record_refused g.P.Peer.tells c.args.peer.now c.call.new.peer c.call.result c.in-Error.number _ (c.in_ok-reply.was ∙ ap Ok c.in-Error.is) c.call.ensures
 
-pub returns : goal.returns-in-Done
+pub returns : goal.returns
 returns g c =
     absurd (no_number g.P.Peer.tells c.args.peer.now c.call.new.peer RECORD_LIMIT c.call.result _ (c.in_ok-reply.was ∙ ap Ok c.in-Done.is) c.call.ensures)

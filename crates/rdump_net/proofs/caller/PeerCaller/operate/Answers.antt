@@ -16,6 +16,6 @@ pub returns-in-Error : goal.returns-in-Error
 returns-in-Error g c =
     operation_refused g.P.Peer.tells c.args.peer.now c.call.new.peer c.args.op c.args.count c.call.result c.in-Error.number _ (c.in_ok-reply.was ∙ ap Ok c.in-Error.is) c.call.ensures
 
-pub returns : goal.returns-in-Data
+pub returns : goal.returns
 returns g c =
     absurd (no_data g.P.Peer.tells c.args.peer.now c.call.new.peer (Op c.args.op c.args.count) c.call.result _ refl (c.in_ok-reply.was ∙ ap Ok c.in-Data.is) c.call.ensures)
