@@ -17,8 +17,9 @@ from typing import ContextManager, Iterable, Iterator, TextIO
 
 from gate import CHECK, free_memory, words_of
 
-# What `rt ci` prints of a crate that it has proved, or that an earlier run proved; and its last line, if all passed.
-PROVED = re.compile(r"^rt: (\w+) (?:proved$|is kept\b)")
+# What `rt ci` prints of a crate that it has proved, or that an earlier run proved, sometimes behind another message in one line; and its last line, if
+# all passed.
+PROVED = re.compile(r"rt: (\w+) (?:proved$|is kept\b)")
 PASSED = re.compile(r"^\d+ passed, 0 failed")
 # How many seconds to wait before it is looked again whether a processor is free.
 PAUSE = 1.0
@@ -41,7 +42,7 @@ def other_checks() -> int:
     own, count = os.getpid(), 0
     for process in (it for it in Path("/proc").iterdir() if it.name.isdigit()):
         words = words_of(process)
-        if Path(words[0]).name == "rattle" and {"check", "build"} & set(words[1:2]):
+        if words and Path(words[0]).name == "rattle" and {"check", "build"} & set(words[1:2]):
             try:
                 parent = process.joinpath("stat").read_text(errors="replace").rpartition(")")[2].split()[1]
             except OSError:
@@ -64,12 +65,10 @@ class Beside(Alone):
     def read(self, output: TextIO) -> None:
         """Notes which crates are proved, up to the end."""
         for line in output:
-            found = PROVED.match(line)
             with self.changed:
                 self.is_passed = bool(PASSED.match(line))
-                if found:
-                    self.proved.add(found[1])
-                    self.changed.notify_all()
+                self.proved.update(PROVED.findall(line))
+                self.changed.notify_all()
         with self.changed:
             self.is_over = True
             self.changed.notify_all()

@@ -302,7 +302,13 @@ def check_beside() -> None:
         output.flush()
         check("a crate is proved, or kept", run.wait_for(["other", "words"]))
         check("one whose edits are tried is not yet", "above" not in run.proved, run.proved)
-        was, beside.other_checks = beside.other_checks, lambda: 1
+        output.write("rt: above: another run is proving the same; waiting for itrt: wider is kept: an earlier run\n")
+        output.flush()
+        check("also where its message goes on in the line of another", run.wait_for(["wider"]))
+        was, was_words = beside.other_checks, beside.words_of
+        beside.words_of = lambda process: []
+        check("a process that has ended is no check", was() == 0)
+        beside.words_of, beside.other_checks = was_words, lambda: 1
         with run.changed:
             run.waiting = [3, 5]
             check("the largest crate begins", run.may_begin(5) and not run.may_begin(3))
