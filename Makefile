@@ -14,6 +14,7 @@ DESTDIR ?=
 SBIN = $(DESTDIR)$(PREFIX)/sbin
 BIN = $(DESTDIR)$(PREFIX)/bin
 MAN = $(DESTDIR)$(PREFIX)/share/man
+DOC = $(DESTDIR)$(PREFIX)/share/doc/rdump
 
 .PHONY: help build run try test edits bench install uninstall clean kit
 .NOTPARALLEL:
@@ -37,6 +38,8 @@ test: kit ## the gate: each proof from nothing, each wrong body that has to be r
 	python3 tests/promises.py
 	python3 tests/homes.py
 	python3 tests/examples.py
+	python3 tests/messages.py
+	python3 tests/links.py
 	python3 tests/test_further.py
 	sum=$$(python3 tests/build.py --sum $(PROGRAMS)) && python3 tests/gate.py --minutes $(MINUTES) && python3 tests/build.py --proved $$sum $(PROGRAMS)
 	test -x $(SERVER) -a -x $(CLIENT) -a -x $(SIMULATOR) || $(MAKE) build
@@ -60,17 +63,19 @@ bench: build ## long streams, reels in folders, dumps beside a floor, a long dum
 	python3 bench/threads.py --soak $(SERVER)
 	@python3 bench/table.py
 
-install: build ## install the programs and their manual pages under PREFIX, below DESTDIR; what `make test` has proved and built is not proved again
-	install -d $(SBIN) $(BIN) $(MAN)/man8 $(MAN)/man1
+install: build ## install the programs, their manual pages and the documents under PREFIX, below DESTDIR; what `make test` has proved and built is not proved again
+	install -d $(SBIN) $(BIN) $(MAN)/man8 $(MAN)/man1 $(DOC)
 	install $(SERVER) $(CLIENT) $(SBIN)
 	install $(SIMULATOR) $(BIN)
 	install -m 644 man/rmtd.8 man/rdump.8 $(MAN)/man8
 	install -m 644 man/rsim.1 $(MAN)/man1
+	install -m 644 docs/*.md $(DOC)
 	@found=$$(command -v rdump); test "$${found:-$(PREFIX)/sbin/rdump}" = $(PREFIX)/sbin/rdump || \
 		echo "rdump: PATH finds $$found first, not $(PREFIX)/sbin/rdump: see README.md"
 
 uninstall: ## remove what `make install` put there, with the same PREFIX and DESTDIR; the folders stay
 	rm -f $(SBIN)/rmtd $(SBIN)/rdump $(BIN)/rsim $(MAN)/man8/rmtd.8 $(MAN)/man8/rdump.8 $(MAN)/man1/rsim.1
+	rm -f $(patsubst docs/%,$(DOC)/%,$(wildcard docs/*.md))
 
 clean: ## remove all that was built
 	rm -rf out crates/*/out

@@ -3,7 +3,7 @@
 
     log.py [RMTD]
 
-docs/OPERATING.md has the lines in a table. A listener tells what it does; a server on standard input and output what went wrong.
+docs/MESSAGES.md has the lines in a table. A listener tells what it does; a server on standard input and output what went wrong.
 """
 
 from __future__ import annotations

@@ -1,10 +1,10 @@
 #!/usr/bin/env python3
-"""Runs the recipes of docs/OPERATING.md as they stand there, and compares what they print with what stands there. Those of tests/messages.md
-too, which are for tests alone.
+"""Runs the recipes of docs/TUTORIAL.md and docs/OPERATING.md as they are written there, and compares what they print with what is written
+there. It runs those of tests/more_recipes.md too, which are for tests alone.
 
     recipes.py [RMTD [RDUMP [RSIM]]] [--only TITLE]
 
-A section of the document with commands is a recipe. A block `sh` is commands of which each has to succeed; in a block `console` a line
+A section of a document with commands is a recipe. A block `sh` is commands of which each has to succeed; in a block `console` a line
 after `$ ` is a command, and the lines below it are all that it prints. The line `After *TITLE*` names the recipe that is done before, and
 `Needs` names programs. A recipe whose programs are not on this machine is named as skipped.
 
@@ -15,8 +15,8 @@ Each recipe has a machine of its own: its /usr/local is what `make install` leav
 copy of the repository's etc/ lies where it runs, the loopback is its own, and its processes end with it. That takes root, unshare(1) and
 make(1). Where they are not to be had, all recipes are named as skipped.
 
-Each message of the tables of docs/OPERATING.md stands in a block `console` of one of these with its status, or below with the reason why it
-does not.
+Each message of docs/MESSAGES.md that `rdump` prints, or `rmtd` at its start, is in a block `console` of one of these with its status, or below
+with the reason why it is not.
 """
 
 from __future__ import annotations
@@ -41,8 +41,8 @@ from checks import check, ended
 
 TOP = Path(__file__).resolve().parent.parent
 CRATES = TOP / "crates"
-DOCUMENT = TOP / "docs/OPERATING.md"
-MESSAGES = TOP / "tests/messages.md"
+DOCUMENTS = (TOP / "docs/TUTORIAL.md", TOP / "docs/OPERATING.md", TOP / "tests/more_recipes.md")
+MESSAGES = TOP / "docs/MESSAGES.md"
 README = TOP / "README.md"
 # The programs, each with the Makefile's word for its place.
 PROGRAMS = {"rmtd": "SERVER", "rdump": "CLIENT", "rsim": "SIMULATOR"}
@@ -75,16 +75,18 @@ PASTED = 20
 UNWRITTEN = """\
 ## What is installed
 
-All files under /usr/local are these, each folder can be entered, and the programs run for a user who is not root.
+All files under /usr/local are these and the documents, each folder can be entered, and the programs run for a user who is not root.
 
 ```console
-$ find /usr/local ! -type d -printf '%m %u %g %P\\n' | sort -k 4
+$ find /usr/local ! -type d ! -path '*/share/doc/*' -printf '%m %u %g %P\\n' | sort -k 4
 755 root root bin/rsim
 755 root root sbin/rdump
 755 root root sbin/rmtd
 644 root root share/man/man1/rsim.1
 644 root root share/man/man8/rdump.8
 644 root root share/man/man8/rmtd.8
+$ find /usr/local/share/doc -name MESSAGES.md -printf '%m %u %g %P\\n'
+644 root root rdump/MESSAGES.md
 $ find /usr/local -type d ! -perm 755
 $ runuser -u nobody -- /usr/local/sbin/rmtd --help > help; echo $?; grep Usage help
 0
@@ -118,41 +120,66 @@ $ tar --version | head -n 1 | grep -qv ' 1.34$' || echo 1 | cmp - calls
 ```
 """
 
-# The messages of the tables that no recipe shows, each with the reason.
+# The messages that no recipe shows, each with the reason.
 UNSHOWN = {
-    "OutOfMemory": "tests/refused.py shows it: memory is refused in a dump, and not before it, only by chance",
-    "rmtd: it did not start: out of memory": "tests/refused.py shows it: memory is refused between the words and the first request only by chance",
-    "its length could not be read": "tests/faults.py shows it: it takes a disk that fails between two calls",
-    "rdump: the clock: it tells no date": "tests/faults.py shows it: it takes a clock before 1970, and all processes of a machine have one clock",
-    "rdump: FILE: its .new was locked for ten seconds": "tests/updates.py shows it, and waits for it beside other checks",
-    "rdump: FILE: its .new is no plain file": "tests/updates.py shows it, and a recipe of its own would take a dump more",
-    "rdump: FILE.new: it is not one that rdump left: it is not touched": "tests/new_files.py shows it",
-    "rdump: FILE: its .new is not one that rdump left: it is not touched": "tests/new_files.py shows it: the file has to come while a dump runs",
-    "rdump: FILE: it is the payload too: ..": "tests/new_files.py shows it",
-    "its .new is the dumpdates file too: ..": "tests/new_files.py shows it",
-    "rdump: FILE: another file took its place while it was opened": "it takes an exchange between two calls of the system",
-    "rdump: FILE: it changed while it was dumped: ..": "tests/new_files.py shows it: the payload has to change while a dump runs",
-    "rdump: FILE: whether it changed while it was dumped cannot be told: ..": "tests/faults.py meets it: it takes a call that fails",
-    "rdump: FILE: it is younger than the checkpoint: ..": "tests/new_files.py shows it",
-    "rdump: FILE: the entry of /usr level 0 that this dump is to replace has a later date, ..": "tests/new_files.py shows it",
-    "rdump: FILE: it is no dumpdates file, status 3": "tests/updates.py shows it: the file has to change while a dump runs",
-    "rdump: FILE: another run writes it": "tests/told.py shows it: it takes a server that does not answer",
-    "rdump: ADDRESS: no mark": "tests/restore.py shows it: it takes a reel whose mark is lost",
+    "rmtd: FOLDER: an earlier drive has this folder too": "tests/clients.py shows it",
+    "rmtd: FOLDER: the bin is on another file system": "tests/clients.py shows it",
+    "rmtd: FOLDER: the bin is on another mount": "tests/clients.py shows it",
+    "rmtd: FOLDER: the bin is this folder too": "tests/clients.py shows it",
+    "rmtd: it did not start: out of memory": "tests/refused.py shows it: an allocation fails there only by chance",
+    "(yes, or anything else to abandon)": "tests/told.py shows it: it takes a terminal",
+    "since the epoch: every block counts as new": "tests/told.py shows it: it takes a terminal",
+    "volume N, block N of N, .. MiB/s": "a test of programs_tests shows it: it takes a terminal",
+    "block N is missing": "tests/restore.py shows it",
+    "block N is the first one that came": "tests/restore.py shows it",
+    "error: BadBlockSize: --block N: a block is 1 to 262144 bytes": "a test of dump_tests has this fault",
+    "error: BadDate: --date N: a date is 0 to 253402300799": "a test of dump_tests has this fault",
+    "error: BadDevice: --device <DEVICE>: a device is 1 to 255 bytes of one line": "a test of dump_tests has this fault",
+    "error: BadName: --fs <NAME>: a name is 1 to 255 bytes of printable ASCII without a space": "tests/new_files.py shows it",
+    "error: TooManyBlocks: --block N: a dump has at most 2147483647 blocks": "a test of dump_tests has this fault",
+    "N block of N bytes": "tests/restore.py shows it",
+    "N blocks of N to N bytes, N bytes in all": "tests/restore.py shows it",
+    "rdump: ADDRESS: a block of N bytes after one of N": "tests/restore.py shows it: it takes a reel that no dump makes",
     "rdump: ADDRESS: cannot be told": "tests/restore.py shows it: it takes a server that answers in another way",
-    "the next reel gives no record": "tests/restore.py shows it",
-    "the end of the dump is not known: without --length the last volumes may be missing, status 0": "tests/restore.py shows it",
-    "rdump: ADDRESS: the reel has volume 1 of /home level 0, another dump, status 0": "tests/restore.py shows it: with --length the reel behind a whole dump is no failure",
-    "the reel may be in the bin": "tests/restore.py shows it: it takes a server that ends the connection at that request",
-    "block 97 is the first one that came": "tests/restore.py shows it, with other numbers",
-    "rdump: FILE: its folder could not be synced": "tests/restore.py shows it: it takes a sync that fails",
-    "rdump: FILE: 1536 bytes, fewer than 2500": "tests/restore.py shows it, with other numbers",
-    "rdump: ADDRESS: a block of 300 bytes after one of 512": "tests/restore.py shows it: it takes a reel that no dump makes",
-    "rdump: FILE: it is no plain file": "tests/restore.py shows it",
-    "rdump: FILE: line N: bad line": "tests/ls.py shows it",
-    "rdump: FILE: line N: bad date": "tests/ls.py shows it",
-    "rdump: no reel was found": "tests/ls.py shows it",
-    "rdump: FOLDER: a name in it is not UTF-8": "tests/ls.py shows it",
+    "rdump: ADDRESS: no mark": "tests/restore.py shows it: it takes a reel whose mark is lost",
+    "rdump: ADDRESS: protected: the first reel of DEVICE begins with a mark; lay another reel first, then answer yes": "tests/protect.py shows it",
+    "rdump: ADDRESS: protected: the first reel of DEVICE begins with a record that is no label; lay another reel first, then answer yes": (
+        "tests/protect.py shows it"
+    ),
+    "rdump: ADDRESS: the reel has volume N of NAME level N, another dump, status 0": "tests/restore.py shows it, with --length",
+    "rdump: FILE.new: it is not one that rdump left: it is not touched": "tests/new_files.py shows it",
+    "rdump: FILE: another file took its place while it was opened": "it takes an exchange between two calls of the system",
+    "rdump: FILE: another run writes it": "tests/told.py shows it: it takes a server that does not answer",
+    "rdump: FILE: it changed while it was dumped: it had N bytes, and has N": "tests/new_files.py shows it: the payload has to change",
+    "rdump: FILE: it changed while it was dumped: it was written to": "tests/new_files.py shows it: the payload has to change",
     "rdump: FILE: it could not be read": "tests/ls.py shows it: it takes a disk that fails while the file is read",
+    "rdump: FILE: it could not be read or replaced": "it takes a failure for which the system has no reason",
+    "rdump: FILE: it could not be removed": "it takes a failure for which the system has no reason",
+    "rdump: FILE: it is no dumpdates file, status 3": "tests/updates.py shows it: the file has to change while a dump runs",
+    "rdump: FILE: it is no plain file": "tests/restore.py shows it",
+    "rdump: FILE: it is the checkpoint file too: FILE": "tests/new_files.py shows others of this form",
+    "rdump: FILE: it is the dumpdates file too: FILE": "tests/new_files.py shows others of this form",
+    "rdump: FILE: it is the payload too: FILE": "tests/new_files.py shows it",
+    "rdump: FILE: it is younger than the checkpoint: it was written to at DATE, and FILE at DATE": "tests/new_files.py shows it",
+    "rdump: FILE: its .new is no plain file": "tests/updates.py shows it",
+    "rdump: FILE: its .new is not one that rdump left: it is not touched": "tests/new_files.py shows it: the file has to come while a dump runs",
+    "rdump: FILE: its .new is the .new of the dumpdates file too: FILE": "tests/new_files.py shows others of this form",
+    "rdump: FILE: its .new was locked for ten seconds": "tests/updates.py shows it, and waits for it beside other checks",
+    "rdump: FILE: its folder could not be synced": "tests/restore.py shows it: it takes a sync that fails",
+    "rdump: FILE: its length could not be read": "tests/faults.py shows it: it takes a disk that fails between two calls",
+    "rdump: FILE: line N: bad date": "tests/ls.py shows it",
+    "rdump: FILE: line N: bad line": "tests/ls.py shows it",
+    "rdump: FILE: N bytes, fewer than N": "tests/restore.py shows it",
+    "rdump: FILE: the entry of NAME level N that this dump is to replace has a later date, DATE": "tests/new_files.py shows it",
+    "rdump: FILE: whether it changed while it was dumped cannot be told: REASON": "tests/faults.py shows it: it takes a call that fails",
+    "rdump: FOLDER: a name in it is not UTF-8": "tests/ls.py shows it",
+    "rdump: no reel was found": "tests/ls.py shows it",
+    "rdump: the clock: it tells no date": "tests/faults.py shows it: all processes of a machine have one clock",
+    "the end of the dump is not known: without --length the last volumes may be missing, status 0": "tests/restore.py shows it",
+    "the next reel gives no record": "tests/restore.py shows it",
+    "the reel may be in the bin": "tests/restore.py shows it: it takes a server that ends the connection at that request",
+    "this reel has: NAME level N DATE, volume N": "tests/again.py shows it",
+    "volume N failed: OutOfMemory": "tests/refused.py shows it: an allocation fails in a dump, and not before it, only by chance",
 }
 
 
@@ -239,9 +266,11 @@ def recipes_of(text: str) -> dict[str, Recipe]:
 
 
 def all_recipes() -> dict[str, Recipe]:
-    """The recipes of the document, the README's, those for tests alone, and those that stand in no document."""
-    used = {USED: recipes_of(README.read_text())[USED]}
-    return used | recipes_of(UNWRITTEN) | recipes_of(DOCUMENT.read_text()) | recipes_of(MESSAGES.read_text())
+    """The README's recipe, those that are in no document, and those of the documents."""
+    found = {USED: recipes_of(README.read_text())[USED]} | recipes_of(UNWRITTEN)
+    for it in DOCUMENTS:
+        found |= recipes_of(it.read_text())
+    return found
 
 
 def with_those_before(recipe: Recipe, recipes: dict[str, Recipe]) -> list[Recipe]:
@@ -440,56 +469,49 @@ def runnable(recipes: dict[str, Recipe], only: str | None) -> list[tuple[Recipe,
     return found
 
 
-# The tables of messages.
+# The page of messages.
+
+
+# The sections of messages whose statuses are compared, each with its program.
+SECTIONS = {"rmtd at its start": "rmtd", "rdump": "rdump"}
+# What varies in a message, and what is printed in its place.
+VARIES = {
+    "..": ".*",
+    "ADDRESS": r"[\w.-]+:\d+",
+    "DATE": ".+",
+    "DEVICE": r"/\S+",
+    "FILE": r"\S+",
+    "FOLDER": r"/\S+",
+    "N": r"\d+",
+    "NAME": r"\S+",
+    "REASON": r".+ \(os error \d+\)",
+}
 
 
 class Row(NamedTuple):
-    """The program of a table, what a row says is told, and the statuses that it names."""
+    """A row of a table of messages: the program, the message, the pattern of its lines, and its statuses, None for any."""
 
     program: str
-    told: str
-    statuses: tuple[str, ...]
-
-
-class Message(NamedTuple):
-    """A code span of a row, as the document has it, the pattern of its lines, and whether those of other rows are not meant."""
-
-    span: str
+    message: str
     pattern: re.Pattern[str]
-    others_are_not: bool
+    statuses: tuple[str | None, ...]
 
 
-# What stands in a message for what it names.
-NAMED = (("TIME ", r"(?:\S+Z )?"), ("FOLDER", r"/\S+"), ("ADDRESS", r"[\w.-]+:\d+"), ("FILE", r"\S+"), (r"\bN\b", r"\d+"), (r"\\\.\\\.", ".*"))
+def pattern_of(message: str) -> re.Pattern[str]:
+    """The lines that are a message, perhaps after another program's words, or with the number of an error behind."""
+    words = "|".join(rf"\b{it}\b" if it.isalpha() else re.escape(it) for it in VARIES)
+    parts = [VARIES.get(it, re.escape(it)) for it in re.split(f"({words})", message)]
+    return re.compile(f"(?:^|: ){''.join(parts)}(?: \\(os error \\d+\\))?$", re.M)
 
 
-def rows_of(program: str, lines: list[str]) -> Iterator[Row]:
-    """The rows of the tables of a section whose first column is headed by `Message`."""
-    columns: list[str] = []
-    for line in lines:
-        cells = [it.strip() for it in line.strip("|").split("|")] if line.startswith("|") else []
-        if not cells or cells[0].startswith("Message"):
-            columns = cells
-        elif columns and not cells[0].startswith("---"):
-            yield Row(program, cells[0], tuple(re.findall(r"\d", cells[1])) if columns[1] == "Status" else ())
-
-
-def all_rows(text: str) -> list[Row]:
-    """The rows of the sections `Messages of rmtd` and `Messages of rdump`."""
-    titled = [(re.fullmatch(r"Messages of (rmtd|rdump)", title), lines) for title, _, lines in sections(text)]
-    return [row for found, lines in titled if found for row in rows_of(found[1], lines)]
-
-
-def messages_of(row: Row) -> list[Message]:
-    """The messages that a row names. `and a reason` stands for one of the system's, `and another reason` and `and text` for any text."""
-    found = []
-    for span, more in re.findall(r"`([^`]+)`(?: and (a reason|another reason|text)\b)?", row.told):
-        pattern = re.escape(span).replace("\\ ", " ")
-        for word, named in NAMED:
-            pattern = re.sub(word, lambda _: named, pattern)
-        end = {"": r"(?: \(os error \d+\))?", "a reason": r" .+ \(os error \d+\)"}.get(more, " .+")
-        found.append(Message(span, re.compile(f"(?:^|: ){pattern}{end}$", re.M), more == "another reason"))
-    return found
+def rows() -> Iterator[Row]:
+    """The rows of the tables of these sections."""
+    for title, _, lines in sections(MESSAGES.read_text()):
+        for line in lines if title in SECTIONS else ():
+            found = re.match(r"\| `([^`]+)` \| ([^|]+) \|", line)
+            if found:
+                statuses = tuple(re.findall(r"\d", found[2]))
+                yield Row(SECTIONS[title], found[1], pattern_of(found[1]), statuses or (None,))
 
 
 def is_of(command: Command, program: str) -> bool:
@@ -507,29 +529,19 @@ def printed_with(commands: list[Command], program: str, status: str | None) -> I
     return (it.wanted or "" for it in commands if is_of(it, program) and has_status(it, status))
 
 
-def is_shown(message: Message, printed: Iterator[str], others: list[Message]) -> bool:
-    """Whether a line that is printed is a message."""
-    lines = [line for text in printed for line in text.splitlines() if message.pattern.search(line)]
-    return any(not (message.others_are_not and any(it.pattern.search(line) for it in others)) for line in lines)
-
-
-def check_messages(text: str, commands: list[Command]) -> None:
-    """Each message of the tables is shown with its status, or is one of those that are not shown."""
-    rows = all_rows(text)
-    found = [(row, it) for row in rows for it in messages_of(row)]
-    exact = [it for _, it in found if not it.others_are_not]
-    check("the tables have rows", {it.program for it in rows} == {"rmtd", "rdump"}, rows)
-    for row, message in found:
-        for status in row.statuses or (None,):
-            shown = is_shown(message, printed_with(commands, row.program, status), exact)
-            name = f"{row.program} tells `{message.span}`, status {status}"
-            is_named = bool({message.span, f"{message.span}, status {status}"} & set(UNSHOWN))
-            check(f"{name}: a recipe shows it, or it is named as not shown", shown != is_named, row)
-    for row in (it for it in rows if it.told == "nothing"):
-        shown = f"{row.statuses[0]}\n" in printed_with(commands, row.program, row.statuses[0])
-        check(f"{row.program} tells nothing, status {row.statuses[0]}: a recipe shows it", shown)
-    check("each row names a message", all(it.told == "nothing" or messages_of(it) for it in rows), rows)
-    check("what is not shown stands in the tables", {it.partition(", status ")[0] for it in UNSHOWN} <= {it.span for _, it in found}, UNSHOWN)
+def check_messages(commands: list[Command]) -> None:
+    """Each message is shown with its status, or is one of those that are not shown."""
+    found = list(rows())
+    check("the page has messages of both programs", {it.program for it in found} == {"rmtd", "rdump"}, found)
+    for it in found:
+        for status in it.statuses:
+            shown = any(it.pattern.search(text) for text in printed_with(commands, it.program, status))
+            is_named = bool({it.message, f"{it.message}, status {status}"} & set(UNSHOWN))
+            name = f"{it.program} prints `{it.message}`, status {status or 'any'}"
+            check(f"{name}: a recipe shows it, or it is named as not shown", shown != is_named, shown)
+    messages = {it.message for it in found}
+    for it in UNSHOWN:
+        check("what is not shown is on the page", it.partition(", status ")[0] in messages, it)
 
 
 def check_uninstall(programs: list[str]) -> None:
@@ -547,7 +559,7 @@ def check_uninstall(programs: list[str]) -> None:
 
 
 def main() -> int:
-    parser = argparse.ArgumentParser(description="Runs the recipes of docs/OPERATING.md and of README.md as they stand there.")
+    parser = argparse.ArgumentParser(description="Runs the recipes of the documents as they are written there.")
     for name in PROGRAMS:
         parser.add_argument(name, nargs="?", default=str(CRATES / name / "out" / name))
     parser.add_argument("--only", help="the title of one recipe")
@@ -561,7 +573,7 @@ def main() -> int:
     if words.inside:
         return run_inside(words.inside, programs, words.paste)
     recipes = all_recipes()
-    check_messages(DOCUMENT.read_text(), [it for recipe in recipes.values() for it in recipe.commands()])
+    check_messages([it for recipe in recipes.values() for it in recipe.commands()])
     check_uninstall(programs)
     found = runnable(recipes, words.only)
     with ThreadPoolExecutor(AT_ONCE) as pool:

@@ -70,7 +70,7 @@ def write(record: bytes) -> bytes:
 
 
 def label(volume: int, first: int) -> bytes:
-    """The label of a volume of the file system `/usr` at level 0, as docs/DUMP.md has it."""
+    """The label of a volume of the file system `/usr` at level 0, as docs/FORMATS.md has it."""
     text = f"name /usr\nlevel 0\ndate {DAY}\nsince 0\nvolume {volume}\nfirst {first}\n"
     return text.encode().ljust(1024, b"\0")
 
