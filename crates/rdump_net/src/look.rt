@@ -58,12 +58,13 @@ pub enum LookRequest {
     Close,
 }
 
-/// Why a look found nothing.
+/// Why a look failed.
 #[derive(Clone, Copy, Debug, PartialEq, Eq)]
 pub enum LookFault {
-    /// The server replied to this request with the error of this number. It was the first refusal.
+    /// The server replied to this request with the error of this number. A space that is refused
+    /// with `EIO` is no failure: it shows that the reel is empty.
     Refused { asked: LookRequest, number: u32 },
-    /// A request got no reply.
+    /// There is no reply to a request, for this reason.
     NoReply(CallFault),
 }
 
@@ -80,6 +81,7 @@ pub enum LookFault {
 /// The device is one line of at most `LINE_LIMIT` bytes.
 ///
 /// Fails with `LookFault::Refused` and the first request that was refused, which may be the close.
+/// A space that shows that the reel is empty does not count as refused.
 /// Fails with `LookFault::NoReply` if no connection could be made, an allocation failed, no reply
 /// came, or the bytes that came are no reply.
 pub fn look_at_reel<P: Peer>(

@@ -23,8 +23,9 @@ pub enum Passed {
 /// An implementation may log what passed, in order (the ghost `tells`). Clauses about what passed
 /// hold only if it does.
 ///
-/// `false`, or 0 for a buffer with room, means that the connection ended; nothing else means that.
-/// A call without a connection, or after its end, reports the end too.
+/// `connect` and `send` report by `false`, and `receive` by 0 for a buffer with room, that the
+/// connection ended. Nothing else means that. A call without a connection, or after its end,
+/// reports the end too.
 pub trait Peer {
     ghost use Rattle.std.specs.Prelude.{List};
     ghost use Rattle.rdump_net.specs.declared.peer.Passed.{Passed};

@@ -85,7 +85,7 @@ fn add_drive<'a>(
     Err(Halt::BadLine)
 }
 
-/// Whether a world can have these drives.
+/// Returns whether a world can have these drives. Fails if an allocation fails.
 fn are_good(alloc: Global, drives: &[DriveLine<'_>]) -> Result<bool, AllocError>
     ensures { IfOk result (λ good. (good ≡ true) ↔ AreGoodDrives (map plain_line drives.now)) }
 {
