@@ -83,22 +83,32 @@ class Beside(Alone):
         return not self.is_over or self.is_passed
 
     def may_begin(self, size: int) -> bool:
-        """Whether a check of a crate of this size begins now: it is the largest that waits, and there is a processor and memory for it."""
-        if size < max(self.waiting) or self.running >= self.processors or free_memory() < CHECK:
+        """Whether a check of a crate of this size begins now: it is the largest that waits, and there is a processor and memory for it. If no other
+        check runs, it begins with any memory."""
+        if size < max(self.waiting):
             return False
-        return self.running + other_checks() < self.processors
+        count = self.running + other_checks()
+        return count == 0 or count < self.processors and free_memory() >= CHECK
+
+    def begins(self, size: int) -> bool:
+        """Counts a check of a crate of this size as running, if it begins now."""
+        with self.changed:
+            if not self.may_begin(size):
+                return False
+            self.running += 1
+            return True
 
     @contextmanager
     def turn(self, size: int) -> Iterator[None]:
         with self.changed:
             self.waiting.append(size)
-        while True:
+        try:
+            while not self.begins(size):
+                time.sleep(PAUSE)
+        finally:
+            # Also if looking failed, or the smaller ones would wait for it for ever.
             with self.changed:
-                if self.may_begin(size):
-                    self.waiting.remove(size)
-                    self.running += 1
-                    break
-            time.sleep(PAUSE)
+                self.waiting.remove(size)
         try:
             yield
         finally:

@@ -314,7 +314,20 @@ def check_beside() -> None:
             check("the largest crate begins", run.may_begin(5) and not run.may_begin(3))
             run.running = 1
             check("no check begins if all processors are taken", not run.may_begin(5))
-            run.running, run.waiting = 0, []
+            run.running = 0
+            was_memory, beside.free_memory = beside.free_memory, lambda: 0
+            check("nor without memory beside another check", not run.may_begin(5))
+            beside.other_checks = lambda: 0
+            check("but alone it does", run.may_begin(5))
+            beside.free_memory, beside.other_checks = was_memory, lambda: 1
+            run.waiting = []
+        begins, run.begins = run.begins, lambda _: 1 / 0
+        try:
+            with run.turn(6):
+                pass
+        except ZeroDivisionError:
+            check("a turn that fails waits no longer", run.waiting == [] and run.running == 0)
+        run.begins = begins
         with run.turn(4):
             check("a turn counts", run.running == 1 and run.waiting == [])
         check("up to its end", run.running == 0)
