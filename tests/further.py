@@ -299,6 +299,14 @@ def edit_of(crate: str, file: Path) -> Edit:
         return Edit(file.stem, changes, [], [])
 
 
+def can_be_applied(crate: str, file: Path) -> bool:
+    """Whether a further edit can be applied: the refusal that is kept was over the same texts, but for their comments."""
+    try:
+        return bool(applied(TOP / "crates" / crate, pairs(file.read_text(encoding="utf-8"))))
+    except (OSError, ValueError):
+        return False
+
+
 class Trial:
     """The further edits of a crate, and what comes of each: first of those whose refusal is kept."""
 
@@ -306,7 +314,7 @@ class Trial:
         self.crate = crate
         self.files = sorted(TOP.glob(f"crates/{crate}/further/*.edit"))
         self.keys = self.keys_now()
-        self.found = {name: said for name, key in self.keys.items() if not is_anew and (said := refusals.kept(key))}
+        self.found = {} if is_anew else {it.stem: said for it in self.files if (said := refusals.kept(self.keys[it.stem])) and can_be_applied(crate, it)}
         self.kept = frozenset(self.found)
 
     def keys_now(self) -> dict[str, str]:

@@ -1,8 +1,8 @@
 """The refusals that this machine keeps: of an edit that the prover refused, over the same texts, what was said of it.
 
 They lie outside the repository, in $XDG_CACHE_HOME/bezhkaol/refusals or ~/.cache/bezhkaol/refusals, one file each. Its name is the checksum of all that
-decided: the kit's version, the scripts that try edits, the crate and those below it (their lines in crates.txt, sources, specs and proofs), and the
-edit with its name. Only a refusal is kept, so a file that is lost, damaged or of other texts costs a try and nothing else.
+decided: the kit's version, the scripts that try edits, the crate and those below it (their lines in crates.txt, sources, specs and proofs, all but
+their comments), and the edit with its name. Only a refusal is kept, so a file that is lost, damaged or of other texts costs a try and nothing else.
 """
 
 from __future__ import annotations
@@ -21,6 +21,8 @@ import proved
 REFUSED = "refused"
 # What decides beside the crates and the kit.
 SCRIPTS = ("further.py", "beside.py", "proved.py", "controls.py", "refusals.py")
+# How a line begins that is a comment and no more, by the ending of the file's name. No string of a source has such a line.
+COMMENTS = {".rt": b"//", ".antt": b"--"}
 # How many seconds a refusal is kept that no run has used.
 LONGEST = 60 * 24 * 3600
 # What is raised where there is no such folder, no home, or no text.
@@ -38,6 +40,12 @@ def add(found: hashlib._Hash, name: str, text: bytes) -> None:
     found.update(f"{name} {len(text)}\n".encode() + text)
 
 
+def without_comments(file: Path) -> bytes:
+    """What a file says, without the lines that are comments and no more, and without empty ones."""
+    text, begin = file.read_bytes(), COMMENTS.get(file.suffix)
+    return b"\n".join(it for it in text.split(b"\n") if it.strip() and not it.lstrip().startswith(begin)) if begin else text
+
+
 def sum_of_crate(crate: str) -> str:
     """The checksum of all that decides on an edit of a crate, but for the edit."""
     found = hashlib.sha256()
@@ -50,7 +58,7 @@ def sum_of_crate(crate: str) -> str:
         add(found, name, lines[name].encode())
         folder = controls.TOP / "crates" / name
         for file in sorted(it for part in proved.PARTS for it in (folder / part).rglob("*") if it.is_file()):
-            add(found, str(file.relative_to(folder)), file.read_bytes())
+            add(found, str(file.relative_to(folder)), without_comments(file))
     return found.hexdigest()
 
 

@@ -216,16 +216,22 @@ def check_keys() -> None:
 
     is_other("crates/words/further/counts_one_less.edit", "file: src/lib.rt\nold:         self.came\nnew:         self.came - 2\n")
     is_other("crates/words/src/lib.rt", CRATE.replace("7", "8"))
-    is_other("crates/words/specs/Words.antt", "-- other words\n")
-    is_other("crates/other/src/lib.rt", "//! Other.\n")
+    is_other("crates/words/specs/Words.antt", "abbrev pub other : ℕ\n")
+    is_other("crates/other/src/lib.rt", "fn other() {}\n")
     is_other("crates.txt", "other:\nwords: other\nabove: words\n")
     is_other("HANDLES", "Handles allowed: Wait.\n")
+    before, source, text = key(), top / "crates/words/src/lib.rt", CRATE
+    source.write_text(f"// A comment.\n\n{text}")
+    check("another comment has the same key", key() == before)
+    source.write_text(f"const A: u8 = 1; // A comment.\n{text}")
+    check("but a line with more than a comment has another", key() != before)
+    source.write_text(text)
     before, was = key(), proved.version
     proved.version = lambda: "a later kit"
     check("another kit has another key", key() != before)
     proved.version = was
     (top / "crates/words/proofs").mkdir()
-    (top / "crates/words/proofs/More.antt").write_text("-- more\n")
+    (top / "crates/words/proofs/More.antt").write_text("more\n")
     check("one more proof has another key", key() != before)
     (top / "crates/words/proofs/More.antt").unlink()
     (top / "crates/words/out").mkdir()
@@ -279,16 +285,21 @@ def check_trials() -> None:
     again = further.Trial("words")
     check("and is not tried again", again.left() == [] and again.failed() == 0 and "(kept)" in again.told("no checks"), again.found)
     check("but where all are asked for", len(further.Trial("words", is_anew=True).left()) == 1)
+    source = controls.TOP / "crates/words/src/lib.rt"
+    was_text = source.read_text()
+    source.write_text(f"// Not {controls.pairs(trial.files[0].read_text())[0].old}\n{was_text}")
+    check("nor counts what is kept where a comment makes it one that can't be applied", len(further.Trial("words").left()) == 1)
+    source.write_text(was_text)
     (refusals.place() / trial.keys["counts_one_less"]).unlink()
     changing = further.Trial("words")
-    was_meanwhile, Fake.meanwhile = Fake.meanwhile, lambda: (controls.TOP / "crates/words/specs/Words.antt").write_text("-- changed meanwhile\n")
+    was_meanwhile, Fake.meanwhile = Fake.meanwhile, lambda: (controls.TOP / "crates/words/specs/Words.antt").write_text("changed meanwhile\n")
     changing.run(None)
     Fake.meanwhile = was_meanwhile
     check("nothing is kept of texts that changed meanwhile", len(further.Trial("words").left()) == 1 and not refusals.kept(changing.keys["counts_one_less"]))
     further.Trial("words").run(None)
     check("and what was tried again is", further.Trial("words").left() == [])
     source = controls.TOP / "crates/other/src/lib.rt"
-    source.write_text("//! Changed.\n")
+    source.write_text("fn changed() {}\n")
     check("but where a crate below changed", len(further.Trial("words").left()) == 1)
     further.Work = was
 
