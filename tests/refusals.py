@@ -2,7 +2,7 @@
 
 They lie outside the repository, in $XDG_CACHE_HOME/bezhkaol/refusals or ~/.cache/bezhkaol/refusals, one file each. Its name is the checksum of all that
 decided: the kit's version, the scripts that try edits, the crate and those below it (their lines in crates.txt, sources, specs and proofs, all but
-their comments), and the edit with its name. Only a refusal is kept, so a file that is lost, damaged or of other texts costs a try and nothing else.
+their comments), and the edit's name and what it changes. Only a refusal is kept, so a file that is lost, damaged or of other texts costs a try and nothing else.
 """
 
 from __future__ import annotations
@@ -65,7 +65,7 @@ def sum_of_crate(crate: str) -> str:
 def key_of(crate_sum: str, edit: Path) -> str:
     """The name under which the refusal of an edit is kept."""
     found = hashlib.sha256(crate_sum.encode())
-    add(found, edit.name, edit.read_bytes())
+    add(found, edit.name, repr(controls.pairs(edit.read_text(encoding="utf-8"))).encode())
     return found.hexdigest()
 
 
