@@ -225,10 +225,10 @@ def reason(log: str) -> str:
 
 
 def tried(work: Work, edits: list[Edit]) -> Checked:
-    """Checks the crate with these edits: only the functions that they change, and what these call, where all are local. Where a function is not found by
-    its name, as in an `impl` for one argument of a type, all of its module are checked; in the root module, all of the crate."""
+    """Checks the crate with these edits: only the functions that they change, and what these call, where each changes one. Where a function is not found
+    by its name, as in an `impl` for one argument of a type, all of its module are checked; in the root module, all of the crate."""
     changes = [it for edit in edits for it in edit.changes]
-    only = {it for edit in edits for it in edit.only} if all(it.is_local() for it in edits) else set()
+    only = {it for edit in edits for it in edit.only} if all(it.only for it in edits) else set()
     ran = work.check(changes, sorted(only))
     while only and (wrong := MISNAMED.search(ran.log)):
         modules = {module.partition("::")[2] for edit in edits if wrong[1] in edit.only for module, _ in edit.places}
@@ -270,7 +270,8 @@ def shown(work: Work, edits: list[Edit], waits: Waits) -> dict[str, str]:
         return dict.fromkeys((it.name for it in edits), f"NOT TRIED: the check was killed by signal {-ran.status}")
     if len(edits) == 1:
         edit = edits[0]
-        return {edit.name: outcome(edit, work.check(edit.changes, []) if ran.status == 0 and edit.is_of_constant() else ran)}
+        is_everywhere = edit.is_of_constant() or not edit.is_local()
+        return {edit.name: outcome(edit, work.check(edit.changes, []) if ran.status == 0 and is_everywhere else ran)}
     waits |= waits_in(edits, ran.log)
     half = len(edits) // 2
     return refused_of(edits, ran.log) or shown(work, edits[:half], waits) | shown(work, edits[half:], waits)

@@ -291,6 +291,16 @@ def check_trials() -> None:
     check("nor counts what is kept where a comment makes it one that can't be applied", len(further.Trial("words").left()) == 1)
     source.write_text(was_text)
     (refusals.place() / trial.keys["counts_one_less"]).unlink()
+    both = edit("both", "pub(crate) const WIDEST: usize = 7;", "pub(crate) const WIDEST: usize = 8;")
+    both = both._replace(places=[*both.places, ("words", "count")], only=["Words::count"])
+    tried.clear()
+    said = further.shown(Fake(None, "words", None), [both], set())["both"]
+    check("one that changes more than bodies is tried on the functions that it changes", tried == ["Words::count"] and said.startswith("refused: "), said)
+    Fake.answer, whole = proved.Checked(0, "only=1 proved=1"), []
+    ran = Fake(None, "words", None)
+    ran.check = lambda changes, only=(): whole.append([*only]) or Fake.answer
+    check("and on all where these are proved", further.shown(ran, [both], set())["both"] == "NOT REFUSED" and whole == [["Words::count"], []], whole)
+    Fake.answer = proved.Checked(1, "fn words::Words::count: not proved\nonly=1 proved=0")
     changing = further.Trial("words")
     was_meanwhile, Fake.meanwhile = Fake.meanwhile, lambda: (controls.TOP / "crates/words/specs/Words.antt").write_text("changed meanwhile\n")
     changing.run(None)
