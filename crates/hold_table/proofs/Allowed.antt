@@ -178,7 +178,7 @@ opens drives words small is =
       spread = spread_first (seated (newcomer 1) 0 (SEAT_LIMIT - 1)) refl;
     }
 
--- a company of no seat comes
+-- a group of no seat is made
 pub enters : (drives slots d : ℕ) → Enters (Rule drives) slots d (λ n c. EntersAt (step slots d 0 0 none) ([], []) n (c, []))
 enters drives slots d s rs _ _ = (
   [],
@@ -186,7 +186,7 @@ enters drives slots d s rs _ _ = (
   refl,
 )
 
--- a company takes in one seat more
+-- one seat is added to a group
 pub joins : (drives id other : ℕ) (c w : SeatGroup) (y : Seated) → w ≡ y ∷ [] → Joins (Rule drives) id c other w (w ++ c) []
 joins drives id other c w y alone s rs at apart bt =
     let lies : get_elem? s.views other ≡ some (y ∷ []) = sym (set_else s.views id other (w ++ c) apart) ∙ bt ∙ ap some alone in record {

@@ -17,7 +17,7 @@ use Rattle.hold_table.specs.Keeping.{SeatGroup, IsInGroup, KeepsRule, nobody, sh
 use Rattle.hold_table.specs.Seats.{TableSeat, table_seat}
 use Rattle.hold_table.proofs.Lists.{at_below, there, at_image, at_next, length_image, reads}
 
--- a company has a seat numbered n, or none
+-- a group has a seat numbered n, or none
 numbered_in : (c : SeatGroup) (n : ℕ) → ((k : ℕ) × (x : Seated) × (get_elem? c k ≡ some x) × (x.view.number ≡ n))
     ⊎ ((k : ℕ) (x : Seated) → get_elem? c k ≡ some x → x.view.number ≢ n)
 numbered_in [] n = inr (λ k x e. absurd (let b = at_below [] k x e in omega arith))

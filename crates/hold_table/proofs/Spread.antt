@@ -1,4 +1,4 @@
--- Where the seats lie, as companies step, are joined and are split.
+-- Where the seats are, as groups step, are joined and are split.
 use Rattle.std.proofs.Common.{◌≡◌, ◌≢◌, ◌⊎◌, inl, inr, ⊎_elim, ℕ, ◌+◌, ◌-◌, cond, eqb, List, [], ◌∷◌, ◌++◌, length, set, sym, refl, ap, ◌∙◌, subst, arith, length-set, eq-eqb, ne_eqb}
 use mathlib.Core.Option.{some, some-ne-none}
 use lib.ListN.{get_elem?}
@@ -94,7 +94,7 @@ module _ (seats : List Seated) (old : List SeatGroup) (spread : AreGrouped seats
             (there k j z l);
       }
 
-  -- a company takes in the one seat of another
+  -- the one seat of another group is added to a group
   pub spread_joined : (id other : ℕ) (c : SeatGroup) (y : Seated) → other ≢ id → get_elem? old id ≡ some c → get_elem? old other ≡ some (y ∷ [])
       → AreGrouped seats (set (set old id (y ∷ c)) other [])
   spread_joined id other c y apart at bt =
@@ -117,14 +117,14 @@ module _ (seats : List Seated) (old : List SeatGroup) (spread : AreGrouped seats
       (at_set old id k (y ∷ c) l.0 t.1))
       (at_set (set old id (y ∷ c)) other k [] l.0 l.1))
 
-  -- a company of no seat comes
+  -- a group of no seat is made
   pub spread_entered : AreGrouped seats (old ++ [] ∷ [])
   spread_entered = spread_anew (old ++ [] ∷ []) (λ m i. m) (λ m i. i) (λ k j z l. ⊎_elim
       (λ e. (k, j, (l.0, e, l.2), refl, refl))
       (λ t. absurd (some-ne-none z (sym (subst (λ (a : SeatGroup). get_elem? a j ≡ some z) (sym t.1) l.2))))
       (at_snoc_where old [] l.0 k l.1))
 
-  -- the second of a company's two seats goes into one of its own
+  -- the second of a group's two seats is split off, into a group of its own
   pub spread_split : (id : ℕ) (x y : Seated) → get_elem? old id ≡ some (x ∷ y ∷ []) → AreGrouped seats (set old id (x ∷ []) ++ (y ∷ []) ∷ [])
   spread_split id x y at =
       let to : ℕ → ℕ → ℕ = λ m i. cond (eqb m id) (cond (eqb i 0) id (length old)) m in

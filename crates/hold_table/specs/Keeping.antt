@@ -23,11 +23,11 @@ nobody = seated (newcomer 0) 0 0
 abbrev pub SeatGroup : Type 0
 SeatGroup = List Seated
 
--- the first seat of a company
+-- the first seat of a group
 abbrev pub first_of : SeatGroup → Seated
 first_of c = slice_index_or c 0 nobody
 
--- the second seat of a company
+-- the second seat of a group
 abbrev pub second_of : SeatGroup → Seated
 second_of c = slice_index_or c 1 nobody
 
@@ -82,18 +82,18 @@ pub record IsTableKept (drives : ℕ) (words : List ℕ) (seats : List Seated) :
       → has x.view d ≡ (slice_index words d == x.view.number)
   pub found : (k : ℕ) (x : Seated) (step : LastStep) → get_elem? seats k ≡ some x → x.view.last ≡ Some step → WasHeld seats step.drive step.found
 
--- the company at index k has the seat x at index j
+-- the group at index k of `companies` has the seat x at index j
 abbrev pub IsInGroup : List SeatGroup → ℕ → ℕ → Seated → Type 0
 IsInGroup companies k j x = (c : SeatGroup) × (get_elem? companies k ≡ some c) × (get_elem? c j ≡ some x)
 
--- each seat of a company is the one in `seats` with its number, and no number is at two places
+-- each seat of a group is the one in `seats` with its number, and no number is at two places
 pub record AreGrouped (seats : List Seated) (companies : List SeatGroup) : Type 0 where
   pub known : (k j : ℕ) (x : Seated) → IsInGroup companies k j x → get_elem? seats (x.view.number - 1) ≡ some x
   pub once : (k j : ℕ) (x : Seated) (m i : ℕ) (y : Seated) → IsInGroup companies k j x → IsInGroup companies m i y
       → x.view.number ≡ y.view.number → (k ≡ m) × (j ≡ i)
 
 -- what the table keeps between steps: the rule for its words and seats, the hold rule, and which
--- company has which seat
+-- group has which seat
 pub record KeepsRule (drives : ℕ) (words : List ℕ) (companies : List SeatGroup) : Type 0 where
   pub seats : List Seated
   pub kept : IsTableKept drives words seats
@@ -140,7 +140,7 @@ AreApart x y =
     × FoundHolder x.view y.view y.made
     × FoundHolder y.view x.view x.made
 
--- A look by a company of two seats that found `found`. It changes neither seat, and shows that they
+-- A look by a group of two seats that found `found`. It changes neither seat, and shows that they
 -- are apart.
 abbrev pub ComparesAt : Step (Unit {0}) → AtomicSeat → ℕ → AtomicSeat → Type 0
 ComparesAt s me found me' =
@@ -150,10 +150,10 @@ ComparesAt s me found me' =
     × FindsAs found s.word (second_of me.0)
     × AreApart (first_of me.0) (second_of me.0)
 
--- a new company represents no seat
+-- a new group represents no seat
 abbrev pub EntersAt : Step (Unit {0}) → AtomicSeat → ℕ → AtomicSeat → Type 0
 EntersAt s me found me' = me'.0 ≡ []
 
--- the seats of a company, as contracts see them
+-- the seats of a group, as contracts see them
 abbrev pub shown : TableId → SeatGroup → List TableSeat
 shown t c = map (λ x. table_seat t x.view x.made) c

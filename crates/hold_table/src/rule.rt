@@ -15,7 +15,7 @@ pub struct Seated {
     pub spare: u64,
 }
 
-/// The seats that one seat of `atomic_table` represents. That is one seat, except inside
+/// A group: the seats that one seat of `atomic_table` represents. That is one seat, except inside
 /// `HoldTable::apart` and `HoldTable::close`.
 pub(crate) type SeatGroup = LinkedList<Seated>;
 
@@ -73,7 +73,7 @@ impl Play<(), SeatGroup> for Looks {
     ghost then = { LooksAt };
 }
 
-/// A company adds the seats of another before its own.
+/// The seats of another group are added to a group, before its own.
 pub(crate) struct Gather;
 
 impl Join<SeatGroup> for Gather {
@@ -84,7 +84,7 @@ impl Join<SeatGroup> for Gather {
     ghost spent = { [] };
 }
 
-/// A company of two seats splits into two of one seat each.
+/// A group of two seats is split into two groups of one seat each.
 pub(crate) struct Part;
 
 impl Split<SeatGroup> for Part {
@@ -96,7 +96,7 @@ impl Split<SeatGroup> for Part {
     ghost right = { λ c. second_of c ∷ [] };
 }
 
-/// One look by a company of two seats.
+/// One look by a group of two seats.
 pub(crate) struct Compares;
 
 impl Play<(), SeatGroup> for Compares {
@@ -105,7 +105,7 @@ impl Play<(), SeatGroup> for Compares {
     ghost then = { ComparesAt };
 }
 
-/// A company of no seats is made.
+/// A group of no seats is made.
 pub(crate) struct Enters;
 
 impl Play<(), SeatGroup> for Enters {

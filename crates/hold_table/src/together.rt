@@ -58,7 +58,7 @@ impl HoldTable {
         (one, other, found)
     }
 
-    // Adds the seat to the company, before the company's own seats.
+    // Adds the seat to the group `company`, before the group's own seats.
     fn add_seat(&self, company: &mut Seat<(), SeatGroup>, next: HoldSeat)
         requires company { company.old.table_id ≡ self.now }
         requires next { IsSeatAt self.now next }
@@ -69,7 +69,7 @@ impl HoldTable {
         self.table.shared.join_seat::<Gather>(company, seat);
     }
 
-    // Returns one company of all these seats, in their order.
+    // Returns one group of all these seats, in their order.
     fn gathered(&self, mut seats: Vec<HoldSeat>) -> Seat<(), SeatGroup>
         requires seats { All (λ s. IsSeatAt self.now s) seats.items }
         ensures same { result.table_id ≡ self.now }
