@@ -1,5 +1,10 @@
 -- The headline: three statements that hold after every list of events, and the definitions that
 -- they use. Public contracts cite it.
+--
+-- `World::kept` of the crate `tape_world` states `Headline` of each `World`. The counts of a world
+-- are the client's: they grow only as the client's own list does (`counts_grow`), and have each
+-- volume of that list under the number of its run (`clients_counts`). The list that goes with an
+-- open is the one that the client had then, whoever made the open, and empty without a client.
 use Rattle.std.specs.Prelude.{◌≡◌, ℕ, ◌+◌, ◌<◌, ◌≤◌, List, [], Contains, Some}
 use Rattle.dump_client.specs.Position.{Covers}
 use Rattle.dump_run.specs.declared.count.VolumeCount.{VolumeCount}
