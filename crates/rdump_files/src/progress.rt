@@ -204,6 +204,8 @@ pub struct Clearing<W, T> {
 impl<W: Write, T: Write> Write for Clearing<W, T> {
     ghost contents = { λ c. W.contents c.lines };
 
+    /// Clears the line of progress at the terminal, if there is one, and then writes to `lines`. A
+    /// failure to clear the line is ignored.
     fn write(&mut self, buf: &[u8]) -> io::Result<usize> {
         if let Some(terminal) = &mut self.terminal {
             let _ = terminal.write_all(CLEAR);

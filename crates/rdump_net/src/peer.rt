@@ -33,8 +33,8 @@ pub trait Peer {
     /// What passed so far, in order, if this peer logs it.
     ghost tells: { Self → List Passed → Type 0 };
 
-    /// Makes a connection, and drops the earlier one if there is one. Returns whether it could; if
-    /// not, the log has `Ended`.
+    /// Connects to the peer. An earlier connection, if there is one, is dropped first. Returns true
+    /// and logs `Connected` if the connection was made. Otherwise returns false and logs `Ended`.
     fn connect(&mut self) -> bool
         ensures { Logs tells self.old self.new (connected result) };
 

@@ -68,21 +68,21 @@ impl ReelTally {
         &self.holding
     }
 
-    /// Returns how many records came.
+    /// Returns how many records were added, including the label and those after a mark.
     pub fn records(&self) -> u64
         ensures { result ≡ self.now.records }
     {
         self.records
     }
 
-    /// Returns how many marks came.
+    /// Returns how many marks were added.
     pub fn marks(&self) -> u64
         ensures { result ≡ self.now.marks }
     {
         self.marks
     }
 
-    /// Returns what the entries are, once no more come.
+    /// Consumes the tally, and returns what the entries that were added are.
     pub fn into_holding(self) -> Holding
         ensures { result ≡ self.holding }
     {

@@ -1,17 +1,17 @@
-//! How many of the bytes on the way arrive.
+//! How many of the bytes in transit arrive.
 
-/// How many of the bytes on the way arrive.
+/// How many of the bytes in transit on a connection arrive, as a line of a schedule gives it.
 #[derive(Clone, Copy)]
 pub(crate) enum ByteCount {
-    /// All of them. Of those that reach the server, only as many as its reader has room for.
+    /// All of them. If they are for the server, only as many as its reader has room for.
     All,
-    /// This many.
+    /// Exactly this many.
     Exactly(usize),
 }
 
 impl ByteCount {
-    /// Returns the number of bytes: `all` for `All`, and else the count, even if it is more than
-    /// `all`.
+    /// Returns how many bytes arrive if `all` can: `all` for `All`, and otherwise the count, even if
+    /// it is more than `all`.
     pub(crate) fn of(self, all: usize) -> usize {
         match self {
             ByteCount::All => all,
