@@ -21,7 +21,7 @@ pub record ListLibrary : Type 0 where
   pub trouble : Bool
   pub failures : ℕ
 
--- the same stacks with another library of reels
+-- `s` with the library `reels` in place of its own
 abbrev pub with_library : ListLibrary → LibraryOf TroubledTape → ListLibrary
 with_library s reels = record s { library = reels }
 

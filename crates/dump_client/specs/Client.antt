@@ -37,7 +37,8 @@ HasFedAt (ToSend step) reader bytes = ReplyUnread reader None [] × (bytes ≡ [
 HasFedAt (Waiting step) reader bytes = IsReaderWaiting (wanted_of step) reader bytes
 HasFedAt stage reader bytes = bytes ≡ []
 
--- the same, for a client
+-- the bytes fed to the client `c` since the request that awaits its reply was sent; none in the
+-- other stages
 abbrev pub HasFed : {B : Type 0} → ClientHeld B → List ℕ → Type 0
 HasFed c bytes = HasFedAt c.at.stage c.reader bytes
 
@@ -153,7 +154,8 @@ abbrev pub ReadBy : {B T : Type 0} → Step → ℕ → (B → ℕ → List ℕ 
 ReadBy {B} {T} (Block number) size reads old before result new now = IsBlockRead number size reads old before result new now
 ReadBy {B} {T} step size reads old before result new now = new ≡ old
 
--- the same for a stage: without a request to send, the source is unchanged
+-- If the stage is to send the request of a step, the source is read as `ReadBy` says. In any other
+-- stage it is unchanged.
 abbrev pub ReadAt : {B : Type 0} → Stage → ℕ → (B → ℕ → List ℕ → Result Unit SourceFailed → B → List ℕ → Type 0)
     → B → List ℕ → Result Bool AttemptFault → B → List ℕ → Type 0
 ReadAt {B} (ToSend step) size reads old before result new now = ReadBy step size reads old before result new now

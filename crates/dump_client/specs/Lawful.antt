@@ -19,7 +19,8 @@ use Rattle.dump_client.specs.declared.stage.Stage.{Stage}
 use Rattle.dump_client.specs.declared.stage.Stage.TheVariants.{ToSend, Waiting, Finished}
 use Rattle.dump_run.specs.declared.count.VolumeCount.{VolumeCount}
 
--- the counts do not cover the run
+-- blocks of the run are left to dump: no volume is counted yet, or the counts end before the last
+-- block
 abbrev pub IsRunLeft : PlainRun → List VolumeCount → Type 0
 IsRunLeft run counts = (counts ≡ []) ⊎ ((checkpoint_of counts).1 < run.blocks)
 
@@ -134,7 +135,8 @@ SendsNext run payload counts =
     → after_reply run counts (checkpoint_of counts).1 step reply ≡ GoesOn next
     → sent_before run payload counts next ≡ sent_with run payload counts step
 
--- the same for the close, if the reply counts the volume
+-- If a reply to a step counts the volume, up to block `end`, one more request was sent before the
+-- close: that of the step.
 abbrev pub SendsLast : PlainRun → List (List ℕ) → List VolumeCount → Type 0
 SendsLast run payload counts =
     (step : Step) (end : ℕ) (reply : PlainReply) → StepFits run counts step

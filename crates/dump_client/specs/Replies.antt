@@ -20,7 +20,7 @@ led_on run had first (GoesOn step) (reply ∷ replies) = led_on run had first (a
 led_on run had first (Counted next) (reply ∷ replies) = led_on run had first (after_reply run had first Close reply) replies
 led_on run had first from (reply ∷ replies) = from
 
--- the same, beginning at this step
+-- the outcome of these replies, of which the first is the reply to `step`
 abbrev pub led_by : PlainRun → List VolumeCount → ℕ → Step → List PlainReply → Outcome
 led_by run had first step replies = led_on run had first (GoesOn step) replies
 
@@ -55,7 +55,8 @@ GrantedOnTheWay run had first step replies =
     first ≤ run.blocks → (first < run.blocks) ⊎ (run.blocks ≡ 0) → led_by run had first Open replies ≡ GoesOn step
     → (count : ℕ) × Granted run had first first count step replies
 
--- the same, if the replies lead to the count of the blocks up to `next`
+-- If a volume may begin at this block, and these replies lead from the open to the count of the
+-- blocks up to `next`, the script of that volume wants these replies.
 abbrev pub GrantedAtTheCount : PlainRun → List VolumeCount → ℕ → ℕ → List PlainReply → Type 0
 GrantedAtTheCount run had first next replies =
     first ≤ run.blocks → (first < run.blocks) ⊎ (run.blocks ≡ 0) → led_by run had first Open replies ≡ Counted next

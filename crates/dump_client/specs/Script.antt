@@ -93,6 +93,7 @@ abbrev pub steps_of : PlainRun → ℕ → ℕ → List (Step × Wish)
 steps_of run first count =
     first_steps ++ (block_steps run first count ++ (refused_step run (first + count) ++ last_steps (first + count)))
 
--- the same, with the requests that are sent
+-- the requests of a volume of `count` blocks that begins at `first`, in order, each with the reply
+-- that is wanted
 abbrev pub script : PlainRun → List (List ℕ) → ℕ → ℕ → ℕ → List (PlainRequest × Wish)
 script run payload volume first count = map (λ s. (request_of run payload volume first s.0, s.1)) (steps_of run first count)

@@ -27,17 +27,17 @@ use Rattle.dump_client.specs.declared.fault.StartFault.TheVariants.{WrongState, 
 use Rattle.dump_client.specs.declared.stage.Answer.{Answer}
 use Rattle.dump_client.specs.declared.stage.Answer.TheVariants.{Retry, Abandon}
 
--- the run, the counted volumes, and the stage
+-- the state of a client: its run, the volumes counted so far, and its stage
 pub record Standing : Type 0 where
   pub run : PlainRun
   pub counts : List VolumeCount
   pub stage : Stage
 
--- such a state, made of its parts
+-- makes a `Standing`
 abbrev pub standing : PlainRun → List VolumeCount → Stage → Standing
 standing run counts stage = record { run = run; counts = counts; stage = stage }
 
--- the same, and for how many more counts there is room
+-- the state of a client, and for how many more counts it has room
 pub record LedgerState : Type 0 where
   pub at : Standing
   pub room : ℕ

@@ -7,7 +7,8 @@ use Rattle.dump_run.specs.declared.blocks.SourceFailed.{SourceFailed}
 abbrev pub HasBlock : List (List ℕ) → ℕ → ℕ → Type 0
 HasBlock blocks n len = (n < length blocks) × (length (get_or blocks n []) ≡ len)
 
--- a read that succeeded gave block `n`
+-- If the read of block `n` succeeded, `given` is that block. After a failed read, `given` may be
+-- anything.
 abbrev pub GivesBlock : Result Unit SourceFailed → List (List ℕ) → ℕ → List ℕ → Type 0
 GivesBlock (Ok x) blocks n given = given ≡ get_or blocks n []
 GivesBlock (Err failed) blocks n given = Unit {0}
@@ -28,7 +29,7 @@ pub record ListedBlocks : Type 0 where
   pub troubled : Bool
   pub failures : ℕ
 
--- such a payload, made of its parts
+-- makes a `ListedBlocks`
 abbrev pub listed : List (List ℕ) → Bool → ℕ → ListedBlocks
 listed blocks troubled failures = record { blocks = blocks; troubled = troubled; failures = failures }
 

@@ -82,7 +82,8 @@ AreLinesOf kinds [] = Unit {0}
 AreLinesOf [] (line ∷ lines) = IsLineOf Counted line × AreLinesOf [] lines
 AreLinesOf (kind ∷ kinds) (line ∷ lines) = IsLineOf kind line × AreLinesOf kinds lines
 
--- the kind of the line that follows these
+-- the kind of the line after `lines`, if the lines are of the kinds `kinds`, in order, and all
+-- further ones are counts
 abbrev pub kind_after : List Kind → List (List ℕ) → Kind
 kind_after [] lines = Counted
 kind_after (kind ∷ kinds) [] = kind

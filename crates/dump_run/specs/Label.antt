@@ -38,7 +38,7 @@ pub record PlainLabel : Type 0 where
   pub volume : ℕ
   pub first : ℕ
 
--- such contents, made of their parts
+-- makes a `PlainLabel`
 abbrev pub plain_label : List ℕ → ℕ → ℕ → ℕ → ℕ → ℕ → PlainLabel
 plain_label name level date since volume first =
     record { name = name; level = level; date = date; since = since; volume = volume; first = first }

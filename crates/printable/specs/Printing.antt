@@ -11,7 +11,7 @@ mark = 63
 abbrev pub plain_char : ℕ → ℕ
 plain_char c = if is_control c then mark else c
 
--- The same, but a line feed is unchanged.
+-- `?` for a control character except a line feed, else the character itself.
 abbrev pub plain_line_char : ℕ → ℕ
 plain_line_char c = if c == 10 then c else plain_char c
 
@@ -27,7 +27,7 @@ line_letter_bytes c = encode_utf8 (plain_line_char c)
 abbrev pub plain_text : List ℕ → List ℕ
 plain_text bytes = flat_map letter_bytes (chars bytes)
 
--- The same, but line feeds are unchanged.
+-- UTF-8 bytes with each character replaced by its `plain_line_char`, so line feeds remain.
 abbrev pub plain_lines : List ℕ → List ℕ
 plain_lines bytes = flat_map line_letter_bytes (chars bytes)
 

@@ -17,6 +17,7 @@ pub record AskedDump : Type 0 where
   pub name : List ℕ
   pub level : ℕ
 
+-- makes an `AskedDump`
 abbrev pub asked_dump : List ℕ → ℕ → AskedDump
 asked_dump name level = record { name = name; level = level }
 

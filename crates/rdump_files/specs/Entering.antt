@@ -35,6 +35,7 @@ pub record DumpSinks (W F : Type 0) : Type 0 where
   pub out : Counting W
   pub file : F
 
+-- makes a `DumpSinks`
 abbrev pub sinks : {W F : Type 0} → Counting W → F → DumpSinks W F
 sinks out file = record { out = out; file = file }
 

@@ -13,6 +13,7 @@ pub record WholeFileKind (F : Type 0) : Type 1 where
   pub gives : F → Result (Option (List ℕ)) FileFailed → F → Type 0
   pub takes : F → List ℕ → Result Unit FileFailed → F → Type 0
 
+-- makes a `WholeFileKind`
 abbrev pub whole_file : {F : Type 0} → (F → Result (Option (List ℕ)) FileFailed → F → Type 0)
     → (F → List ℕ → Result Unit FileFailed → F → Type 0) → WholeFileKind F
 whole_file gives takes = record { gives = gives; takes = takes }

@@ -123,7 +123,7 @@ fn is_reached(reached: &[Reached], volume: &Volume) -> bool {
     is_first || reached.iter().rev().any(|before| before.leads_to(volume))
 }
 
-/// Returns the greatest number of a reached volume, or 0 if there is none.
+/// Returns the greatest volume number in `reached`, or 0 if `reached` is empty.
 fn last_of(reached: &[Reached]) -> u32 {
     reached.iter().map(|it| it.volume).max().unwrap_or(0)
 }

@@ -85,7 +85,7 @@ IsKeptConclusion whole at last Unkept = last ≡ unkept_line
 IsKeptConclusion whole at last end = IsConclusion whole at last end
 
 -- What a dump did up to its end. If it is complete, and the client's state changed, the last text
--- put is the client's checkpoint.
+-- that was kept is the client's checkpoint.
 pub record HasKeptTo {B P W K : Type 0} (k : KeptKind B P W K) (old new : KeptEnds B P W K) (end : Conclusion) (text : List ℕ) (fed : List ℕ) : Type 0 where
   pub has : HasKept k old new text fed
   pub last : end ≡ Complete → (new.client.at ≡ old.client.at) ⊎ IsKept has.texts new.client.at

@@ -49,7 +49,7 @@ failure_lines volume fault = failure_line volume fault ++ question_line
 abbrev pub complete_text : ℕ → ℕ → List ℕ
 complete_text volumes blocks = codes "dump complete: " ++ decimal volumes ++ codes " volumes, " ++ decimal blocks ++ codes " blocks\n"
 
--- the same, from its counted volumes
+-- the last line of a complete dump with these counted volumes
 abbrev pub complete_line : List VolumeCount → List ℕ
 complete_line counts = complete_text (length counts) (checkpoint_of counts).1
 
@@ -118,7 +118,8 @@ abbrev pub IsRound : {W : Type 0} → (W → Option (List ℕ)) → List VolumeC
 IsRound contents first at out out' None = (text : List ℕ) × DumpLines first at.counts text × IsPrinted contents text out out' true
 IsRound contents first at out out' (Some end) = IsConcluded contents first at out out' end
 
--- printing the last line, and how a dump ends
+-- The last line of a dump is printed. The dump ends as `end`, which depends on the client's state
+-- `at` and on whether the whole line was printed.
 abbrev pub IsFinish : {W : Type 0} → (W → Option (List ℕ)) → Standing → Counting W → Counting W → Conclusion → Type 0
 IsFinish contents at out out' end =
     (last : List ℕ) × (whole : Bool) × IsPrinted contents last out out' whole × IsConclusion whole at last end

@@ -157,6 +157,6 @@ IsReadAt tells device p p' (Ok bytes) = Goes tells device Reading (after_read by
 IsReadAt tells device p p' (Err (Refused named n)) = Goes tells device Reading (Closing (Refusal named n)) p p'
 IsReadAt tells device p p' (Err (NoReply fault)) = Fails tells device Reading fault p p'
 
--- the same, whatever the device
+-- `IsReadAt` holds, whatever the device
 abbrev pub IsFrontRead : {P : Type 0} → (P → List Passed → Type 0) → P → P → Result (Vec ℕ Global) LookFault → Type 0
 IsFrontRead tells p p' result = (device : List ℕ) → IsReadAt tells device p p' result

@@ -136,7 +136,7 @@ HasReply next replies request reply =
 abbrev pub IsMarkFound : (List PlainReply → Option PlainRequest) → List PlainReply → Type 0
 IsMarkFound next replies = (number : ℕ) × HasReply next replies (Op MTFSF 1) (Done number)
 
--- the same, if the mark was looked for
+-- unless the volume's reel is to stay as it is after the read, a mark was found behind the records
 abbrev pub IsMarkKnown : (List PlainReply → Option PlainRequest) → AfterVolume → List PlainReply → Type 0
 IsMarkKnown next Stay replies = Unit {0}
 IsMarkKnown next Check replies = IsMarkFound next replies
@@ -248,7 +248,8 @@ IsVolumeReading n replies =
     (opened : PlainReply) × (rewound : PlainReply) × (b : ℕ) × (bytes : List ℕ) × (reads : List PlainReply)
     × (replies ≡ opened ∷ rewound ∷ Data (b ∷ bytes) ∷ reads) × (is_done rewound ≡ true) × AreRecords 1 n reads
 
--- the same, and then a read returned nothing
+-- The label was read, and perhaps records after it: `n` with the label. Then a read returned
+-- nothing.
 abbrev pub IsVolumeRead : ℕ → List PlainReply → Type 0
 IsVolumeRead n replies = (before : List PlainReply) × IsVolumeReading n before × (replies ≡ before ++ Data [] ∷ [])
 
@@ -278,7 +279,7 @@ IsDone next tells p p' replies (Err fault) = CallSteps next tells p p' replies (
 abbrev pub EndsAtRefusal : (List PlainReply → Option PlainRequest) → List PlainReply → Type 0
 EndsAtRefusal next replies = (number : ℕ) (text : List ℕ) → next (replies ++ Error number text ∷ []) ≡ None
 
--- the same as `IsDone`, whenever this request is the next one
+-- `IsDone` holds whenever `request` is the next one
 abbrev pub IsDoneNext : {P : Type 0} → (P → List Passed → Type 0) → PlainRequest → P → P → Result Unit ReadFault → Type 0
 IsDoneNext tells request p p' result =
     (next : List PlainReply → Option PlainRequest) (replies : List PlainReply) → next replies ≡ Some request
@@ -318,7 +319,7 @@ pub record AreRecordsWritten {P F : Type 0} (next : List PlainReply → Option P
   pub written : IsPrinted kind.contents (concat more) old.out new.out (is_copied result)
   pub reads : Reads next kind.tells old.peer new.peer replies result later
 
--- the same, whenever exactly the label was read before
+-- `AreRecordsWritten` holds whenever exactly the label was read before
 abbrev pub AreFurtherRecordsWritten : {P F : Type 0} → StreamKind P F → StreamEnds P F → StreamEnds P F → Result ℕ ReadFault → Type 0
 AreFurtherRecordsWritten kind old new result =
     (device : List ℕ) (after : AfterVolume) (replies : List PlainReply) → IsVolumeReading 1 replies
@@ -348,7 +349,7 @@ pub record IsCopied {P F W : Type 0} (next : List PlainReply → Option PlainReq
   pub whole : named && filled ≡ is_copied result
   pub reads : ReadsVolume next after kind.tells old.peer new.peer replies result later
 
--- the same, whenever nothing was read before
+-- `IsCopied` holds whenever nothing was read before
 abbrev pub IsCopiedAtLabel : {P F W : Type 0} → CopyKind P F W → CopyEnds P F W → CopyEnds P F W → Result ℕ ReadFault → Type 0
 IsCopiedAtLabel kind old new result =
     (device : List ℕ) (after : AfterVolume) (seen : List PlainReply) → IsAtLabel seen
@@ -383,14 +384,15 @@ IsLooked next goes tells p p' replies (Ok (Some fault)) =
     × GoesOnBy next next_close later × IsUnmarked next later fault
 IsLooked next goes tells p p' replies (Err fault) = CallSteps next tells p p' replies (Err fault)
 
--- the same, whenever `step` gives the next requests
+-- `IsLooked` holds whenever `step` gives the next requests
 abbrev pub IsLookedBy : {P : Type 0} → (AfterVolume → List PlainReply → Option PlainRequest) → (P → List Passed → Type 0) → P → P
     → Result (Option ReadFault) ReadFault → Type 0
 IsLookedBy step tells p p' result =
     (goes : AfterVolume) (next : List PlainReply → Option PlainRequest) (replies : List PlainReply)
     → GoesOnBy next (step goes) replies → IsLooked next goes tells p p' replies result
 
--- the same, at the end of `n` records
+-- `IsLooked` holds whenever the request after `n` records is next, which looks for the mark if
+-- `goes` asks for it
 abbrev pub IsLookedAtEnd : {P : Type 0} → (P → List Passed → Type 0) → AfterVolume → ℕ → P → P → Result (Option ReadFault) ReadFault → Type 0
 IsLookedAtEnd tells goes n p p' result =
     (next : List PlainReply → Option PlainRequest) (replies : List PlainReply) → GoesOnBy next (next_mark goes n) replies
@@ -404,13 +406,14 @@ IsTakenAway next tells p p' replies (Ok x) =
     × GoesOnBy next next_close (replies ++ taken)
 IsTakenAway next tells p p' replies (Err fault) = CallSteps next tells p p' replies (Err fault)
 
--- the same, whenever the mark was found or not looked for
+-- `IsTakenAway` holds whenever the mark was found or not looked for
 abbrev pub IsTakenAwayAtMark : {P : Type 0} → (P → List Passed → Type 0) → AfterVolume → P → P → Result Unit ReadFault → Type 0
 IsTakenAwayAtMark tells goes p p' result =
     (next : List PlainReply → Option PlainRequest) (replies : List PlainReply) → GoesOnBy next (next_end goes) replies
     → IsTakenAway next tells p p' replies result
 
--- further calls, which read nothing, up to the end
+-- Further calls, from these replies on to the end of the read. They read no record, and the read
+-- ends with this result.
 pub record Concludes {P : Type 0} (next : List PlainReply → Option PlainRequest) (goes : AfterVolume) (tells : P → List Passed → Type 0)
     (p p' : P) (replies : List PlainReply) (result : Result Unit ReadFault) : Type 0 where
   pub later : List PlainReply
@@ -420,19 +423,20 @@ pub record Concludes {P : Type 0} (next : List PlainReply → Option PlainReques
   pub whole : is_whole result ≡ true
   pub ends : (passed : List Passed) → CallsFollow next replies passed → ReadEnds next goes later (passed ++ more) result
 
--- the same, whenever no mark was found
+-- `Concludes` holds whenever no mark was found and the close is next
 abbrev pub IsClosedUnmarked : {P : Type 0} → (P → List Passed → Type 0) → ReadFault → P → P → Result Unit ReadFault → Type 0
 IsClosedUnmarked tells fault p p' result =
     (goes : AfterVolume) (next : List PlainReply → Option PlainRequest) (replies : List PlainReply) → GoesOnBy next next_close replies
     → IsUnmarked next replies fault → Concludes next goes tells p p' replies result
 
--- the same, whenever a mark was found or not looked for
+-- `Concludes` holds whenever a mark was found or not looked for
 abbrev pub IsConcludedAtMark : {P : Type 0} → (P → List Passed → Type 0) → AfterVolume → P → P → Result Unit ReadFault → Type 0
 IsConcludedAtMark tells goes p p' result =
     (next : List PlainReply → Option PlainRequest) (replies : List PlainReply) → GoesOnBy next (next_end goes) replies
     → IsMarkKnown next goes replies → Concludes next goes tells p p' replies result
 
--- the same, at the end of `n` records
+-- `Concludes` holds whenever the request after `n` records is next, which looks for the mark if
+-- `goes` asks for it
 abbrev pub IsConcludedAtEnd : {P : Type 0} → (P → List Passed → Type 0) → AfterVolume → ℕ → P → P → Result Unit ReadFault → Type 0
 IsConcludedAtEnd tells goes n p p' result =
     (next : List PlainReply → Option PlainRequest) (replies : List PlainReply) → GoesOnBy next (next_mark goes n) replies

@@ -48,7 +48,8 @@ StaysAt {H} {S} {Seat} {R} k = (old new : DriveTable H S Seat R) (session_state 
     k.holds.belongs new.holds session_state.seat → k.holds.drives new.holds ≡ k.holds.drives old.holds → k.stacks.drives new.stacks ≡ k.stacks.drives old.stacks →
     ((d : ℕ) → online_drive session_state.opened ≡ Some d → HasLatched k.stacks.holds old.stacks d → HasLatched k.stacks.holds new.stacks d) → IsAt k (state new session_state)
 
--- the same if reels stay latched at all drives but one, which the session does not have open
+-- The drives still match a session if its seat belongs to them, the numbers of drives are
+-- unchanged, and reels stay latched at all drives except `d`, which the session does not have open.
 abbrev pub StaysAtElsewhere : {H S Seat R : Type 0} → Kinds H Seat S R → Type 0
 StaysAtElsewhere {H} {S} {Seat} {R} k = (old new : DriveTable H S Seat R) (session_state : SessionState Seat R) (d : ℕ) → IsAt k (state old session_state) → drive_of session_state.opened ≢ Some d →
     k.holds.belongs new.holds session_state.seat → k.holds.drives new.holds ≡ k.holds.drives old.holds → k.stacks.drives new.stacks ≡ k.stacks.drives old.stacks →

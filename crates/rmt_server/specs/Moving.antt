@@ -35,7 +35,7 @@ MovesIn k old device None count reply new = ⊥
 MovesIn k old device (Some reel) count reply new =
     (result : Result Unit DriveFault) × (reply ≡ move_reply count result) × IsTakenOff k old device reel result new
 
--- the same for what is open
+-- `MovesIn` for the open device and its reel; if no device is open, this does not hold
 abbrev pub MovesReel : {H S Seat R : Type 0} → Kinds H Seat S R → State H S Seat R → Option (Opened R) → ℕ → PlainReply
     → State H S Seat R → Type 0
 MovesReel k old None count reply new = ⊥

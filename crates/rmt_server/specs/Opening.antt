@@ -26,7 +26,8 @@ LaysBack s r old drive None new = new ≡ old
 LaysBack {R = R} s r old drive (Some reel) new =
     (rested : R) × IsReelCall r reel Rewind Did rested × IsStacksCall s r old (LayBack drive rested) new
 
--- the same for what is open
+-- If a device is open with its reel, the reel is rewound and laid back on its stack. Otherwise the
+-- stacks are unchanged.
 abbrev pub LaysBackOpened : {S R : Type 0} → StacksKind S R → ReelPromise R → S → Option (Opened R) → S → Type 0
 LaysBackOpened s r old None new = new ≡ old
 LaysBackOpened s r old (Some device) new = LaysBack s r old device.drive device.reel new

@@ -11,14 +11,15 @@ use Rattle.rmt_server.specs.Refusals.{refused}
 use Rattle.rmt_server.specs.Session.{refusal, reel_reply, tape_request}
 use Rattle.rmt_server.specs.State.{State, status_at, IsReelCall}
 
--- one call of the open reel, which is all that changes
+-- The request is one call of the reel of `device`, which is open. The call's answer gives the
+-- reply, and only the reel changes. If the device has no reel, this does not hold.
 abbrev pub CallsIn : {R : Type 0} → ReelPromise R → Opened R → Option R → Option (Opened R) → PlainRequest → PlainReply → Type 0
 CallsIn r device None new request reply = ⊥
 CallsIn {R} r device (Some reel) new request reply =
     (answer : TapeAnswer) × (moved : R) × (new ≡ Some (record device { reel = Some moved })) × (reply ≡ reel_reply request answer)
     × IsReelCall r reel (tape_request request) answer moved
 
--- the same for what is open
+-- `CallsIn` for the open device and its reel; if no device is open, this does not hold
 abbrev pub CallsReel : {R : Type 0} → ReelPromise R → Option (Opened R) → Option (Opened R) → PlainRequest → PlainReply → Type 0
 CallsReel r None new request reply = ⊥
 CallsReel r (Some device) new request reply = CallsIn r device device.reel new request reply
@@ -30,7 +31,7 @@ ReelServes r old new request reply =
     MatchOption (refusal (status_at old) request) (CallsReel r old new request reply)
     (λ refusal. (reply ≡ refused refusal) × (new ≡ old))
 
--- the same, with drives and seat unchanged
+-- A request that the open reel serves, as `ReelServes` says. The drives and the seat are unchanged.
 abbrev pub Serves : {H S Seat R : Type 0} → Kinds H Seat S R → State H S Seat R → PlainRequest → PlainReply → State H S Seat R → Type 0
 Serves k old request reply new =
     (new.drives ≡ old.drives) × (new.seat ≡ old.seat) × ReelServes k.reels old.opened new.opened request reply

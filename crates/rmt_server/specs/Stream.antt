@@ -50,7 +50,8 @@ pub record IsAnswered (known known' : Option (List ℕ)) (bytes : List ℕ) (don
   pub spelled : Spelled bytes (requests_of done) rest
   pub written : Appends known known' (replies_text done)
 
--- The same, except that only a beginning of the last reply was written.
+-- The bytes are the spellings of these requests, then the rest. The replies to the requests were
+-- written in order, and of the last reply only a beginning.
 pub record IsCutOff (known known' : Option (List ℕ)) (bytes : List ℕ) (done : List Exchange) (rest : List ℕ) : Type 0 where
   pub spelled : Spelled bytes (requests_of done) rest
   pub before : List Exchange
@@ -156,7 +157,8 @@ abbrev pub AnswersFrom : {Out H S Seat R : Type 0} → Kinds H Seat S R → Writ
 AnswersFrom k output result old new bytes =
     Advances k old.state new.state (AnswersAs output.contents result old.replies new.replies new.requests bytes)
 
--- the same for the bytes that the reader held
+-- requests in the bytes that the reader held were carried out, with the outcome for the bytes that
+-- it still holds
 abbrev pub AnswersUnread : {Out H S Seat R : Type 0} → Kinds H Seat S R → WritePromise Out → Result (Option WireFault) OutputFault
     → Serving RequestHeld Out H S Seat R → Serving RequestHeld Out H S Seat R → Type 0
 AnswersUnread k output result old new = (bytes : List ℕ) → Unread old.requests bytes → AnswersFrom k output result old new bytes
@@ -192,7 +194,7 @@ pub record IsServedAs {H S Seat R In Out : Type 0} (k : Kinds H Seat S R) (kind 
   pub steps : (fails shared : Bool) → MayFail k old fails → MayShare k old shared → (start : SessionView) → HasView k old start
       → (finish : SessionView) × ServeRun fails shared k.reels.GROWS start done finish × k.stacks.holds new.drives.stacks (closed finish).library
 
--- the same for a session that is serving
+-- the result of serving as `IsServedAs` says, for a session with its streams
 abbrev pub ServesAs : {In Out H S Seat R : Type 0} → Kinds H Seat S R → ReadPromise In → WritePromise Out → Result Served ServeFault
     → Serving (Counting In) Out H S Seat R → Serving (Counting In) Out H S Seat R → Type 0
 ServesAs k input output result old new =

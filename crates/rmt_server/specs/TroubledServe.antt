@@ -141,7 +141,8 @@ set_online trouble request = if is_of_stacks request then NoTrouble else trouble
 abbrev pub IsSpent : Trouble → PlainReply → Trouble → Type 0
 IsSpent set reply left = (left ≡ set) ⊎ ((set ≢ NoTrouble) × (left ≡ NoTrouble) × (reply ≡ refused InputOutput))
 
--- the same for the trouble of the stacks
+-- Whether the trouble of the stacks is still set after a request: as before, or no longer if a
+-- latch or a move met it. In the second case the reply is error 5.
 abbrev pub IsNextSpent : Bool → PlainReply → Bool → Type 0
 IsNextSpent set reply left = (left ≡ set) ⊎ ((set ≡ true) × (left ≡ false) × (reply ≡ refused InputOutput))
 

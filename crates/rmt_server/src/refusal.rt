@@ -24,7 +24,7 @@ pub(crate) enum Refusal {
 }
 
 impl Refusal {
-    /// Returns its number in errno.
+    /// Returns the errno value that the error reply has.
     fn number(self) -> u32
         ensures { result ≡ number_of self }
     {
@@ -41,7 +41,7 @@ impl Refusal {
         }
     }
 
-    /// Returns the text that is sent with the number.
+    /// Returns the text that the error reply has after the errno value.
     fn text(self) -> &'static [u8]
         ensures { result.now ≡ text_of self }
     {

@@ -44,11 +44,11 @@ pub record MemoryPeerHeld : Type 0 where
   pub drives : Drives
   pub session : Seated
 
--- a session with nothing open, at drives with the same reels and holders
+-- a session with nothing open, at drives with the same reels and holders as `given`
 abbrev pub IsMadeWith : Drives → Drives → Seated → Type 0
 IsMadeWith given drives session = (drives.stacks ≡ given.stacks) × (drives.holds.numbers ≡ given.holds.numbers) × (session.opened ≡ None)
 
--- the same for a peer
+-- a peer with nothing open, at drives with the same reels and holders as `given`
 abbrev pub IsMadeOf : Drives → MemoryPeerHeld → Type 0
 IsMadeOf given p = IsMadeWith given p.drives p.session
 
@@ -60,6 +60,6 @@ IsAfterEnd drives session left = (after : MemoryState) × IsClosed in_memory (st
 abbrev pub IsCleared : Drives → Seated → Drives → Type 0
 IsCleared old was drives = (left : Drives) × IsAfterEnd old was left × (drives.stacks ≡ left.stacks) × (drives.holds.numbers ≡ left.holds.numbers)
 
--- the same for a peer
+-- what the peer had open is closed, and `left` are its drives after that
 abbrev pub IsTakenApart : MemoryPeerHeld → Drives → Type 0
 IsTakenApart p left = IsAfterEnd p.drives p.session left

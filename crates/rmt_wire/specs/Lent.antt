@@ -39,7 +39,7 @@ abbrev pub plain_wanted : Wanted → kinds.Wanted
 plain_wanted wanted.Number = kinds.Wanted.Number
 plain_wanted (wanted.Data most) = kinds.Wanted.DataUpTo most
 
--- the same, if anything is waited for
+-- the plain value of what is waited for, if anything is
 abbrev pub plain_wanted_if_some : Option Wanted → Option kinds.Wanted
 plain_wanted_if_some None = None
 plain_wanted_if_some (Some wanted) = Some (plain_wanted wanted)

@@ -12,7 +12,8 @@ use Rattle.rmt_wire.specs.declared.number.Place.TheVariants as places
 abbrev pub Parsed : Type 0 → Type 0
 Parsed A = Result (Option A) WireFault
 
--- reads on with `next` after an A that is complete
+-- If the first result is a complete A, it is passed to `next`, which reads what follows. An
+-- incomplete A or a fault is the result itself.
 abbrev pub after : {A B : Type 0} → Parsed A → (A → Parsed B) → Parsed B
 after (Err fault) next = Err fault
 after (Ok None) next = Ok None

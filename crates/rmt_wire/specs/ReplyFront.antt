@@ -49,14 +49,15 @@ reply_front wanted (letter ∷ bytes) =
     else if letter == 69 then error_front bytes
     else Err NotAReply
 
--- what is kept of the bytes after `E`: the surplus of the text is dropped once the number is
--- complete
+-- what the reader keeps of the bytes of an error after its `E`: once the number is complete, the
+-- text's bytes above the limit are dropped
 abbrev pub kept_behind : Parsed (ℕ × ℕ) → List ℕ → List ℕ
 kept_behind (Ok (Some n)) bytes = take (n.1 + 1) bytes ++ kept_text (drop (n.1 + 1) bytes)
 kept_behind (Ok None) bytes = bytes
 kept_behind (Err fault) bytes = bytes
 
--- what is kept of the bytes of a reply that is waited for
+-- What the reader keeps of the bytes of a reply that is waited for. That is all of them, except the
+-- end of a text of an error that is too long.
 unfoldable pub kept_of : List ℕ → List ℕ
 kept_of [] = []
 kept_of (letter ∷ bytes) = if letter == 69 then letter ∷ kept_behind (number_front places.Line bytes) bytes else letter ∷ bytes

@@ -25,7 +25,7 @@ abbrev pub IsWithin : Wanted → Type 0
 IsWithin Number = Unit {0}
 IsWithin (DataUpTo most) = most ≤ RECORD_LIMIT
 
--- the same, if anything is waited for
+-- if data are waited for, they are at most `RECORD_LIMIT` bytes
 abbrev pub IsWithinIfSome : Option Wanted → Type 0
 IsWithinIfSome None = Unit {0}
 IsWithinIfSome (Some wanted) = IsWithin wanted
@@ -85,7 +85,7 @@ ReplyStaysFaulty old (Err fault) =
     → ReplyParsesAs wanted (bytes ++ more) (Err fault) (bytes ++ more)
 ReplyStaysFaulty old (Ok answer) = Unit {0}
 
--- the same for a reply that was found at the front with its length
+-- the plain value of the result of a look for the first reply, without the reply's length
 abbrev pub plain_reply_front_result : Result (Option (Reply × ℕ)) WireFault → Result (Option PlainReply) WireFault
 plain_reply_front_result (Ok None) = Ok None
 plain_reply_front_result (Ok (Some found)) = Ok (Some (plain_reply found.0))

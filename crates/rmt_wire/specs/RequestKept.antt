@@ -13,7 +13,8 @@ line_if_seen (Ok (Some count)) = Some (count.1 + 2, count.0)
 line_if_seen (Ok None) = None
 line_if_seen (Err fault) = None
 
--- the same, for the write that the bytes begin with
+-- if the bytes begin with a write whose line is complete, the length of that line with its letter
+-- and line feed, and its count
 unfoldable pub write_line : List ℕ → Option (ℕ × ℕ)
 write_line [] = None
 write_line (letter ∷ bytes) = if letter == 87 then line_if_seen (number_front places.Line bytes) else None

@@ -16,7 +16,7 @@ dropped_if_long (Ok (Some count)) = if nat_lt RECORD_LIMIT count.0 then Some (co
 dropped_if_long (Ok None) = None
 dropped_if_long (Err fault) = None
 
--- the same, for the write that the bytes begin with, if they do
+-- if the bytes begin with a write that is to be dropped, the length of its line and its count
 unfoldable pub dropped_line : List ℕ → Option (ℕ × ℕ)
 dropped_line [] = None
 dropped_line (letter ∷ bytes) = if letter == 87 then dropped_if_long (number_front places.Line bytes) else None
@@ -58,7 +58,7 @@ abbrev pub taken_at : Option (ℕ × ℕ) → List ℕ → ℕ
 taken_at None bytes = length bytes
 taken_at (Some line) bytes = line.0 + (length bytes - (line.0 + line.1))
 
--- the same, for the line of a dropped write that the bytes begin with, if they do
+-- how many bytes of room these take; if they begin with a dropped write, its data take none
 abbrev pub taken_of : List ℕ → ℕ
 taken_of bytes = taken_at (dropped_line bytes) bytes
 
@@ -95,8 +95,9 @@ StaysUnlessGiven old (Err fault) new = new ≡ old
 abbrev pub IsGiven : RequestHeld → List ℕ → List PlainRequest → Type 0
 IsGiven held pushed requests = (rest : List ℕ) × Unread held rest × Spelled pushed requests rest
 
--- The same after one more call. The request that it returned is the next one. If it returned none,
--- the rest is a beginning of one, or has the fault.
+-- Of all bytes pushed to it, a reader had returned `requests`, and one more call had this result. A
+-- request that it returned is the next one. If it returned none, the rest of the bytes is a
+-- beginning of one, or has the fault.
 abbrev pub GivesMore : Result (Option PlainRequest) WireFault → RequestHeld → List ℕ → List PlainRequest → Type 0
 GivesMore (Ok (Some request)) new pushed requests = IsGiven new pushed (requests ++ request ∷ [])
 GivesMore (Ok None) new pushed requests =
@@ -122,7 +123,7 @@ abbrev pub StaysFaulty : RequestHeld → Result (Option PlainRequest) WireFault 
 StaysFaulty old (Err fault) = (bytes more : List ℕ) → Unread old bytes → ParsesAs (bytes ++ more) (Err fault) (bytes ++ more)
 StaysFaulty old (Ok answer) = Unit {0}
 
--- the same for a request that was found at the front with its length
+-- the plain value of the result of a look for the first request, without the request's length
 abbrev pub plain_front_result : Result (Option (Request × ℕ)) WireFault → Result (Option PlainRequest) WireFault
 plain_front_result (Ok None) = Ok None
 plain_front_result (Ok (Some found)) = Ok (Some (plain_request found.0))

@@ -31,7 +31,7 @@ with_version app = record app { top = record app.top { has_version = true } }
 abbrev pub app_with_ways : App
 app_with_ways = with_rule (with_rule (with_version (new_app (codes "rmtd"))) (flag_rule (codes "stdio"))) (option_rule (codes "listen"))
 
--- the same, with the options that say how much it serves
+-- the command with the options that say where it serves, and those that limit what it serves
 abbrev pub app_with_limits : App
 app_with_limits = with_rule (with_rule app_with_ways (option_rule (codes "capacity"))) (option_rule (codes "connections"))
 

@@ -42,7 +42,7 @@ pub record IsServedAfresh {H S Seat R In Out : Type 0} (k : Kinds H Seat S R) (k
   pub at : IsAt k finish
   pub kept : KeepsSeats k start finish
 
--- the same for the seat and the stacks alone, however the streams ended
+-- the session returns the seat and the stacks as `IsServedAfresh` says, however the streams ended
 abbrev pub IsSeatReturned : {H S Seat R In Out : Type 0} → Kinds H Seat S R → StreamsKind In Out → State H S Seat R
     → Streams In Out → Streams In Out → Seat → S → Type 0
 IsSeatReturned {H} {S} {Seat} {R} k kind start old new seat stacks =
@@ -59,7 +59,8 @@ abbrev pub ServesAfresh : {In Out H S Seat R : Type 0} → Kinds H Seat S R → 
 ServesAfresh k input output old new ending =
     IsServedAfresh k (streams_kind input.remaining output.contents) old.state (streams_of old) (streams_of new) new.state.drives new.state.seat ending
 
--- the same for the seat and the stacks alone, however the streams ended
+-- a session of its own serves the streams and returns the seat and the stacks `back`, however the
+-- streams ended
 abbrev pub GivesBack : {In Out H S Seat R : Type 0} → Kinds H Seat S R → ReadPromise In → WritePromise Out
     → Serving (Counting In) Out H S Seat R → Streams In Out → Seat × S → Type 0
 GivesBack k input output old new back =

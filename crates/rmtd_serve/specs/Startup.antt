@@ -69,7 +69,7 @@ pub data IsBegun {In Out R Dir : Type 0} {reads : ReadPromise Dir} {clones : Clo
   refused : AreUntouched old new → begun ≡ End Failed
       → IsBegun kind arguments old new begun
 
--- the same for some arguments: no clause says which ones the program has
+-- `IsBegun` holds for some arguments; no clause says which ones the program has
 abbrev pub IsStarted : {In Out R Dir : Type 0} {reads : ReadPromise Dir} {clones : ClonePromise R} → StreamsKind In Out
     → Streams In Out → Streams In Out → Begun R Dir reads clones → Type 0
 IsStarted kind old new begun = (arguments : List Text) × IsBegun kind arguments old new begun

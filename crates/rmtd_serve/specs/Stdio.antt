@@ -48,12 +48,12 @@ pub record IsServedAlone {In Out : Type 0} (kind : StreamsKind In Out) (capacity
   pub ends : EndsWith kind ending old new read done rest
   pub run : ServeRun false false true (blank_session_view capacity) done finish
 
--- the same, with the exit status
+-- One stream is served as `IsServedAlone` says, and the exit status is that of how it ended.
 abbrev pub EndsStdio : {In Out : Type 0} → StreamsKind In Out → ℕ → Streams In Out → Streams In Out → ExitStatus → Type 0
 EndsStdio kind capacity old new status =
     (ending : Result Served SessionFault) × (status ≡ exit_status ending) × IsServedAlone kind capacity old new ending
 
--- the same, with the number of the exit status
+-- One stream is served as `IsServedAlone` says, and `code` is the number of the exit status.
 abbrev pub IsStdio : {In Out : Type 0} → StreamsKind In Out → ℕ → Streams In Out → Streams In Out → ℕ → Type 0
 IsStdio kind capacity old new code =
     (status : ExitStatus) × (code ≡ exit_code status) × EndsStdio kind capacity old new status

@@ -322,7 +322,7 @@ fn report<R: ServerSystem, D: Display + Drop>(rt: &R, what: &str, why: D) -> io:
 /// The log line of a listener whose reel is in memory.
 const IN_MEMORY: &str = "the reel of /dev/st0 is in memory, and is gone when the server ends";
 
-/// The same if a bin is given. No reel in memory ever reaches the bin.
+/// The warning about the reel in memory, if a bin is given. That reel never reaches the bin.
 const BIN_ALONE: &str =
     "--bin is given and no drive: the reel of /dev/st0 is in memory, and is gone when the server ends";
 

@@ -10,10 +10,11 @@ use Rattle.world_model.specs.World.{World, Count}
 use Rattle.world_model.specs.First.{PlainDriveSpec}
 use Rattle.tape_world.specs.Entries.{entries_on}
 
--- an entry of a reel by its length: 0 is a mark, any other length a record
+-- the text of an entry of this length: 0 is a mark, any other length a record
 abbrev pub length_text : ℕ → List ℕ
 length_text n = if nat_eq n 0 then codes " M" else codes " R" ++ decimal n
 
+-- an entry of a reel, as the line of the reel has it
 abbrev pub entry_text : PlainEntry → List ℕ
 entry_text entry = length_text (length (bytes_of entry))
 
@@ -21,6 +22,7 @@ entry_text entry = length_text (length (bytes_of entry))
 abbrev pub entries_of_reel : World → List ℕ → List PlainEntry
 entries_of_reel w name = unwrap_or (entries_on w.server name) []
 
+-- the line of the reel with this name: its entries, in order
 abbrev pub reel_line : World → List ℕ → List ℕ
 reel_line w name = codes "reel " ++ name ++ flat_map entry_text (entries_of_reel w name) ++ codes "\n"
 
@@ -33,9 +35,11 @@ abbrev pub stack_of : List (Drive KeptReel) → List ℕ → List (ReelSlot Kept
 stack_of [] name = []
 stack_of (drive ∷ all_drives) name = if bytes_eq name drive.name then drive.stack else stack_of all_drives name
 
+-- the line of the drive with this name: the names of the reels on its stack, in order
 abbrev pub stack_line : World → List ℕ → List ℕ
 stack_line w device = codes "stack " ++ device ++ names_text (names_of (stack_of w.server.library.drives device)) ++ codes "\n"
 
+-- the line of the bin: the names of its reels, in order
 abbrev pub bin_line : World → List ℕ
 bin_line w = codes "bin" ++ names_text (names_of w.server.library.bin) ++ codes "\n"
 

@@ -115,7 +115,7 @@ fn read_run<'a>(fields: &mut LineFields<'a>) -> Option<ScheduleLine<'a>> {
     }
 }
 
-/// Reads five numbers.
+/// Reads the next five fields as numbers. Returns None if one is missing or is not a number.
 fn read_numbers(fields: &mut LineFields<'_>) -> Option<[u64; 5]> {
     let mut numbers = [0; 5];
     for number in &mut numbers {
@@ -250,7 +250,7 @@ fn read_trouble(fields: &mut LineFields<'_>) -> Option<Trouble> {
     }
 }
 
-/// Returns the number of entries written, at most `u32::MAX`.
+/// Returns this count as `Trouble::Written` has it: the count, or `u32::MAX` if it is greater.
 fn written_of(count: u64) -> u32 {
     u32::try_from(count).unwrap_or(u32::MAX)
 }

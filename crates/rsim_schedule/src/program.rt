@@ -56,8 +56,9 @@ fn run_file<R: Files + Eprint + AllocGlobal, W: Write>(
     }
 }
 
-/// Prints one line on standard error that the arguments are wrong, and returns the exit status.
-/// Prints the help and the version on standard output.
+/// Prints what clap returned in place of matches, and returns the exit status. The help and the
+/// version are printed on standard output. For wrong arguments, one line is printed on standard
+/// error.
 fn refuse<R: Print + Eprint>(rt: &R, error: clap::Error) -> io::Result<ExitStatus>
     ensures { IfOk result (λ status. (status ≡ Success) ⊎ (status ≡ StartupError)) }
 {

@@ -102,7 +102,8 @@ pub(crate) fn world_of(alloc: Global, drives: &[DriveLine<'_>]) -> Result<World,
     World::new(alloc, &specs)
 }
 
-/// Returns the drives as a world takes them. Fails if an allocation fails.
+/// Returns a `DriveSpec` for each of these drives, in order, as `World::new` takes them. Fails if
+/// an allocation fails.
 fn specs_of<'a>(
     alloc: Global,
     drives: &'a [DriveLine<'_>],
@@ -116,7 +117,7 @@ fn specs_of<'a>(
     Ok(specs)
 }
 
-/// Returns the drive as a world takes it.
+/// Returns the `DriveSpec` of a drive that a line of the schedule describes.
 fn spec_of<'a>(drive: &'a DriveLine<'_>) -> DriveSpec<'a>
     ensures { plain_drive_spec result ≡ plain_line drive.entry.now }
 {

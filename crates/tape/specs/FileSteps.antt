@@ -1,6 +1,6 @@
 -- What the parts of a reel on a medium do to the medium, and to the tape that its bytes spell. The
--- contracts of `next_length` and `entry_size` cite `LooksAlong`, `AreMediumCalls`, `first_length` and
--- `size_by_length`. No other public contract needs it.
+-- contracts of `next_length` and `entry_size` cite `LooksAlong`, `AreMediumCalls`, `first_length`
+-- and `size_by_length`. No other public contract needs it.
 use Rattle.std.specs.Prelude.{◌≡◌, ◌⊎◌, ◌==◌, if◌then◌else◌, ℕ, ◌+◌, ◌-◌, ◌^◌, ◌<◌, ◌≤◌, Bool, List, [], ◌∷◌, ◌++◌, length, reverse, take, Option, Some, None, MatchOption, Result, IsErr, IfOk, MatchResult}
 use Rattle.tape.specs.Failures.{HasRisen, Steps}
 use Rattle.tape.specs.Tape.{PlainEntry, Tape, TapeRequest, entries_of, tape, stands_at, mark_count, marks_met, records_met, passed_for_marks, passed_for_records}
@@ -32,7 +32,8 @@ abbrev pub LooksAlong : {A S : Type 0} → MediumKind S → ℕ → Result A Med
 LooksAlong m at result tells old new =
     AreMediumCalls m (λ bytes left. (left ≡ bytes) × IfOk result (λ answer. (t : Tape) → IsFile bytes at t → tells bytes t answer)) 0 (IsErr result) old new
 
--- As `AreMediumCalls`, of a reel on the medium: `does` relates its tapes before and after.
+-- Calls of the medium of a reel, in a row, as `AreMediumCalls` says. `does` relates the reel's tape
+-- before and after.
 pub record AreReelCalls {M : Type 0} (m : MediumKind M) (does : Tape → Tape → Type 0) (added : ℕ) (fails : Type 0)
     (old new : FileTape M) : Type 0 where
   pub step : Steps (HoldsTape m.holds) old new does

@@ -32,7 +32,7 @@ images_of entries = flat_map image_of entries
 abbrev pub IsTailUpTo : ℕ → List ℕ → Type 0
 IsTailUpTo most tail = (entry : PlainEntry) (rest : List ℕ) → IsEntryUpTo most entry → tail ≢ image_of entry ++ rest
 
--- The same for records of at most `RECORD_LIMIT` bytes.
+-- The bytes do not begin with the image of an entry whose record has at most `RECORD_LIMIT` bytes.
 abbrev pub IsTail : List ℕ → Type 0
 IsTail tail = IsTailUpTo RECORD_LIMIT tail
 
@@ -44,7 +44,8 @@ pub record SpellsReelUpTo (most : ℕ) (bytes : List ℕ) (entries : List PlainE
   pub is_tail : IsTailUpTo most tail
   pub lawful : All (IsEntryUpTo most) entries
 
--- The same for records of at most `RECORD_LIMIT` bytes.
+-- The bytes spell these entries, whose records have at most `RECORD_LIMIT` bytes. A tail is
+-- ignored.
 abbrev pub SpellsReel : List ℕ → List PlainEntry → Type 0
 SpellsReel bytes entries = SpellsReelUpTo RECORD_LIMIT bytes entries
 

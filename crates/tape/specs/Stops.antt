@@ -21,8 +21,9 @@ StandsAfterWrite t written Done u = u ≡ t.before ++ written
 StandsAfterWrite t written (Fault Device) u = (u ≡ t.before ++ t.after) ⊎ (u ≡ t.before) ⊎ (u ≡ t.before ++ written)
 StandsAfterWrite t written answer u = u ≡ t.before ++ t.after
 
--- The same for `count` marks. If the device failed, after them are the old entries, or any number
--- of the marks up to all. A count of 0 writes nothing.
+-- The entries before the place remain. After them are `count` marks, if writing them succeeded. If
+-- the device failed, after them are the old entries, or any number of the marks up to all. A count
+-- of 0 writes nothing.
 abbrev pub StandsAfterMarks : Tape → ℕ → TapeAnswer → List PlainEntry → Type 0
 StandsAfterMarks t count Done u = ((count ≡ 0) × (u ≡ t.before ++ t.after)) ⊎ ((0 < count) × (u ≡ t.before ++ replicate count Mark))
 StandsAfterMarks t count (Fault Device) u =

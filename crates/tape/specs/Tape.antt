@@ -38,7 +38,7 @@ entries_of t = t.before ++ t.after
 abbrev pub IsRecordUpTo : ℕ → List ℕ → Type 0
 IsRecordUpTo most bytes = (0 < length bytes) × (length bytes ≤ most)
 
--- The same with at most `RECORD_LIMIT` bytes.
+-- A record has at least 1 byte, and at most `RECORD_LIMIT`.
 abbrev pub IsRecord : List ℕ → Type 0
 IsRecord bytes = IsRecordUpTo RECORD_LIMIT bytes
 
@@ -47,7 +47,7 @@ abbrev pub IsEntryUpTo : ℕ → PlainEntry → Type 0
 IsEntryUpTo most (Record bytes) = IsRecordUpTo most bytes
 IsEntryUpTo most Mark = Unit {0}
 
--- The same with a record of at most `RECORD_LIMIT` bytes.
+-- An entry of a reel: a record of at most `RECORD_LIMIT` bytes, or a mark.
 abbrev pub IsTapeEntry : PlainEntry → Type 0
 IsTapeEntry entry = IsEntryUpTo RECORD_LIMIT entry
 
@@ -119,7 +119,7 @@ ReadStep count t (Gave bytes) u = Passes count t.after t bytes u
 ReadStep count t (Fault Device) u = u ≡ t
 ReadStep count t _ u = ⊥
 
--- The same entries, with this place.
+-- The tape with the same entries as `t`, with `place` of them before its place.
 abbrev pub stands_at : ℕ → Tape → Tape
 stands_at place t = tape (take place (entries_of t)) (drop place (entries_of t))
 

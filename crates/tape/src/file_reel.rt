@@ -162,7 +162,8 @@ impl<M: Medium> FileReel<M> {
         walked.answer()
     }
 
-    /// Moves past `count` records, or past the first mark, or to the end or the beginning.
+    /// Moves past `count` records in this direction. Stops earlier if it has moved past a mark, or
+    /// at the end or the beginning of the tape.
     fn space_records(&mut self, way: Way, count: u32) -> Result<(), TapeFault>
         ensures { IsTapeCall (file_reel_kind (medium_kind_of M.Medium)) self.old self.new (records_request way count) (done_answer result) }
     {

@@ -24,24 +24,24 @@ seen_begun b = record { run = b.run; payload = b.payload.blocks }
 abbrev pub seen_caller : RealCaller → WorldClient
 seen_caller c = record { number = c.number; at = c.client.at; reader = c.client.reader }
 
--- the name at this place of the list, and the empty name past its end
+-- the name at index `place` of the list, and the empty name past its end
 abbrev pub name_at : List (List ℕ) → ℕ → List ℕ
 name_at names place = get_or names place []
 
--- a count, with its reel by name
+-- the count `c`, with the name of its reel in place of the name's index in `names`
 abbrev pub seen_count : List (List ℕ) → RealCount → Count
 seen_count names c =
     record { run = c.run; volume = c.volume; first = c.first; count = c.count; reel = name_at names c.reel; connection = c.connection }
 
--- an opening, with its reel by name
+-- the opening `o`, with the name of its reel in place of the name's index in `names`
 abbrev pub seen_opening : List (List ℕ) → RealOpening → Opening
 seen_opening names o = record { connection = o.connection; reel = name_at names o.reel }
 
--- openings, with their reels by name
+-- the openings, each with the name of its reel in place of the name's index in `names`
 abbrev pub seen_openings : List (Vec ℕ Global) → List RealOpening → List Opening
 seen_openings names opens = map (seen_opening (map (λ n. n.items) names)) opens
 
--- a writing, with its reel by name
+-- the writing `x`, with the name of its reel in place of the name's index in `names`
 abbrev pub seen_writing : List (List ℕ) → RealWriting → Writing
 seen_writing names x = record { connection = x.connection; reel = name_at names x.reel; after = x.after }
 

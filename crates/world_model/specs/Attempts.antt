@@ -26,7 +26,7 @@ IsLabelled w k d =
     d.label ≡ true → (b : Begun) × (numbered w.begun d.run ≡ Some b)
     × ((reel : List ℕ) → IsQuiet w k d reel → IsReelWritten w k b d reel)
 
--- this holds of each attempt
+-- `IsLabelled` holds of the attempt of each of the client's connections
 abbrev pub AreLabelled : World → Type 0
 AreLabelled w = (k : ℕ) (l : Connection) (d : AttemptState) → connection_of w k ≡ Some l → l.dump ≡ Some d → IsLabelled w k d
 
@@ -37,7 +37,7 @@ pub record IsSingle (opens : List Opening) (k : ℕ) (d : AttemptState) : Type 0
   pub none : d.carried ≡ 0 → (o : Opening) → Contains opens o → o.connection ≡ k → ⊥
   pub some : d.label ≡ true → (reel : List ℕ) × Contains opens (opening k reel)
 
--- this holds of each of the client's connections
+-- `IsSingle` holds of each of the client's connections
 abbrev pub AreSingle : World → Type 0
 AreSingle w = (k : ℕ) (l : Connection) (d : AttemptState) → connection_of w k ≡ Some l → l.dump ≡ Some d → IsSingle w.opens k d
 

@@ -80,7 +80,7 @@ abbrev pub AreUnserved : Option ServerConnection → List ℕ → List ℕ → T
 AreUnserved None way bytes = (way ≡ []) × (bytes ≡ [])
 AreUnserved (Some s) way bytes = (reached : List ℕ) × Unread s.reached reached × (bytes ≡ reached ++ way)
 
--- the request of a step of that attempt
+-- the request that `step` sends in the attempt `d` of the run `b`
 abbrev pub request_in : Begun → AttemptState → Step → PlainRequest
 request_in b d step = request_of b.run b.payload d.volume d.first step
 
