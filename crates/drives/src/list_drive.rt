@@ -82,7 +82,8 @@ impl ListDrive {
         }
     }
 
-    /// Takes the first reel out of its entry, if it is there.
+    /// Takes the first reel of the stack out of its entry. Returns None if the stack is empty, or
+    /// the reel is latched already.
     pub(crate) fn latch(&mut self) -> Option<TroubledReel>
         ensures taken { result ≡ first_reel self.old.stack }
         ensures away { self.new ≡ drive_with self.old.name (with_first None self.old.stack) }
@@ -93,7 +94,7 @@ impl ListDrive {
         }
     }
 
-    /// Puts the first reel back into its entry.
+    /// Puts `reel`, which was latched, back into the first entry of the stack.
     pub(crate) fn unlatch(&mut self, reel: TroubledReel)
         requires { 0 < length self.old.stack }
         ensures { self.new ≡ drive_with self.old.name (with_first (Some reel) self.old.stack) }

@@ -143,7 +143,8 @@ SendsLast run payload counts =
     → after_reply run counts (checkpoint_of counts).1 step reply ≡ Counted end
     → sent_before run payload (counted_to counts end) Close ≡ sent_with run payload counts step
 
--- at the close the volume is counted, as the last of the counts; before, MTOFFL is not answered
+-- At the close, the volume of the attempt is counted, and is the last of `counts`. Before the
+-- close, no reply to MTOFFL has come.
 abbrev pub CountsAt : PlainRun → List (List ℕ) → List VolumeCount → Step → ℕ → List PlainRequest → ℕ → Type 0
 CountsAt run payload counts Close count sent got =
     CountsVolume run payload (attempt_at Close counts).0 (attempt_at Close counts).1 count sent got

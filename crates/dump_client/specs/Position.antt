@@ -111,7 +111,7 @@ abbrev pub after_noise : Step → Outcome
 after_noise Close = Ended
 after_noise step = Fails Botched
 
--- the outcome of the end of the connection
+-- the outcome if the connection ends at this step
 abbrev pub after_end : Step → Outcome
 after_end Close = Ended
 after_end step = Fails ConnectionEnded

@@ -38,7 +38,7 @@ joined lines = flat_map (λ line. line ++ line_feed ∷ []) lines
 abbrev pub checkpoint_text : PlainRun → List VolumeCount → List ℕ
 checkpoint_text run counts = joined (checkpoint_lines run counts)
 
--- the kinds of lines
+-- the kinds of lines of a checkpoint, in the order in which it has them
 pub data Kind : Type 0 where
   Title : Kind
   Device : Kind

@@ -29,6 +29,7 @@ impl Model for TextLines {
 }
 
 impl TextLines {
+    /// Makes a text of no lines.
     pub(crate) fn new() -> TextLines
         ensures { result ≡ [] }
     {
@@ -85,6 +86,7 @@ impl TextLines {
         self.push_line(word, digits.format(number).as_bytes());
     }
 
+    /// Returns the bytes of the lines.
     pub(crate) fn as_slice(&self) -> &[u8]
         ensures { result.now ≡ self.now }
     {

@@ -23,6 +23,7 @@ impl Model for Row {
 }
 
 impl Row {
+    /// Makes a row of these bytes, at most 255.
     pub(crate) fn new(text: &[u8]) -> Row
         requires { length text.now ≤ 255 }
         ensures { result ≡ text.now }
@@ -35,6 +36,7 @@ impl Row {
         }
     }
 
+    /// Returns the bytes of the row.
     pub(crate) fn as_slice(&self) -> &[u8]
         ensures { result.now ≡ self.now }
     {

@@ -51,6 +51,7 @@ pub(crate) fn is_blank(bytes: &[u8]) -> bool
     bytes.iter().all(|b| is_space(*b))
 }
 
+/// Whether this byte separates words: a space or a tab.
 fn is_space(byte: u8) -> bool
     ensures { result ≡ line_spec.is_space byte }
 {

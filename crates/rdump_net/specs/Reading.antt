@@ -127,7 +127,8 @@ after_for_records after [] = Stay
 after_for_records after ([] ∷ records) = Stay
 after_for_records after ((b ∷ label) ∷ records) = after
 
--- this request was made and got this reply
+-- `request` was made and got `reply`, which is one of `replies`; `next` gives the request that
+-- follows some replies
 abbrev pub HasReply : (List PlainReply → Option PlainRequest) → List PlainReply → PlainRequest → PlainReply → Type 0
 HasReply next replies request reply =
     (before : List PlainReply) × (rest : List PlainReply) × (replies ≡ before ++ reply ∷ rest) × (next before ≡ Some request)
@@ -253,7 +254,8 @@ IsVolumeReading n replies =
 abbrev pub IsVolumeRead : ℕ → List PlainReply → Type 0
 IsVolumeRead n replies = (before : List PlainReply) × IsVolumeReading n before × (replies ≡ before ++ Data [] ∷ [])
 
--- further calls that fail
+-- Further calls follow these replies, until one fails with `fault`. Then `later` are all replies
+-- that came.
 pub record Breaks {P : Type 0} (next : List PlainReply → Option PlainRequest) (tells : P → List Passed → Type 0) (p p' : P)
     (replies : List PlainReply) (fault : ReadFault) (later : List PlainReply) : Type 0 where
   pub more : List Passed

@@ -209,6 +209,8 @@ impl OutFile {
         }
     }
 
+    /// Truncates a regular file to zero length before the first volume, unless blocks are written
+    /// at their places. From then on a volume has begun.
     fn empty(&self) -> io::Result<()> {
         if self.kind == FileKind::Plain && !self.has_places && !self.has_begun() {
             self.file.set_len(0)?;

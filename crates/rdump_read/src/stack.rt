@@ -120,7 +120,8 @@ fn read_volumes<R: ClientSystem>(
     ReadEnd::Failed
 }
 
-/// Returns the label of the first volume, which is `dump` if there is one.
+/// Returns the label of the first volume of the dump: `dump` if a volume was read before, and
+/// otherwise `label`, that of the volume just read.
 fn first_of(dump: Option<VolumeLabel>, label: Option<VolumeLabel>) -> Option<VolumeLabel> {
     match dump {
         Some(first) => Some(first),

@@ -62,6 +62,8 @@ impl<'a> VolumeBlocks<'a> {
         self.sizes
     }
 
+    /// Writes the next block of the volume: at its place in the file, if the file has places, and
+    /// otherwise after what was written before.
     fn put(&mut self, block: &[u8]) -> Result<(), BlockFault> {
         if !self.file.has_places() {
             return self.file.append(block);

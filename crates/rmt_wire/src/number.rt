@@ -22,6 +22,7 @@ pub enum Place {
 }
 
 impl Place {
+    /// Whether this byte ends a number on the line.
     fn ends_number(self, byte: u8) -> bool
         ensures { result ≡ spec.ends_number self byte }
     {
@@ -31,6 +32,8 @@ impl Place {
         }
     }
 
+    /// Whether this number is greater than the line allows. Only a line of a reply with data has
+    /// such a limit.
     fn is_too_much(self, value: u64) -> bool
         ensures { result ≡ spec.is_too_much self value }
     {

@@ -29,6 +29,7 @@ impl Model for ShortText {
 }
 
 impl ShortText {
+    /// Makes an empty text.
     pub(crate) fn new() -> Self
         ensures { result ≡ [] }
     {
@@ -38,12 +39,14 @@ impl ShortText {
         }
     }
 
+    /// Returns the bytes of the text.
     pub(crate) fn as_slice(&self) -> &[u8]
         ensures { result.now ≡ self.now }
     {
         &self.bytes[..self.end]
     }
 
+    /// Appends a byte, for which there must be room.
     pub(crate) fn push_byte(&mut self, byte: u8)
         requires { length self.old < TEXT_ROOM }
         ensures { self.new ≡ self.old ++ byte ∷ [] }
@@ -52,6 +55,7 @@ impl ShortText {
         self.end += 1;
     }
 
+    /// Appends these bytes, for which there must be room.
     pub(crate) fn push_slice(&mut self, text: &[u8])
         requires { length self.old + length text.now ≤ TEXT_ROOM }
         ensures { self.new ≡ self.old ++ text.now }

@@ -32,7 +32,8 @@ AskedOf false c step text failure d =
     × (text ≡ request_text (request_of c.client.at.run c.client.source.blocks
     (checkpoint_of c.client.at.counts).0 (checkpoint_of c.client.at.counts).1 step))
 
--- the client was asked for its next request
+-- The client, which has a request to send, is asked for it. Either `text` is the request, or the
+-- attempt has failed with `failure`. If `fails`, the source's next read fails.
 pub record Asks (o : Option WorldClient) (fails : Bool) (text : List ℕ) (failure : Option (ℕ × AttemptFault))
     (new : Option WorldClient) : Type 0 where
   pub before : WorldClient

@@ -34,6 +34,7 @@ pub enum Head {
     },
 }
 
+/// Reads the lines of an open from the bytes after its `O`. Returns None if a line is not complete.
 #[tactic(auto, unfolding(crate::specs::RequestFront::open_head))]
 fn open_head(bytes: &[u8]) -> Result<Option<Head>, WireFault>
     ensures value { result ≡ spec.open_head bytes.now }
@@ -63,6 +64,7 @@ fn mode_head(device: usize, line: &[u8]) -> Result<Option<Head>, WireFault>
     Ok(Some(Head::Open { device, mode, len }))
 }
 
+/// Reads the line of a close from the bytes after its `C`. Returns None if it is not complete.
 #[tactic(auto, unfolding(crate::specs::RequestFront::close_head))]
 fn close_head(bytes: &[u8]) -> Result<Option<Head>, WireFault>
     ensures value { result ≡ spec.close_head bytes.now }
@@ -74,6 +76,7 @@ fn close_head(bytes: &[u8]) -> Result<Option<Head>, WireFault>
     Ok(Some(Head::Close { len: end + 2 }))
 }
 
+/// Reads the line of a write from the bytes after its `W`. Returns None if it is not complete.
 #[tactic(auto, unfolding(crate::specs::RequestFront::write_head))]
 fn write_head(bytes: &[u8]) -> Result<Option<Head>, WireFault>
     ensures value { result ≡ spec.write_head bytes.now }
@@ -86,6 +89,7 @@ fn write_head(bytes: &[u8]) -> Result<Option<Head>, WireFault>
     Ok(Some(Head::Write { count, len }))
 }
 
+/// Reads the line of a read from the bytes after its `R`. Returns None if it is not complete.
 #[tactic(auto, unfolding(crate::specs::RequestFront::read_head))]
 fn read_head(bytes: &[u8]) -> Result<Option<Head>, WireFault>
     ensures value { result ≡ spec.read_head bytes.now }
@@ -98,6 +102,8 @@ fn read_head(bytes: &[u8]) -> Result<Option<Head>, WireFault>
     Ok(Some(Head::Read { count, len }))
 }
 
+/// Reads the lines of an operation from the bytes after its `I`. Returns None if a line is not
+/// complete.
 #[tactic(auto, unfolding(crate::specs::RequestFront::op_head))]
 fn op_head(bytes: &[u8]) -> Result<Option<Head>, WireFault>
     ensures value { result ≡ spec.op_head bytes.now }
