@@ -51,7 +51,7 @@ unanswered stage bytes = []
 abbrev pub FeedsNext : Standing → List ℕ → List ℕ → List ℕ → Progress → Standing → Type 0
 FeedsNext middle bytes piece next progress new = Feeds middle (unanswered middle.stage (bytes ++ piece)) next progress new
 
--- the stage is in no attempt
+-- no attempt is under way at this stage
 abbrev pub IsIdle : Stage → Type 0
 IsIdle (ToSend step) = ⊥
 IsIdle (Waiting step) = ⊥
@@ -124,12 +124,12 @@ AskedAt (ToSend step) told old capacity before (Err fault) now new =
     × (new ≡ standing old.run old.counts Asking)
 AskedAt stage told old capacity before result now new = (result ≡ Ok false) × (now ≡ before) × (new ≡ old)
 
--- a read of the source failed
+-- whether the fault is that a read of the source failed
 abbrev pub is_source_fault : {T : Type 0} → Result T AttemptFault → Bool
 is_source_fault (Err SourceFault) = true
 is_source_fault result = false
 
--- a read failed
+-- whether the read failed
 abbrev pub has_failed : Result Unit SourceFailed → Bool
 has_failed (Ok x) = false
 has_failed (Err failed) = true

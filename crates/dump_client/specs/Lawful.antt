@@ -28,7 +28,7 @@ IsRunLeft run counts = (counts ≡ []) ⊎ ((checkpoint_of counts).1 < run.block
 abbrev pub CanVolumeEnd : PlainRun → List VolumeCount → ℕ → Type 0
 CanVolumeEnd run counts next = ((checkpoint_of counts).1 ≤ next) × IsCount run (checkpoint_of counts).1 (next - (checkpoint_of counts).1)
 
--- the mark and MTOFFL carry a block before which the volume can end
+-- if the operation is the mark or MTOFFL, the volume can end before the block that it carries
 abbrev pub OpFits : PlainRun → List VolumeCount → TapeOp → Type 0
 OpFits run counts (Mark next) = CanVolumeEnd run counts next
 OpFits run counts (Unload next) = CanVolumeEnd run counts next
@@ -64,14 +64,15 @@ RoomFits (Waiting Close) room = Unit {0}
 RoomFits (Waiting step) room = 0 < room
 RoomFits stage room = Unit {0}
 
--- the client can do what the outcome says
+-- the outcome fits the run, the counts and the room for more counts, so the client can go on from
+-- it
 abbrev pub OutcomeFits : PlainRun → List VolumeCount → ℕ → Outcome → Type 0
 OutcomeFits run counts room (GoesOn step) = IsRunLeft run counts × StepFits run counts step × (0 < room)
 OutcomeFits run counts room (Fails fault) = IsRunLeft run counts
 OutcomeFits run counts room (Counted next) = StepFits run counts (Operation (Unload next)) × (0 < room)
 OutcomeFits run counts room Ended = 0 < length counts
 
--- `count` blocks, beginning with this one
+-- the steps that write `count` blocks, beginning with this one
 abbrev pub blocks_from : ℕ → ℕ → List Step
 blocks_from first zero = []
 blocks_from first (suc count) = Block first ∷ blocks_from (suc first) count

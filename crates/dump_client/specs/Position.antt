@@ -59,7 +59,8 @@ after_done RewindAgain = GoesOn Label
 after_done (Mark next) = GoesOn (Operation (Unload next))
 after_done (Unload next) = Counted next
 
--- the outcome of a step that was done; this is the order of the requests
+-- the outcome of a step that was done: the next step, or the count after MTOFFL, or the end after
+-- the close
 abbrev pub after_step : PlainRun → ℕ → Step → Outcome
 after_step run first Open = GoesOn (Operation Rewind)
 after_step run first (Operation op) = after_done op
@@ -74,18 +75,18 @@ abbrev pub at_end_of_reel : ℕ → Step → Outcome
 at_end_of_reel first (Block number) = if nat_lt first number then GoesOn (Operation (Mark number)) else Fails ReelTooSmall
 at_end_of_reel first step = Fails ReelTooSmall
 
--- the outcome of a number in reply to a write of `size` bytes
+-- the outcome if the reply to a write of `size` bytes is the number `n`
 abbrev pub after_write : PlainRun → ℕ → Step → ℕ → ℕ → Outcome
 after_write run first step size n =
     if n == size then after_step run first step
     else if n == 0 then at_end_of_reel first step
     else Fails ShortWrite
 
--- the outcome of a number in reply to an operation of count 1
+-- the outcome if the reply to an operation of count 1 is the number `n`
 abbrev pub after_op : PlainRun → ℕ → Step → ℕ → Outcome
 after_op run first step n = if n == 1 then after_step run first step else Fails Botched
 
--- the outcome of a number in reply to a step
+-- the outcome if the reply to a step is a number
 abbrev pub after_number : PlainRun → ℕ → Step → ℕ → Outcome
 after_number run first Open n = after_step run first Open
 after_number run first (Operation op) n = after_op run first (Operation op) n
@@ -94,11 +95,11 @@ after_number run first Label n = after_write run first Label label_bytes n
 after_number run first (Block number) n = after_write run first (Block number) run.block_bytes n
 after_number run first Close n = Ended
 
--- the outcome of an error in reply to a write
+-- the outcome if the reply to a write is error `n`
 abbrev pub after_refusal : ℕ → Step → ℕ → Outcome
 after_refusal first step n = if n == ENOSPC then at_end_of_reel first step else Fails (Refused n)
 
--- the outcome of an error in reply to a step
+-- the outcome if the reply to a step is error `n`
 abbrev pub after_error : ℕ → Step → ℕ → Outcome
 after_error first Label n = after_refusal first Label n
 after_error first (Block number) n = after_refusal first (Block number) n
@@ -173,12 +174,12 @@ CanBeHeard run counts first Close reply = Unit {0}
 CanBeHeard run counts first step reply =
     IsWantedAt run counts first step reply → data_length reply ≤ label_bytes → AnswersTo reply (wanted_of step)
 
--- the outcome is a failure
+-- the outcome is that the attempt fails
 abbrev pub IsFailure : Outcome → Type 0
 IsFailure (Fails fault) = Unit {0}
 IsFailure outcome = ⊥
 
--- the look at this reply fails with `CountedReel` of that volume
+-- if this is the reply to the look, the attempt fails with `CountedReel` of that volume
 abbrev pub FailsAsCounted : PlainRun → List VolumeCount → ℕ → ℕ → PlainReply → Type 0
 FailsAsCounted run counts first volume reply = after_reply run counts first Look reply ≡ Fails (CountedReel volume)
 

@@ -48,7 +48,7 @@ IsAtStep (ToSend other) step = step ≡ other
 IsAtStep (Waiting other) step = step ≡ other
 IsAtStep stage step = ⊥
 
--- the stage as a caller sees it
+-- the state that a caller of the client sees at this stage
 abbrev pub state_of : Stage → State
 state_of Ready = told.Ready
 state_of (ToSend step) = told.ToSend
@@ -61,7 +61,7 @@ state_of Abandoned = told.Abandoned
 abbrev pub count_to : ℕ × ℕ → ℕ → VolumeCount
 count_to at next = record { volume = at.0; first = at.1; count = next - at.1 }
 
--- the counts with that volume's added
+-- the counts, and after them that of the next volume, which ends before block `next`
 abbrev pub counted_to : List VolumeCount → ℕ → List VolumeCount
 counted_to counts next = counts ++ count_to (checkpoint_of counts) next ∷ []
 
@@ -83,7 +83,8 @@ Becomes old (Counted next) false progress new =
 Becomes old (Counted next) true progress new = (progress ≡ moved.Ended) × IsOver old.run (counted_to old.counts next) new
 Becomes old Ended more progress new = (progress ≡ moved.Ended) × IsOver old.run old.counts new
 
--- at this step the client receives this
+-- at this step the client receives `heard`, and is then in the state `new`; `more` says whether
+-- bytes follow
 abbrev pub ReceivesAt : Standing → Step → Received → Bool → Progress → Standing → Type 0
 ReceivesAt old step heard more progress new =
     Becomes old (outcome old.run old.counts (checkpoint_of old.counts).1 step heard) more progress new
@@ -106,11 +107,11 @@ FedAt (Waiting step) old bytes piece progress new =
     × Makes old step (bytes ++ piece) seen rest progress new
 FedAt stage old bytes piece progress new = (progress ≡ moved.Idle) × (new ≡ old)
 
--- a client in this state is fed a piece
+-- a client in the state `old` that was fed `bytes` is fed `piece`, and is then in the state `new`
 abbrev pub Feeds : Standing → List ℕ → List ℕ → Progress → Standing → Type 0
 Feeds old bytes piece progress new = FedAt old.stage old bytes piece progress new
 
--- the connection ends
+-- the client learns that its connection ended, and is then in the state `new`
 abbrev pub CutAt : Stage → Standing → Progress → Standing → Type 0
 CutAt (ToSend step) old progress new = ReceivesAt old step End false progress new
 CutAt (Waiting step) old progress new = ReceivesAt old step End false progress new
@@ -129,7 +130,7 @@ abbrev pub stage_after : Answer → Stage
 stage_after Retry = Ready
 stage_after Abandon = Abandoned
 
--- the operator's answer is taken, or refused in other stages
+-- the client takes the operator's answer if it waits for one, and in other stages refuses it
 abbrev pub AnsweredAt : Stage → Standing → Answer → Result Unit StartFault → Standing → Type 0
 AnsweredAt Asking old answer result new = (result ≡ Ok tt) × (new ≡ standing old.run old.counts (stage_after answer))
 AnsweredAt stage old answer result new = (result ≡ Err WrongState) × (new ≡ old)

@@ -35,11 +35,11 @@ second_of c = slice_index_or c 1 nobody
 abbrev pub AtomicSeat : Type 0
 AtomicSeat = Me (Unit {0}) SeatGroup
 
--- it represents one seat
+-- this seat of `atomic_table` represents one seat of the table
 abbrev pub IsAlone : AtomicSeat → Type 0
 IsAlone me = me ≡ (first_of me.0 ∷ [], [])
 
--- it represents two seats
+-- this seat of `atomic_table` represents two seats of the table
 abbrev pub IsPair : AtomicSeat → Type 0
 IsPair me = me ≡ (first_of me.0 ∷ second_of me.0 ∷ [], [])
 
@@ -47,7 +47,7 @@ IsPair me = me ≡ (first_of me.0 ∷ second_of me.0 ∷ [], [])
 abbrev pub settled : Seated → Seated
 settled x = seated x.view x.made 0
 
--- the new seat to which they are passed on
+-- the new seat to which `x` passes its spare numbers on
 abbrev pub following : Seated → Seated
 following x = seated (newcomer (x.view.number + 1)) 0 (x.spare - 1)
 
@@ -100,11 +100,11 @@ pub record KeepsRule (drives : ℕ) (words : List ℕ) (companies : List SeatGro
   pub rule : HoldRule words seats
   pub spread : AreGrouped seats companies
 
--- after a step by one seat, that seat is x
+-- after a step by a seat that represents one seat, that one is x
 abbrev pub StepsTo : AtomicSeat → Seated → Type 0
 StepsTo me' x = IsAlone me' × (first_of me'.0 ≡ x)
 
--- a take that found `found`
+-- an atomic step that is a take: it found the number `found`, and leaves the seat as `me'`
 abbrev pub TakesAt : Step (Unit {0}) → AtomicSeat → ℕ → AtomicSeat → Type 0
 TakesAt s me found me' =
     StepsTo me' (stepped (first_of me.0) (taken (first_of me.0).view s.word found))
@@ -113,13 +113,13 @@ TakesAt s me found me' =
     × IsRuledStep s.word (first_of me.0).view (first_of me.0).made found
     (cond (found == 0) (first_of me.0).view.number found) (first_of me'.0).view
 
--- a give
+-- an atomic step that is a give: it leaves the number `stored`, and the seat as `me'`
 abbrev pub GivesAt : Step (Unit {0}) → AtomicSeat → ℕ → AtomicSeat → Type 0
 GivesAt s me stored me' =
     StepsTo me' (stepped (first_of me.0) (given (first_of me.0).view s.word))
     × IsRuledStep s.word (first_of me.0).view (first_of me.0).made (first_of me.0).view.number 0 (first_of me'.0).view
 
--- a look that found `found`
+-- an atomic step that is a look: it found the number `found`, and leaves the seat as `me'`
 abbrev pub LooksAt : Step (Unit {0}) → AtomicSeat → ℕ → AtomicSeat → Type 0
 LooksAt s me found me' =
     StepsTo me' (stepped (first_of me.0) (looked (first_of me.0).view s.word found))

@@ -18,8 +18,8 @@ Moves Look number n m = m ≡ n
 abbrev pub MovesAt : StepKind → ℕ → ℕ → ℕ → ℕ → ℕ → Type 0
 MovesAt kind number d e n m = (e ≡ d → Moves kind number n m) × (e ≢ d → m ≡ n)
 
--- each step that finds `found` and leaves `left` in the word of drive d moves the drives in this
--- way
+-- each step that finds `found` in the word of drive d and leaves `left` there changes the holders
+-- of the drives as `MovesAt` says
 abbrev pub StepMoves : StepKind → ℕ → View → ℕ → ℕ → ℕ → View → Type 0
 StepMoves kind d old made found left new = (step : IsRuledStep d old made found left new) (e n m : ℕ) → e < length step.words
     → IsHolder step.seats e n → IsHolder (slice_set step.seats step.place (seated new (made + 1) step.spare)) e m

@@ -32,7 +32,7 @@ pub record FiledPayload (M : Type 0) : Type 0 where
   pub size : ℕ
   pub failures : ℕ
 
--- it is stored as the tuple of its fields
+-- a `FiledPayload` is encoded as the tuple of its fields
 abbrev pub filed_code : {M : Type 0} → Coded M → Coded (FiledPayload M)
 filed_code {M} code =
     code_by

@@ -52,11 +52,11 @@ IsPeerCall request result passed =
     ⊎ ((result ≡ Err ConnectionEnded) × AreBytesSent (request_text request) false passed)
     ⊎ ((result ≡ Err OutOfMemory) × (passed ≡ []))
 
--- a reply was awaited over a peer, with this result
+-- a reply was awaited over a peer; the result is the reply, or why none came
 abbrev pub IsReplyHeard : {P : Type 0} → (P → List Passed → Type 0) → Wanted → Result PlainReply CallFault → P → P → Type 0
 IsReplyHeard tells wanted result p p' = (passed : List Passed) × Brings wanted result passed × Logs tells p p' passed
 
--- a call was made over a peer, with this result
+-- the request was sent over a peer; the result is its reply, or why none came
 abbrev pub IsCalled : {P : Type 0} → (P → List Passed → Type 0) → PlainRequest → Result PlainReply CallFault → P → P → Type 0
 IsCalled tells request result p p' = (passed : List Passed) × IsPeerCall request result passed × Logs tells p p' passed
 

@@ -39,14 +39,15 @@ Stops next (Some fault) replies passed =
     × (next replies ≡ Some request) × IsPeerCall request (Err fault) more × (passed ≡ before ++ more))
     ⊎ ((replies ≡ []) × NotBegun fault passed)
 
--- further calls, after which the replies `replies` have become `later`
+-- further calls were made after `replies`; `later` are all replies then
 pub record Extends {P : Type 0} (next : List PlainReply → Option PlainRequest) (tells : P → List Passed → Type 0) (p p' : P)
     (replies later : List PlainReply) : Type 0 where
   pub more : List Passed
   pub logs : Logs tells p p' more
   pub follows : (passed : List Passed) → CallsFollow next replies passed → CallsFollow next later (passed ++ more)
 
--- further calls, up to their end
+-- further calls were made after `replies`, until no request was left or `fault` ended them; `later`
+-- are all replies then
 pub record Finishes {P : Type 0} (next : List PlainReply → Option PlainRequest) (tells : P → List Passed → Type 0) (p p' : P)
     (replies : List PlainReply) (fault : Option CallFault) (later : List PlainReply) : Type 0 where
   pub more : List Passed

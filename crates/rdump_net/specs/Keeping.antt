@@ -13,16 +13,16 @@ use Rattle.rdump_net.specs.declared.conclusion.Conclusion.{Conclusion}
 use Rattle.rdump_net.specs.declared.conclusion.Conclusion.TheVariants.{Complete, Unkept}
 use Rattle.rdump_net.specs.declared.peer.Passed.{Passed}
 
--- these texts were appended to the keeper's log
+-- these texts were put into the keeper, and appended to its log
 abbrev pub PutsOn : {K : Type 0} → (K → List (List ℕ) → Type 0) → K → K → List (List ℕ) → Type 0
 PutsOn puts old new texts = (log : List (List ℕ)) → puts old log → puts new (log ++ texts)
 
--- the text, if it was put
+-- a list with the text, if the keeper took it, or else an empty list
 abbrev pub put_if : List ℕ → Bool → List (List ℕ)
 put_if text true = text ∷ []
 put_if text false = []
 
--- the last text put is the checkpoint of a client in this state
+-- the last text put into the keeper is the checkpoint of a client in this state
 abbrev pub IsKept : List (List ℕ) → Standing → Type 0
 IsKept texts at = (before : List (List ℕ)) × (texts ≡ before ++ checkpoint_text at.run at.counts ∷ [])
 

@@ -93,7 +93,7 @@ stage_then (Closing finding) (Error n text) = after_close finding n
 stage_then (Closing finding) reply = Closed finding
 stage_then (Closed finding) reply = Closed finding
 
--- the stage after several replies
+-- the stage after these replies, beginning at `stage`
 abbrev pub stage_from : LookStage → List PlainReply → LookStage
 stage_from stage [] = stage
 stage_from stage (reply ∷ replies) = stage_from (stage_then stage reply) replies
@@ -120,38 +120,42 @@ pub record IsLook {P : Type 0} (tells : P → List Passed → Type 0) (device : 
   pub logs : Logs tells p p' passed
   pub ends : LookEnds device replies passed result
 
--- further calls, from one stage to another
+-- whenever the look is at the stage `from`, it makes further calls, after which it is at the stage
+-- `to`
 abbrev pub Goes : {P : Type 0} → (P → List Passed → Type 0) → List ℕ → LookStage → LookStage → P → P → Type 0
 Goes tells device from to p p' =
     (replies : List PlainReply) → stage_after replies ≡ from
     → (later : List PlainReply) × Extends (next_of device) tells p p' replies later × (stage_after later ≡ to)
 
--- further calls from a stage on, of which the last gets no reply
+-- whenever the look is at the stage `from`, it makes further calls, of which the last gets no
+-- reply, for the reason `fault`
 abbrev pub Fails : {P : Type 0} → (P → List Passed → Type 0) → List ℕ → LookStage → CallFault → P → P → Type 0
 Fails tells device from fault p p' =
     (replies : List PlainReply) → stage_after replies ≡ from
     → (later : List PlainReply) × Finishes (next_of device) tells p p' replies (Some fault) later
 
--- further calls from a stage on, up to the stage that has the finding
+-- from the stage `from` on the look makes further calls, up to the stage that has what it found; or
+-- a call gets no reply
 abbrev pub IsLookPart : {P : Type 0} → (P → List Passed → Type 0) → List ℕ → LookStage → (Finding → LookStage) → P → P
     → Result ReelFront LookFault → Type 0
 IsLookPart tells device from to p p' (Ok front) = Goes tells device from (to (Front (plain_front front))) p p'
 IsLookPart tells device from to p p' (Err (Refused named number)) = Goes tells device from (to (Refusal named number)) p p'
 IsLookPart tells device from to p p' (Err (NoReply fault)) = Fails tells device from fault p p'
 
--- one call at this stage
+-- the call of the stage `from`, whose request has the name `named`, is made: it is done, or
+-- refused, or gets no reply
 abbrev pub IsAnsweredAt : {P : Type 0} → (P → List Passed → Type 0) → List ℕ → LookStage → LookRequest → P → P → Result Unit LookFault → Type 0
 IsAnsweredAt tells device from named p p' (Ok x) = (n : ℕ) × Goes tells device from (stage_then from (Done n)) p p'
 IsAnsweredAt tells device from named p p' (Err (Refused other n)) =
     (other ≡ named) × ((text : List ℕ) × Goes tells device from (stage_then from (Error n text)) p p')
 IsAnsweredAt tells device from named p p' (Err (NoReply fault)) = Fails tells device from fault p p'
 
--- one call at any stage that makes this request
+-- `IsAnsweredAt` holds at each stage that makes this request
 abbrev pub IsAnswered : {P : Type 0} → (P → List Passed → Type 0) → LookRequest → PlainRequest → P → P → Result Unit LookFault → Type 0
 IsAnswered tells named request p p' result =
     (device : List ℕ) (from : LookStage) → request_at device from ≡ Some request → IsAnsweredAt tells device from named p p' result
 
--- the read of the first record
+-- the read of the reel's first record, with its bytes, or why it gave none
 abbrev pub IsReadAt : {P : Type 0} → (P → List Passed → Type 0) → List ℕ → P → P → Result (Vec ℕ Global) LookFault → Type 0
 IsReadAt tells device p p' (Ok bytes) = Goes tells device Reading (after_read bytes.items) p p'
 IsReadAt tells device p p' (Err (Refused named n)) = Goes tells device Reading (Closing (Refusal named n)) p p'

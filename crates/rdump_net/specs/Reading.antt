@@ -29,7 +29,8 @@ use Rattle.rdump_net.specs.declared.peer.Passed.{Passed}
 use Rattle.rdump_net.specs.declared.volume.AfterVolume.{AfterVolume}
 use Rattle.rdump_net.specs.declared.volume.AfterVolume.TheVariants.{Stay, Check, Offline}
 
--- the close, and nothing after it
+-- the close, and nothing after it; like each `next_` below, this gives the next request after the
+-- replies to those before it, or None at the end
 abbrev pub next_close : List PlainReply → Option PlainRequest
 next_close [] = Some Close
 next_close (closed ∷ more) = None
@@ -55,7 +56,7 @@ next_forward goes n (Done k ∷ ends) = next_over goes ends
 next_forward goes n (Error k text ∷ ends) = next_close ends
 next_forward goes n (Data bytes ∷ ends) = None
 
--- rewind first; then the same, if one request can name `n` records
+-- rewind first; then space forward as `next_forward` does, if one request can name `n` records
 abbrev pub next_again : AfterVolume → ℕ → List PlainReply → Option PlainRequest
 next_again goes n [] = Some (Op MTREW 1)
 next_again goes n (Done k ∷ ends) = if nat_lt NUMBER_LIMIT n then next_close ends else next_forward goes n ends
@@ -153,14 +154,15 @@ StopsTheSearch request (Done n) = request ≡ Op MTREW 1
 StopsTheSearch request (Error n text) = Unit {0}
 StopsTheSearch request (Data bytes) = ⊥
 
--- it could not be determined: after such a reply the close is next
+-- whether a mark ends the records could not be determined: a reply stopped the search, and the
+-- close is next
 abbrev pub IsUndetermined : (List PlainReply → Option PlainRequest) → List PlainReply → Type 0
 IsUndetermined next replies =
     (request : PlainRequest) × (reply : PlainReply) × (before : List PlainReply) × (rest : List PlainReply)
     × (replies ≡ before ++ reply ∷ rest) × (next before ≡ Some request) × (next (before ++ reply ∷ []) ≡ Some Close)
     × StopsTheSearch request reply
 
--- the request has this name
+-- the request is the one that a fault names in this way
 abbrev pub IsNamed : VolumeRequest → PlainRequest → Type 0
 IsNamed asked.Open request = (device : List ℕ) × (request ≡ Open device O_RDONLY)
 IsNamed asked.Rewind request = request ≡ Op MTREW 1
@@ -184,7 +186,7 @@ ReadFails next replies passed OutputFailed = CallsFollow next replies passed × 
 ReadFails next replies passed NoMark = (closing : Option CallFault) × Stops next closing replies passed × IsMarkMissing next replies
 ReadFails next replies passed Undetermined = (closing : Option CallFault) × Stops next closing replies passed × IsUndetermined next replies
 
--- everything that came was printed and written
+-- whether everything that came was printed and written, as it was unless the output failed
 abbrev pub is_whole : Result Unit ReadFault → Bool
 is_whole (Ok x) = true
 is_whole (Err OutputFailed) = false
@@ -262,7 +264,7 @@ pub record Breaks {P : Type 0} (next : List PlainReply → Option PlainRequest) 
   pub logs : Logs tells p p' more
   pub fails : (passed : List Passed) → CallsFollow next replies passed → ReadFails next later (passed ++ more) fault
 
--- one more call: its reply, or why it gets none
+-- one more call is made; the result is its reply, or why it gets none
 abbrev pub CallSteps : {P : Type 0} → (List PlainReply → Option PlainRequest) → (P → List Passed → Type 0) → P → P → List PlainReply
     → Result PlainReply ReadFault → Type 0
 CallSteps next tells p p' replies (Ok reply) = Extends next tells p p' replies (replies ++ reply ∷ [])
@@ -270,7 +272,7 @@ CallSteps next tells p p' replies (Err fault) =
     (later : List PlainReply) × Breaks next tells p p' replies fault later × (records_of later ≡ records_of replies)
     × (is_whole (Err fault) ≡ true)
 
--- one more call, which succeeds only if its request is done
+-- one more call is made, which succeeds only if its request is done
 abbrev pub IsDone : {P : Type 0} → (List PlainReply → Option PlainRequest) → (P → List Passed → Type 0) → P → P → List PlainReply
     → Result Unit ReadFault → Type 0
 IsDone next tells p p' replies (Ok x) =
@@ -287,7 +289,7 @@ IsDoneNext tells request p p' result =
     (next : List PlainReply → Option PlainRequest) (replies : List PlainReply) → next replies ≡ Some request
     → EndsAtRefusal next replies → IsDone next tells p p' replies result
 
--- success if the reply says that the request was done, else the reason
+-- the result is success if the reply says that the request was done, and else the reason
 abbrev pub IsDoneBy : KeptReply → VolumeRequest → Result Unit ReadFault → Type 0
 IsDoneBy answer named (Ok x) = (number : ℕ) × (answer ≡ kept.Done number)
 IsDoneBy answer named (Err fault) =
@@ -307,12 +309,12 @@ abbrev pub Reads : {P : Type 0} → (List PlainReply → Option PlainRequest) �
 Reads next tells p p' replies (Ok n) later = Extends next tells p p' replies later × IsVolumeRead n later
 Reads next tells p p' replies (Err fault) later = Breaks next tells p p' replies fault later
 
--- everything that came was printed and written, whatever the number of records
+-- whether everything that came was printed and written; the number of records does not matter
 abbrev pub is_copied : Result ℕ ReadFault → Bool
 is_copied (Ok n) = true
 is_copied (Err fault) = is_whole (Err fault)
 
--- the records are written
+-- the records that come after these replies are read and written to the output, up to the result
 pub record AreRecordsWritten {P F : Type 0} (next : List PlainReply → Option PlainRequest) (kind : StreamKind P F)
     (replies : List PlainReply) (old new : StreamEnds P F) (result : Result ℕ ReadFault) : Type 0 where
   pub later : List PlainReply
@@ -327,7 +329,8 @@ AreFurtherRecordsWritten kind old new result =
     (device : List ℕ) (after : AfterVolume) (replies : List PlainReply) → IsVolumeReading 1 replies
     → AreRecordsWritten (next_of device after) kind replies old new result
 
--- from here on, `step` gives the next requests
+-- after `replies`, `next` gives the same requests as `step`, which sees only the replies that come
+-- from then on
 abbrev pub GoesOnBy : (List PlainReply → Option PlainRequest) → (List PlainReply → Option PlainRequest) → List PlainReply → Type 0
 GoesOnBy next step replies = (ends : List PlainReply) → next (replies ++ ends) ≡ step ends
 
@@ -340,7 +343,8 @@ ReadsVolume next after tells p p' replies (Ok n) later =
     × (after_for_records after (records_of later) ≡ after_for_count after n)
 ReadsVolume next after tells p p' replies (Err fault) later = Breaks next tells p p' replies fault later
 
--- the label is printed and the records are written
+-- the label is read and printed, and the records after it are read and written to the file, up to
+-- the result
 pub record IsCopied {P F W : Type 0} (next : List PlainReply → Option PlainRequest) (after : AfterVolume) (kind : CopyKind P F W)
     (replies : List PlainReply) (old new : CopyEnds P F W) (result : Result ℕ ReadFault) : Type 0 where
   pub later : List PlainReply
@@ -357,14 +361,14 @@ IsCopiedAtLabel kind old new result =
     (device : List ℕ) (after : AfterVolume) (seen : List PlainReply) → IsAtLabel seen
     → IsCopied (next_of device after) after kind seen old new result
 
--- an operation was done, or refused with this error number, or got no reply
+-- the next call, an operation, was done, or refused with this error number, or got no reply
 abbrev pub IsAnswered : {P : Type 0} → (List PlainReply → Option PlainRequest) → (P → List Passed → Type 0) → P → P → List PlainReply
     → Result (Option ℕ) ReadFault → Type 0
 IsAnswered next tells p p' replies (Ok None) = (number : ℕ) × CallSteps next tells p p' replies (Ok (Done number))
 IsAnswered next tells p p' replies (Ok (Some number)) = (text : List ℕ) × CallSteps next tells p p' replies (Ok (Error number text))
 IsAnswered next tells p p' replies (Err fault) = CallSteps next tells p p' replies (Err fault)
 
--- why no mark was found
+-- `fault` is why no mark was found
 abbrev pub IsUnmarked : (List PlainReply → Option PlainRequest) → List PlainReply → ReadFault → Type 0
 IsUnmarked next replies NoMark = IsMarkMissing next replies
 IsUnmarked next replies Undetermined = IsUndetermined next replies
@@ -400,7 +404,8 @@ IsLookedAtEnd tells goes n p p' result =
     (next : List PlainReply → Option PlainRequest) (replies : List PlainReply) → GoesOnBy next (next_mark goes n) replies
     → IsLooked next goes tells p p' replies result
 
--- the reel was taken offline, if it was to go, and the close is next; or why it was not
+-- the reel was taken offline, if `Offline` asks for it, and the close is next; or a call failed
+-- with the fault
 abbrev pub IsTakenAway : {P : Type 0} → (List PlainReply → Option PlainRequest) → (P → List Passed → Type 0) → P → P
     → List PlainReply → Result Unit ReadFault → Type 0
 IsTakenAway next tells p p' replies (Ok x) =
@@ -444,7 +449,8 @@ IsConcludedAtEnd tells goes n p p' result =
     (next : List PlainReply → Option PlainRequest) (replies : List PlainReply) → GoesOnBy next (next_mark goes n) replies
     → Concludes next goes tells p p' replies result
 
--- all calls, once there is a connection
+-- all calls of reading a volume over a peer that is connected, with what they print and write and
+-- the result
 pub record IsThrough {P F W : Type 0} (kind : CopyKind P F W) (device : List ℕ) (after : AfterVolume) (old new : CopyEnds P F W)
     (result : Result Unit ReadFault) : Type 0 where
   pub replies : List PlainReply
@@ -458,7 +464,7 @@ pub record IsThrough {P F W : Type 0} (kind : CopyKind P F W) (device : List ℕ
   pub ends : (passed : List Passed) → CallsFollow (next_of device after) [] passed
       → ReadEnds (next_of device after) (after_for_records after (records_of replies)) replies (passed ++ more) result
 
--- reads a record, or fails with the reason
+-- one call reads a record, or fails with the reason
 abbrev pub IsRecordRead : {P : Type 0} → (List PlainReply → Option PlainRequest) → (P → List Passed → Type 0) → P → P → List PlainReply
     → Result (Vec ℕ Global) ReadFault → Type 0
 IsRecordRead next tells p p' replies (Ok bytes) = CallSteps next tells p p' replies (Ok (Data bytes.items))

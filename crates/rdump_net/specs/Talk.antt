@@ -58,7 +58,7 @@ pub data TalkStep (told : List (List ℕ) → Type 0) (allows : Standing → Typ
   answers : {old new : Standing} {fed : List ℕ} (answer : Answer) (result : Result Unit StartFault)
       → AnsweredAt old.stage old answer result new → TalkStep told allows old fed [] new fed
 
--- such calls, one after the other
+-- calls as `TalkStep` describes, one after the other, from the client's state `start` on
 pub data Talks (told : List (List ℕ) → Type 0) (allows : Standing → Type 0) (start : Standing) (first : List ℕ) : List Passed → Standing → List ℕ → Type 0 where
   none : Talks told allows start first [] start first
   one_more : {passed more : List Passed} {before after : Standing} {fed later : List ℕ}

@@ -11,13 +11,13 @@ access_of mode =
     if mode % ACCESS_MODES == O_RDONLY then Some Read else if mode % ACCESS_MODES == O_WRONLY then Some Write
     else if mode % ACCESS_MODES == O_RDWR then Some Both else None
 
--- it allows reads
+-- whether this access allows reads
 abbrev pub reads : Access → Bool
 reads Read = true
 reads Write = false
 reads Both = true
 
--- it allows writes
+-- whether this access allows writes
 abbrev pub writes : Access → Bool
 writes Read = false
 writes Write = true

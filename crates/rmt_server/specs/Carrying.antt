@@ -19,7 +19,8 @@ use Rattle.rmt_server.specs.Opening.{Closes, OpensDevice, view_after_close, hold
 use Rattle.rmt_server.specs.Moving.{MovesOff}
 use Rattle.rmt_server.specs.Serving.{Serves}
 
--- An operation: MTOFFL, or one that the reel carries out.
+-- An operation. If the flag is set it is MTOFFL, which moves the reel. If not, the reel carries it
+-- out.
 abbrev pub Operates : {H S Seat R : Type 0} → Kinds H Seat S R → Bool → State H S Seat R → ℕ → ℕ → PlainReply
     → State H S Seat R → Type 0
 Operates k true old op count reply new = MovesOff k old op count reply new
@@ -44,7 +45,7 @@ abbrev pub HasTrouble : {H S Seat R : Type 0} → Kinds H Seat S R → Bool → 
 HasTrouble k true old new = HasRisen (k.stacks.failures old.drives.stacks) (k.stacks.failures new.drives.stacks)
 HasTrouble k false old new = ReelFailed k.reels (reel_of old.opened) (reel_of new.opened)
 
--- the request uses the device of the stacks
+-- whether the request uses the device of the stacks, as an open and MTOFFL do
 abbrev pub is_of_stacks : PlainRequest → Bool
 is_of_stacks (Open device mode) = true
 is_of_stacks (Op op count) = is_offline op
@@ -103,7 +104,7 @@ SeatSteps (Open device mode) before drive reply after drive' = TakesFor before d
 SeatSteps Close before drive reply after drive' = after ≡ view_after_close before drive
 SeatSteps request before drive reply after drive' = after ≡ before
 
--- One request was carried out.
+-- One request was carried out, with this reply.
 pub record IsCarriedOut {H S Seat R : Type 0} (k : Kinds H Seat S R) (old : State H S Seat R) (request : PlainRequest)
     (reply : PlainReply) (new : State H S Seat R) : Type 0 where
   -- the effect, even if contents are unspecified

@@ -11,7 +11,7 @@ use Rattle.drives.specs.declared.fault.DriveFault.TheVariants as drive
 use Rattle.rmt_server.specs.declared.refusal.Refusal.{Refusal}
 use Rattle.rmt_server.specs.declared.refusal.Refusal.TheVariants.{NoSuchFile, InputOutput, NotConfigured, BadDescriptor, NoMemory, Permission, Busy, Invalid, NoSpace}
 
--- its number in errno
+-- the errno value that the error reply has
 abbrev pub number_of : Refusal → ℕ
 number_of NoSuchFile = ENOENT
 number_of InputOutput = EIO
@@ -23,7 +23,7 @@ number_of Busy = EBUSY
 number_of Invalid = EINVAL
 number_of NoSpace = ENOSPC
 
--- the text that is sent with the number
+-- the text that the error reply has after the errno value
 abbrev pub text_of : Refusal → List ℕ
 text_of NoSuchFile = codes "No such file or directory"
 text_of InputOutput = codes "Input/output error"
@@ -35,7 +35,7 @@ text_of Busy = codes "Device busy"
 text_of Invalid = codes "Invalid argument"
 text_of NoSpace = codes "No space left on device"
 
--- the error reply
+-- the error reply that a refusal is sent as
 abbrev pub refused : Refusal → PlainReply
 refused r = Error (number_of r) (text_of r)
 

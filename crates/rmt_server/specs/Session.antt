@@ -58,7 +58,7 @@ pub data Status : Type 0 where
   ReelAway : Status
   Ready : (access : Access) → Status
 
--- the status of a session
+-- the status of a session, for the checks
 abbrev pub status_of : PlainSession → Status
 status_of Idle = NothingOpen
 status_of (Offline drive access) = ReelAway
@@ -205,12 +205,13 @@ MoveStep troubled before count reply after =
     × (reply ≡ move_reply count result)
     × MovesAs troubled drive access reel result before.library after
 
--- an operation, which is MTOFFL (true) or another
+-- An operation. If the first flag is set it is MTOFFL, which moves the reel. If not, the reel
+-- carries it out.
 abbrev pub OpStep : Bool → Bool → Bool → SessionView → ℕ → ℕ → PlainReply → SessionView → Type 0
 OpStep true troubled grows before op count reply after = MoveStep troubled before count reply after
 OpStep false troubled grows before op count reply after = ReelStep troubled grows before (Op op count) reply after
 
--- a request that no check refuses
+-- one request that no check refuses, with its reply and the view after it
 abbrev pub DoneStep : Bool → Bool → SessionView → PlainRequest → PlainReply → SessionView → Type 0
 DoneStep troubled grows before Close reply after = (reply ≡ Done 0) × (after ≡ closed before)
 DoneStep troubled grows before (Op op count) reply after = OpStep (is_offline op) troubled grows before op count reply after

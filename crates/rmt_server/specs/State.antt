@@ -33,7 +33,7 @@ abbrev pub drive_of : {R : Type 0} → Option (Opened R) → Option ℕ
 drive_of None = None
 drive_of (Some device) = Some device.drive
 
--- this drive, or none if its reel is in the bin
+-- the drive, if its reel is still in it, and None if the reel was moved to the bin
 abbrev pub online_in : {R : Type 0} → ℕ → Option R → Option ℕ
 online_in drive None = None
 online_in drive (Some reel) = Some drive
@@ -58,7 +58,7 @@ abbrev pub status_at : {R : Type 0} → Option (Opened R) → Status
 status_at None = NothingOpen
 status_at (Some device) = status_in device.access device.reel
 
--- this drive is open, with this reel
+-- `drive` is open, with `reel` in it
 abbrev pub IsOnline : {R : Type 0} → Option (Opened R) → ℕ → R → Type 0
 IsOnline opened drive reel = (access : Access) × (opened ≡ Some (record { drive = drive; access = access; reel = Some reel }))
 
@@ -92,7 +92,7 @@ pub record HasView {H S Seat R : Type 0} (k : Kinds H Seat S R) (x : State H S S
 abbrev pub SessionCanFail : {H S Seat R : Type 0} → Kinds H Seat S R → State H S Seat R → Type 0
 SessionCanFail k x = k.stacks.can_fail x.drives.stacks ⊎ ReelCanFail k.reels (reel_of x.opened)
 
--- one call of a reel
+-- one call of a reel, whose answer and reel afterwards the reel's promise allows
 abbrev pub IsReelCall : {R : Type 0} → ReelPromise R → R → TapeRequest → TapeAnswer → R → Type 0
 IsReelCall r old request answer new =
     IsTapeCall (reel_kind r.holds r.capacity r.failures r.can_fail r.makes r.GROWS) old new request answer

@@ -80,7 +80,7 @@ pub record IsSettled (wire : RequestHeld) (rest : List ℕ) : Type 0 where
 abbrev pub IsFaulty : List ℕ → WireFault → Type 0
 IsFaulty rest fault = (more : List ℕ) → HasFault (rest ++ more) fault × HasNoSpelling (rest ++ more)
 
--- what happened to the bytes that a reader held
+-- what happened to the bytes that a reader of requests held: which were answered, and which remain
 abbrev pub AnswersAs : {W : Type 0} → (W → Option (List ℕ)) → Result (Option WireFault) OutputFault → Counting W → Counting W → RequestHeld
     → List ℕ → List Exchange → List ℕ → Type 0
 AnswersAs contents (Ok None) output output' wire bytes done rest =

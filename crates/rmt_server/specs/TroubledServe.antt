@@ -86,12 +86,13 @@ TroubledMoveStep trouble before count reply after =
     × (reply ≡ move_reply count result)
     × MovesAs (is_set trouble) drive access reel result before.library after
 
--- an operation, which is MTOFFL (true) or another
+-- An operation. If the flag is set it is MTOFFL, which moves the reel. If not, the reel carries it
+-- out.
 abbrev pub TroubledOpStep : Bool → Trouble → SessionView → ℕ → ℕ → PlainReply → SessionView → Type 0
 TroubledOpStep true trouble before op count reply after = TroubledMoveStep trouble before count reply after
 TroubledOpStep false trouble before op count reply after = TroubledReelStep trouble before (Op op count) reply after
 
--- a request that no check refuses
+-- one request that no check refuses, with its reply and the view after it
 abbrev pub TroubledDoneStep : Trouble → SessionView → PlainRequest → PlainReply → SessionView → Type 0
 TroubledDoneStep trouble before Close reply after = (reply ≡ Done 0) × (after ≡ closed before)
 TroubledDoneStep trouble before (Op op count) reply after = TroubledOpStep (is_offline op) trouble before op count reply after

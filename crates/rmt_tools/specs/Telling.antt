@@ -12,7 +12,7 @@ use Rattle.rmt_server.specs.State.{state}
 use Rattle.rdump_net.specs.declared.peer.Passed.{Passed}
 use Rattle.rdump_net.specs.declared.peer.Passed.TheVariants.{Ended}
 
--- what passed, and how many ends follow it
+-- the log of a peer: what passed, and after it so many `Ended` events
 pub record KeptLog : Type 0 where
   pub passed : List Passed
   pub ends : ℕ

@@ -82,7 +82,7 @@ abbrev pub HasPassed : Way → List ℕ → Tape → Option PassedEntry → Type
 HasPassed way bytes t passed =
     MatchOption passed (ahead way t ≡ []) (λ p. (u : Tape) × IsFile bytes p.at u × IsPassed way t p.is_mark u)
 
--- A walk passed so many entries and ended at offset `at`. `met` is how many marks or records there
+-- A walk passed `passed` entries and ended at offset `at`. `met` is how many marks or records there
 -- were in its way. `left` is the part of the count for which there were none.
 pub record IsWalked (way : Way) (count met passed : ℕ) (bytes : List ℕ) (t : Tape) (at left : ℕ) : Type 0 where
   pub to : Tape

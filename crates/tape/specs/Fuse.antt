@@ -15,7 +15,7 @@ pub record Fused (M : Type 0) : Type 0 where
   pub once : Bool
   pub failures : ℕ
 
--- It is stored as the tuple of its fields.
+-- A `Fused` is encoded as the tuple of its fields.
 abbrev pub fused_code : {M : Type 0} → Coded M → Coded (Fused M)
 fused_code {M} code =
     code_by
@@ -67,6 +67,6 @@ pub record IsLeft {S : Type 0} (m : MediumKind S) (old : S) (what : List ℕ) (n
   pub quiet : m.can_fail new → m.can_fail old
   pub room : m.spare old ≤ m.spare new + length what
 
--- The inner medium was cut, if it cannot fail.
+-- If the inner medium cannot fail, it keeps its first `len` bytes.
 abbrev pub IsCutWithin : {S : Type 0} → MediumKind S → S → ℕ → S → Type 0
 IsCutWithin m old len new = (m.can_fail old → ⊥) → Steps m.holds old new (λ x y. y ≡ take len x)

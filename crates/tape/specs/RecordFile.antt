@@ -73,7 +73,7 @@ first_in bytes =
     let entry = if n == 0 then Mark else Record (take n (drop 4 bytes)) in
     if nat_le n RECORD_LIMIT && starts_with nat_eq bytes (image_of entry) then Some entry else None
 
--- The entries whose images the bytes begin with, one after the other, but at most so many.
+-- The entries whose images the bytes begin with, one after the other, but at most `most` of them.
 unfoldable pub entries_within : ℕ → List ℕ → List PlainEntry
 entries_within zero bytes = []
 entries_within (suc most) bytes =

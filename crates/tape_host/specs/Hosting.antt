@@ -48,7 +48,7 @@ seen_side s = side s.reader (session_seen s.session.opened)
 abbrev pub server_of : MemoryDrives → List (Option RealServerConnection) → ServerState
 server_of drives sides = server (library_of drives.stacks) drives.holds.numbers (map (option_map seen_side) sides)
 
--- whether nothing of the next connection is made
+-- whether nothing is made for the next connection
 abbrev pub is_nothing : Next → Bool
 is_nothing Nothing = true
 is_nothing (Seat seat) = false
@@ -71,7 +71,7 @@ pub record IsFresh (seat : View) (s : RealServerConnection) : Type 0 where
   pub session : s.session ≡ idle_session_state seat
   pub reader : Unread s.reader []
 
--- a seat became the server's side of a connection, or nothing changed
+-- a reserved seat became the server's side of a connection, or nothing changed
 abbrev pub IsMade : Next → Next → Type 0
 IsMade (Seat seat) next = (next ≡ Seat seat) ⊎ ((s : RealServerConnection) × (next ≡ Whole s) × IsFresh seat s)
 IsMade old next = next ≡ old
@@ -144,7 +144,7 @@ CarriesBack trouble lost old back request carried new back' =
     (reply : PlainReply) × IsCarried trouble old request reply new × (carried ≡ carried_of request reply)
     × (back' ≡ sent_back lost back (reply_text reply))
 
--- one turn of a session
+-- one turn of a session: it does nothing, carries out one request, or finds a fault in the bytes
 abbrev pub TurnsSession : Trouble → Bool → SessionBack → Turn → SessionBack → Type 0
 TurnsSession trouble lost old turns.Nothing new =
     GivesNothing old.reader × (new.reader ≡ old.reader) × (new.at ≡ old.at) × (new.back ≡ old.back)

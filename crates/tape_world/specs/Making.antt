@@ -13,11 +13,11 @@ use Rattle.tape_world.specs.declared.drive_spec.DriveSpec.{DriveSpec}
 abbrev pub reels_of : DriveSpec → List (List ℕ)
 reels_of d = map (λ n. n.now) d.reels.now
 
--- a drive, as plain data
+-- the plain value of a `DriveSpec`
 abbrev pub plain_drive_spec : DriveSpec → PlainDriveSpec
 plain_drive_spec d = record { name = d.name.now; capacity = d.capacity; reels = reels_of d }
 
--- whether a reel of one of the drives has that name
+-- whether a reel of one of `drives` has that name
 abbrev pub names_again : List DriveSpec → List ℕ → Bool
 names_again drives name = list_any (λ d. list_any (λ n. bytes_eq name n.now) d.reels.now) drives
 
@@ -42,6 +42,6 @@ laid_library drives = library (map laid_drive drives) []
 abbrev pub with_slots : LibraryOf TroubledTape → ℕ → List (ReelSlot TroubledTape) → LibraryOf TroubledTape
 with_slots s d slots = with_drive_at s d (drive_with (drive_at s d).name ((drive_at s d).stack ++ slots))
 
--- the library with one drive added, with its reels
+-- the library with one drive added, whose reels are blank
 abbrev pub with_laid : LibraryOf TroubledTape → DriveSpec → LibraryOf TroubledTape
 with_laid s d = library (s.drives ++ laid_drive d ∷ []) s.bin

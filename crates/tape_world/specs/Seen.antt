@@ -45,7 +45,7 @@ seen_openings names opens = map (seen_opening (map (λ n. n.items) names)) opens
 abbrev pub seen_writing : List (List ℕ) → RealWriting → Writing
 seen_writing names x = record { connection = x.connection; reel = name_at names x.reel; after = x.after }
 
--- writings, with their reels by name
+-- the writings, each with the name of its reel in place of the name's index in `names`
 abbrev pub seen_writings : List (Vec ℕ Global) → List RealWriting → List Writing
 seen_writings names writings = map (seen_writing (map (λ n. n.items) names)) writings
 

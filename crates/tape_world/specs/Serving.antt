@@ -92,17 +92,17 @@ abbrev pub written_in : ServerState → ℕ → Turn → Option (List ℕ)
 written_in h k (turns.Carried c) = name_written_by c h k
 written_in h k turn = None
 
--- the name of each reel is among these
+-- the name of each reel of the library is among `names`
 abbrev pub IsLibraryKnown : List (List ℕ) → TapeLibrary → Type 0
 IsLibraryKnown names s = (name : List ℕ) → HasReel s name → Contains names name
 
--- there is room for everything that a turn may add
+-- the history has room for everything that a turn may add
 pub record HasRoom (b : History) : Type 0 where
   pub opens : vec_len b.opens < vec_capacity b.opens
   pub lists : vec_len b.lists < vec_capacity b.lists
   pub writings : vec_len b.writings < vec_capacity b.writings
 
--- nothing was added
+-- nothing was added to the history
 pub record IsSameHistory (old new : History) : Type 0 where
   pub names : new.names ≡ old.names
   pub counts : new.counts ≡ old.counts

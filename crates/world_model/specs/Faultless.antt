@@ -63,7 +63,7 @@ IsFaultlessFailure capacity run (Refused n) = (n ≡ ENOENT) ⊎ (n ≡ ENXIO) �
 IsFaultlessFailure capacity run ReelTooSmall = capacity < room_for_one run
 IsFaultlessFailure capacity run fault = ⊥
 
--- if the last event made an attempt fail, this was for one of those causes
+-- if the last event made an attempt fail, `IsFaultlessFailure` has its cause
 abbrev pub FailsFaultless : PlainDriveSpec → World → Type 0
 FailsFaultless drive w =
     (volume : ℕ) (fault : AttemptFault) → w.failure ≡ Some (volume, fault)
@@ -83,15 +83,15 @@ is_between Ready = true
 is_between Finished = true
 is_between stage = false
 
--- The volumes are in order. An attempt failed only for one of those causes. Count number `i` is on
--- reel number `i` of the first world's stack, which holds its volume. Between attempts, the bin has
--- these reels, in order.
+-- The volumes are in order. If an attempt failed, `IsFaultlessFailure` has its cause. Count number
+-- `i` is on reel number `i` of the first world's stack, which holds its volume. Between attempts,
+-- the bin has these reels, in order.
 pub record VolumesInOrder (drive : PlainDriveSpec) (w : World) : Type 0 where
   pub failure : FailsFaultless drive w
   pub reels : (i : ℕ) (x : Count) → slice_get w.counts i ≡ Some x → (slice_get drive.reels i ≡ Some x.reel) × HoldsVolume w x
   pub bin : StandsIn w (λ stage. is_between stage ≡ true) → names_of w.server.library.bin ≡ map (λ x. x.reel) w.counts
 
--- the part of a world that determines the places of its reels
+-- the part of a world that determines where its reels are
 pub record Stock : Type 0 where
   pub library : TapeLibrary
   pub holders : List ℕ
@@ -214,7 +214,8 @@ pub record IsOwnConnection (w : World) (k : ℕ) (l : Connection) (d : AttemptSt
   pub begun : numbered w.begun d.run ≡ Some b
   pub live : side_of w.server k ≡ Some s
 
--- the request was sent, and nothing is in transit to the client
+-- the request of `step` was sent, and no reply is in transit to the client; the reels, holders and
+-- session are as before the step
 pub record IsStepUnanswered (drive : PlainDriveSpec) (w : World) (a : Attempt) (l : Connection) (step : Step) : Type 0 where
   pub back : l.back ≡ []
   pub stands : StandsBefore step drive (stock_of w) a.connection a.begun a.dump a.session
@@ -231,7 +232,7 @@ pub record IsStepAnswered (drive : PlainDriveSpec) (w : World) (a : Attempt) (l 
   pub bin : (more : List (ReelSlot KeptReel)) × (w.server.library.bin ≡ volume_slots drive (stock_of w) ++ more)
   pub leads : Leads drive (stock_of w) a c.at step reply
 
--- the places of the reels, by the stage of the client
+-- the reels, holders and session are as they have to be at this stage of the client
 abbrev pub ReelsStandAt : Stage → PlainDriveSpec → World → WorldClient → Type 0
 ReelsStandAt (ToSend step) drive w c =
     (k : ℕ) × (l : Connection) × (d : AttemptState) × (b : Begun) × (s : ServerConnection) × IsOwnConnection w k l d b s
@@ -243,7 +244,7 @@ ReelsStandAt Asking drive w c = w.server.library.bin ≡ volume_slots drive (sto
 ReelsStandAt Abandoned drive w c = ⊥
 ReelsStandAt stage drive w c = IsFree drive (stock_of w)
 
--- the places of the reels, with this client or with none
+-- `ReelsStandAt` holds at the stage of the client; without a client, the drive is free
 abbrev pub StandsWith : Option WorldClient → PlainDriveSpec → World → Type 0
 StandsWith None drive w = IsFree drive (stock_of w)
 StandsWith (Some c) drive w = ReelsStandAt c.at.stage drive w c

@@ -71,7 +71,7 @@ pub record AreBooked (w : World) : Type 0 where
 abbrev pub IsClientLawful : World → Type 0
 IsClientLawful w = (c : WorldClient) → w.caller ≡ Some c → IsLawful c.at
 
--- everything that each event preserves
+-- everything that holds of the first world and that each event preserves
 pub record IsWorldKept (w : World) : Type 0 where
   pub lawful : IsClientLawful w
   pub owned : IsOwned w

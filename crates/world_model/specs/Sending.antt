@@ -178,7 +178,7 @@ IsConnectionToldAt (Waiting step) begun o l c d =
     (b : Begun) × IsAttempt begun c d step b × (IsStepAsked b o l c d step ⊎ IsStepReplied b o l c d step)
 IsConnectionToldAt stage begun o l c d = Unit {0}
 
--- all facts about a connection; a stranger's has none
+-- what holds of each of the client's connections; nothing is required of a stranger's
 pub record IsConnectionTold (w : World) (k : ℕ) (o : Option ServerConnection) (l : Connection) : Type 0 where
   pub sent : (d : AttemptState) → l.dump ≡ Some d → IsConnectionSent w.begun o l d
   pub own : (d : AttemptState) (c : WorldClient) → l.dump ≡ Some d → w.own ≡ Some k → w.caller ≡ Some c → IsConnectionToldAt c.at.stage w.begun o l c d

@@ -19,16 +19,18 @@ abbrev pub HasOpenedSince : World → Count → ℕ → Type 0
 HasOpenedSince w x k =
     (i m : ℕ) × (numbered w.opens i ≡ Some (opening x.connection x.reel)) × (i < m) × (numbered w.opens m ≡ Some (opening k x.reel))
 
--- how many requests an attempt sends up to the look, with the look
+-- how many requests an attempt sends up to its look at the label, with the look: the open, the
+-- rewind and the read
 abbrev pub looked_requests : ℕ
 looked_requests = 3
 
--- On each of the client's connections that wrote, more than those requests were carried out.
+-- On each of the client's connections that wrote, more than `looked_requests` requests were carried
+-- out.
 abbrev pub AreLateWriters : World → Type 0
 AreLateWriters w = (y : Writing) (d : AttemptState) → Contains w.writings y → HasDump w y.connection d → looked_requests < d.carried
 
 -- Suppose that the reel of a count was not reopened. Then each of the client's connections that
--- opened it after the count's own sent at most those requests.
+-- opened it after the count's own sent at most `looked_requests` requests.
 abbrev pub AreStopped : World → Type 0
 AreStopped w =
     (x : Count) (k : ℕ) (d : AttemptState) → Contains w.counts x → IsNotReopened w x → HasOpenedSince w x k → HasDump w k d

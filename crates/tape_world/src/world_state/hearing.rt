@@ -93,8 +93,8 @@ fn reel_of(history: &History, connection: usize) -> usize
     history.names.len()
 }
 
-/// Adds the volume that was counted, if one was, with its connection and the place of its reel's
-/// name.
+/// Appends to the history's `counts` the volume that the client has counted, if it has. `reel` is
+/// the index of its reel's name in the history.
 fn keep(counts: &mut Vec<Count>, heard: &PieceHeard, reel: usize, connection: usize)
     requires { vec_len counts.old < vec_capacity counts.old }
     ensures { counts.new.items ≡ counts.old.items ++ map (count_in heard.now.run reel connection) (option_to_list heard.now.count) }
