@@ -57,12 +57,12 @@ library_of s = library (map rest_drive s.library.drives) (map rest_slot s.librar
 abbrev pub IsLibrary : ListLibrary → TapeLibrary → Type 0
 IsLibrary stacks s = (s ≡ library_of stacks) × EachReelOnce s
 
--- a trouble is set
+-- whether this is a trouble, and not `NoTrouble`
 abbrev pub is_set : Trouble → Bool
 is_set NoTrouble = false
 is_set _ = true
 
--- the slot has a reel with a trouble set
+-- whether there is a reel, and its trouble is set
 abbrev pub is_set_in : Option TroubledTape → Bool
 is_set_in None = false
 is_set_in (Some r) = is_set r.trouble

@@ -37,15 +37,15 @@ LibraryStep s r old (Move d reel (Ok done)) new =
     (t : Tape) → r.holds reel t → Steps s.holds old new (λ v now. now ≡ after_offline v d (entries_of t) (r.capacity reel))
 LibraryStep s r old (Move d reel (Err why)) new = Steps s.holds old new (StaysOnline d why)
 
--- the errors that a latch can return
+-- the error, if there is one, is one that a latch can return
 abbrev pub IsLatchFault : Option DriveFault → Type 0
 IsLatchFault fault = (fault ≡ None) ⊎ (fault ≡ Some NoReel) ⊎ (fault ≡ Some Device) ⊎ (fault ≡ Some OutOfMemory)
 
--- the errors that a move can return
+-- the error, if there is one, is one that a move can return
 abbrev pub IsMoveFault : Option DriveFault → Type 0
 IsMoveFault fault = (fault ≡ None) ⊎ (fault ≡ Some Device) ⊎ (fault ≡ Some OutOfMemory) ⊎ (fault ≡ Some NameTaken)
 
--- the errors that the call can return
+-- the call's error, if it failed, is one that such a call can return
 abbrev pub CanStacksAnswer : {R : Type 0} → StacksCall R → Type 0
 CanStacksAnswer (Latch d result) = IsLatchFault (fault_of (Latch d result))
 CanStacksAnswer (LayBack d reel) = Unit {0}
@@ -81,6 +81,6 @@ pub record IsStacksCall {S R : Type 0} (s : StacksKind S R) (r : ReelPromise R) 
   -- what this kind of stacks promises in addition
   pub made : s.makes old new call
 
--- a move with this result
+-- one call of stacks, which is a move with this result
 abbrev pub IsMoveCall : {S R : Type 0} → StacksKind S R → ReelPromise R → S → ℕ → R → Result Unit (R × DriveFault) → S → Type 0
 IsMoveCall s r old drive reel result new = IsStacksCall s r old (Move drive reel (moved_result result)) new

@@ -44,7 +44,7 @@ library drives bin = record { drives = drives; bin = bin }
 abbrev pub TapeLibrary : Type 0
 TapeLibrary = LibraryOf KeptReel
 
--- drive d
+-- drive d, or a drive without name and reels if there is no such drive
 abbrev pub drive_at : {X : Type 0} → LibraryOf X → ℕ → Drive X
 drive_at s d = slice_index_or s.drives d (drive_with [] [])
 
@@ -86,7 +86,7 @@ first_reel (first ∷ rest) = first.reel
 abbrev pub waiting_reel : {X : Type 0} → LibraryOf X → ℕ → Option X
 waiting_reel s d = first_reel (drive_at s d).stack
 
--- the name, if there is no reel
+-- the name, if the reel is away, as a latched one is
 abbrev pub away_name : {X : Type 0} → List ℕ → Option X → Option (List ℕ)
 away_name name None = Some name
 away_name name (Some reel) = None

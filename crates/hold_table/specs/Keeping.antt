@@ -113,7 +113,7 @@ TakesAt s me found me' =
     × IsRuledStep s.word (first_of me.0).view (first_of me.0).made found
     (cond (found == 0) (first_of me.0).view.number found) (first_of me'.0).view
 
--- an atomic step that is a give: it leaves the number `stored`, and the seat as `me'`
+-- an atomic step that is a give: it leaves the seat as `me'`
 abbrev pub GivesAt : Step (Unit {0}) → AtomicSeat → ℕ → AtomicSeat → Type 0
 GivesAt s me stored me' =
     StepsTo me' (stepped (first_of me.0) (given (first_of me.0).view s.word))

@@ -30,7 +30,7 @@ IsDumpLine line = (line.level ≤ ARGUMENT_LIMIT) × (line.block ≤ ARGUMENT_LI
 abbrev pub IsReadLine : ReadLine → Type 0
 IsReadLine line = IsDevice line.device.now × IfSome line.length (λ n. n ≤ ARGUMENT_LIMIT) × (IsTrue line.all → IsTrue line.place)
 
--- at least one path, or a drive
+-- the reels to list are those at the paths, at least one, or those of a drive
 abbrev pub IsListedReels : ListedReels → Type 0
 IsListedReels (Paths paths) = 0 < length paths.items
 IsListedReels (Drive to device) = IsDevice device.now × HasPort to.now

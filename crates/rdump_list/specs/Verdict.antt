@@ -7,13 +7,13 @@ use Rattle.reel_check.specs.declared.holding.Volume as volumes
 use Rattle.reel_check.specs.declared.holding.VolumeEnd.{VolumeEnd}
 use Rattle.reel_check.specs.declared.holding.VolumeEnd.TheVariants.{NoMark, OneMark, MoreAfterMark}
 
--- exactly one mark and nothing else follows the blocks of a volume
+-- whether exactly one mark and nothing else follows the blocks of a volume
 abbrev pub is_end : VolumeEnd → Bool
 is_end NoMark = false
 is_end OneMark = true
 is_end MoreAfterMark = false
 
--- the entries are a volume with exactly one mark and nothing else after its blocks
+-- whether the entries are a volume with exactly one mark and nothing else after its blocks
 abbrev pub is_one_mark : Holding → Bool
 is_one_mark Empty = false
 is_one_mark (Volume v) = is_end v.end
@@ -32,13 +32,13 @@ volume_verdict NoMark blocks = codes "no mark: " ++ decimal blocks ++ codes " wh
 volume_verdict OneMark blocks = codes "whole"
 volume_verdict MoreAfterMark blocks = codes "more after the mark"
 
--- the verdict on entries
+-- the verdict on what the entries of a reel are, if no bytes follow them
 abbrev pub holding_verdict : Holding → List ℕ
 holding_verdict Empty = codes "empty"
 holding_verdict (Volume v) = volume_verdict v.end v.blocks
 holding_verdict Foreign = codes "not a volume of rdump"
 
--- the words for bytes after the entries
+-- the verdict on bytes that follow the entries and are none
 abbrev pub tail_verdict : ℕ → List ℕ
 tail_verdict bytes = codes "tail of " ++ decimal bytes ++ codes " bytes"
 

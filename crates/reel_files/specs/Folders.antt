@@ -34,7 +34,7 @@ pub record FolderLibrary : Type 0 where
 abbrev pub folder_library : List FolderRow → List ℕ → ℕ → ℕ → FolderLibrary
 folder_library rows bin capacity failures = record { rows = rows; bin = bin; capacity = capacity; failures = failures }
 
--- drive d
+-- drive d, or a drive without name and folder if there is no such drive
 abbrev pub row_at : FolderLibrary → ℕ → FolderRow
 row_at s d = slice_index_or s.rows d (folder_row [] [] false)
 
@@ -54,7 +54,7 @@ IsSyncable s d file = (row_at s d).failed ≢ Some file.truncations
 abbrev pub after_fault : FolderLibrary → FolderLibrary
 after_fault s = record s { failures = raised s.failures }
 
--- one of its folders: that of a stack, or the bin's
+-- the folder is that of a stack, or the bin's
 abbrev pub IsFolderOf : FolderLibrary → List ℕ → Type 0
 IsFolderOf s folder = Contains (map (λ r. r.folder) s.rows) folder ⊎ (folder ≡ s.bin)
 

@@ -63,7 +63,7 @@ bin_in rows = first_of (codes "bin") rows
 abbrev pub arguments_in : List Row → List Text
 arguments_in rows = unwrap_or (all_of (codes "drive") rows) []
 
--- each of these, split at its first `=`
+-- the arguments that are not options, each split at its first `=`
 abbrev pub drives_in : List Row → List PlainDrive
 drives_in rows = map split_of (arguments_in rows)
 

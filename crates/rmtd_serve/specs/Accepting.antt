@@ -3,15 +3,15 @@ use Rattle.std.specs.Prelude.{◌≡◌, ◌⊎◌, ℕ, ℤ, Bool, true, ◌||�
 use Rattle.rmt_wire.specs.declared.errno.TheConstants.{EBADF, EINVAL}
 use Rattle.rmtd_serve.specs.declared.connections.TheConstants.{EFAULT, ENOTSOCK, EOPNOTSUPP}
 
--- the errors of accept(2) after which a listener can never accept again
+-- whether this is an error of accept(2) after which a listener can never accept again
 abbrev pub is_lasting : ℕ → Bool
 is_lasting code = code == EBADF || code == EFAULT || code == EINVAL || code == ENOTSOCK || code == EOPNOTSUPP
 
--- the error is such a one
+-- this is an error of accept(2) after which a listener can never accept again
 abbrev pub IsLasting : ℕ → Type 0
 IsLasting code = is_lasting code ≡ true
 
--- the number of the system's error, if it is such a one
+-- the number of the system's error, if a listener can never accept again after it
 abbrev pub lasting_of : Option ℤ → Option ℕ
 lasting_of None = None
 lasting_of (Some code) = if is_lasting (unsigned_abs code) then Some (unsigned_abs code) else None

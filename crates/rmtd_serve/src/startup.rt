@@ -69,8 +69,8 @@ pub enum Begun<R: FolderSystem + Eprint> {
 /// served in parallel.
 ///
 /// If the arguments cannot be read, or if an allocation fails at the start, it prints that on
-/// standard error and the status is `Failed`. With `--stdio` the start lasts until the first request is
-/// read. It fails only if standard error cannot be written.
+/// standard error and the status is `Failed`. With `--stdio` the start lasts until the first
+/// request is read. It fails only if standard error cannot be written.
 pub fn start<R: ServerSystem, I: Read, O: Write>(
     rt: &R,
     input: &mut Counted<I>,
@@ -309,8 +309,8 @@ fn end<R: ServerSystem>(rt: &R, ending: Result<Served, SessionFault>) -> Begun<R
     Begun::End(ExitStatus::of(ending))
 }
 
-/// Prints on standard error what failed and why. Returns `End` with the status `Failed`. It fails if
-/// standard error cannot be written.
+/// Prints on standard error what failed and why. Returns `End` with the status `Failed`. It fails
+/// if standard error cannot be written.
 fn report<R: ServerSystem, D: Display + Drop>(rt: &R, what: &str, why: D) -> io::Result<Begun<R>>
     ensures { IfOk result (λ begun. begun ≡ Begun.End Failed) }
 {
@@ -338,8 +338,8 @@ fn warn_of_bin<R: ServerSystem>(rt: &R, line: &ServerLine<'_>, start: LineStart)
 /// Listens at this address, and serves as many connections as the arguments say with a drive in
 /// memory. It logs that the reel is in memory.
 ///
-/// Returns the status: `Ended` if all connections came, and `Failed` if the listener can never accept
-/// again.
+/// Returns the status: `Ended` if all connections came, and `Failed` if the listener can never
+/// accept again.
 fn listen<R: ServerSystem>(
     rt: &R,
     address: &str,
@@ -387,8 +387,8 @@ fn bind<R: ServerSystem, L: Log>(rt: &R, address: &str, log: &L) -> io::Result<T
 }
 
 /// Prints why the arguments leave nothing to do: an error on standard error, or help and the
-/// version on standard output. Returns `End`, with the status `Ended` for help and the version, else
-/// `Failed`.
+/// version on standard output. Returns `End`, with the status `Ended` for help and the version,
+/// else `Failed`.
 fn refuse<R: ServerSystem>(rt: &R, error: Error) -> io::Result<Begun<R>>
     ensures { IfOk result (λ begun. (begun ≡ Begun.End Failed) ⊎ ((begun ≡ Begun.End Ended) × IsShown (kind_of error))) }
 {

@@ -22,7 +22,7 @@ pub data Plays (first : World) : World → List ℕ → Type 0 where
   one_more : {before after : World} {text : List ℕ} (event : PlainEvent) → Plays first before text → Runs before (event ∷ []) after
       → Plays first after (text ++ failed_line after.failure)
 
--- no write failed
+-- whether no write failed
 abbrev pub is_whole : {T : Type 0} → Result T Halt → Bool
 is_whole (Err StreamFailed) = false
 is_whole result = true

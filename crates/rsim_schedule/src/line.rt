@@ -132,7 +132,7 @@ fn read_arrange<'a>(fields: &mut LineFields<'a>) -> Option<ScheduleLine<'a>> {
     }
 }
 
-/// Reads a connection and bytes in hexadecimal.
+/// Reads the bytes that a stranger sends: a connection, and the bytes in hexadecimal.
 fn read_says<'a>(fields: &mut LineFields<'a>) -> Option<ScheduleLine<'a>> {
     match (fields.connection(), fields.hex()) {
         (Some(connection), Some(text)) => Some(ScheduleLine::Says { connection, text }),

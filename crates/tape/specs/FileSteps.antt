@@ -90,12 +90,13 @@ pub record IsWalked (way : Way) (count met passed : ℕ) (bytes : List ℕ) (t :
   pub place : to ≡ stands_at (place_after way passed t) t
   pub left_is : left ≡ count - met
 
--- The walk was past marks.
+-- A walk past `count` marks, or as far as there are entries, was made, as `IsWalked` says.
 abbrev pub HasWalkedMarks : Way → ℕ → List ℕ → Tape → Walked → Type 0
 HasWalkedMarks way count bytes t walked =
     IsWalked way count (marks_met (ahead way t)) (passed_for_marks count (ahead way t)) bytes t walked.at walked.left
 
--- The walk was past records.
+-- A walk past `count` records, or up to the first mark or the last entry, was made, as `IsWalked`
+-- says.
 abbrev pub HasWalkedRecords : Way → ℕ → List ℕ → Tape → Walked → Type 0
 HasWalkedRecords way count bytes t walked =
     IsWalked way count (records_met (ahead way t)) (passed_for_records count (ahead way t)) bytes t walked.at walked.left

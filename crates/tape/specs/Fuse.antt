@@ -54,7 +54,8 @@ abbrev pub CanStop : Option ℕ → Type 0
 CanStop None = ⊥
 CanStop (Some n) = Unit {0}
 
--- It holds what the inner medium holds. It can fail if that can, or if a call is due to fail.
+-- The promises of a medium with a fuse. It holds what the inner medium holds, and can fail if that
+-- can, or if a call is due to fail.
 abbrev pub fuse_kind : {M : Type 0} → (M → List ℕ → Type 0) → (M → Type 0) → (M → ℕ) → MediumKind (Fused M)
 fuse_kind holds can_fail spare =
     medium_kind (λ f bytes. holds f.inner bytes) (λ f. f.failures) (λ f. can_fail f.inner ⊎ CanStop f.to_go) (λ f. spare f.inner)

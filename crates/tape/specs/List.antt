@@ -19,7 +19,7 @@ pub record ListTape : Type 0 where
 abbrev pub list_view : FileTape MemoryBytes → ListTape
 list_view r = record { tape = tape_in r.offset r.medium.bytes; capacity = r.capacity }
 
--- Its bytes spell that tape, and its place is at its offset.
+-- The bytes of the record file spell the tape of its view, and its offset is the place.
 abbrev pub IsListView : FileTape MemoryBytes → Type 0
 IsListView r = HoldsTape IsMemory r (list_view r).tape
 
@@ -27,7 +27,7 @@ IsListView r = HoldsTape IsMemory r (list_view r).tape
 abbrev pub IsTape : ListTape → Tape → Type 0
 IsTape reel t = reel.tape ≡ t
 
--- Its device never fails, and a call can allocate.
+-- The promises of a reel in memory: its device never fails, and a call can allocate.
 abbrev pub list_kind : ReelKind ListTape
 list_kind = reel_kind IsTape (λ r. r.capacity) (λ _. 0) (λ _. ⊥) (λ _ _ _ _. Unit {0}) true
 

@@ -93,7 +93,7 @@ pub record FileTape (M : Type 0) : Type 0 where
   pub offset : ℕ
   pub capacity : ℕ
 
--- It is stored as the tuple of its fields.
+-- A `FileTape` is encoded as the tuple of its fields.
 abbrev pub file_tape_code : {M : Type 0} → Coded M → Coded (FileTape M)
 file_tape_code {M} code =
     code_by

@@ -30,6 +30,6 @@ StandsAfterMarks t count (Fault Device) u =
     (u ≡ t.before ++ t.after) ⊎ ((some : ℕ) × (some ≤ count) × (u ≡ t.before ++ replicate some Mark))
 StandsAfterMarks t count answer u = u ≡ t.before ++ t.after
 
--- The entries are those of a tape after such a step.
+-- The entries are those of a tape after a step with this request and answer.
 abbrev pub StandsAfterStep : ℕ → Tape → TapeRequest → TapeAnswer → List PlainEntry → Type 0
 StandsAfterStep capacity t request answer u = (v : Tape) × TapeStep capacity t request answer v × (u ≡ entries_of v)

@@ -82,17 +82,18 @@ abbrev pub IsCounted : TapeAnswer → TroubledTape → TroubledTape → Type 0
 IsCounted (Fault Device) old new = (new.trouble ≡ None) × (new.failures ≡ raised old.failures)
 IsCounted answer old new = (new.trouble ≡ old.trouble) × (new.failures ≡ old.failures)
 
--- One call of such a reel.
+-- One call of a reel in memory on which a trouble can be set.
 pub record TroubledStep (old new : TroubledTape) (request : TapeRequest) (answer : TapeAnswer) : Type 0 where
   pub step : DeviceStep old.capacity old.trouble old.tape request answer new.tape
   pub counted : IsCounted answer old new
   pub same_capacity : new.capacity ≡ old.capacity
 
--- Its device can fail if a trouble is set.
+-- The promises of a reel in memory on which a trouble can be set: its device can fail if one is
+-- set.
 abbrev pub troubled_kind : ReelKind TroubledTape
 troubled_kind = reel_kind IsTapeOf (λ r. r.capacity) (λ r. r.failures) (λ r. r.trouble ≢ None) TroubledStep true
 
--- One call of such a reel, with the promises of every reel.
+-- One call of a reel in memory on which a trouble can be set, with the promises of every reel.
 abbrev pub IsTroubledCall : TroubledTape → TroubledTape → TapeRequest → TapeAnswer → Type 0
 IsTroubledCall old new request answer = IsTapeCall troubled_kind old new request answer
 

@@ -158,8 +158,8 @@ fn note_opening(
     opens.push_reserved(Opening { connection, reel });
 }
 
-/// Lists the writing, with the place of the reel's name, if the turn wrote on a reel. `after` is
-/// how many opens for writing were listed before it.
+/// If the turn wrote on a reel, appends that to `writings`, with the index of the reel's name in
+/// `names`. `after` is how many opens for writing were listed before it.
 fn note_writing(
     writings: &mut Vec<Writing>,
     after: usize,
