@@ -38,7 +38,7 @@ holding_verdict Empty = codes "empty"
 holding_verdict (Volume v) = volume_verdict v.end v.blocks
 holding_verdict Foreign = codes "not a volume of rdump"
 
--- the verdict on bytes that follow the entries and are none
+-- the verdict on bytes that follow the last entry and are not an entry
 abbrev pub tail_verdict : ℕ → List ℕ
 tail_verdict bytes = codes "tail of " ++ decimal bytes ++ codes " bytes"
 

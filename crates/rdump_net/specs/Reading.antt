@@ -138,7 +138,7 @@ HasReply next replies request reply =
 abbrev pub IsMarkFound : (List PlainReply → Option PlainRequest) → List PlainReply → Type 0
 IsMarkFound next replies = (number : ℕ) × HasReply next replies (Op MTFSF 1) (Done number)
 
--- unless the volume's reel is to stay as it is after the read, a mark was found behind the records
+-- a mark was found behind the records, unless `Stay` asks for no check
 abbrev pub IsMarkKnown : (List PlainReply → Option PlainRequest) → AfterVolume → List PlainReply → Type 0
 IsMarkKnown next Stay replies = Unit {0}
 IsMarkKnown next Check replies = IsMarkFound next replies

@@ -217,7 +217,7 @@ fn answer_of(command: &str) -> Option<Action> {
     Some(Action::Event { event })
 }
 
-/// Reads `fault`: the client sends, and the read of the block fails.
+/// Reads the field `fault` of a send: the client sends, and the read of the block fails.
 fn read_send(fields: &mut LineFields<'_>) -> Option<Action> {
     if fields.text_field()? != "fault" {
         return None;

@@ -25,7 +25,8 @@ pub struct Connection {
 }
 
 impl Connection {
-    /// Makes a new connection.
+    /// Makes a new connection, on which nothing was sent. `dump` is the attempt that made it, or
+    /// None if a stranger made it.
     pub fn new(alloc: Global, dump: Option<AttemptState>) -> Connection
         ensures { plain_connection result ≡ new_connection dump }
     {
