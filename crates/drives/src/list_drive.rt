@@ -121,7 +121,7 @@ impl ListDrive {
         bin.append(&mut self.stack)
     }
 
-    /// Replaces the stack of the drive.
+    /// Replaces the stack of the drive by `stack`.
     pub(crate) fn lay_on(&mut self, stack: Vec<ListedReel>)
         ensures { self.new ≡ drive_with self.old.name stack.items }
     {

@@ -176,7 +176,7 @@ impl Ledger {
         self.apply_outcome(after_noise(step), false)
     }
 
-    /// Takes the end of the connection at a step.
+    /// Notes that the connection ended at a step, and returns what that means for the attempt.
     #[tactic(auto, using(crate::proofs::Fits::end_at, crate::proofs::Fed::end_fed))]
     pub(crate) fn end(&mut self, step: Step) -> Progress
         requires at { IsAtStep self.old.at.stage step }

@@ -131,7 +131,7 @@ fn after_data(run: &Run, first: u32, step: Step, counted: Option<u32>) -> Outcom
     }
 }
 
-/// Returns what follows a reply.
+/// Returns the outcome of a reply to `step`.
 pub(crate) fn after_reply(run: &Run, first: u32, step: Step, summary: ReplySummary) -> Outcome
     requires run { IsRun run.now }
     requires block { spec.IsBelow run.now step }
@@ -155,7 +155,7 @@ pub(crate) fn after_noise(step: Step) -> Outcome
     }
 }
 
-/// Returns what follows the end of the connection.
+/// Returns the outcome if the connection ends at `step`.
 pub(crate) fn after_end(step: Step) -> Outcome
     ensures { result ≡ spec.after_end step }
 {

@@ -37,7 +37,8 @@ impl HoldTable {
         self.table.shared.store::<Gives>(&mut seat.seat, drive, 0);
     }
 
-    // Returns the drive's word.
+    // Reads the drive's word in one atomic step, a look: the number of the seat that holds the
+    // drive, or 0 if none does.
     pub(crate) fn read(&self, seat: &mut HoldSeat, drive: usize) -> u64
         requires seat { IsSeatAt self.now seat.old }
         requires drive { drive < self.now.words }

@@ -23,7 +23,7 @@ impl<I: Read, T: Write> Asking<I, T> {
         }
     }
 
-    /// Prints the possible answers if a line begins.
+    /// Prints the possible answers on the terminal, if there is one, before a new line is read.
     fn report(&mut self) {
         if !self.is_at_line {
             return;

@@ -48,7 +48,8 @@ pub(crate) struct Dumped {
     pub is_printed: bool,
 }
 
-/// Has a client dump as `run_client` does.
+/// Has a client dump as `run_client` does. Returns the exit status, and whether all lines were
+/// printed.
 pub(crate) fn run_printed<R: ClientSystem, B: Blocks, T: Write + Copy + Drop>(
     rt: &R,
     line: &DumpLine<'_>,

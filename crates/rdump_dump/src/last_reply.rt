@@ -22,7 +22,7 @@ impl LastReply {
         }
     }
 
-    /// Empties it, since another request is sent.
+    /// Drops the bytes of the reply, before another request is sent.
     pub(crate) fn clear(&mut self) {
         self.len = 0;
     }

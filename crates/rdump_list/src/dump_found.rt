@@ -83,7 +83,7 @@ impl DumpFound {
 }
 
 impl Reached {
-    /// Returns this volume as a reached one.
+    /// Returns the numbers of this volume that decide which volume continues it.
     fn of(volume: &Volume) -> Reached {
         Reached {
             volume: volume.label.volume(),

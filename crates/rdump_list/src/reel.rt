@@ -28,7 +28,7 @@ pub(crate) struct ListedReel {
 }
 
 impl ListedReel {
-    /// Returns the volume on it, whole or not.
+    /// Returns the volume on the reel, whole or not.
     pub(crate) fn volume(&self) -> Option<&Volume> {
         match &self.contents.holding {
             Holding::Volume(volume) => Some(volume),
@@ -36,7 +36,7 @@ impl ListedReel {
         }
     }
 
-    /// Whether the verdict on it is `whole`.
+    /// Whether the verdict on the reel is `whole`.
     pub(crate) fn is_whole(&self) -> bool {
         match self.source {
             Source::File | Source::Drive => is_whole(&self.contents),

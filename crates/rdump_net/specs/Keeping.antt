@@ -26,9 +26,9 @@ put_if text false = []
 abbrev pub IsKept : List (List ℕ) → Standing → Type 0
 IsKept texts at = (before : List (List ℕ)) × (texts ≡ before ++ checkpoint_text at.run at.counts ∷ [])
 
--- What a dump did so far: what passed at the peer, what was printed, the texts that were put, and
--- the client's state. An attempt starts only if the last text put is the client's checkpoint. A
--- text is put only after the lines of all volumes counted in it are printed.
+-- What a dump did so far: what passed at the peer, what was printed, the texts that were put into
+-- the keeper, and the client's state. An attempt starts only if the last text put is the client's
+-- checkpoint. A text is put only after the lines of all volumes counted in it are printed.
 pub data KeptDump (told : List (List ℕ) → Type 0) (start : Standing) (first : List ℕ)
     : List Passed → List ℕ → List (List ℕ) → Standing → List ℕ → Type 0 where
   none : KeptDump told start first [] [] [] start first

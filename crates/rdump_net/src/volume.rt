@@ -108,7 +108,7 @@ pub fn copy_volume<P: Peer, F: Write, W: Write>(
     result
 }
 
-/// Makes all calls over the open connection.
+/// Makes all calls of reading a volume, over the open connection.
 fn go_through<P: Peer, F: Write, W: Write>(
     caller: &mut PeerCaller,
     peer: &mut P,
@@ -286,7 +286,7 @@ fn look_over<P: Peer>(caller: &mut PeerCaller, peer: &mut P) -> Result<Option<Re
     }
 }
 
-/// Takes the reel offline, if it is to go.
+/// Takes the reel offline if `goes` is `Offline`.
 fn take_away<P: Peer>(
     caller: &mut PeerCaller,
     peer: &mut P,

@@ -111,7 +111,7 @@ impl OutFile {
         self.was_empty
     }
 
-    /// Whether each block has its place in it.
+    /// Whether each block is written at its place in the file.
     pub(crate) fn has_places(&self) -> bool {
         self.has_places
     }

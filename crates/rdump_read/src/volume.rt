@@ -153,7 +153,7 @@ fn is_blank<R: ClientSystem>(rt: &R, line: &ReadLine<'_>) -> bool
     }
 }
 
-/// Whether the drive has no reel.
+/// Whether the read failed because the drive has no reel.
 fn has_no_reel(read: Result<(), ReadFault>) -> bool {
     match read {
         Err(

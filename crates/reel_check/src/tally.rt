@@ -100,7 +100,7 @@ impl ReelTally {
         self.records = self.records.saturating_add(1);
     }
 
-    /// Whether no record and no mark came.
+    /// Whether no record and no mark was added.
     pub(crate) fn is_empty(&self) -> bool
         ensures { IsTrue result ↔ (self.now.holding ≡ Empty) }
     {

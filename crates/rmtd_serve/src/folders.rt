@@ -31,7 +31,7 @@ pub fn folder_stacks<R: FolderSystem>(
     logged_stacks(rt, arguments, bin, capacity, NoLog)
 }
 
-/// The same, with a log of what the stacks do.
+/// Like `folder_stacks`, with a log to which the stacks write what they do.
 pub(crate) fn logged_stacks<R: FolderSystem, L: Log + Drop>(
     rt: R,
     arguments: &[DriveArgument<'_>],

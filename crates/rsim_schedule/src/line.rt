@@ -124,7 +124,7 @@ fn read_numbers(fields: &mut LineFields<'_>) -> Option<[u64; 5]> {
     Some(numbers)
 }
 
-/// Reads a device and the names of reels.
+/// Reads the fields of an arrangement: a device, and the names of the reels for its stack.
 fn read_arrange<'a>(fields: &mut LineFields<'a>) -> Option<ScheduleLine<'a>> {
     match (fields.device(), fields.names()) {
         (Some(device), Some(reels)) => Some(ScheduleLine::Arrange { device, reels }),
@@ -151,7 +151,8 @@ fn read_act(command: &str, fields: &mut LineFields<'_>) -> Option<Action> {
     }
 }
 
-/// Reads a connection and a count.
+/// Reads the fields of an arrival: the connection, and how many of the bytes in transit reach
+/// `end`.
 fn read_arrival(end: End, fields: &mut LineFields<'_>) -> Option<Action> {
     let connection = fields.connection()?;
     let count = fields.count()?;
@@ -162,7 +163,7 @@ fn read_arrival(end: End, fields: &mut LineFields<'_>) -> Option<Action> {
     })
 }
 
-/// Reads a connection and a number of rounds.
+/// Reads the fields of a pump: a connection and a number of rounds.
 fn read_pump(fields: &mut LineFields<'_>) -> Option<Action> {
     let connection = fields.connection()?;
     let rounds = fields.number()?;
@@ -191,7 +192,7 @@ fn read_event(command: &str, fields: &mut LineFields<'_>) -> Option<Action> {
     event_at(command, fields.connection()?)
 }
 
-/// Returns the event of a command that takes nothing.
+/// Returns the event of a command without fields, or None if there is no such command.
 fn event_of(command: &str) -> Option<Action> {
     let event = match command {
         "connect" => Event::Connect,

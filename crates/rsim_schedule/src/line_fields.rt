@@ -16,7 +16,7 @@ pub(crate) struct LineFields<'a> {
 }
 
 impl<'a> LineFields<'a> {
-    /// The fields of a text. `None` has no fields.
+    /// Returns the fields of a text, to be read one after the other. `None` has no fields.
     pub(crate) fn new(rest: Option<&'a [u8]>) -> LineFields<'a> {
         LineFields { rest }
     }

@@ -18,7 +18,7 @@ pub(crate) struct ScheduleLines<'a> {
 }
 
 impl<'a> ScheduleLines<'a> {
-    /// All lines of a text.
+    /// Returns the lines of a text, to be read one after the other.
     pub(crate) fn new(text: &'a [u8]) -> ScheduleLines<'a> {
         ScheduleLines {
             rest: Some(text),

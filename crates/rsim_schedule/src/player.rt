@@ -29,7 +29,8 @@ pub(crate) fn play_all<W: Write>(
     Ok(())
 }
 
-/// Runs a command. A drive is a bad line here.
+/// Runs the command in a line. A `drive` command is a bad line here, since the world exists
+/// already.
 fn play<W: Write>(
     alloc: Global,
     world: &mut World,
@@ -125,7 +126,7 @@ fn payload_of(alloc: Global, run: &Run) -> Result<Vec<u8>, AllocError> {
     Ok(payload)
 }
 
-/// Appends a block of this many bytes.
+/// Appends the block of this number: `bytes` bytes, each of which is `block` modulo 256.
 fn push_block(payload: &mut Vec<u8>, block: u32, bytes: usize) -> Result<(), AllocError> {
     let end = payload.len().saturating_add(bytes);
     payload.resize(end, (block % 256) as u8)

@@ -49,7 +49,7 @@ fn set_troubles(
     drives.stacks.trouble(stacks);
 }
 
-/// Clears both troubles.
+/// Clears the trouble of the open reel, if there is one, and that of the stacks.
 fn clear_troubles(
     session: &mut Session<LocalHolds, ListStacks>,
     drives: &mut DriveTable<LocalHolds, ListStacks>,

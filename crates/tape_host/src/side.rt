@@ -29,7 +29,7 @@ pub(crate) enum Next {
 }
 
 impl Next {
-    /// Whether nothing of it is made.
+    /// Whether nothing is made for the next connection.
     pub(crate) fn is_nothing(&self) -> bool
         ensures { result ≡ is_nothing self.now }
     {
@@ -56,7 +56,7 @@ impl Next {
         }
     }
 
-    /// Whether all of it is made.
+    /// Whether the server's side of the next connection is made.
     pub(crate) fn is_whole(&self) -> bool
         ensures { result ≡ is_whole_side self.now }
     {

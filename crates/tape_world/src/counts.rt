@@ -42,14 +42,14 @@ impl<'a> Model for Counts<'a> {
 }
 
 impl<'a> Counts<'a> {
-    /// Returns how many there are.
+    /// Returns how many counted volumes there are.
     pub fn len(&self) -> usize
         ensures { result ≡ length self.now }
     {
         self.counts.len()
     }
 
-    /// Whether there are none.
+    /// Whether there are no counted volumes.
     pub fn is_empty(&self) -> bool
         ensures { (result ≡ true) ↔ (self.now ≡ []) }
     {

@@ -41,7 +41,7 @@ pub(super) fn wait_for_lock<R: FolderSystem>(rt: &R, folder: &File) -> io::Resul
     take_lock(folder)
 }
 
-/// Whether the wait that began at `began` is over.
+/// Whether a wait that began at `began` has taken as long as it may.
 fn is_over<R: FolderSystem>(rt: &R, began: Instant) -> io::Result<bool> {
     Ok(began.elapsed(rt)? >= Duration::from_millis(WAIT_MILLIS))
 }

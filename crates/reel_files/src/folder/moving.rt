@@ -99,7 +99,7 @@ fn open_folder<R: FolderSystem>(rt: &R, path: &str) -> io::Result<File> {
     File::open(rt, path)
 }
 
-/// Opens both folders.
+/// Opens the folders of the stack and of the bin.
 fn open_folders<R: FolderSystem>(rt: &R, stack: &str, bin: &str) -> Result<Folders, Refusal> {
     Ok(Folders {
         stack: at(stack, "open", open_folder(rt, stack))?,

@@ -187,7 +187,8 @@ fn note_writing(
     writings.push_reserved(writing);
 }
 
-/// Lists the counts that the client had, if the turn opened a reel for writing.
+/// If the turn opened a reel for writing, appends `list`, the counts that the client has then, to
+/// `lists`.
 fn note_list(
     lists: &mut Vec<Vec<VolumeCount>>,
     list: Vec<VolumeCount>,
