@@ -17,10 +17,15 @@ use tape_host::Turn;
 /// client, it also has the attempt.
 #[derive(Drop)]
 pub struct Connection {
+    /// The bytes in transit to the server.
     pub toward: Direction,
+    /// The bytes in transit to the peer.
     pub back: Direction,
+    /// Whether the connection was cut. Bytes that are sent after that are lost.
     pub cut: bool,
+    /// Whether the peer is still there.
     pub other: bool,
+    /// The client's attempt on this connection, or None if the peer is a stranger.
     pub dump: Option<AttemptState>,
 }
 
