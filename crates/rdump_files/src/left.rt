@@ -15,28 +15,32 @@ use dump_run::Checkpoint;
 use dumpdates::{Dates, DatesFault};
 use std::alloc::{AllocError, Global};
 
-/// The most bytes of a name in dumpdates, and the width to which a shorter name is padded.
+/// The most bytes of a name in dumpdates.
 const NAME_LIMIT: usize = 255;
 
+/// The width to which a shorter name is padded.
 const NAME_PLACES: usize = 32;
 
 /// The text after the name in a line of dumpdates. A digit matches any digit and a letter any
 /// letter. Other bytes match themselves.
 const AFTER_NAME: &[u8] = b" 0 Www Mmm 00 00:00:00 0000";
 
-/// The offsets of the weekday, the month and the day of the month in it. The first byte of the day
-/// may be a space.
+/// The offset of the weekday in `AFTER_NAME`.
 const WEEKDAY_AT: usize = 3;
 
+/// The offset of the month in `AFTER_NAME`.
 const MONTH_AT: usize = 7;
 
+/// The offset of the day of the month in `AFTER_NAME`. Its first byte may be a space.
 const DAY_AT: usize = 11;
 
-/// How many letters the name of a weekday or a month has, and the names.
+/// How many letters the name of a weekday or a month has.
 const NAME_LETTERS: usize = 3;
 
+/// The names of the weekdays, one after the other.
 const WEEKDAYS: &[u8] = b"MonTueWedThuFriSatSun";
 
+/// The names of the months, one after the other.
 const MONTHS: &[u8] = b"JanFebMarAprMayJunJulAugSepOctNovDec";
 
 /// The shortest checkpoint. Each of its endings is tried as the rest of a text that is cut off in

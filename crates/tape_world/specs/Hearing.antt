@@ -52,7 +52,7 @@ pub record HasHeard (o : Option WorldClient) (piece : List ℕ) (heard : PieceHe
   pub over : heard.is_over ≡ is_over progress
   pub failure : heard.failure ≡ failure_of after.client.at progress
 
--- a count of the client, as the history has it: `reel` is the place of the reel's name
+-- the count `c` of the client, as the history has it: `reel` is the index of the reel's name
 abbrev pub count_in : ℕ → ℕ → ℕ → VolumeCount → Count
 count_in run reel connection c =
     record { run = run; volume = c.volume; first = c.first; count = c.count; reel = reel; connection = connection }

@@ -3,7 +3,7 @@
 use dump_client::{AttemptFault, VolumeCount};
 
 /// A volume that was counted, of the run with this number, written on this connection. `reel` is
-/// the place of the reel's name among all names.
+/// the index of the reel's name among all names.
 #[derive(Clone, Copy)]
 pub(crate) struct Count {
     pub(crate) run: usize,
@@ -14,7 +14,7 @@ pub(crate) struct Count {
     pub(crate) connection: usize,
 }
 
-/// An open for writing that was accepted, on this connection. `reel` is the place of the reel's
+/// An open for writing that was accepted, on this connection. `reel` is the index of the reel's
 /// name.
 #[derive(Clone, Copy)]
 pub(crate) struct Opening {

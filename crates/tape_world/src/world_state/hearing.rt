@@ -79,8 +79,8 @@ fn hear(caller: &mut Option<WorldClient>, piece: &[u8]) -> PieceHeard
     }
 }
 
-/// Returns the place of the name of the reel that the connection opened first, or the place past
-/// all names if it opened none.
+/// Returns the index of the name of the reel that the connection opened first, or the number of
+/// names if it opened none.
 fn reel_of(history: &History, connection: usize) -> usize
     ensures { name_at (book_names history.now) result
         ≡ reel_opened_by connection (map (seen_opening (book_names history.now)) history.now.opens.items) }

@@ -124,7 +124,7 @@ fn name_written(host: &Host, connection: usize, turn: Turn) -> Option<&[u8]>
     name_online(host, connection)
 }
 
-/// Returns the first place of a name among these, or the place past the last.
+/// Returns the first index of `name` among `names`, or the number of names if it is not there.
 fn place_of(names: &[Vec<u8>], name: &[u8]) -> usize
     ensures { result ≡ position_or_len (λ n. bytes_eq name.now n.items) names.now }
 {
@@ -136,7 +136,8 @@ fn place_of(names: &[Vec<u8>], name: &[u8]) -> usize
     names.len()
 }
 
-/// Lists the opening, with the place of the reel's name, if the turn opened a reel for writing.
+/// If the turn opened a reel for writing, appends the opening to `opens`, with the index of the
+/// reel's name in `names`.
 fn note_opening(
     opens: &mut Vec<Opening>,
     names: &[Vec<u8>],
