@@ -57,7 +57,7 @@ complete_line counts = complete_text (length counts) (checkpoint_of counts).1
 abbrev pub abandoned_line : List ℕ
 abandoned_line = codes "dump abandoned\n"
 
--- the new counts are the old ones, and perhaps more after them
+-- the new counts are the old ones and, after them, any number of others
 abbrev pub HasGrown : List VolumeCount → List VolumeCount → Type 0
 HasGrown old new = (more : List VolumeCount) × (new ≡ old ++ more)
 

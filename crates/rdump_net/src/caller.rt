@@ -200,7 +200,7 @@ fn take(
     Ok(None)
 }
 
-/// Copies the reply at the front of the reader's bytes, or returns None if it is not whole yet.
+/// Copies the first reply in the reader's bytes, or returns None if it is not complete yet.
 /// Fails with `Botched` if the bytes are no reply, and with `OutOfMemory` if the allocation for the
 /// copy fails.
 fn front(alloc: Global, reader: &mut ReplyReader) -> Result<Option<KeptReply>, CallFault>

@@ -60,7 +60,7 @@ IsOpenCause trouble n (Err drive.NoReel) = n ≡ 0
 IsOpenCause trouble n (Err drive.Device) = (n ≡ 0) × (trouble ≢ NoTrouble)
 IsOpenCause trouble n (Err _) = ⊥
 
--- what an open does after nothing is open any more, with these holders of the drives
+-- the open of `device` by a session that has nothing open, with these holders of the drives
 abbrev pub TroubledOpens : Trouble → List ℕ → SessionView → List ℕ → Option Access → PlainReply → SessionView → Type 0
 TroubledOpens trouble holders before device None reply after = (reply ≡ refused Invalid) × (after ≡ before)
 TroubledOpens trouble holders before device (Some access) reply after =

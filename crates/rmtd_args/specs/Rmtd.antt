@@ -80,7 +80,7 @@ abbrev pub ReadsCapacity : Option Text → ℕ → Type 0
 ReadsCapacity None capacity = capacity ≡ usual_capacity
 ReadsCapacity (Some text) capacity = IsNumber text × (capacity ≡ digits_value 10 text)
 
--- the number of connections is the number in its text; without a text there is none
+-- the limit of connections is the number in its text; without a text there is no limit
 abbrev pub ReadsConnections : Option Text → Option ℕ → Type 0
 ReadsConnections None connections = connections ≡ None
 ReadsConnections (Some text) connections = IsNumber text × (connections ≡ Some (digits_value 10 text))

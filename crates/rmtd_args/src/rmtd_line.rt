@@ -244,8 +244,8 @@ fn capacity_of(text: Option<&str>) -> Option<u64>
     }
 }
 
-/// Returns the number of connections that this text gives, if there is a text. Fails if it is not a
-/// number.
+/// Returns the limit of connections that this text gives, or None if there is no text. Fails if the
+/// text is not a number.
 fn connections_of(text: Option<&str>) -> Result<Option<u64>, BrokenRule<'static>>
     ensures { MatchResult result (ReadsConnections (option_map (λ s. s.now) text.entry))
         (λ _. ¬ (IsNumberIfGiven (option_map (λ s. s.now) text.entry))) }
