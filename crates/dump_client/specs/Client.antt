@@ -111,8 +111,9 @@ AppendedBy told at step capacity before (Ok x) now =
 AppendedBy told at step capacity before (Err fault) now =
     IsFaultAt at.run (checkpoint_of at.counts) step fault capacity (length before) × (now ≡ before)
 
--- The effect of `next_request`: `before` and `now` are the contents of `out`. At the close a failed
--- allocation is no fault: the attempt is over.
+-- What `next_request` does at a stage. `old` and `new` are the client's states, `before` and `now`
+-- the contents of `out`, and `capacity` the capacity of `out`. At the close a failed allocation is
+-- no fault: the attempt is over.
 abbrev pub AskedAt : Stage → (List (List ℕ) → Type 0) → Standing → ℕ → List ℕ → Result Bool AttemptFault → List ℕ → Standing → Type 0
 AskedAt (ToSend step) told old capacity before (Ok true) now new =
     (request : PlainRequest) × IsRequestOf told old.run (checkpoint_of old.counts) step request × IsTextOf (request_text request) request

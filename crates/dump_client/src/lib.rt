@@ -5,8 +5,8 @@
 //! a source in memory. `Client` makes the requests of one attempt after the other and takes the
 //! replies. It counts a volume when the server replies that MTOFFL was done, and in no other case.
 //! It opens no connection: the caller carries the bytes. `Client::checkpoint_text` appends its run
-//! and its counts as a text, and `Client::resume` makes a client from one. `Client::from_checkpoint`
-//! makes one from a `dump_run::Checkpoint`.
+//! and its counts as a text, and `Client::resume` makes a client from one.
+//! `Client::from_checkpoint` makes one from a `dump_run::Checkpoint`.
 #![tactic(auto)]
 
 mod client;

@@ -33,7 +33,7 @@ pub record ListedBlocks : Type 0 where
 abbrev pub listed : List (List ℕ) → Bool → ℕ → ListedBlocks
 listed blocks troubled failures = record { blocks = blocks; troubled = troubled; failures = failures }
 
--- a payload in memory always has these as its known blocks
+-- `blocks` are the blocks of the payload in memory, which are always known
 abbrev pub AreBlocksOf : ListedBlocks → List (List ℕ) → Type 0
 AreBlocksOf source blocks = source.blocks ≡ blocks
 

@@ -21,10 +21,10 @@ use std::io::{self, Write};
 /// `terminal` is standard error, if that is a terminal: it shows the progress of a dump.
 ///
 /// The status is `Success` if everything was done. It is `StartupError` if the command could not
-/// begin, because the arguments are wrong or a file cannot be read, for example. It is `Abnormal` if
-/// the command ended before it was done. Help and the version return `Success`. Errors are printed
-/// on standard error. A failed allocation is printed on standard output if nothing was sent yet, and
-/// in `rdump ls`.
+/// begin, because the arguments are wrong or a file cannot be read, for example. It is `Abnormal`
+/// if the command ended before it was done. Help and the version return `Success`. Errors are
+/// printed on standard error. A failed allocation is printed on standard output if nothing was sent
+/// yet, and in `rdump ls`.
 ///
 /// If the process was started without a standard stream, no file that it opens gets the descriptor
 /// of that stream.

@@ -115,8 +115,8 @@ fn dump_entered<R: ClientSystem, B: Blocks, P: Peer, I: Read, W: Write>(
 /// is abandoned. Standard error reports why a checkpoint could not be written or removed. After a
 /// complete dump, it reports what a restore needs.
 ///
-/// Returns the exit status. It is `Success` if the run is finished, everything was printed, the dump
-/// is entered if `line` asks for that, and `file` is removed. It is `Abnormal` otherwise.
+/// Returns the exit status. It is `Success` if the run is finished, everything was printed, the
+/// dump is entered if `line` asks for that, and `file` is removed. It is `Abnormal` otherwise.
 pub(crate) fn run_kept<R: ClientSystem, B: Blocks, T: Write + Copy + Drop>(
     rt: &R,
     line: &DumpLine<'_>,

@@ -32,8 +32,8 @@ IsRecordCalled tells p p' (Ok bytes) = IsCalled tells (Read RECORD_LIMIT) (Ok (D
 IsRecordCalled tells p p' (Err why) =
     (reply : Result PlainReply CallFault) × IsReadFault reply why × IsCalled tells (Read RECORD_LIMIT) reply p p'
 
--- one operation was asked for over a peer: it was done, or refused with this error number, or got no
--- reply
+-- one operation was asked for over a peer: it was done, or refused with this error number, or got
+-- no reply
 abbrev pub IsOperationCalled : {P : Type 0} → (P → List Passed → Type 0) → ℕ → ℕ → P → P → Result (Option ℕ) ReadFault → Type 0
 IsOperationCalled tells op count p p' (Ok None) = (number : ℕ) × IsCalled tells (Op op count) (Ok (Done number)) p p'
 IsOperationCalled tells op count p p' (Ok (Some number)) =

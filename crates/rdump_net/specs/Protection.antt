@@ -27,7 +27,8 @@ IsLabelDecided key l (Some why.OtherDump) = IsLabelOf key l → ⊥
 IsLabelDecided key l (Some why.NoLabel) = ⊥
 IsLabelDecided key l (Some why.Mark) = ⊥
 
--- the decision for a record, which is a label or not
+-- whether the dump `key` may write over a reel that begins with this record: None if it may, and
+-- otherwise why not
 abbrev pub IsRecordDecided : DumpKey → List ℕ → Option Protection → Type 0
 IsRecordDecided key bytes None = (l : PlainLabel) × ReadsLabel bytes (Some l) × IsLabelDecided key l None
 IsRecordDecided key bytes (Some why.OtherDump) = (l : PlainLabel) × ReadsLabel bytes (Some l) × IsLabelDecided key l (Some why.OtherDump)

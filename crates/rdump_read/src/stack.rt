@@ -169,8 +169,8 @@ fn report_first<R: ClientSystem>(rt: &R, first: u64) {
     }
 }
 
-/// Prints which blocks are missing between block `from` and the ranges in `blocks_read`, which are in
-/// order, below block `below`. Returns whether any are missing.
+/// Prints which blocks are missing between block `from` and the ranges in `blocks_read`, which are
+/// in order, below block `below`. Returns whether any are missing.
 fn report_gaps<R: ClientSystem>(rt: &R, blocks_read: &[BlockRange], from: u64, below: u64) -> bool {
     let mut end = from;
     let mut has_gap = false;

@@ -69,8 +69,8 @@ pub fn mt<P: Peer, W: Write>(
 }
 
 /// Prints on `out` the answer of `rdump dates` for the bytes of a dumpdates file, as
-/// `rdump_files::dates` does. Returns the exit status of `rdump dates`: 0 if the answer was printed,
-/// else 1.
+/// `rdump_files::dates` does. Returns the exit status of `rdump dates`: 0 if the answer was
+/// printed, else 1.
 pub fn dates<W: Write>(
     alloc: Global,
     file: &[u8],

@@ -50,9 +50,9 @@ pub fn serve_at<H: Holds + Drop, S: Stacks + Drop, I: Read, O: Write>(
 /// ended.
 ///
 /// The seat must hold no drive, and holds none afterwards, however the streams end. The session has
-/// nothing open at first, and what it opens is closed at its end. The ending is `Stream` if a read or
-/// a write failed. It is `OutOfMemory` if an allocation failed before the first request was read;
-/// then nothing is read or written.
+/// nothing open at first, and what it opens is closed at its end. The ending is `Stream` if a read
+/// or a write failed. It is `OutOfMemory` if an allocation failed before the first request was
+/// read; then nothing is read or written.
 pub(crate) fn serve_afresh<H: Holds, S: Stacks, I: Read, O: Write>(
     alloc: Global,
     drives: &mut DriveTable<H, S>,

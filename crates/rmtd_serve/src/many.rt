@@ -125,8 +125,8 @@ where
 /// threads.
 ///
 /// The log of a seat's stacks has two lines for each pair that is served: when that begins, and how
-/// it ended. Both have the pair's number. For a pair that is closed unserved, `Incoming::dropped` is
-/// called.
+/// it ended. Both have the pair's number. For a pair that is closed unserved, `Incoming::dropped`
+/// is called.
 pub fn serve_many<R: Threads + Wait + Sync, I: Incoming + Drop, S: Stacks + Drop + Send>(
     rt: &R,
     alloc: Global,

@@ -56,7 +56,7 @@ impl<'a> Counts<'a> {
         self.counts.is_empty()
     }
 
-    /// Returns the one at place `i`, from 0, or none past the last.
+    /// Returns the counted volume at index `i`, from 0, or None past the last.
     pub fn get(&self, i: usize) -> Option<CountedVolume<'a>>
         ensures { option_map plain_count result ≡ slice_get self.now i }
     {

@@ -59,6 +59,6 @@ pub record IsEarnedBy (w : World) (x : Count) (l : Connection) (d : AttemptState
   pub fault : d.fault ≡ false
   pub opened : Contains w.opens (opening x.connection x.reel)
 
--- each count belongs to such an attempt of one of the connections
+-- each count of the world belongs to an attempt on one of its connections, as `IsEarnedBy` says
 abbrev pub AreCountsEarned : World → Type 0
 AreCountsEarned w = (x : Count) → Contains w.counts x → (l : Connection) × (d : AttemptState) × (b : Begun) × IsEarnedBy w x l d b

@@ -70,7 +70,8 @@ fn a_payload_that_is_not_there(rt: HostRuntime) {
     assert!(rt; run_dump(&rt, &line(TWO_BYTES), NO_TERMINAL) == ExitStatus::StartupError);
 }
 
-/// Whether a dump ends with `Abnormal`, because there is no server and the operator's input is empty.
+/// Whether a dump ends with `Abnormal`, because there is no server and the operator's input is
+/// empty.
 fn is_abandoned(rt: &HostRuntime) -> bool {
     match client(rt.alloc(), TWO_BYTES) {
         Some(mut client) => run_client(rt, &line(TWO_BYTES), &mut client, NO_TERMINAL)
