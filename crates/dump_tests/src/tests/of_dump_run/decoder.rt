@@ -80,7 +80,7 @@ fn has_name(line: &[u8]) -> bool {
 }
 
 /// Reads the three numbers of a count: its volume, its first block, and its number of blocks.
-fn count_in(line: &[u8]) -> Option<(u64, u64, u64)> {
+fn parse_count(line: &[u8]) -> Option<(u64, u64, u64)> {
     let text = line.strip_prefix(b"counted ")?;
     let (volume, more) = cut(text, b' ')?;
     let (first, count) = cut(more, b' ')?;
@@ -89,7 +89,7 @@ fn count_in(line: &[u8]) -> Option<(u64, u64, u64)> {
 
 /// Whether a line is a well-formed count.
 fn is_count(line: &[u8]) -> bool {
-    match count_in(line) {
+    match parse_count(line) {
         Some((volume, first, count)) => {
             volume <= 2147483647 && first <= 2147483647 && count <= 2147483647
         }
@@ -148,7 +148,7 @@ fn misplaced_line(bytes: &[u8]) -> Option<usize> {
             blocks = number_in(line, b"blocks ")?;
         }
         if number > 8 {
-            let count = count_in(line)?;
+            let count = parse_count(line)?;
             if !is_due(count, next.0, next.1, blocks) {
                 return Some(number);
             }
