@@ -48,26 +48,26 @@ impl Log {
     pub(super) fn connect(&mut self) -> bool
         ensures { Logs IsLogOf self.old self.new (events_if result (Connected ∷ [])) }
     {
-        self.settle() && push_connected(&mut self.passed)
+        self.flush_ends() && push_connected(&mut self.passed)
     }
 
     /// Logs that these bytes were sent. Returns whether it could.
     pub(super) fn send(&mut self, bytes: &[u8]) -> bool
         ensures { Logs IsLogOf self.old self.new (events_if result (map Sent bytes.now)) }
     {
-        self.settle() && push_sent(&mut self.passed, bytes)
+        self.flush_ends() && push_sent(&mut self.passed, bytes)
     }
 
     /// Logs that these bytes came from the peer. Returns whether it could.
     pub(super) fn give(&mut self, bytes: &[u8]) -> bool
         ensures { Logs IsLogOf self.old self.new (events_if result (map Given bytes.now)) }
     {
-        self.settle() && push_given(&mut self.passed, bytes)
+        self.flush_ends() && push_given(&mut self.passed, bytes)
     }
 
     /// Moves the counted ends into `passed`, so that more can be appended. Returns whether it
     /// could.
-    fn settle(&mut self) -> bool
+    fn flush_ends(&mut self) -> bool
         ensures same { Logs IsLogOf self.old self.new [] }
         ensures settled { IsTrue result → self.new.ends ≡ 0 }
     {
