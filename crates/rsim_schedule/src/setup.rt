@@ -79,14 +79,14 @@ fn add_drive<'a>(
         capacity,
         reels,
     });
-    if are_good(alloc, drives)? {
+    if are_valid_drives(alloc, drives)? {
         return Ok(());
     }
     Err(Halt::BadLine)
 }
 
 /// Returns whether a world can have these drives. Fails if an allocation fails.
-fn are_good(alloc: Global, drives: &[DriveLine<'_>]) -> Result<bool, AllocError>
+fn are_valid_drives(alloc: Global, drives: &[DriveLine<'_>]) -> Result<bool, AllocError>
     ensures { IfOk result (λ good. (good ≡ true) ↔ AreGoodDrives (map plain_line drives.now)) }
 {
     let specs = specs_of(alloc, drives)?;
