@@ -12,7 +12,7 @@ pub(crate) enum ByteCount {
 impl ByteCount {
     /// Returns how many bytes arrive if `all` can: `all` for `All`, and otherwise the count, even
     /// if it is more than `all`.
-    pub(crate) fn of(self, all: usize) -> usize {
+    pub(crate) fn resolve(self, all: usize) -> usize {
         match self {
             ByteCount::All => all,
             ByteCount::Exactly(count) => count,

@@ -144,11 +144,11 @@ pub(crate) fn arrival<'a>(
     match end {
         End::Server => Event::ToServer {
             connection,
-            count: count.of(to_server),
+            count: count.resolve(to_server),
         },
         End::Client => Event::ToClient {
             connection,
-            count: count.of(to_client),
+            count: count.resolve(to_client),
         },
     }
 }
