@@ -95,7 +95,7 @@ impl Reached {
 
     /// Whether `next` continues where this volume ends. Volumes of one dump are based on the same
     /// date, and have blocks of the same length.
-    fn leads_to(&self, next: &Volume) -> bool {
+    fn is_continued_by(&self, next: &Volume) -> bool {
         let is_next = u64::from(next.label.volume()) == u64::from(self.volume) + 1;
         let goes_on = u64::from(next.label.first()) == self.end;
         let has_blocks = self.block_bytes != 0 && next.block_bytes != 0;
@@ -120,7 +120,11 @@ fn volume_of<'a>(reel: &'a ListedReel, entry: Entry<'_>) -> Option<&'a Volume> {
 /// volume ends.
 fn is_reached(reached: &[Reached], volume: &Volume) -> bool {
     let is_first = volume.label.volume() == 1 && volume.label.first() == 0;
-    is_first || reached.iter().rev().any(|before| before.leads_to(volume))
+    is_first
+        || reached
+            .iter()
+            .rev()
+            .any(|before| before.is_continued_by(volume))
 }
 
 /// Returns the greatest volume number in `reached`, or 0 if `reached` is empty.
