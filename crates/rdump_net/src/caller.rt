@@ -186,7 +186,7 @@ fn take(
     let mut at = 0;
     while at < piece.len() {
         at += reader.push(&piece[at..]);
-        match front(alloc, reader) {
+        match first_reply(alloc, reader) {
             Ok(None) => {}
             Ok(Some(answer)) => {
                 if at < piece.len() || !reader.is_empty() {
@@ -203,7 +203,7 @@ fn take(
 /// Copies the first reply in the reader's bytes, or returns None if it is not complete yet.
 /// Fails with `Botched` if the bytes are no reply, and with `OutOfMemory` if the allocation for the
 /// copy fails.
-fn front(alloc: Global, reader: &mut ReplyReader) -> Result<Option<KeptReply>, CallFault>
+fn first_reply(alloc: Global, reader: &mut ReplyReader) -> Result<Option<KeptReply>, CallFault>
     ensures { (wanted : kinds.Wanted) (bytes : List ℕ) → ReplyUnread reader.old (Some wanted) bytes →
         IsFront wanted bytes result reader.new }
 {

@@ -28,18 +28,18 @@ loop-at-preserved c =
     let counts = c.push-at.ensures.count _ w.1 w.2.unread in
     let at_none = c.in-Ok-None.is ∙ ap Ok c.in-Ok-None.field-0-is in record {
       within = omega arith;
-      waits = (w.0, _, none_yet w.0 _ c.front.result c.front.new.reader (c.front.ensures w.0 _ (c.push-at.ensures.unread _ _ w.2.unread)) at_none);
+      waits = (w.0, _, none_yet w.0 _ c.first_reply.result c.first_reply.new.reader (c.first_reply.ensures w.0 _ (c.push-at.ensures.unread _ _ w.2.unread)) at_none);
       so_far = λ wanted bytes u.
-          none_yet wanted _ c.front.result c.front.new.reader
-          (so_far wanted bytes c.args.piece.now _ c.loop-at.at c.push-at.result c.front.result c.front.new.reader (take_rest c.args.piece.now c.loop-at.at)
-          (c.front.ensures wanted _ (c.push-at.ensures.unread _ _ (c.loop-at.invariant.so_far wanted bytes u).unread))) at_none;
+          none_yet wanted _ c.first_reply.result c.first_reply.new.reader
+          (so_far wanted bytes c.args.piece.now _ c.loop-at.at c.push-at.result c.first_reply.result c.first_reply.new.reader (take_rest c.args.piece.now c.loop-at.at)
+          (c.first_reply.ensures wanted _ (c.push-at.ensures.unread _ _ (c.loop-at.invariant.so_far wanted bytes u).unread))) at_none;
     }
 
 pub returns-then-at-piece : goal.returns-then-at-piece
 returns-then-at-piece c = λ wanted bytes u.
-    reply_then wanted bytes c.args.piece.now (c.loop-at.at + c.push-at.result) c.front.result c.in-Ok-Some.answer c.front.new.reader
-    (so_far wanted bytes c.args.piece.now _ c.loop-at.at c.push-at.result c.front.result c.front.new.reader (take_rest c.args.piece.now c.loop-at.at)
-    (c.front.ensures wanted _ (c.push-at.ensures.unread _ _ (c.loop-at.invariant.so_far wanted bytes u).unread)))
+    reply_then wanted bytes c.args.piece.now (c.loop-at.at + c.push-at.result) c.first_reply.result c.in-Ok-Some.answer c.first_reply.new.reader
+    (so_far wanted bytes c.args.piece.now _ c.loop-at.at c.push-at.result c.first_reply.result c.first_reply.new.reader (take_rest c.args.piece.now c.loop-at.at)
+    (c.first_reply.ensures wanted _ (c.push-at.ensures.unread _ _ (c.loop-at.invariant.so_far wanted bytes u).unread)))
     (c.in-Ok-Some.is ∙ ap Ok c.in-Ok-Some.field-0-is)
     (λ rest held.
     elim c.then-at-piece.branch [
@@ -50,17 +50,17 @@ returns-then-at-piece c = λ wanted bytes u.
 
 pub returns-in-Ok-Some : goal.returns-in-Ok-Some
 returns-in-Ok-Some c = λ wanted bytes u.
-    reply_alone wanted bytes c.args.piece.now (c.loop-at.at + c.push-at.result) c.front.result c.in-Ok-Some.answer c.front.new.reader
-    (so_far wanted bytes c.args.piece.now _ c.loop-at.at c.push-at.result c.front.result c.front.new.reader (take_rest c.args.piece.now c.loop-at.at)
-    (c.front.ensures wanted _ (c.push-at.ensures.unread _ _ (c.loop-at.invariant.so_far wanted bytes u).unread)))
+    reply_alone wanted bytes c.args.piece.now (c.loop-at.at + c.push-at.result) c.first_reply.result c.in-Ok-Some.answer c.first_reply.new.reader
+    (so_far wanted bytes c.args.piece.now _ c.loop-at.at c.push-at.result c.first_reply.result c.first_reply.new.reader (take_rest c.args.piece.now c.loop-at.at)
+    (c.first_reply.ensures wanted _ (c.push-at.ensures.unread _ _ (c.loop-at.invariant.so_far wanted bytes u).unread)))
     (c.in-Ok-Some.is ∙ ap Ok c.in-Ok-Some.field-0-is)
     (λ rest held. none_behind c.args.piece.now (c.loop-at.at + c.push-at.result) rest c.if-at-piece.false ((c.is_empty.ensures.value _ rest held).0 c.if-not-is_empty.false))
 
 pub returns-in-Err : goal.returns-in-Err
 returns-in-Err c = λ wanted bytes u.
-    fault_then wanted bytes c.args.piece.now (c.loop-at.at + c.push-at.result) c.in-Err.fault c.front.new.reader c.front.new.reader
-    (so_far wanted bytes c.args.piece.now _ c.loop-at.at c.push-at.result (Err c.in-Err.fault) c.front.new.reader (take_rest c.args.piece.now c.loop-at.at)
-    (front_fault wanted _ c.front.result c.in-Err.fault c.front.new.reader c.in-Err.is (c.front.ensures wanted _ (c.push-at.ensures.unread _ _ (c.loop-at.invariant.so_far wanted bytes u).unread))))
+    fault_then wanted bytes c.args.piece.now (c.loop-at.at + c.push-at.result) c.in-Err.fault c.first_reply.new.reader c.first_reply.new.reader
+    (so_far wanted bytes c.args.piece.now _ c.loop-at.at c.push-at.result (Err c.in-Err.fault) c.first_reply.new.reader (take_rest c.args.piece.now c.loop-at.at)
+    (front_fault wanted _ c.first_reply.result c.in-Err.fault c.first_reply.new.reader c.in-Err.is (c.first_reply.ensures wanted _ (c.push-at.ensures.unread _ _ (c.loop-at.invariant.so_far wanted bytes u).unread))))
 
 pub returns : goal.returns
 returns c = λ wanted bytes u.

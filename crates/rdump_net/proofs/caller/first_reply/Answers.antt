@@ -1,7 +1,7 @@
 use Rattle.std.proofs.Common.{Ok, ap, ◌∙◌, sym, subst, Some}
 use Rattle.rmt_wire.specs.ReplyParts.{ReplyParsesAs}
 use Rattle.rdump_net.proofs.Heard.{next_none, next_some}
-use Rattle.rdump_net.proofs.caller.front.Goals as goal
+use Rattle.rdump_net.proofs.caller.first_reply.Goals as goal
 
 pub returns-in-Ok-None : goal.returns-in-Ok-None
 returns-in-Ok-None c = next_none c.args.reader.now c.next.follows.lender-at-none c.next.result c.next.follows.holds-at-none (c.in-Ok-None.is ∙ ap Ok c.in-Ok-None.field-0-is)
