@@ -14,7 +14,7 @@ use Rattle.dump_client.specs.declared.stage.Stage.TheVariants.{Ready, ToSend, Wa
 use Rattle.dump_client.specs.declared.stage.State.{State}
 use Rattle.dump_client.specs.declared.stage.State.TheVariants as told
 use Rattle.rmt_wire.specs.Print.{IsPrinted}
-use Rattle.rdump_net.specs.Lines.{DumpLines, HasGrown, IsConcluded, IsConclusion, IsDumped, IsFinish, IsLast, IsRound, abandoned_line, complete_line, conclusion_status, count_lines, failure_lines, question_line}
+use Rattle.rdump_net.specs.Lines.{DumpLines, IsPrefixOf, IsConcluded, IsConclusion, IsDumped, IsFinish, IsLast, IsRound, abandoned_line, complete_line, conclusion_status, count_lines, failure_lines, question_line}
 use Rattle.rdump_net.specs.declared.conclusion.Conclusion.{Conclusion}
 use Rattle.rdump_net.specs.declared.conclusion.Conclusion.TheVariants as ends
 use Rattle.rdump_net.specs.Lines.DumpLines.{none, counted, failed, asked}
@@ -55,7 +55,7 @@ lines_both a b one h c two (failed {text = text} fault k) =
 lines_both a b one h c two (asked {text = text} k) = subst (DumpLines a c) (append_assoc one text question_line) (asked (lines_both a b one h c text k))
 
 -- the lines of what was counted since
-pub lines_since : (old new : List VolumeCount) (n : ℕ) → n ≡ length old → HasGrown old new → DumpLines old new (count_lines (drop n new))
+pub lines_since : (old new : List VolumeCount) (n : ℕ) → n ≡ length old → IsPrefixOf old new → DumpLines old new (count_lines (drop n new))
 lines_since old new n e (more, is) =
     let left : drop n new ≡ more = ap (drop n) is ∙ (ap (λ m. drop m (old ++ more)) e ∙ drop-append_seam old more) in
     subst (λ l. DumpLines old l (count_lines (drop n new))) (sym is)

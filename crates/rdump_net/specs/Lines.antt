@@ -58,8 +58,8 @@ abbrev pub abandoned_line : List ℕ
 abandoned_line = codes "dump abandoned\n"
 
 -- the new counts are the old ones and, after them, any number of others
-abbrev pub HasGrown : List VolumeCount → List VolumeCount → Type 0
-HasGrown old new = (more : List VolumeCount) × (new ≡ old ++ more)
+abbrev pub IsPrefixOf : List VolumeCount → List VolumeCount → Type 0
+IsPrefixOf old new = (more : List VolumeCount) × (new ≡ old ++ more)
 
 -- The lines of a dump that had the counts `first` and now has the other ones. Each volume counted
 -- since `first` has one line, in order. A failed attempt has the lines of its failure, with the

@@ -1,7 +1,7 @@
 //! One attempt of a client, over a connection of its own.
 ghost use Rattle.std.specs.Prelude.{◌≡◌, ℕ, List, OnErr};
 ghost use Rattle.dump_client.specs.Client.{HasFed};
-ghost use Rattle.rdump_net.specs.Lines.{HasGrown};
+ghost use Rattle.rdump_net.specs.Lines.{IsPrefixOf};
 ghost use Rattle.rdump_net.specs.Talk.{FromThis, FromNone, TalksOver};
 ghost use Rattle.rdump_net.specs.declared.attempt.Attempted.TheVariants.{NotStarted};
 
@@ -37,7 +37,7 @@ pub(crate) fn attempt<B: Blocks, P: Peer>(
 ) -> Attempted
     ensures talks { TalksOver B.holds (FromThis client.old.at) P.tells client.old client.new peer.old peer.new }
     ensures still { result ≡ NotStarted → client.new.at ≡ client.old.at }
-    ensures grows { HasGrown client.old.at.counts client.new.at.counts }
+    ensures grows { IsPrefixOf client.old.at.counts client.new.at.counts }
 {
     let Ok(begun) = begin(client, peer) else {
         return Attempted::NotStarted;
