@@ -81,9 +81,9 @@ ReadsCapacity None capacity = capacity ≡ usual_capacity
 ReadsCapacity (Some text) capacity = IsNumber text × (capacity ≡ digits_value 10 text)
 
 -- the limit of connections is the number in its text; without a text there is no limit
-abbrev pub ReadsConnections : Option Text → Option ℕ → Type 0
-ReadsConnections None connections = connections ≡ None
-ReadsConnections (Some text) connections = IsNumber text × (connections ≡ Some (digits_value 10 text))
+abbrev pub IsConnectionLimit : Option Text → Option ℕ → Type 0
+IsConnectionLimit None connections = connections ≡ None
+IsConnectionLimit (Some text) connections = IsNumber text × (connections ≡ Some (digits_value 10 text))
 
 -- the text, if there is one, is a number
 abbrev pub IsNumberIfGiven : Option Text → Type 0
@@ -102,7 +102,7 @@ pub record IsLineIn (rows : List Row) (line : ServerLine) : Type 0 where
   pub stdio : line.stdio ≡ has_stdio rows
   pub listen : option_map (λ s. s.now) line.listen ≡ address_in rows
   pub capacity : ReadsCapacity (first_of (codes "capacity") rows) line.capacity
-  pub connections : ReadsConnections (first_of (codes "connections") rows) line.connections
+  pub connections : IsConnectionLimit (first_of (codes "connections") rows) line.connections
   pub bin : option_map (λ s. s.now) line.bin ≡ bin_in rows
   pub drives : map plain_drive line.drives.items ≡ drives_in rows
   pub one_way : is_one_way (has_stdio rows) (is_some (address_in rows)) ≡ true

@@ -3,7 +3,7 @@
 ghost use Rattle.std.specs.Prelude.{◌≡◌, map, codes, false, [], IfOk, IfErr, IsErrOf, MatchOption, MatchResult, option_map};
 ghost use Rattle.clap.specs.Words.{App, HasKind, app_of, first_of, found_of, kind_of, new_app, rows_of, rule_of, with_rule};
 ghost use Rattle.rmtd_args.specs.Drive.{plain_drive, split_of};
-ghost use Rattle.rmtd_args.specs.Rmtd.{app, app_with_limits, app_with_ways, arguments_in, arguments_rule, faults_in, flag_rule, has_stdio, matches_in, option_rule, with_version, AreBadArguments, AskToBeShown, IsLineIn, IsLineOf, IsShown, KeepsRules, ReadsCapacity, ReadsConnections, IsNumberIfGiven};
+ghost use Rattle.rmtd_args.specs.Rmtd.{app, app_with_limits, app_with_ways, arguments_in, arguments_rule, faults_in, flag_rule, has_stdio, matches_in, option_rule, with_version, AreBadArguments, AskToBeShown, IsLineIn, IsLineOf, IsShown, KeepsRules, ReadsCapacity, IsConnectionLimit, IsNumberIfGiven};
 
 use crate::broken_rule::BrokenRule;
 use crate::drive_argument::{DriveArgument, check_drives, drives_of};
@@ -247,7 +247,7 @@ fn capacity_of(text: Option<&str>) -> Option<u64>
 /// Returns the limit of connections that this text gives, or None if there is no text. Fails if the
 /// text is not a number.
 fn connections_of(text: Option<&str>) -> Result<Option<u64>, BrokenRule<'static>>
-    ensures { MatchResult result (ReadsConnections (option_map (λ s. s.now) text.entry))
+    ensures { MatchResult result (IsConnectionLimit (option_map (λ s. s.now) text.entry))
         (λ _. ¬ (IsNumberIfGiven (option_map (λ s. s.now) text.entry))) }
 {
     let Some(text) = text else {
