@@ -113,7 +113,7 @@ fn keep(counts: &mut Vec<Count>, heard: &PieceHeard, reel: usize, connection: us
 
 /// Removes the `count` bytes that arrived on the client's connection. If the attempt is over, the
 /// client leaves the connection.
-fn settle(
+fn deliver_or_leave(
     connections: &mut [Connection],
     own: &mut Option<usize>,
     connection: usize,
@@ -156,7 +156,7 @@ impl WorldState {
         let reel = reel_of(&self.history, connection);
         let heard = hear(&mut self.caller, &way[..count]);
         keep(&mut self.history.counts, &heard, reel, connection);
-        settle(
+        deliver_or_leave(
             &mut self.connections,
             &mut self.own,
             connection,

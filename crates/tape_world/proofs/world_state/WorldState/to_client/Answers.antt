@@ -50,8 +50,8 @@ hear-heard-requires c =
     attempts w c.self.inside.caller c.args.connection refl (subst IsOwned (sym c.self.view_is) c.requires.owned)
     (plain_connection c.in-Some.conn.now, some.0, there, c.if-not-conn.false, some.1)
 
-pub settle-requires-clause-last : goal.settle-requires-clause-last
-settle-requires-clause-last c =
+pub deliver_or_leave-requires-clause-last : goal.deliver_or_leave-requires-clause-last
+deliver_or_leave-requires-clause-last c =
     connection_within c.deref.result.now c.deref_mut-2.result.now c.args.connection (option_copied c.find.result) c.in-Some.conn.now
     (c.deref.ensures.value ∙ sym c.deref_mut-2.ensures.value) c.find.ensures (ap option_copied c.in-Some.is)
 
@@ -74,11 +74,11 @@ returns c =
     let caller = option_map seen_caller c.hear-heard.new.caller in
     let names = book_names c.self.inside.history in
     let kept = map (seen_count names) c.keep.new.counts.items in
-    let ls = map plain_connection (take c.self.inside.connections.len (c.settle.new.connections ++ drop (length c.settle.new.connections) c.self.inside.connections.items)) in
-    let u = record w { connections = ls; own = c.settle.new.own; caller = caller; counts = kept; failure = heard.failure } in
+    let ls = map plain_connection (take c.self.inside.connections.len (c.deliver_or_leave.new.connections ++ drop (length c.deliver_or_leave.new.connections) c.self.inside.connections.items)) in
+    let u = record w { connections = ls; own = c.deliver_or_leave.new.own; caller = caller; counts = kept; failure = heard.failure } in
     let connections
-    = connections_after (heard_on heard.is_over c.args.count) c.self.inside.connections.len c.self.inside.connections.items c.deref_mut-2.result.now c.settle.new.connections
-    c.args.connection c.self.inside.connections.ok.0 c.deref_mut-2.ensures.value c.settle.ensures.connections in
+    = connections_after (heard_on heard.is_over c.args.count) c.self.inside.connections.len c.self.inside.connections.items c.deref_mut-2.result.now c.deliver_or_leave.new.connections
+    c.args.connection c.self.inside.connections.ok.0 c.deref_mut-2.ensures.value c.deliver_or_leave.ensures.connections in
     let counts
     = counts_kept w names heard.run c.reel_of-reel.result c.args.connection heard.count c.self.inside.history.counts.items c.reserve.new.self.items c.keep.new.counts.items
     refl c.reserve.ensures.items c.keep.ensures c.reel_of-reel.ensures in
@@ -93,9 +93,9 @@ returns c =
         there,
         heard_step w u c.args.connection c.args.count l.dump some.0 (take c.args.count l.back) c.self.inside.caller c.hear-heard.new.caller heard some.1 refl
             (subst (λ b. HasHeard c.self.inside.caller (take c.args.count b) heard c.hear-heard.new.caller) c.bytes-way.ensures c.hear-heard.ensures)
-            (ap (λ x. record w { connections = x; own = c.settle.new.own; caller = caller; counts = kept; failure = heard.failure }) connections
+            (ap (λ x. record w { connections = x; own = c.deliver_or_leave.new.own; caller = caller; counts = kept; failure = heard.failure }) connections
             ∙ ap (λ x. record w { connections = changed (heard_on heard.is_over c.args.count) w.connections c.args.connection; own = x; caller = caller; counts = kept; failure = heard.failure })
-            c.settle.ensures.own
+            c.deliver_or_leave.ensures.own
             ∙ ap (λ x. heard_world w c.args.connection c.args.count heard.is_over caller x heard.failure) counts),
       ),
     )
@@ -107,8 +107,8 @@ returns-in_default c = (
       (ap (λ w. w.connections) (sym c.self.view_is)) c.deref.ensures.value c.find.ensures (ap option_copied c.in_default.is) live.0,
 )
 
-pub settle-requires-clause-first : goal.settle-requires-clause-first
-settle-requires-clause-first c = connection_first c.deref.result.now c.args.connection (option_copied c.find.result) c.in-Some.conn.now c.find.ensures
+pub deliver_or_leave-requires-clause-first : goal.deliver_or_leave-requires-clause-first
+deliver_or_leave-requires-clause-first c = connection_first c.deref.result.now c.args.connection (option_copied c.find.result) c.in-Some.conn.now c.find.ensures
     (ap option_copied c.in-Some.is)
 
 pub deliver_back-requires-clause-first : goal.deliver_back-requires-clause-first
