@@ -19,7 +19,7 @@ use Rattle.tape_world.specs.Seen.{seen_caller, seen_count, name_at}
 use Rattle.world_connections.specs.Connection.{plain_connection, deliver_back}
 use Rattle.tape_world.specs.Holding.{is_in_attempt, IsClients, IsOwned}
 use Rattle.tape_world.specs.Calling.{failure_of}
-use Rattle.tape_world.specs.Hearing.{heard_on, own_after, is_over, IsAttempting, HasHeard, count_in}
+use Rattle.tape_world.specs.Hearing.{heard_on, own_after, is_over, IsAttempting, HasHeard, history_count}
 
 -- a number of a connection that is there is within
 get_within : (xs : List Connection) (i : ℕ) (x : Connection) → slice_get xs i ≡ Some x → suc i ≤ length xs
@@ -112,20 +112,20 @@ dropped_step w u k n dump piece none is = subst (λ y. Hears y w k n piece u) (s
 
 -- what is seen of the counts that are kept
 count_is : (w : World) (names : List (List ℕ)) (run reel k : ℕ) (c : VolumeCount) → name_at names reel ≡ reel_opened_by k w.opens
-    → seen_count names (count_in run reel k c) ≡ counts_of w run k c
+    → seen_count names (history_count run reel k c) ≡ counts_of w run k c
 count_is w names run reel k c is =
     ap (λ name. record { run = run; volume = c.volume; first = c.first; count = c.count; reel = name; connection = k }) is
 
 count_list : (w : World) (names : List (List ℕ)) (run reel k : ℕ) (o : Option VolumeCount) → name_at names reel ≡ reel_opened_by k w.opens
-    → map (seen_count names) (map (count_in run reel k) (option_to_list o)) ≡ map (counts_of w run k) (option_to_list o)
+    → map (seen_count names) (map (history_count run reel k) (option_to_list o)) ≡ map (counts_of w run k) (option_to_list o)
 count_list w names run reel k None is = refl
 count_list w names run reel k (Some c) is = ap (λ x. x ∷ []) (count_is w names run reel k c is)
 
 pub counts_kept : (w : World) (names : List (List ℕ)) (run reel k : ℕ) (o : Option VolumeCount) (before items now : List RealCount)
-    → w.counts ≡ map (seen_count names) before → items ≡ before → now ≡ items ++ map (count_in run reel k) (option_to_list o)
+    → w.counts ≡ map (seen_count names) before → items ≡ before → now ≡ items ++ map (history_count run reel k) (option_to_list o)
     → name_at names reel ≡ reel_opened_by k w.opens → map (seen_count names) now ≡ w.counts ++ map (counts_of w run k) (option_to_list o)
 counts_kept w names run reel k o before items now was same is named =
-    ap (map (seen_count names)) (is ∙ ap (λ l. l ++ map (count_in run reel k) (option_to_list o)) same)
-    ∙ map-append (seen_count names) before (map (count_in run reel k) (option_to_list o))
-    ∙ ap (λ l. l ++ map (seen_count names) (map (count_in run reel k) (option_to_list o))) (sym was)
+    ap (map (seen_count names)) (is ∙ ap (λ l. l ++ map (history_count run reel k) (option_to_list o)) same)
+    ∙ map-append (seen_count names) before (map (history_count run reel k) (option_to_list o))
+    ∙ ap (λ l. l ++ map (seen_count names) (map (history_count run reel k) (option_to_list o))) (sym was)
     ∙ ap (λ l. w.counts ++ l) (count_list w names run reel k o named)

@@ -53,6 +53,6 @@ pub record HasHeard (o : Option WorldClient) (piece : List ℕ) (heard : PieceHe
   pub failure : heard.failure ≡ failure_of after.client.at progress
 
 -- the count `c` of the client, as the history has it: `reel` is the index of the reel's name
-abbrev pub count_in : ℕ → ℕ → ℕ → VolumeCount → Count
-count_in run reel connection c =
+abbrev pub history_count : ℕ → ℕ → ℕ → VolumeCount → Count
+history_count run reel connection c =
     record { run = run; volume = c.volume; first = c.first; count = c.count; reel = reel; connection = connection }

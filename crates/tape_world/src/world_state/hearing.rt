@@ -5,7 +5,7 @@ ghost use Rattle.world_model.specs.Changes.{changed, reel_opened_by};
 ghost use Rattle.world_model.specs.Events.PlainEvent.{ToClient};
 ghost use Rattle.world_model.specs.Kept.{IsWorldKept};
 ghost use Rattle.tape_world.specs.Calling.{failure_of};
-ghost use Rattle.tape_world.specs.Hearing.{HasHeard, IsAttempting, count_in, heard_on, is_over, own_after};
+ghost use Rattle.tape_world.specs.Hearing.{HasHeard, IsAttempting, history_count, heard_on, is_over, own_after};
 ghost use Rattle.tape_world.specs.Holding.{IsEvent};
 ghost use Rattle.tape_world.specs.Seen.{name_at, book_names, seen_opening};
 ghost use Rattle.world_connections.specs.Connection.{plain_connection};
@@ -97,7 +97,7 @@ fn reel_of(history: &History, connection: usize) -> usize
 /// the index of its reel's name in the history.
 fn keep(counts: &mut Vec<Count>, heard: &PieceHeard, reel: usize, connection: usize)
     requires { vec_len counts.old < vec_capacity counts.old }
-    ensures { counts.new.items ≡ counts.old.items ++ map (count_in heard.now.run reel connection) (option_to_list heard.now.count) }
+    ensures { counts.new.items ≡ counts.old.items ++ map (history_count heard.now.run reel connection) (option_to_list heard.now.count) }
 {
     if let Some(volume) = heard.count {
         counts.push_reserved(Count {
