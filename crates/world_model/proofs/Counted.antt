@@ -13,7 +13,7 @@ use Rattle.world_model.specs.Naming.{AreNamed, AreWritersLast}
 use Rattle.world_model.specs.Headline.{IsNotReopened, CountedReels}
 use Rattle.world_model.specs.Written.{block_records, whole_volume}
 use Rattle.world_model.specs.Written.{label_if, mark_if, attempt_written}
-use Rattle.world_model.specs.Attempts.{AreLabelled, AreCountsEarned, IsEarnedBy}
+use Rattle.world_model.specs.Attempts.{AreLabelled, EachCountHasAttempt, IsEarnedBy}
 use Rattle.world_model.specs.Sending.{AreTold}
 use Rattle.world_model.specs.Sparing.{AreNotReopened}
 use Rattle.world_model.specs.Further.{ReelsNotReopened, LabelledReels}
@@ -31,7 +31,7 @@ written_whole w run payload x l d b e =
     ∙ ap (λ n. whole_volume run payload x.volume n d.blocks) e.first
     ∙ ap (λ n. whole_volume run payload x.volume x.first n) e.count
 
-pub counted_reels : (w : World) → AreHeld w.server → AreLaid w.server → AreNamed w → AreWritersLast w → AreTold w → AreLabelled w → AreCountsEarned w → AreNotReopened w
+pub counted_reels : (w : World) → AreHeld w.server → AreLaid w.server → AreNamed w → AreWritersLast w → AreTold w → AreLabelled w → EachCountHasAttempt w → AreNotReopened w
     → CountedReels w
 counted_reels w held laid named writers told labelled earned spares x among =
     let e = earned x among in

@@ -8,7 +8,7 @@ use Rattle.world_model.specs.World.{World, Connection, AttemptState, Begun, Coun
 use Rattle.world_model.specs.Changes.{side_of, connection_of, opening, reel_opened_by, counts_of}
 use Rattle.world_model.specs.Owning.{IsOwned}
 use Rattle.world_model.specs.Sending.{AreTold}
-use Rattle.world_model.specs.Attempts.{IsSingle, AreSingle, IsEarnedBy, AreCountsEarned}
+use Rattle.world_model.specs.Attempts.{IsSingle, AreSingle, IsEarnedBy, EachCountHasAttempt}
 use Rattle.world_model.proofs.Booked.{drop_front}
 use Rattle.world_model.proofs.Sent.{still_unloaded}
 use Rattle.world_model.proofs.SentWire.{OneReply}
@@ -67,7 +67,7 @@ still_earned w u x l d b q e =
     )
 
 -- no count more
-same_earned : (w u : World) → Quietly w u → u.counts ≡ w.counts → AreCountsEarned w → AreCountsEarned u
+same_earned : (w u : World) → Quietly w u → u.counts ≡ w.counts → EachCountHasAttempt w → EachCountHasAttempt u
 same_earned w u q counts earned x among =
     let e = earned x (subst (λ xs. Contains xs x) counts among) in
     still_earned w u x e.0 e.1 e.2 q e.3
@@ -103,7 +103,7 @@ new_earned w u t q single h x is =
 
 -- the client heard, and may have counted
 listens_counts : (w u : World) (t : Listens w) → u.counts ≡ w.counts ++ told_counts w t → (t.at.counts ≡ t.c.at.counts) ⊎ HasCounted w.begun (side_of w.server t.k) t.c t.d t.at → Quietly w u
-    → IsSingle w.opens t.k t.d → AreCountsEarned w → AreCountsEarned u
+    → IsSingle w.opens t.k t.d → EachCountHasAttempt w → EachCountHasAttempt u
 listens_counts w u t counts (inl same) q single earned x among =
     let none : drop (length t.c.at.counts) t.at.counts ≡ []
     = ap (drop (length t.c.at.counts)) (same ∙ sym (append-nil t.c.at.counts)) ∙ drop_front t.c.at.counts [] in
@@ -118,11 +118,11 @@ listens_counts w u t counts (inr h) q single earned x among =
       | inr is ↦ new_earned w u t q single h x (sym is)
     ]
 
-pub quiet_earned : (w u : World) → Quietly w u → u.counts ≡ w.counts → AreCountsEarned w → AreCountsEarned u
+pub quiet_earned : (w u : World) → Quietly w u → u.counts ≡ w.counts → EachCountHasAttempt w → EachCountHasAttempt u
 quiet_earned w u q counts earned = same_earned w u q counts earned
 
 -- the client's connection that hears is its own, and it is told
-pub listens_earned : OneReply → (w u : World) (t : Listens w) → u.counts ≡ w.counts ++ told_counts w t → Quietly w u → IsOwned w → AreTold w → AreSingle w → AreCountsEarned w → AreCountsEarned u
+pub listens_earned : OneReply → (w u : World) (t : Listens w) → u.counts ≡ w.counts ++ told_counts w t → Quietly w u → IsOwned w → AreTold w → AreSingle w → EachCountHasAttempt w → EachCountHasAttempt u
 listens_earned g w u t counts q owned told single earned =
     let own : w.own ≡ Some t.k = owned.only t.k (t.l, t.d, t.there, t.other, t.dump) in
     let at = (told.each t.k t.l t.there).own t.d t.c t.dump own t.client in

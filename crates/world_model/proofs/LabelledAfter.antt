@@ -8,7 +8,7 @@ use Rattle.world_model.specs.Kept.{AreLaid}
 use Rattle.world_model.specs.Naming.{AreOpened}
 use Rattle.world_model.specs.Owning.{IsOwned}
 use Rattle.world_model.specs.Sending.{AreTold}
-use Rattle.world_model.specs.Attempts.{AreLabelled, AreSingle, AreCountsEarned}
+use Rattle.world_model.specs.Attempts.{AreLabelled, AreSingle, EachCountHasAttempt}
 use Rattle.world_model.proofs.Numbers.{no_number}
 use Rattle.world_model.proofs.SentWire.{OneReading, DroppedWrites, OneReply}
 use Rattle.world_model.proofs.Moves.{Move, serves, hears, hears_last, moved}
@@ -25,7 +25,7 @@ first_single drives k l d at dump = absurd (no_number k l at)
 pub first_labelled : (drives : List PlainDriveSpec) → AreLabelled (first_world drives)
 first_labelled drives k l d at dump = absurd (no_number k l at)
 
-pub first_earned : (drives : List PlainDriveSpec) → AreCountsEarned (first_world drives)
+pub first_earned : (drives : List PlainDriveSpec) → EachCountHasAttempt (first_world drives)
 first_earned drives x (i, within, is) = absurd (omega (arith, within))
 
 pub single_moved : OneReading → DroppedWrites → (w : World) (m : Move w) → AreHeld w.server → AreTold w → AreOpened w → AreSingle w → AreSingle (moved w m)
@@ -33,8 +33,8 @@ single_moved g h w (serves v) held told opened single = served_single g h w v to
 single_moved g h w m held told opened single = quiet_single w _ (quiet_moved w m tt held) opened single
 
 -- each count stays that of an attempt
-pub earned_moved : OneReading → DroppedWrites → OneReply → (w : World) (m : Move w) → AreHeld w.server → IsOwned w → AreTold w → AreSingle w → AreCountsEarned w
-    → AreCountsEarned (moved w m)
+pub earned_moved : OneReading → DroppedWrites → OneReply → (w : World) (m : Move w) → AreHeld w.server → IsOwned w → AreTold w → AreSingle w → EachCountHasAttempt w
+    → EachCountHasAttempt (moved w m)
 earned_moved g h r w (serves v) held owned told single earned = served_earned g h w v told earned
 earned_moved g h r w (hears t on) held owned told single earned = listens_earned r w _ t refl (quiet_moved w (hears t on) tt held) owned told single earned
 earned_moved g h r w (hears_last t failure over) held owned told single earned =

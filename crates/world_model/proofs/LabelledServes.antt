@@ -7,7 +7,7 @@ use Rattle.dump_client.specs.declared.step.TapeOp.TheVariants.{Unload}
 use Rattle.world_model.specs.World.{World, Connection, AttemptState, Begun, Count, Opening, numbered}
 use Rattle.world_model.specs.Changes.{connection_of, opening, noted, answered}
 use Rattle.world_model.specs.Sending.{HasDone, request_in, IsConnectionSent, AreTold}
-use Rattle.world_model.specs.Attempts.{IsEarnedBy, AreCountsEarned}
+use Rattle.world_model.specs.Attempts.{IsEarnedBy, EachCountHasAttempt}
 use Rattle.world_model.proofs.Numbers.{changed_is, changed_there}
 use Rattle.world_model.proofs.Sent.{still_unloaded}
 use Rattle.world_model.proofs.SentWire.{OneReading, DroppedWrites}
@@ -103,7 +103,7 @@ earned_as w v x l y d e b p at dump same = record {
   opened = opens_after w v (opening x.connection x.reel) p.opened;
 }
 
-pub served_earned : OneReading → DroppedWrites → (w : World) (v : Turn w) → AreTold w → AreCountsEarned w → AreCountsEarned (turned w v)
+pub served_earned : OneReading → DroppedWrites → (w : World) (v : Turn w) → AreTold w → EachCountHasAttempt w → EachCountHasAttempt (turned w v)
 served_earned g h w v told earned x among =
     let p = earned x among in
     let y = connection_after w v x.connection p.0 p.3.there in

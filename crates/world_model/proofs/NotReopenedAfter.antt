@@ -3,7 +3,7 @@ use Rattle.std.proofs.Common.{◌≡◌, List, None, refl, sym, ◌∙◌, arith
 use Rattle.world_model.specs.World.{World}
 use Rattle.world_model.specs.First.{PlainDriveSpec, first_world}
 use Rattle.world_model.specs.Changes.{without_server, without_peer, new_connection}
-use Rattle.world_model.specs.Attempts.{AreSingle, AreCountsEarned}
+use Rattle.world_model.specs.Attempts.{AreSingle, EachCountHasAttempt}
 use Rattle.world_model.specs.Kept.{IsClientLawful}
 use Rattle.world_model.specs.Owning.{IsOwned}
 use Rattle.world_model.specs.Sending.{AreTold}
@@ -33,7 +33,7 @@ pub record After (u : World) : Type 0 where
   pub owned : IsOwned u
   pub told : AreTold u
   pub single : AreSingle u
-  pub earned : AreCountsEarned u
+  pub earned : EachCountHasAttempt u
 
 served_not_reopened : OneReading → DroppedWrites → OneReply → (w : World) (v : Turn w) → Grounds w → IsOwned w → IsClientLawful w → After (turned w v)
     → AreNotReopened (turned w v)

@@ -25,7 +25,7 @@ use Rattle.world_model.specs.Changes.{side_of, connection_of, sent_on, opening, 
 use Rattle.world_model.specs.Headline.{IsNotReopened}
 use Rattle.world_model.specs.Kept.{IsClientLawful}
 use Rattle.world_model.specs.Owning.{is_in_attempt, IsOwned}
-use Rattle.world_model.specs.Attempts.{AreSingle, AreCountsEarned}
+use Rattle.world_model.specs.Attempts.{AreSingle, EachCountHasAttempt}
 use Rattle.world_model.specs.Sending.{IsSessionBefore, request_in, FitsReplyReader, IsAttempt, IsStepAsked, IsStepReplied, IsConnectionToldAt, AreTold}
 use Rattle.world_model.specs.Sparing.{HasOpenedSince, HasLooked}
 use Rattle.world_model.proofs.Numbers.{changed_is}
@@ -240,7 +240,7 @@ own_looked r h g w v c y l fed progress new x k owned lawful told own there was 
     stage_past h g w v c.at.stage c y l d w.begun (side_of (turned w v).server v.k) fed progress new x k lawful here refl inside before after had feeds
 
 pub served_looked : OneReading → DroppedWrites → OneReply → (w : World) (v : Turn w) → Grounds w → IsOwned w → IsClientLawful w → AreTold (turned w v)
-    → AreCountsEarned (turned w v) → AreSingle (turned w v) → HasLooked (turned w v)
+    → EachCountHasAttempt (turned w v) → AreSingle (turned w v) → HasLooked (turned w v)
 served_looked r h g w v a owned lawful told earned single k l c fed progress new x own at there had feeds goes counted not_reopened since =
     elim (changed_is (answered v.request v.reply) w.connections v.k k l at) [
       | inl (same, (y, was, is)) ↦

@@ -31,7 +31,7 @@ use Rattle.world_model.specs.Kept.{AreLaid}
 use Rattle.world_model.specs.Headline.{IsNotReopened}
 use Rattle.world_model.specs.Written.{whole_volume}
 use Rattle.world_model.specs.Naming.{AreNamed, AreOpened, AreWritersLast}
-use Rattle.world_model.specs.Attempts.{AreSingle, AreLabelled, AreCountsEarned}
+use Rattle.world_model.specs.Attempts.{AreSingle, AreLabelled, EachCountHasAttempt}
 use Rattle.world_model.specs.Sending.{IsSessionBefore, request_in, IsAttempt, AreTold}
 use Rattle.world_model.specs.Sparing.{HasOpenedSince, AreNotReopened}
 use Rattle.world_model.proofs.Booked.{among_at}
@@ -106,7 +106,7 @@ pub record Grounds (w : World) : Type 0 where
   pub told : AreTold w
   pub single : AreSingle w
   pub labelled : AreLabelled w
-  pub earned : AreCountsEarned w
+  pub earned : EachCountHasAttempt w
   pub not_reopened : AreNotReopened w
 
 -- the label of that volume stands first on the reel, and the client has a count of it

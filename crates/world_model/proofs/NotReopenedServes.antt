@@ -13,7 +13,7 @@ use Rattle.dump_client.specs.declared.step.TapeOp.TheVariants.{Rewind, RewindAga
 use Rattle.world_model.specs.World.{World, Connection, AttemptState, Begun, Count, Opening, Writing, numbered}
 use Rattle.world_model.specs.Changes.{HasDump, opening, opened_reel, list_in, writing, reel_written, noted}
 use Rattle.world_model.specs.Headline.{IsNotReopened}
-use Rattle.world_model.specs.Attempts.{AreSingle, AreCountsEarned}
+use Rattle.world_model.specs.Attempts.{AreSingle, EachCountHasAttempt}
 use Rattle.world_model.specs.Sending.{request_in, AreTold}
 use Rattle.world_model.specs.Sparing.{looked_requests, HasOpenedSince, AreLateWriters, AreStopped, AreListedNow}
 use Rattle.world_model.proofs.Booked.{place_of}
@@ -63,7 +63,7 @@ served_back w v paired = record {
 }
 
 -- the place of a count's own opening is that of before
-pub own_place : (w : World) (v : Turn w) → AreCountsEarned w → AreCountsEarned (turned w v) → AreSingle (turned w v) → (x : Count) → Contains w.counts x
+pub own_place : (w : World) (v : Turn w) → EachCountHasAttempt w → EachCountHasAttempt (turned w v) → AreSingle (turned w v) → (x : Count) → Contains w.counts x
     → (i : ℕ) → numbered (turned w v).opens i ≡ Some (opening x.connection x.reel) → numbered w.opens i ≡ Some (opening x.connection x.reel)
 own_place w v earned after single x counted i at =
     let j = place_of w.opens (opening x.connection x.reel) (earned x counted).3.opened in
@@ -131,7 +131,7 @@ few_sent w k d told has = elim ((told.each k has.0 has.1).sent d has.2) [
   | inr (b, step, begun, pending) ↦ (let one = pending.sent in omega (arith, one))
 ]
 
-pub served_stopped : OneReading → DroppedWrites → (w : World) (v : Turn w) → Grounds w → AreCountsEarned (turned w v) → AreSingle (turned w v)
+pub served_stopped : OneReading → DroppedWrites → (w : World) (v : Turn w) → Grounds w → EachCountHasAttempt (turned w v) → AreSingle (turned w v)
     → AreStopped (turned w v)
 served_stopped g h w v a earned single x k d counted not_reopened since (l, at, dump) = elim (served_dump w v k l d at dump) [
   | inl (same, (y, e, was, its, new)) ↦ (

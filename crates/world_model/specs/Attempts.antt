@@ -60,5 +60,5 @@ pub record IsEarnedBy (w : World) (x : Count) (l : Connection) (d : AttemptState
   pub opened : Contains w.opens (opening x.connection x.reel)
 
 -- each count of the world belongs to an attempt on one of its connections, as `IsEarnedBy` says
-abbrev pub AreCountsEarned : World → Type 0
-AreCountsEarned w = (x : Count) → Contains w.counts x → (l : Connection) × (d : AttemptState) × (b : Begun) × IsEarnedBy w x l d b
+abbrev pub EachCountHasAttempt : World → Type 0
+EachCountHasAttempt w = (x : Count) → Contains w.counts x → (l : Connection) × (d : AttemptState) × (b : Begun) × IsEarnedBy w x l d b

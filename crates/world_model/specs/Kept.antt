@@ -15,7 +15,7 @@ use Rattle.world_model.specs.Headline.{AreOnce, IsEarned}
 use Rattle.world_model.specs.History.{AreCountedIn}
 use Rattle.world_model.specs.Owning.{IsOwned}
 use Rattle.world_model.specs.Sending.{AreTold}
-use Rattle.world_model.specs.Attempts.{AreSingle, AreLabelled, AreCountsEarned}
+use Rattle.world_model.specs.Attempts.{AreSingle, AreLabelled, EachCountHasAttempt}
 use Rattle.world_model.specs.Naming.{AreNamed, AreOpened, AreWritersLast}
 use Rattle.world_model.specs.Sparing.{AreNotReopened}
 use Rattle.world_model.specs.First.{IsReadable}
@@ -78,7 +78,7 @@ pub record IsWorldKept (w : World) : Type 0 where
   pub told : AreTold w
   pub single : AreSingle w
   pub labelled : AreLabelled w
-  pub counted : AreCountsEarned w
+  pub counted : EachCountHasAttempt w
   pub tidy : AreTidy w
   pub held : AreHeld w.server
   pub laid : AreLaid w.server
