@@ -8,7 +8,7 @@ use Rattle.dump_client.specs.Position.Received.{Reply, Noise, End}
 use Rattle.dump_client.specs.Listening.{IsReaderWaiting, IsSummary, IsFeedResult}
 use Rattle.rmt_wire.specs.Request.PlainRequest.{Close as CloseDevice}
 use Rattle.dump_client.specs.Standing.{Standing, standing, checkpoint_of, IsOver, ReceivesAt, FedAt, CutAt, StartedAt}
-use Rattle.dump_client.specs.Client.{HasFedAt, IsIdle, unanswered, AppendedBy, AskedAt, IsPayload, ReadBy, IsScarce, LacksRoom, IsFaultAt, is_source_fault}
+use Rattle.dump_client.specs.Client.{HasFedAt, IsIdle, unanswered, AppendedBy, NextRequestAt, IsPayload, ReadBy, IsScarce, LacksRoom, IsFaultAt, is_source_fault}
 use Rattle.dump_run.specs.Run.{PlainRun}
 use Rattle.dump_run.specs.declared.count.VolumeCount.{VolumeCount}
 use Rattle.dump_run.specs.declared.blocks.SourceFailed.{SourceFailed}
@@ -110,9 +110,9 @@ over_fed run counts new r bytes (inr h) none = subst (λ n. HasFedAt n.stage r b
 -- a request that was appended was asked for
 pub asked_done : (told : List (List ℕ) → Type 0) (old : Standing) (step : Step) (capacity : ℕ) (before now : List ℕ) (new : Standing) → ToSend step ≡ old.stage
     → AppendedBy told old step capacity before (Ok tt) now → new ≡ standing old.run old.counts (Waiting step)
-    → AskedAt old.stage told old capacity before (Ok true) now new
+    → NextRequestAt old.stage told old capacity before (Ok true) now new
 asked_done told old step capacity before now new at h is =
-    subst (λ s. AskedAt s told old capacity before (Ok true) now new) at (h.0, h.1, h.2, h.3, is)
+    subst (λ s. NextRequestAt s told old capacity before (Ok true) now new) at (h.0, h.1, h.2, h.3, is)
 
 scarce_close : (run : PlainRun) (at : ℕ × ℕ) (step : Step) (fault : AttemptFault) (capacity len : ℕ) → step ≡ Close
     → IsFaultAt run at step fault capacity len → IsScarce CloseDevice capacity len
@@ -124,16 +124,16 @@ scarce_close run at step fault capacity len is (inr h) =
 -- at the close none is, where memory is scarce
 pub asked_over : (told : List (List ℕ) → Type 0) (old : Standing) (step : Step) (capacity : ℕ) (before now : List ℕ) (fault : AttemptFault) (new : Standing)
     → ToSend step ≡ old.stage → step ≡ Close → AppendedBy told old step capacity before (Err fault) now → IsOver old.run old.counts new
-    → AskedAt old.stage told old capacity before (Ok false) now new
+    → NextRequestAt old.stage told old capacity before (Ok false) now new
 asked_over told old step capacity before now fault new at is h over =
-    subst (λ s. AskedAt s told old capacity before (Ok false) now new) at
+    subst (λ s. NextRequestAt s told old capacity before (Ok false) now new) at
     (is, scarce_close old.run (checkpoint_of old.counts) step fault capacity (length before) is h.0, h.1, over)
 
 pub asked_failed : (told : List (List ℕ) → Type 0) (old : Standing) (step : Step) (capacity : ℕ) (before now : List ℕ) (fault : AttemptFault) (new : Standing)
     → ToSend step ≡ old.stage → step ≢ Close → AppendedBy told old step capacity before (Err fault) now → new ≡ standing old.run old.counts Asking
-    → AskedAt old.stage told old capacity before (Err fault) now new
+    → NextRequestAt old.stage told old capacity before (Err fault) now new
 asked_failed told old step capacity before now fault new at other h is =
-    subst (λ s. AskedAt s told old capacity before (Err fault) now new) at (other, h.0, h.1, is)
+    subst (λ s. NextRequestAt s told old capacity before (Err fault) now new) at (other, h.0, h.1, is)
 
 -- the connection ends in an attempt
 pub cut_in : (old : Standing) (stage : Stage) (step : Step) (progress : Progress) (new : Standing) → stage ≡ old.stage

@@ -114,16 +114,16 @@ AppendedBy told at step capacity before (Err fault) now =
 -- What `next_request` does at a stage. `old` and `new` are the client's states, `before` and `now`
 -- the contents of `out`, and `capacity` the capacity of `out`. At the close a failed allocation is
 -- no fault: the attempt is over.
-abbrev pub AskedAt : Stage → (List (List ℕ) → Type 0) → Standing → ℕ → List ℕ → Result Bool AttemptFault → List ℕ → Standing → Type 0
-AskedAt (ToSend step) told old capacity before (Ok true) now new =
+abbrev pub NextRequestAt : Stage → (List (List ℕ) → Type 0) → Standing → ℕ → List ℕ → Result Bool AttemptFault → List ℕ → Standing → Type 0
+NextRequestAt (ToSend step) told old capacity before (Ok true) now new =
     (request : PlainRequest) × IsRequestOf told old.run (checkpoint_of old.counts) step request × IsTextOf (request_text request) request
     × (now ≡ before ++ request_text request) × (new ≡ standing old.run old.counts (Waiting step))
-AskedAt (ToSend step) told old capacity before (Ok false) now new =
+NextRequestAt (ToSend step) told old capacity before (Ok false) now new =
     (step ≡ Close) × IsScarce CloseDevice capacity (length before) × (now ≡ before) × IsOver old.run old.counts new
-AskedAt (ToSend step) told old capacity before (Err fault) now new =
+NextRequestAt (ToSend step) told old capacity before (Err fault) now new =
     (step ≢ Close) × IsFaultAt old.run (checkpoint_of old.counts) step fault capacity (length before) × (now ≡ before)
     × (new ≡ standing old.run old.counts Asking)
-AskedAt stage told old capacity before result now new = (result ≡ Ok false) × (now ≡ before) × (new ≡ old)
+NextRequestAt stage told old capacity before result now new = (result ≡ Ok false) × (now ≡ before) × (new ≡ old)
 
 -- whether the fault is that a read of the source failed
 abbrev pub is_source_fault : {T : Type 0} → Result T AttemptFault → Bool

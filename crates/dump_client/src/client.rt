@@ -7,7 +7,7 @@ ghost use Rattle.dump_run.specs.Checkpoint.{SpellsCheckpoint, HasResumeFault};
 ghost use Rattle.dump_run.specs.Checkpoint as texts;
 ghost use Rattle.dump_client.specs.Standing.{VolumeCount, standing, state_of, checkpoint_of, IsOver, StartedAt, AnsweredAt, FedAt, CutAt};
 ghost use Rattle.dump_client.specs.Lawful.{IsLawful};
-ghost use Rattle.dump_client.specs.Client.{HasFed, IsIdle, ResumesAs, unanswered, IsPayload, AskedAt, ReadAt, TellsEntry, failures_after, is_source_fault};
+ghost use Rattle.dump_client.specs.Client.{HasFed, IsIdle, ResumesAs, unanswered, IsPayload, NextRequestAt, ReadAt, TellsEntry, failures_after, is_source_fault};
 ghost use Rattle.dump_client.specs.declared.stage.Stage.TheVariants as stages;
 
 use crate::ledger::Ledger;
@@ -220,7 +220,7 @@ impl<B: Blocks> Client<B> {
     /// The close comes after the count, so there a failed allocation is no error. It returns false
     /// then, and the attempt is over.
     pub fn next_request(&mut self, out: &mut Vec<u8>) -> Result<bool, AttemptFault>
-        ensures asked { AskedAt self.old.at.stage (B.holds self.old.source) self.old.at (vec_capacity out.old) out.old.items
+        ensures asked { NextRequestAt self.old.at.stage (B.holds self.old.source) self.old.at (vec_capacity out.old) out.old.items
             result out.new.items self.new.at }
         ensures read { ReadAt self.old.at.stage self.old.at.run.block_bytes B.reads self.old.source out.old.items
             result self.new.source out.new.items }

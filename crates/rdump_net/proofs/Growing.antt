@@ -1,7 +1,7 @@
 -- A client that talks over a peer keeps its counts, and may have further ones after them.
 use Rattle.std.proofs.Common.{◌≡◌, ℕ, List, [], ◌++◌, Bool, true, false, Result, Ok, Err, refl, sym, ap, ◌∙◌, inl, inr, append-nil, append_assoc}
 use Rattle.dump_client.specs.Standing.{Standing, VolumeCount, IsOver, StartedAt, AnsweredAt}
-use Rattle.dump_client.specs.Client.{ClientHeld, HasFed, AskedAt}
+use Rattle.dump_client.specs.Client.{ClientHeld, HasFed, NextRequestAt}
 use Rattle.dump_client.specs.declared.fault.AttemptFault.{AttemptFault}
 use Rattle.dump_client.specs.declared.fault.StartFault.{StartFault}
 use Rattle.dump_client.specs.declared.fault.StartFault.TheVariants.{WrongState, OutOfMemory}
@@ -37,7 +37,7 @@ start_counts Ready old new room (Err WrongState) h = absurd h
 start_counts stage old new room result h = same_counts old new h.1
 
 ask_counts : (stage : Stage) (told : List (List ℕ) → Type 0) (old new : Standing) (capacity : ℕ) (before now : List ℕ) (result : Result Bool AttemptFault)
-    → AskedAt stage told old capacity before result now new → IsPrefixOf old.counts new.counts
+    → NextRequestAt stage told old capacity before result now new → IsPrefixOf old.counts new.counts
 ask_counts (ToSend step) told old new capacity before now (Ok true) h = grown_none old.counts new.counts (ap (λ (s : Standing). s.counts) h.4)
 ask_counts (ToSend step) told old new capacity before now (Ok false) h = over_counts old new h.3
 ask_counts (ToSend step) told old new capacity before now (Err fault) h = grown_none old.counts new.counts (ap (λ (s : Standing). s.counts) h.3)

@@ -1,7 +1,7 @@
 -- What a client does over a peer, put together.
 use Rattle.std.proofs.Common.{◌≡◌, ◌≢◌, ◌↔◌, map, ℕ, List, [], ◌∷◌, ◌++◌, Bool, true, false, Result, Ok, Err, refl, sym, ap, subst, ◌∙◌, append-nil, append_assoc, ◌<◌, ◌≤◌, length, take, arith, length-take}
 use Rattle.dump_client.specs.Standing.{Standing, StartedAt, AnsweredAt, FedAt, CutAt}
-use Rattle.dump_client.specs.Client.{ClientHeld, HasFed, AskedAt, unanswered}
+use Rattle.dump_client.specs.Client.{ClientHeld, HasFed, NextRequestAt, unanswered}
 use Rattle.dump_client.specs.declared.fault.AttemptFault.{AttemptFault}
 use Rattle.dump_client.specs.declared.fault.StartFault.{StartFault}
 use Rattle.dump_client.specs.declared.stage.Answer.{Answer}
@@ -18,7 +18,7 @@ use Rattle.rdump_net.specs.Talk.Talks.{none, one_more}
 -- a request that is told by all blocks of which more is told
 asked_weaker : (told less : List (List ℕ) → Type 0) → ((payload : List (List ℕ)) → less payload → told payload)
     → (stage : Stage) (old : Standing) (capacity : ℕ) (before : List ℕ) (result : Result Bool AttemptFault) (now : List ℕ) (new : Standing)
-    → AskedAt stage told old capacity before result now new → AskedAt stage less old capacity before result now new
+    → NextRequestAt stage told old capacity before result now new → NextRequestAt stage less old capacity before result now new
 asked_weaker told less f (ToSend step) old capacity before (Ok true) now new h = (h.0, (λ payload t. h.1.0 payload (f payload t), h.1.1), h.2, h.3, h.4)
 asked_weaker told less f (ToSend step) old capacity before (Ok false) now new h = h
 asked_weaker told less f (ToSend step) old capacity before (Err fault) now new h = h
@@ -132,21 +132,21 @@ module _ {B P : Type 0} (holds : B → List (List ℕ) → Type 0) (allows : Sta
 
   -- a request is asked for and sent
   pub asked_and_sent : (c c' : ClientHeld B) (p q : P) (capacity : ℕ) (before text : List ℕ) (passed : List Passed)
-      → before ≡ [] → AskedAt c.at.stage (holds c.source) c.at capacity before (Ok true) text c'.at → AreBytesSent text true passed
+      → before ≡ [] → NextRequestAt c.at.stage (holds c.source) c.at capacity before (Ok true) text c'.at → AreBytesSent text true passed
       → ((payload : List (List ℕ)) → holds c.source payload ↔ holds c'.source payload)
       → ((fed : List ℕ) → HasFed c fed → HasFed c' fed) → Logs tells p q passed → TalksOver holds allows tells c c' p q
   asked_and_sent c c' p q capacity before text passed e asked sent same fed logs = one_call c c' p q (λ payload. (same payload).0)
       (λ old h. record {
         passed = passed;
         later = old;
-        step = asks capacity text c'.at true (subst (λ b. AskedAt c.at.stage (holds c.source) c.at capacity b (Ok true) text c'.at) e asked) sent (refl, refl);
+        step = asks capacity text c'.at true (subst (λ b. NextRequestAt c.at.stage (holds c.source) c.at capacity b (Ok true) text c'.at) e asked) sent (refl, refl);
         keeps = fed old h;
         logs = logs;
       })
 
   -- a request is asked for, and the connection ends while it is sent
   pub asked_and_cut : (c b c' : ClientHeld B) (p q : P) (capacity : ℕ) (before text : List ℕ) (passed : List Passed) (progress : Progress)
-      → before ≡ [] → AskedAt c.at.stage (holds c.source) c.at capacity before (Ok true) text b.at → AreBytesSent text false passed
+      → before ≡ [] → NextRequestAt c.at.stage (holds c.source) c.at capacity before (Ok true) text b.at → AreBytesSent text false passed
       → CutAt b.at.stage b.at progress c'.at → HasFed c' [] → ((payload : List (List ℕ)) → holds c.source payload ↔ holds b.source payload)
       → c'.source ≡ b.source → Logs tells p q passed → TalksOver holds allows tells c c' p q
   asked_and_cut c b c' p q capacity before text passed progress e asked sent cut fed same kept logs =
@@ -154,21 +154,21 @@ module _ {B P : Type 0} (holds : B → List (List ℕ) → Type 0) (allows : Sta
       (λ old h. record {
         passed = passed;
         later = [];
-        step = asks capacity text b.at false (subst (λ b'. AskedAt c.at.stage (holds c.source) c.at capacity b' (Ok true) text b.at) e asked) sent (progress, cut, refl);
+        step = asks capacity text b.at false (subst (λ b'. NextRequestAt c.at.stage (holds c.source) c.at capacity b' (Ok true) text b.at) e asked) sent (progress, cut, refl);
         keeps = fed;
         logs = logs;
       })
 
   -- no request is to be had
   pub asked_none : (c c' : ClientHeld B) (p : P) (capacity : ℕ) (before : List ℕ) (result : Result Bool AttemptFault) (text : List ℕ)
-      → before ≡ [] → AskedAt c.at.stage (holds c.source) c.at capacity before result text c'.at → result ≢ Ok true
+      → before ≡ [] → NextRequestAt c.at.stage (holds c.source) c.at capacity before result text c'.at → result ≢ Ok true
       → ((payload : List (List ℕ)) → holds c.source payload ↔ holds c'.source payload)
       → ((fed : List ℕ) → HasFed c fed → HasFed c' fed) → TalksOver holds allows tells c c' p p
   asked_none c c' p capacity before result text e asked unmade same fed = one_call c c' p p (λ payload. (same payload).0)
       (λ old h. record {
         passed = [];
         later = old;
-        step = has_none capacity result text (subst (λ b. AskedAt c.at.stage (holds c.source) c.at capacity b result text c'.at) e asked) unmade;
+        step = has_none capacity result text (subst (λ b. NextRequestAt c.at.stage (holds c.source) c.at capacity b result text c'.at) e asked) unmade;
         keeps = fed old h;
         logs = alone tells p;
       })

@@ -2,7 +2,7 @@
 -- cite it.
 use Rattle.std.specs.Prelude.{◌≡◌, ◌≢◌, ⊤, ℕ, Bool, true, false, List, [], ◌∷◌, ◌++◌, map, Result, Ok, Err}
 use Rattle.dump_client.specs.Standing.{Standing, StartedAt, AnsweredAt, FedAt, CutAt}
-use Rattle.dump_client.specs.Client.{ClientHeld, HasFed, AskedAt, unanswered}
+use Rattle.dump_client.specs.Client.{ClientHeld, HasFed, NextRequestAt, unanswered}
 use Rattle.dump_client.specs.declared.fault.AttemptFault.{AttemptFault}
 use Rattle.dump_client.specs.declared.fault.StartFault.{StartFault}
 use Rattle.dump_client.specs.declared.stage.Answer.{Answer}
@@ -47,10 +47,10 @@ pub data TalkStep (told : List (List ℕ) → Type 0) (allows : Standing → Typ
   stays : {old new : Standing} {fed : List ℕ} (room : ℕ) (fault : StartFault)
       → StartedAt old.stage old room (Err fault) new → TalkStep told allows old fed [] new fed
   asks : {old new : Standing} {fed later : List ℕ} {passed : List Passed} (capacity : ℕ) (text : List ℕ) (asked : Standing) (whole : Bool)
-      → AskedAt old.stage told old capacity [] (Ok true) text asked → AreBytesSent text whole passed → GoesOn whole asked fed new later
+      → NextRequestAt old.stage told old capacity [] (Ok true) text asked → AreBytesSent text whole passed → GoesOn whole asked fed new later
       → TalkStep told allows old fed passed new later
   has_none : {old new : Standing} {fed : List ℕ} (capacity : ℕ) (result : Result Bool AttemptFault) (text : List ℕ)
-      → AskedAt old.stage told old capacity [] result text new → result ≢ Ok true → TalkStep told allows old fed [] new fed
+      → NextRequestAt old.stage told old capacity [] result text new → result ≢ Ok true → TalkStep told allows old fed [] new fed
   hears : {old new : Standing} {fed : List ℕ} (piece : List ℕ) (progress : Progress)
       → FedAt old.stage old fed piece progress new → TalkStep told allows old fed (map Given piece) new (unanswered new.stage (fed ++ piece))
   ends : {old new : Standing} {fed : List ℕ} (progress : Progress)

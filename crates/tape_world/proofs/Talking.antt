@@ -17,7 +17,7 @@ use Rattle.dump_run.specs.Run.{PlainRun}
 use Rattle.dump_run.specs.declared.blocks.SourceFailed.{SourceFailed}
 use Rattle.dump_client.specs.Script.{request_of}
 use Rattle.dump_client.specs.Standing.{Standing, standing, checkpoint_of}
-use Rattle.dump_client.specs.Client.{ClientHeld, HasFed, HasFedAt, IsShapedAs, AskedAt, ReadAt, ReadBy, IsFaultAt, has_failed}
+use Rattle.dump_client.specs.Client.{ClientHeld, HasFed, HasFedAt, IsShapedAs, NextRequestAt, ReadAt, ReadBy, IsFaultAt, has_failed}
 use Rattle.tape_world.specs.declared.caller.WorldClient.{WorldClient as RealCaller}
 use Rattle.tape_world.specs.Talking.{Asks, AskedOf, IsToSend, talked}
 use Rattle.dump_client.specs.declared.step.Step.{Step}
@@ -103,7 +103,7 @@ err_fails true n size old new text is read = refl
 err_fails false n size old new text is (into, given, r, len, reads, same, gave) = (let clash = sym is ∙ read_fails old new n into given r true reads same in absurd cc)
 
 pub came : (fails : Bool) (step : Step) (at now : Standing) (old new : ListedBlocks) (capacity size : ℕ) (text : List ℕ) (r : Result Bool AttemptFault)
-    → READER_LIMIT ≤ capacity → old.troubled ≡ fails → AskedAt (ToSend step) (AreBlocksOf old) at capacity [] r text now
+    → READER_LIMIT ≤ capacity → old.troubled ≡ fails → NextRequestAt (ToSend step) (AreBlocksOf old) at capacity [] r text now
     → ReadBy step size ListedRead old [] r new text → Came (is_failing fails step) step at old.blocks text r now
 came fails step at now old new capacity size text (Ok true) room is (request, isreq, textof, items, after) read =
     let same = isreq.0 old.blocks refl in
@@ -138,7 +138,7 @@ of_came false x d step text r v is (tells, short, at, so) fed = (ap (told_of v) 
 
 pub asks : (o : Option RealCaller) (x d : RealCaller) (c1 c2 : ClientHeld ListedBlocks) (fails : Bool) (capacity : ℕ) (out text : List ℕ) (r : Result Bool AttemptFault) (v : ℕ)
     → IsToSend o → o ≡ Some x → d.number ≡ x.number → READER_LIMIT ≤ capacity → out ≡ [] → c1.source ≡ listed x.client.source.blocks fails x.client.source.failures
-    → c1.at ≡ x.client.at → AskedAt c1.at.stage (AreBlocksOf c1.source) c1.at capacity out r text c2.at
+    → c1.at ≡ x.client.at → NextRequestAt c1.at.stage (AreBlocksOf c1.source) c1.at capacity out r text c2.at
     → ReadAt c1.at.stage c1.at.run.block_bytes ListedRead c1.source out r c2.source text
     → ((bytes : List ℕ) → HasFed x.client bytes → HasFed d.client bytes) → ((bytes : List ℕ) × HasFed x.client bytes)
     → d.client.source ≡ listed c2.source.blocks false c2.source.failures → d.client.at ≡ c2.at → c2.source.blocks ≡ c1.source.blocks
@@ -146,9 +146,9 @@ pub asks : (o : Option RealCaller) (x d : RealCaller) (c1 c2 : ClientHeld Listed
 asks o x d c1 c2 fails capacity out text r v (y, step, there, stage) is number room empty source at asked read fed (bytes, held) source3 at3 same vis =
     let stage1 : x.client.at.stage ≡ ToSend step = ap (λ (z : RealCaller). z.client.at.stage) (sym (same_Some y x (sym there ∙ is))) ∙ stage in
     let st1 : c1.at.stage ≡ ToSend step = ap (λ (s : Standing). s.stage) at ∙ stage1 in
-    let asked1 : AskedAt (ToSend step) (AreBlocksOf c1.source) c1.at capacity [] r text c2.at
-    = subst (λ s. AskedAt s (AreBlocksOf c1.source) c1.at capacity [] r text c2.at) st1
-    (subst (λ l. AskedAt c1.at.stage (AreBlocksOf c1.source) c1.at capacity l r text c2.at) empty asked) in
+    let asked1 : NextRequestAt (ToSend step) (AreBlocksOf c1.source) c1.at capacity [] r text c2.at
+    = subst (λ s. NextRequestAt s (AreBlocksOf c1.source) c1.at capacity [] r text c2.at) st1
+    (subst (λ l. NextRequestAt c1.at.stage (AreBlocksOf c1.source) c1.at capacity l r text c2.at) empty asked) in
     let read1 : ReadBy step c1.at.run.block_bytes ListedRead c1.source [] r c2.source text
     = subst (λ s. ReadAt s c1.at.run.block_bytes ListedRead c1.source [] r c2.source text) st1
     (subst (λ l. ReadAt c1.at.stage c1.at.run.block_bytes ListedRead c1.source l r c2.source text) empty read) in

@@ -1,6 +1,6 @@
 use Rattle.std.proofs.Common.{◌≡◌, ℕ, List, Bool, true, false, Ok, Err, subst, refl}
 use Rattle.std.specs.Vec.{vec_capacity}
-use Rattle.dump_client.specs.Client.{AskedAt}
+use Rattle.dump_client.specs.Client.{NextRequestAt}
 use Rattle.rdump_net.specs.Peer.{AreBytesSent}
 use Rattle.rdump_net.specs.declared.peer.Passed.{Passed}
 use Rattle.rdump_net.specs.Talk.{FromNone}
@@ -17,7 +17,7 @@ returns-then-send g c =
     let text = c.next_request.new.out.items in
     let sent = c.send.ensures in
     asked_and_sent g.B.Blocks.holds FromNone g.P.Peer.tells c.args.client.now c.next_request.new.self c.args.peer.now c.send.new.self (vec_capacity c.clear.new.self) c.clear.new.self.items text sent.0
-    c.clear.ensures.items (subst (λ b. AskedAt c.args.client.now.at.stage (g.B.Blocks.holds c.args.client.now.source) c.args.client.now.at (vec_capacity c.clear.new.self) c.clear.new.self.items (Ok b) text c.next_request.new.self.at) c.in-Ok-true.field-0-test h.asked) (sent_of text c.as_slice.result.now c.send.result true sent.0 c.as_slice.ensures.value c.if-send.true sent.1) h.same_blocks h.fed sent.2
+    c.clear.ensures.items (subst (λ b. NextRequestAt c.args.client.now.at.stage (g.B.Blocks.holds c.args.client.now.source) c.args.client.now.at (vec_capacity c.clear.new.self) c.clear.new.self.items (Ok b) text c.next_request.new.self.at) c.in-Ok-true.field-0-test h.asked) (sent_of text c.as_slice.result.now c.send.result true sent.0 c.as_slice.ensures.value c.if-send.true sent.1) h.same_blocks h.fed sent.2
 
 pub returns-else-send : goal.returns-else-send
 returns-else-send g c =
@@ -26,7 +26,7 @@ returns-else-send g c =
     let text = c.next_request.new.out.items in
     let sent = c.send.ensures in
     asked_and_cut g.B.Blocks.holds FromNone g.P.Peer.tells c.args.client.now c.next_request.new.self c.ended.new.self c.args.peer.now c.send.new.self (vec_capacity c.clear.new.self) c.clear.new.self.items text sent.0 c.ended.result
-    c.clear.ensures.items (subst (λ b. AskedAt c.args.client.now.at.stage (g.B.Blocks.holds c.args.client.now.source) c.args.client.now.at (vec_capacity c.clear.new.self) c.clear.new.self.items (Ok b) text c.next_request.new.self.at) c.in-Ok-true.field-0-test h.asked) (sent_of text c.as_slice.result.now c.send.result false sent.0 c.as_slice.ensures.value c.if-send.false sent.1) k.moved k.fed h.same_blocks k.same_source sent.2
+    c.clear.ensures.items (subst (λ b. NextRequestAt c.args.client.now.at.stage (g.B.Blocks.holds c.args.client.now.source) c.args.client.now.at (vec_capacity c.clear.new.self) c.clear.new.self.items (Ok b) text c.next_request.new.self.at) c.in-Ok-true.field-0-test h.asked) (sent_of text c.as_slice.result.now c.send.result false sent.0 c.as_slice.ensures.value c.if-send.false sent.1) k.moved k.fed h.same_blocks k.same_source sent.2
 
 pub returns-in-Ok-false : goal.returns-in-Ok-false
 returns-in-Ok-false g c =

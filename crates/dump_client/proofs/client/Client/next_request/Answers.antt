@@ -1,6 +1,6 @@
 use Rattle.std.proofs.Common.{[], refl, List, ℕ, sym, ap, subst, Ok, Err, true, false, rules}
 use Rattle.std.specs.Vec.{vec_capacity}
-use Rattle.dump_client.specs.Client.{HasFed, HasFedAt, ReadAt, AskedAt}
+use Rattle.dump_client.specs.Client.{HasFed, HasFedAt, ReadAt, NextRequestAt}
 use Rattle.dump_client.proofs.Feeding.{Keeps, over_keeps, fed_anew, read_done, read_failed, none_fed, over_fed, asked_done, asked_over, asked_failed}
 use Rattle.dump_client.proofs.client.Client.next_request.Goals as goal
 
@@ -40,7 +40,7 @@ invariant_of-self-in-Err-2 g c =
 pub returns-in-Ok-clause-asked : goal.returns-in-Ok-clause-asked
 returns-in-Ok-clause-asked g c =
     let out = c.push_step.new.out.items in
-    subst (λ h. AskedAt h.at.stage (g.B.Blocks.holds h.source) h.at (vec_capacity c.args.out.now) c.args.out.now.items (Ok true) out c.wait.new.self.at) c.self.view_is
+    subst (λ h. NextRequestAt h.at.stage (g.B.Blocks.holds h.source) h.at (vec_capacity c.args.out.now) c.args.out.now.items (Ok true) out c.wait.new.self.at) c.self.view_is
     (asked_done (g.B.Blocks.holds c.self.inside.source) c.self.inside.ledger.at c.in-ToSend.step (vec_capacity c.args.out.now) c.args.out.now.items out c.wait.new.self.at
     c.in-ToSend.ensures.value c.in-Ok.ensures.appended c.wait.ensures.waits)
 
@@ -61,13 +61,13 @@ returns-in-Err-2-clause-fed g c =
 pub returns-in-Err-clause-asked : goal.returns-in-Err-clause-asked
 returns-in-Err-clause-asked g c =
     let out = c.push_step.new.out.items in
-    subst (λ h. AskedAt h.at.stage (g.B.Blocks.holds h.source) h.at (vec_capacity c.args.out.now) c.args.out.now.items (Ok false) out c.finish.new.self.at) c.self.view_is
+    subst (λ h. NextRequestAt h.at.stage (g.B.Blocks.holds h.source) h.at (vec_capacity c.args.out.now) c.args.out.now.items (Ok false) out c.finish.new.self.at) c.self.view_is
     (asked_over (g.B.Blocks.holds c.self.inside.source) c.self.inside.ledger.at c.in-ToSend.step (vec_capacity c.args.out.now) c.args.out.now.items out c.in-Err.field-0 c.finish.new.self.at
     c.in-ToSend.ensures.value (search rules) c.in-Err.ensures.appended c.finish.ensures.over.1)
 
 pub returns-in-Err-2-clause-asked : goal.returns-in-Err-2-clause-asked
 returns-in-Err-2-clause-asked g c =
     let out = c.push_step.new.out.items in
-    subst (λ h. AskedAt h.at.stage (g.B.Blocks.holds h.source) h.at (vec_capacity c.args.out.now) c.args.out.now.items (Err c.in-Err.field-0) out c.fail.new.self.at) c.self.view_is
+    subst (λ h. NextRequestAt h.at.stage (g.B.Blocks.holds h.source) h.at (vec_capacity c.args.out.now) c.args.out.now.items (Err c.in-Err.field-0) out c.fail.new.self.at) c.self.view_is
     (asked_failed (g.B.Blocks.holds c.self.inside.source) c.self.inside.ledger.at c.in-ToSend.step (vec_capacity c.args.out.now) c.args.out.now.items out c.in-Err.field-0 c.fail.new.self.at
     c.in-ToSend.ensures.value (search rules) c.in-Err.ensures.appended c.fail.ensures.failed.1)
