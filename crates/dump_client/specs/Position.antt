@@ -142,9 +142,9 @@ outcome run counts first step End = after_end step
 
 -- the outcome of the wanted reply to `step`, if `following` is the next step; before the close the
 -- volume is counted
-abbrev pub leads_to : Step → Step → Outcome
-leads_to Close (Operation (Unload next)) = Counted next
-leads_to following step = GoesOn following
+abbrev pub wanted_outcome : Step → Step → Outcome
+wanted_outcome Close (Operation (Unload next)) = Counted next
+wanted_outcome following step = GoesOn following
 
 -- each wanted reply leads to the next step, that to MTOFFL to the count, and the last one to the
 -- end
@@ -153,7 +153,7 @@ RepliesFollow run counts first [] = Unit {0}
 RepliesFollow run counts first (s ∷ []) =
     (reply : PlainReply) → Grants run counts s.1 reply → after_reply run counts first s.0 reply ≡ Ended
 RepliesFollow run counts first (s ∷ t ∷ steps) =
-    ((reply : PlainReply) → Grants run counts s.1 reply → after_reply run counts first s.0 reply ≡ leads_to t.0 s.0)
+    ((reply : PlainReply) → Grants run counts s.1 reply → after_reply run counts first s.0 reply ≡ wanted_outcome t.0 s.0)
     × RepliesFollow run counts first (t ∷ steps)
 
 -- the replies that are wanted at a step; at a block also that there is no room, if one was written

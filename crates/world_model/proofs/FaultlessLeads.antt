@@ -21,7 +21,7 @@ use Rattle.rmt_server.specs.Session.PlainSession.{Idle, Offline, Online}
 use Rattle.dump_run.specs.Run.{PlainRun, IsRun}
 use Rattle.dump_run.specs.Label.{label, label_bytes}
 use Rattle.dump_client.specs.Script.{counted_label}
-use Rattle.dump_client.specs.Position.{after_label, after_step, after_write, at_end_of_reel, leads_to}
+use Rattle.dump_client.specs.Position.{after_label, after_step, after_write, at_end_of_reel, wanted_outcome}
 use Rattle.dump_client.specs.Standing.{Standing, standing, checkpoint_of, counted_to, Becomes, IsOver}
 use Rattle.dump_client.specs.declared.step.Step.TheVariants.{Open, Operation, Look, Label, Block, Close}
 use Rattle.dump_client.specs.declared.step.TapeOp.TheVariants.{Rewind, RewindAgain, Mark, Unload}
@@ -283,7 +283,7 @@ block_full drive t k old b d session number bytes some q small progress new beco
     else at_end_of_reel (checkpoint_of old.counts).1 (Block number)) false progress new) none becomes)
   where
     tested : (c : Bool) → nat_lt (checkpoint_of old.counts).1 number ≡ c
-        → Becomes old (if c then leads_to (Operation (Mark number)) Open else at_end_of_reel (checkpoint_of old.counts).1 Open) false progress new
+        → Becomes old (if c then wanted_outcome (Operation (Mark number)) Open else at_end_of_reel (checkpoint_of old.counts).1 Open) false progress new
         → StandsThen progress new.stage drive t k b (carried_on d) session × CountsThen new.stage old.counts (carried_on d) new.counts
     tested true test (moves, is) = led drive t k old b (carried_on d) session (ToSend (Operation (Mark number))) old.counts moved.Send progress new moves is q refl
     tested false test (moves, is) =

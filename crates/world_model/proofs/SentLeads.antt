@@ -14,7 +14,7 @@ use Rattle.rmt_server.specs.Session.{PlainReel}
 use Rattle.dump_run.specs.Run.{PlainRun, IsRun}
 use Rattle.dump_run.specs.Label.{label_bytes}
 use Rattle.dump_client.specs.Script.{counted_label}
-use Rattle.dump_client.specs.Position.{after_reply, after_done, after_step, after_label, after_noise, after_write, after_error, at_end_of_reel, block_or_mark, leads_to}
+use Rattle.dump_client.specs.Position.{after_reply, after_done, after_step, after_label, after_noise, after_write, after_error, at_end_of_reel, block_or_mark, wanted_outcome}
 use Rattle.dump_client.specs.Standing.{Standing, standing, counted_to, Becomes, IsOver}
 use Rattle.dump_client.specs.Lawful.{steps_before}
 use Rattle.dump_client.specs.declared.step.Step.{Step}
@@ -229,7 +229,7 @@ label_leads old s x d bytes (Error n text) h few stands progress new next become
 -- there is no room for a block, after one that was written
 end_tested : (old : Standing) (s x : ServerConnection) (d : AttemptState) (number : ℕ) (t : Bool) → HasDone old.run (Some s) d (Block number) → d.carried + 1 < 2 ^ 64
     → ((reel : PlainReel) × IsOnlineWith x.session reel) → (progress : Progress) (new : Standing) (next : Step)
-    → Becomes old (if t then leads_to (Operation (Mark number)) Open else at_end_of_reel d.first Open) false progress new
+    → Becomes old (if t then wanted_outcome (Operation (Mark number)) Open else at_end_of_reel d.first Open) false progress new
     → new.stage ≡ ToSend next → GoesTo old.run (Some x) old (on_by_one d) new next
 end_tested old s x d number true h few stands progress new next (moved, is) at =
     let more : nat_lt number old.run.blocks ≡ true = (let below = h.blocks.1 in grind (arith, nat_tests)) in
