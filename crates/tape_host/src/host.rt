@@ -86,7 +86,7 @@ impl Host {
         ensures { MatchResult result (λ _. self.new ≡ hosted self.old.server true) (λ _. self.new ≡ self.old) }
     {
         self.reserve_seat();
-        self.build_session()
+        self.build_connection()
     }
 
     /// Reserves a seat for the next connection, unless it has one or no number is left.
@@ -103,7 +103,7 @@ impl Host {
 
     /// Makes the server's side of the next connection from its seat. Fails if an allocation fails,
     /// or if there is no seat.
-    fn build_session(&mut self) -> Result<(), AllocError>
+    fn build_connection(&mut self) -> Result<(), AllocError>
         ensures { MatchResult result (λ _. self.new ≡ hosted self.old.server true) (λ _. self.new ≡ self.old) }
     {
         self.sides.reserve(1)?;

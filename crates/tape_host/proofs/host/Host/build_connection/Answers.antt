@@ -1,7 +1,7 @@
 use Rattle.std.proofs.Common.{sym, subst, arith}
 use Rattle.tape_host.specs.Hosting.{IsMade, IsHosting}
 use Rattle.tape_host.proofs.Hosted.{made_hosting}
-use Rattle.tape_host.proofs.host.Host.build_session.Goals as goal
+use Rattle.tape_host.proofs.host.Host.build_connection.Goals as goal
 
 pub invariant_of-self-2 : goal.invariant_of-self-2
 invariant_of-self-2 c = (
