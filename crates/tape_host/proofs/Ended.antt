@@ -18,7 +18,7 @@ use Rattle.tape_host.specs.declared.side.ServerConnection.{ServerConnection as R
 use Rattle.tape_host.specs.declared.side.Next.{Next}
 use Rattle.tape_host.specs.declared.side.Next.TheVariants.{Nothing, Seat, Whole}
 use Rattle.tape_host.specs.Servers.{side_at, with_side_at, ended_from, ended}
-use Rattle.tape_host.specs.Hosting.{MemoryDrives, MemorySessionState, idle_session_state, seen_side, server_of, IsLive, IsIdleAt, IsNextWaiting, IsHosting}
+use Rattle.tape_host.specs.Hosting.{MemoryDrives, MemorySessionState, idle_session_state, seen_side, server_of, IsLive, IsIdleSession, IsNextWaiting, IsHosting}
 use Rattle.tape_host.proofs.Sides.{side_within, side_other, side_same, side_map, length_with, map_with}
 use Rattle.tape_host.specs.Lying.{AreInSlotsExcept, IsOnlineAt}
 use Rattle.tape_host.proofs.Tidied.{Either, OnlineBeside, closed_fits, side_tidy}
@@ -76,7 +76,7 @@ module _ (others : OthersStay) {drives drives' : MemoryDrives} {k : ℕ} {one af
     untroubled = l.untroubled;
   }
 
-  idle_stays : (n : ℕ) (session_state : MemorySessionState) → n ≢ k → IsIdleAt drives n session_state → IsIdleAt drives' n session_state
+  idle_stays : (n : ℕ) (session_state : MemorySessionState) → n ≢ k → IsIdleSession drives n session_state → IsIdleSession drives' n session_state
   idle_stays n session_state apart i = record { at = session_state_stays n session_state apart i.number i.at; number = i.number; idle = i.idle }
 
   pub waiting_stays : (n : ℕ) (next : Next) → k ≤ n → drives'.holds.last ≡ drives.holds.last → IsNextWaiting drives n next → IsNextWaiting drives' n next

@@ -26,7 +26,7 @@ use Rattle.tape_host.proofs.Lying.{lie_first, none_away}
 use Rattle.tape_host.proofs.Sides.{side_within, side_map, at_more}
 use Rattle.tape_host.proofs.Tidied.{joined_tidy, none_online}
 use Rattle.tape_host.specs.Lying.{AreAllInSlots, IsOnlineAt}
-use Rattle.tape_host.specs.Hosting.{MemoryDrives, MemorySessionState, seen_side, server_of, is_nothing, IsIdle, IsMade, IsUntroubled, IsLive, IsIdleAt, IsNextWaiting, IsHosting}
+use Rattle.tape_host.specs.Hosting.{MemoryDrives, MemorySessionState, seen_side, server_of, is_nothing, IsIdle, IsMade, IsUntroubled, IsLive, IsIdleSession, IsNextWaiting, IsHosting}
 
 -- without connections no side is live
 none_live : {S : Type 0} (k : ℕ) (s : S) → side_at [] k ≡ Some s → ⊥
@@ -158,7 +158,7 @@ made_hosting drives sides (Seat seat) next h (inl e) = subst (IsHosting drives s
 made_hosting drives sides (Seat seat) next h (inr (s, e, fresh)) = subst (IsHosting drives sides) (sym e) record {
   live = h.live;
   held = h.held;
-  waiting = (h.waiting.0, subst (λ session_state. IsIdleAt drives (length sides + 1) session_state) (sym fresh.session) h.waiting.1, fresh.reader);
+  waiting = (h.waiting.0, subst (λ session_state. IsIdleSession drives (length sides + 1) session_state) (sym fresh.session) h.waiting.1, fresh.reader);
   told = h.told;
   paired = h.paired;
   quiet = h.quiet;

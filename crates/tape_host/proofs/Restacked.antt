@@ -13,7 +13,7 @@ use Rattle.tape_host.specs.declared.side.ServerConnection.{ServerConnection as R
 use Rattle.tape_host.specs.declared.side.Next.{Next}
 use Rattle.tape_host.specs.declared.side.Next.TheVariants.{Nothing, Seat, Whole}
 use Rattle.tape_host.specs.Servers.{hosted, restacked}
-use Rattle.tape_host.specs.Hosting.{MemoryDrives, MemorySessionState, idle_session_state, seen_side, server_of, IsIdleAt, IsNextWaiting, IsHosting}
+use Rattle.tape_host.specs.Hosting.{MemoryDrives, MemorySessionState, idle_session_state, seen_side, server_of, IsIdleSession, IsNextWaiting, IsHosting}
 use Rattle.tape_host.specs.Lying.{AreInSlotsExcept, IsOnlineAt}
 use Rattle.tape_host.proofs.Lying.{lie_arranged}
 use Rattle.tape_host.proofs.Tidied.{none_online}
@@ -43,7 +43,7 @@ module _ (free : LeavesFree) (elsewhere : StaysElsewhere) {drives : MemoryDrives
   session_state_stays : (session_state : MemorySessionState) → IsAt in_memory (state drives session_state) → IsAt in_memory (state after session_state)
   session_state_stays session_state at = elsewhere drives after session_state d at (free drives session_state d at none) at.own refl same others
 
-  idle_stays : (n : ℕ) (session_state : MemorySessionState) → IsIdleAt drives n session_state → IsIdleAt after n session_state
+  idle_stays : (n : ℕ) (session_state : MemorySessionState) → IsIdleSession drives n session_state → IsIdleSession after n session_state
   idle_stays n session_state i = record { at = session_state_stays session_state i.at; number = i.number; idle = i.idle }
 
   waiting_stays : (n : ℕ) (x : Next) → IsNextWaiting drives n x → IsNextWaiting after n x

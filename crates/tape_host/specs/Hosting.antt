@@ -89,7 +89,7 @@ pub record IsLive (drives : MemoryDrives) (k : ℕ) (s : RealServerConnection) :
   pub untroubled : IsUntroubled s.session.opened
 
 -- the seat has number `k`, belongs to these drives, and has nothing open
-pub record IsIdleAt (drives : MemoryDrives) (k : ℕ) (session_state : MemorySessionState) : Type 0 where
+pub record IsIdleSession (drives : MemoryDrives) (k : ℕ) (session_state : MemorySessionState) : Type 0 where
   pub at : IsAt in_memory (state drives session_state)
   pub number : session_state.seat.number ≡ k
   pub idle : session_state.opened ≡ None
@@ -98,8 +98,8 @@ pub record IsIdleAt (drives : MemoryDrives) (k : ℕ) (session_state : MemorySes
 -- number, or all of it.
 abbrev pub IsNextWaiting : MemoryDrives → ℕ → Next → Type 0
 IsNextWaiting drives n Nothing = drives.holds.last ≡ n
-IsNextWaiting drives n (Seat seat) = (drives.holds.last ≡ n + 1) × IsIdleAt drives (n + 1) (idle_session_state seat)
-IsNextWaiting drives n (Whole s) = (drives.holds.last ≡ n + 1) × IsIdleAt drives (n + 1) s.session × Unread s.reader []
+IsNextWaiting drives n (Seat seat) = (drives.holds.last ≡ n + 1) × IsIdleSession drives (n + 1) (idle_session_state seat)
+IsNextWaiting drives n (Whole s) = (drives.holds.last ≡ n + 1) × IsIdleSession drives (n + 1) s.session × Unread s.reader []
 
 -- Each drive that has a holder is held by a live server's side. No trouble is set, for the stacks
 -- or for a reel. Each reel is in its slot, except those that a live server's side has online.
