@@ -18,7 +18,7 @@ use Rattle.rmt_server.specs.declared.refusal.Refusal.{Refusal}
 use Rattle.rmt_server.specs.Access.{access_of}
 use Rattle.rmt_server.specs.Refusals.{refused}
 use Rattle.rmt_server.specs.Session.{PlainReel, SessionView, status_of, refusal, tape_request, closed, is_offline, IsExcused, ReelStep, IsOpenExcused, OpensAs, OpStep, DoneStep, ServeStep}
-use Rattle.rmt_server.specs.TroubledServe.{drive_in, with_holder, holder_of, IsOpenCause, TroubledReelStep, TroubledOpens, TroubledOpStep, TroubledDoneStep, TroubledServeStep}
+use Rattle.rmt_server.specs.TroubledServe.{drive_in, with_holder, holder_of, IsOpenCause, TroubledReelStep, TroubledOpenStep, TroubledOpStep, TroubledDoneStep, TroubledServeStep}
 
 set_is : (trouble : Trouble) → trouble ≢ NoTrouble → IsTrue (is_set trouble)
 set_is NoTrouble n = absurd (n refl)
@@ -69,7 +69,7 @@ open_excused trouble n (Err OutOfMemory) q = absurd q
 open_excused trouble n (Err NameTaken) q = absurd q
 
 open_step : (trouble : Trouble) (holders : List ℕ) (before : SessionView) (device : List ℕ) (access : Option Access) (reply : PlainReply) (after : SessionView)
-    → TroubledOpens trouble holders before device access reply after
+    → TroubledOpenStep trouble holders before device access reply after
     → (asked : Option ℕ) × (found : ℕ) × OpensAs (is_set trouble) asked found before device access reply after
 open_step trouble holders before device None reply after (e, n) = (None, 0, (e, n))
 open_step trouble holders before device (Some access) reply after (result, asked, h, q, e, s) =

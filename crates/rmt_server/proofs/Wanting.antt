@@ -16,7 +16,7 @@ use Rattle.rmt_server.specs.Refusals.{number_of, refused, drive_refusal}
 use Rattle.rmt_server.specs.Session.{PlainReel, SessionView, Status, status_of, refusal, op_refusal, closed, is_offline, open_reply, move_reply}
 use Rattle.rmt_server.specs.Session.Status.{NothingOpen, ReelAway, Ready}
 use Rattle.rmt_server.specs.Carrying.{is_of_stacks}
-use Rattle.rmt_server.specs.TroubledServe.{drive_in, with_holder, holder_of, IsOpenCause, IsMoveCause, TroubledOpens, TroubledOpStep, TroubledServeStep}
+use Rattle.rmt_server.specs.TroubledServe.{drive_in, with_holder, holder_of, IsOpenCause, IsMoveCause, TroubledOpenStep, TroubledOpStep, TroubledServeStep}
 
 -- the number of an error, and 0 of any other reply
 abbrev error_of : PlainReply → ℕ
@@ -41,7 +41,7 @@ open_other trouble n reply (Err OutOfMemory) q is = absurd q
 open_other trouble n reply (Err NameTaken) q is = absurd q
 
 opens_other : (trouble : Trouble) (holders : List ℕ) (before : SessionView) (device : List ℕ) (access : Option Access) (reply : PlainReply) (after : SessionView)
-    → TroubledOpens trouble holders before device access reply after → reply ≢ refused NoMemory
+    → TroubledOpenStep trouble holders before device access reply after → reply ≢ refused NoMemory
 opens_other trouble holders before device None reply after (is, same) = other reply Invalid is (λ e. absurd (omega arith))
 opens_other trouble holders before device (Some access) reply after (result, asked, step, cause, is, session) =
     open_other trouble (holder_of holders asked) reply result cause is

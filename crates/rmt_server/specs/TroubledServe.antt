@@ -61,9 +61,9 @@ IsOpenCause trouble n (Err drive.Device) = (n ≡ 0) × (trouble ≢ NoTrouble)
 IsOpenCause trouble n (Err _) = ⊥
 
 -- the open of `device` by a session that has nothing open, with these holders of the drives
-abbrev pub TroubledOpens : Trouble → List ℕ → SessionView → List ℕ → Option Access → PlainReply → SessionView → Type 0
-TroubledOpens trouble holders before device None reply after = (reply ≡ refused Invalid) × (after ≡ before)
-TroubledOpens trouble holders before device (Some access) reply after =
+abbrev pub TroubledOpenStep : Trouble → List ℕ → SessionView → List ℕ → Option Access → PlainReply → SessionView → Type 0
+TroubledOpenStep trouble holders before device None reply after = (reply ≡ refused Invalid) × (after ≡ before)
+TroubledOpenStep trouble holders before device (Some access) reply after =
     (result : Result (ℕ × PlainReel) DriveFault) × (asked : Option ℕ)
     × OpenStep (λ reel t. reel.tape ≡ t) (λ reel. reel.capacity) device asked result before.library after.library
     × IsOpenCause trouble (holder_of holders asked) result
@@ -101,7 +101,7 @@ TroubledDoneStep trouble before request reply after = TroubledReelStep trouble b
 -- One request and its reply, with these holders before it. Before an open, what is open is closed.
 abbrev pub TroubledServeStep : Trouble → List ℕ → SessionView → PlainRequest → PlainReply → SessionView → Type 0
 TroubledServeStep trouble holders before (Open device mode) reply after =
-    TroubledOpens trouble (with_holder (drive_in before.session) 0 holders) (closed before) device (access_of mode) reply after
+    TroubledOpenStep trouble (with_holder (drive_in before.session) 0 holders) (closed before) device (access_of mode) reply after
 TroubledServeStep trouble holders before request reply after =
     MatchOption (refusal (status_of before.session) request)
     (TroubledDoneStep trouble before request reply after)

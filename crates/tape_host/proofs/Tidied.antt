@@ -19,7 +19,7 @@ use Rattle.rmt_server.specs.Session.{PlainReel, PlainSession, SessionView, statu
 use Rattle.rmt_server.specs.Session.PlainSession.{Idle, Offline, Online}
 use Rattle.rmt_server.specs.State.{drive_of}
 use Rattle.rmt_server.specs.Memory.{session_with, session_seen}
-use Rattle.rmt_server.specs.TroubledServe.{drive_in, with_holder, TroubledReelStep, TroubledMoveStep, TroubledOpStep, TroubledDoneStep, TroubledOpens, TroubledServeStep}
+use Rattle.rmt_server.specs.TroubledServe.{drive_in, with_holder, TroubledReelStep, TroubledMoveStep, TroubledOpStep, TroubledDoneStep, TroubledOpenStep, TroubledServeStep}
 use Rattle.rmt_server.specs.ServerState.{ServerConnection}
 use Rattle.drives.specs.ListLibrary.{is_set}
 use Rattle.tape_host.specs.declared.side.ServerConnection.{ServerConnection as RealServerConnection}
@@ -72,7 +72,7 @@ module _ (others : ℕ → Type 0) where
   latched_fits device asked access (Err NameTaken) s now step h = same_library s now step.3.1 h
 
   opened_fits : (trouble : Trouble) (holders : List ℕ) (v : SessionView) (device : List ℕ) (access : Option Access) (reply : PlainReply) (w : SessionView)
-      → v.session ≡ Idle → TroubledOpens trouble holders v device access reply w → Fits v.library v.session → Fits w.library w.session
+      → v.session ≡ Idle → TroubledOpenStep trouble holders v device access reply w → Fits v.library v.session → Fits w.library w.session
   opened_fits trouble holders v device None reply w idle step h = same_fits v w step.1 h
   opened_fits trouble holders v device (Some access) reply w idle step h =
       subst (Fits w.library) (sym step.5) (latched_fits device step.1 access step.0 v.library w.library step.2 (subst (Fits v.library) idle h))

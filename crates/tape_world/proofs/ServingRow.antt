@@ -17,7 +17,7 @@ use Rattle.rmt_server.specs.declared.access.Access.{Access}
 use Rattle.rmt_server.specs.Access.{access_of}
 use Rattle.rmt_server.specs.Session.{PlainReel, PlainSession, SessionView, session_view, closed, session_after}
 use Rattle.rmt_server.specs.Session.PlainSession.{Idle, Offline, Online}
-use Rattle.rmt_server.specs.TroubledServe.{TroubledServeStep, TroubledOpens, drive_in}
+use Rattle.rmt_server.specs.TroubledServe.{TroubledServeStep, TroubledOpenStep, drive_in}
 use Rattle.rmt_server.specs.ServerState.{ServerState, server, ServerConnection, side}
 use Rattle.tape_host.specs.declared.turn.RequestKind.TheVariants as asked
 use Rattle.tape_host.specs.declared.turn.Carried.{Carried}
@@ -99,7 +99,7 @@ opened_session access (Ok opened) = refl
 opened_session access (Err why) = tt
 
 left_open : (trouble : Trouble) (holders : List ℕ) (before : SessionView) (device : List ℕ) (access : Option Access) (reply : PlainReply) (after : SessionView)
-    → TroubledOpens trouble holders (closed before) device access reply after → IsLeftOpen access after.session
+    → TroubledOpenStep trouble holders (closed before) device access reply after → IsLeftOpen access after.session
 left_open trouble holders before device None reply after (refuses, is) = subst (λ (x : SessionView). IsLeftOpen None x.session) (sym is) tt
 left_open trouble holders before device (Some access) reply after (result, o, step, cause, answer, session) =
     subst (IsLeftOpen (Some access)) (sym session) (opened_session access result)

@@ -11,7 +11,7 @@ use Rattle.rmt_server.specs.declared.access.Access.{Access}
 use Rattle.rmt_server.specs.Access.{access_of}
 use Rattle.rmt_server.specs.Session.{PlainSession, SessionView, status_of, refusal, closed, closed_library, is_offline}
 use Rattle.rmt_server.specs.Session.PlainSession.{Idle, Offline, Online}
-use Rattle.rmt_server.specs.TroubledServe.{drive_in, with_holder, TroubledServeStep, TroubledOpens, TroubledReelStep, TroubledMoveStep, TroubledOpStep}
+use Rattle.rmt_server.specs.TroubledServe.{drive_in, with_holder, TroubledServeStep, TroubledOpenStep, TroubledReelStep, TroubledMoveStep, TroubledOpStep}
 
 -- the bin has those reels, and perhaps more after them
 abbrev pub Behind : List (ReelSlot KeptReel) → List (ReelSlot KeptReel) → Type 0
@@ -52,7 +52,7 @@ refused_bin None A B C none some step = none step
 refused_bin (Some r) A B C none some step = some r step
 
 opens_bin : (trouble : Trouble) (holders : List ℕ) (before : SessionView) (device : List ℕ) (access : Option Access) (reply : PlainReply) (after : SessionView)
-    → TroubledOpens trouble holders (closed before) device access reply after → Behind before.library.bin after.library.bin
+    → TroubledOpenStep trouble holders (closed before) device access reply after → Behind before.library.bin after.library.bin
 opens_bin trouble holders before device None reply after (replies, is) = close_bin before after is
 opens_bin trouble holders before device (Some access) reply after (Ok opened, asked, (found, named, latch), cause, replies, is) =
     same_bin before.library.bin after.library.bin (ap (λ (s : TapeLibrary). s.bin) latch.2 ∙ closed_bin before.library before.session)

@@ -20,7 +20,7 @@ use Rattle.rmt_server.specs.Access.{access_of, writes}
 use Rattle.rmt_server.specs.Refusals.{refused}
 use Rattle.rmt_server.specs.Session.{PlainReel, plain_reel, PlainSession, SessionView, session_view, status_of, refusal, write_refusal, op_refusal, tape_request, closed, closed_library, is_offline}
 use Rattle.rmt_server.specs.Session.PlainSession.{Idle, Offline, Online}
-use Rattle.rmt_server.specs.TroubledServe.{TroubledServeStep, TroubledOpens, TroubledReelStep, TroubledMoveStep, TroubledOpStep, TroubledDoneStep}
+use Rattle.rmt_server.specs.TroubledServe.{TroubledServeStep, TroubledOpenStep, TroubledReelStep, TroubledMoveStep, TroubledOpStep, TroubledDoneStep}
 use Rattle.world_model.specs.Changes.{first_name, written_reel}
 use Rattle.world_model.specs.Standing.{ReelLiesOn, HasInDrive}
 use Rattle.world_model.proofs.Laid.{drive_same}
@@ -193,7 +193,7 @@ latched_stood before request after d access reel first within waits library has 
     inl (closed_lies before.library before.session name entries (inl (d, first_lies (drive_at s d).stack first name entries waits its_name its_entries)))
 
 opens_stood : (trouble : Trouble) (holders : List ℕ) (before : SessionView) (request : PlainRequest) (device : List ℕ) (access : Option Access) (reply : PlainReply) (after : SessionView)
-    → TroubledOpens trouble holders (closed before) device access reply after → Stood before request after
+    → TroubledOpenStep trouble holders (closed before) device access reply after → Stood before request after
 opens_stood trouble holders before request device None reply after (replies, is) =
     closed_stood before request after (ap (λ (v : SessionView). v.library) is) (ap (λ (v : SessionView). v.session) is)
 opens_stood trouble holders before request device (Some access) reply after (Ok opened, asked, (found, named, latch), cause, replies, is) =

@@ -12,7 +12,7 @@ use Rattle.rmt_server.specs.Access.{access_of}
 use Rattle.rmt_server.specs.Refusals.{refused}
 use Rattle.rmt_server.specs.Session.{PlainReel, PlainSession, SessionView, status_of, refusal, closed, closed_library, is_offline}
 use Rattle.rmt_server.specs.Session.PlainSession.{Idle, Offline, Online}
-use Rattle.rmt_server.specs.TroubledServe.{drive_in, with_holder, holder_of, TroubledServeStep, TroubledOpens, TroubledReelStep, TroubledMoveStep, TroubledOpStep, TroubledDoneStep}
+use Rattle.rmt_server.specs.TroubledServe.{drive_in, with_holder, holder_of, TroubledServeStep, TroubledOpenStep, TroubledReelStep, TroubledMoveStep, TroubledOpStep, TroubledDoneStep}
 use Rattle.world_model.specs.Changes.{written_reel, opened_reel}
 
 -- the drive that is open with its reel, and for what
@@ -77,7 +77,7 @@ not_opened : (holders : List ℕ) (before after : SessionView) → after.library
 not_opened holders before after library idle = closes library idle (ap (written_reel after.library) idle)
 
 opens_comes : (trouble : Trouble) (holders : List ℕ) (before : SessionView) (device : List ℕ) (access : Option Access) (reply : PlainReply) (after : SessionView)
-    → TroubledOpens trouble (with_holder (drive_in before.session) 0 holders) (closed before) device access reply after → Comes holders before after (written_reel after.library after.session)
+    → TroubledOpenStep trouble (with_holder (drive_in before.session) 0 holders) (closed before) device access reply after → Comes holders before after (written_reel after.library after.session)
 opens_comes trouble holders before device None reply after (replies, is) = not_opened holders before after (ap (λ (v : SessionView). v.library) is) (ap (λ (v : SessionView). v.session) is)
 opens_comes trouble holders before device (Some access) reply after (Ok opened, asked, (found, named, latch), cause, replies, is) =
     opens opened.0 access opened.1 latch.0 named.0 latch.1 (ap (holder_of (with_holder (drive_in before.session) 0 holders)) (sym found) ∙ cause.0) latch.2 is refl

@@ -20,7 +20,7 @@ use Rattle.rmt_server.specs.ServerState.{ServerState, server, ServerConnection, 
 use Rattle.rmt_server.specs.Session.{PlainReel, PlainSession, SessionView, session_view, status_of, refusal as check, closed, closed_library, is_offline}
 use Rattle.rmt_server.specs.Session.Status.{NothingOpen}
 use Rattle.rmt_server.specs.Session.PlainSession.{Idle, Offline, Online}
-use Rattle.rmt_server.specs.TroubledServe.{drive_in, with_holder, holder_of, TroubledServeStep, TroubledOpens, TroubledReelStep, TroubledMoveStep, TroubledOpStep, TroubledDoneStep}
+use Rattle.rmt_server.specs.TroubledServe.{drive_in, with_holder, holder_of, TroubledServeStep, TroubledOpenStep, TroubledReelStep, TroubledMoveStep, TroubledOpStep, TroubledDoneStep}
 use Rattle.world_model.specs.World.{World, Connection, AttemptState, with_numbered}
 use Rattle.world_model.specs.Events.PlainEvent.{Serve}
 use Rattle.world_model.specs.Changes.{side_of, connection_of}
@@ -217,7 +217,7 @@ open_refused w k s u device mode n text reply after l answer same idle = record 
 
 open_meets : (w : World) (k : ℕ) (s : ServerConnection) (u : World) (device : List ℕ) (mode : ℕ) (access : Option Access) (reply : PlainReply) (after : SessionView) (trouble : Trouble)
     → Leaves w k s u after
-    → TroubledOpens trouble (with_holder (drive_in s.session) 0 w.server.holders) (closed (session_view w.server.library s.session)) device access reply after
+    → TroubledOpenStep trouble (with_holder (drive_in s.session) 0 w.server.holders) (closed (session_view w.server.library s.session)) device access reply after
     → Meets w k s.session (Open device mode) reply u after.session
 open_meets w k s u device mode None reply after trouble l (replies, same) =
     refusal (open_refused w k s u device mode _ _ reply after l replies (ap (λ (v : SessionView). v.library) same) (ap (λ (v : SessionView). v.session) same))

@@ -24,7 +24,7 @@ use Rattle.rmt_server.specs.Refusals.{refused}
 use Rattle.rmt_server.specs.Session.{PlainReel, plain_reel, PlainSession, SessionView, session_view, status_of, refusal, tape_request, reel_reply, closed, open_reply, move_reply, is_offline}
 use Rattle.rmt_server.specs.Session.PlainSession.{Idle, Offline, Online}
 use Rattle.world_model.specs.Serving.{is_open}
-use Rattle.rmt_server.specs.TroubledServe.{drive_in, with_holder, holder_of, TroubledReelStep, TroubledOpStep, TroubledDoneStep, TroubledOpens, TroubledServeStep}
+use Rattle.rmt_server.specs.TroubledServe.{drive_in, with_holder, holder_of, TroubledReelStep, TroubledOpStep, TroubledDoneStep, TroubledOpenStep, TroubledServeStep}
 
 or_above : (a b : ℕ) → (a ≤ b) ⊎ (b < a)
 or_above zero b = inl (omega arith)
@@ -210,7 +210,7 @@ find_named name (r ∷ rs) = by_test (bytes_eq r.name name) refl (find_named nam
 
 -- an open, once nothing is open
 free_can : (set : Trouble) (holders : List ℕ) (before : SessionView) (device : List ℕ) (access : Access) (d : ℕ) (o : Option KeptReel) → IsDriveNamed device before.library (Some d)
-    → holder_of holders (Some d) ≡ 0 → waiting_reel before.library d ≡ o → (reply : PlainReply) × (after : SessionView) × TroubledOpens set holders before device (Some access) reply after
+    → holder_of holders (Some d) ≡ 0 → waiting_reel before.library d ≡ o → (reply : PlainReply) × (after : SessionView) × TroubledOpenStep set holders before device (Some access) reply after
 free_can set holders before device access d None named free waits =
     (open_reply {R = PlainReel} (Err drive.NoReel), session_view before.library Idle, (Err drive.NoReel, Some d, (d, refl, named, (waits, refl)), free, refl, refl))
 free_can set holders before device access d (Some first) named free waits = elim (none_or_set set) [
@@ -228,7 +228,7 @@ free_can set holders before device access d (Some first) named free waits = elim
 ]
 
 held_can : (set : Trouble) (holders : List ℕ) (before : SessionView) (device : List ℕ) (access : Access) (d n : ℕ) → IsDriveNamed device before.library (Some d) → holder_of holders (Some d) ≡ n
-    → (reply : PlainReply) × (after : SessionView) × TroubledOpens set holders before device (Some access) reply after
+    → (reply : PlainReply) × (after : SessionView) × TroubledOpenStep set holders before device (Some access) reply after
 held_can set holders before device access d zero named free = free_can set holders before device access d (waiting_reel before.library d) named free refl
 held_can set holders before device access d (suc m) named held = (
   open_reply {R = PlainReel} (Err (drive.Busy (suc m))),
@@ -237,12 +237,12 @@ held_can set holders before device access d (suc m) named held = (
 )
 
 open_can : (set : Trouble) (holders : List ℕ) (before : SessionView) (device : List ℕ) (access : Option Access)
-    → (reply : PlainReply) × (after : SessionView) × TroubledOpens set holders before device access reply after
+    → (reply : PlainReply) × (after : SessionView) × TroubledOpenStep set holders before device access reply after
 open_can set holders before device None = (_, before, (refl, refl))
 open_can set holders before device (Some access) = named_can (find_named device before.library.drives)
   where
     named_can : (o : Option ℕ) × IsNamedIn device before.library.drives o
-        → (reply : PlainReply) × (after : SessionView) × TroubledOpens set holders before device (Some access) reply after
+        → (reply : PlainReply) × (after : SessionView) × TroubledOpenStep set holders before device (Some access) reply after
     named_can (None, named) =
         (open_reply {R = PlainReel} (Err drive.NoSuchDrive), session_view before.library Idle, (Err drive.NoSuchDrive, None, (named, refl), tt, refl, refl))
     named_can (Some d, named) = held_can set holders before device access d (holder_of holders (Some d)) named refl
