@@ -21,7 +21,7 @@ use Rattle.rmt_server.specs.Session.{refusal, is_offline}
 use Rattle.rmt_server.specs.State.{State, drive_of, online_in, online_drive, reel_of, status_at, IsAt, SessionCanFail, KeepsDrives}
 use Rattle.rmt_server.specs.Opening.{IsClosed, OpensFor}
 use Rattle.rmt_server.specs.Moving.{reel_left, IsTakenOff, MovesIn, MovesReel}
-use Rattle.rmt_server.specs.Serving.{CallsIn, CallsReel, ReelServes, Serves}
+use Rattle.rmt_server.specs.Serving.{CallsIn, CallsOpenReel, ReelServes, Serves}
 use Rattle.rmt_server.specs.Carrying.{Operates, CarriesOut}
 
 pub record IsSound {H S Seat R : Type 0} (k : Kinds H Seat S R) (old new : State H S Seat R) : Type 0 where
@@ -37,12 +37,12 @@ calls_in_same r device None new request reply e call = absurd call
 calls_in_same r device (Some reel) new request reply e (answer, moved, n, rest, call) = (ap drive_of n, rw (n, ← e) refl)
 
 calls_same : {R : Type 0} (r : ReelPromise R) (opened new : Option (Opened R)) (request : PlainRequest) (reply : PlainReply)
-    → CallsReel r opened new request reply → (drive_of new ≡ drive_of opened) × (online_drive new ≡ online_drive opened)
+    → CallsOpenReel r opened new request reply → (drive_of new ≡ drive_of opened) × (online_drive new ≡ online_drive opened)
 calls_same r None new request reply call = absurd call
 calls_same r (Some device) new request reply call = calls_in_same r device device.reel new request reply refl call
 
 serves_by : {R : Type 0} (r : ReelPromise R) (opened new : Option (Opened R)) (request : PlainRequest) (reply : PlainReply) (by : Option Refusal)
-    → MatchOption by (CallsReel r opened new request reply) (λ x. (reply ≡ refused x) × (new ≡ opened))
+    → MatchOption by (CallsOpenReel r opened new request reply) (λ x. (reply ≡ refused x) × (new ≡ opened))
     → (drive_of new ≡ drive_of opened) × (online_drive new ≡ online_drive opened)
 serves_by r opened new request reply None call = calls_same r opened new request reply call
 serves_by r opened new request reply (Some x) (e, n) = (ap drive_of n, ap online_drive n)
@@ -57,12 +57,12 @@ calls_in_quiet r device None new request reply call f = absurd call
 calls_in_quiet r device (Some reel) new request reply (answer, moved, n, e, call) f = call.quiet (subst (λ o. ReelCanFail r (reel_of o)) n f)
 
 calls_quiet : {R : Type 0} (r : ReelPromise R) (opened new : Option (Opened R)) (request : PlainRequest) (reply : PlainReply)
-    → CallsReel r opened new request reply → ReelCanFail r (reel_of new) → ReelCanFail r (reel_of opened)
+    → CallsOpenReel r opened new request reply → ReelCanFail r (reel_of new) → ReelCanFail r (reel_of opened)
 calls_quiet r None new request reply call f = absurd call
 calls_quiet r (Some device) new request reply call f = calls_in_quiet r device device.reel new request reply call f
 
 serves_quiet : {R : Type 0} (r : ReelPromise R) (opened new : Option (Opened R)) (request : PlainRequest) (reply : PlainReply) (by : Option Refusal)
-    → MatchOption by (CallsReel r opened new request reply) (λ x. (reply ≡ refused x) × (new ≡ opened))
+    → MatchOption by (CallsOpenReel r opened new request reply) (λ x. (reply ≡ refused x) × (new ≡ opened))
     → ReelCanFail r (reel_of new) → ReelCanFail r (reel_of opened)
 serves_quiet r opened new request reply None call f = calls_quiet r opened new request reply call f
 serves_quiet r opened new request reply (Some x) (e, n) f = subst (λ o. ReelCanFail r (reel_of o)) n f

@@ -14,7 +14,7 @@ use Rattle.rmt_server.specs.Session.{PlainSession, plain_reel, session_view, sta
 use Rattle.rmt_server.specs.Session.PlainSession.{Online}
 use Rattle.drives.specs.Stacking.{ReelCanFail}
 use Rattle.rmt_server.specs.State.{IsSeenWith, IsViewedAs, reel_of, status_at, status_in}
-use Rattle.rmt_server.specs.Serving.{CallsIn, CallsReel, ReelServes}
+use Rattle.rmt_server.specs.Serving.{CallsIn, CallsOpenReel, ReelServes}
 use Rattle.rmt_server.specs.Carrying.{ReelFailed}
 
 -- the reel's device is at fault
@@ -82,14 +82,14 @@ calls_in r device (Some reel) new library session request reply (answer, moved, 
 
 calls_reel : {R : Type 0} (r : ReelPromise R) (old new : Option (Opened R)) (library : TapeLibrary) (session : PlainSession)
     (request : PlainRequest) (reply : PlainReply)
-    → CallsReel r old new request reply → IsViewedAs r old session
+    → CallsOpenReel r old new request reply → IsViewedAs r old session
     → ReelServed r (reel_of old) new library session None request reply
 calls_reel r None new library session request reply call seen = absurd call
 calls_reel r (Some device) new library session request reply call seen = calls_in r device device.reel new library session request reply call seen
 
 serves_by : {R : Type 0} (r : ReelPromise R) (old new : Option (Opened R)) (library : TapeLibrary) (session : PlainSession)
     (request : PlainRequest) (reply : PlainReply) (by : Option Refusal)
-    → MatchOption by (CallsReel r old new request reply) (λ x. (reply ≡ refused x) × (new ≡ old)) → IsViewedAs r old session
+    → MatchOption by (CallsOpenReel r old new request reply) (λ x. (reply ≡ refused x) × (new ≡ old)) → IsViewedAs r old session
     → ReelServed r (reel_of old) new library session by request reply
 serves_by r old new library session request reply None call seen = calls_reel r old new library session request reply call seen
 serves_by r old new library session request reply (Some x) (e, n) seen = record {

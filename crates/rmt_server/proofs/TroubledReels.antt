@@ -17,7 +17,7 @@ use Rattle.rmt_server.specs.Refusals.{refused}
 use Rattle.rmt_server.specs.Session.{PlainSession, plain_reel, session_view, status_of, refusal, tape_request, reel_reply}
 use Rattle.rmt_server.specs.Session.PlainSession.{Online}
 use Rattle.rmt_server.specs.State.{IsSeenWith, IsViewedAs, reel_of, status_at}
-use Rattle.rmt_server.specs.Serving.{CallsIn, CallsReel, ReelServes}
+use Rattle.rmt_server.specs.Serving.{CallsIn, CallsOpenReel, ReelServes}
 use Rattle.rmt_server.specs.TroubledServe.{TroubledReelStep, IsSpent}
 use Rattle.rmt_server.proofs.Steps.{status_seen}
 
@@ -78,14 +78,14 @@ module _ (trouble : Trouble) (new : Option (Opened TroubledTape)) (library : Tap
     left = rw n (subst (λ x. IsSpent x reply moved.trouble) set (spent_by request answer reel moved reply e call.made.counted call.made.step));
   }
 
-  calls_reel : (old : Option (Opened TroubledTape)) → CallsReel of_reel old new request reply
+  calls_reel : (old : Option (Opened TroubledTape)) → CallsOpenReel of_reel old new request reply
       → MatchOption (reel_of old) (Unit {0}) (λ r. r.trouble ≡ trouble) → IsViewedAs of_reel old session
       → ReelServedSo trouble new library session None request reply
   calls_reel None call set seen = absurd call
   calls_reel (Some device) call set seen = calls_in device device.reel call set seen
 
   serves_by : (old : Option (Opened TroubledTape)) (by : Option Refusal)
-      → MatchOption by (CallsReel of_reel old new request reply) (λ x. (reply ≡ refused x) × (new ≡ old))
+      → MatchOption by (CallsOpenReel of_reel old new request reply) (λ x. (reply ≡ refused x) × (new ≡ old))
       → MatchOption (reel_of old) (Unit {0}) (λ r. r.trouble ≡ trouble) → IsViewedAs of_reel old session
       → ReelServedSo trouble new library session by request reply
   serves_by old None call set seen = calls_reel old call set seen

@@ -20,15 +20,15 @@ CallsIn {R} r device (Some reel) new request reply =
     × IsReelCall r reel (tape_request request) answer moved
 
 -- `CallsIn` for the open device and its reel; if no device is open, this does not hold
-abbrev pub CallsReel : {R : Type 0} → ReelPromise R → Option (Opened R) → Option (Opened R) → PlainRequest → PlainReply → Type 0
-CallsReel r None new request reply = ⊥
-CallsReel r (Some device) new request reply = CallsIn r device device.reel new request reply
+abbrev pub CallsOpenReel : {R : Type 0} → ReelPromise R → Option (Opened R) → Option (Opened R) → PlainRequest → PlainReply → Type 0
+CallsOpenReel r None new request reply = ⊥
+CallsOpenReel r (Some device) new request reply = CallsIn r device device.reel new request reply
 
 -- A request that the open reel serves. If a check refuses it, nothing is done. Otherwise there is
 -- one call of the reel.
 abbrev pub ReelServes : {R : Type 0} → ReelPromise R → Option (Opened R) → Option (Opened R) → PlainRequest → PlainReply → Type 0
 ReelServes r old new request reply =
-    MatchOption (refusal (status_at old) request) (CallsReel r old new request reply)
+    MatchOption (refusal (status_at old) request) (CallsOpenReel r old new request reply)
     (λ refusal. (reply ≡ refused refusal) × (new ≡ old))
 
 -- A request that the open reel serves, as `ReelServes` says. The drives and the seat are unchanged.
