@@ -21,7 +21,7 @@ use Rattle.rmt_server.specs.Session.{refusal, is_offline}
 use Rattle.rmt_server.specs.State.{State, drive_of, online_in, online_drive, reel_of, status_at, IsAt, SessionCanFail, KeepsDrives}
 use Rattle.rmt_server.specs.Opening.{IsClosed, OpensFor}
 use Rattle.rmt_server.specs.Moving.{reel_left, IsTakenOff, MovesIn, MovesReel}
-use Rattle.rmt_server.specs.Serving.{CallsIn, CallsOpenReel, ReelServes, Serves}
+use Rattle.rmt_server.specs.Serving.{CallsReelOf, CallsOpenReel, ReelServes, Serves}
 use Rattle.rmt_server.specs.Carrying.{Operates, CarriesOut}
 
 pub record IsSound {H S Seat R : Type 0} (k : Kinds H Seat S R) (old new : State H S Seat R) : Type 0 where
@@ -32,7 +32,7 @@ pub record IsSound {H S Seat R : Type 0} (k : Kinds H Seat S R) (old new : State
 
 -- what a call of the reel leaves open
 calls_in_same : {R : Type 0} (r : ReelPromise R) (device : Opened R) (reel : Option R) (new : Option (Opened R)) (request : PlainRequest) (reply : PlainReply)
-    → reel ≡ device.reel → CallsIn r device reel new request reply → (drive_of new ≡ Some device.drive) × (online_drive new ≡ online_drive (Some device))
+    → reel ≡ device.reel → CallsReelOf r device reel new request reply → (drive_of new ≡ Some device.drive) × (online_drive new ≡ online_drive (Some device))
 calls_in_same r device None new request reply e call = absurd call
 calls_in_same r device (Some reel) new request reply e (answer, moved, n, rest, call) = (ap drive_of n, rw (n, ← e) refl)
 
@@ -52,7 +52,7 @@ pub serves_same : {R : Type 0} (r : ReelPromise R) (opened new : Option (Opened 
 serves_same r opened new request reply serves = serves_by r opened new request reply (refusal (status_at opened) request) serves
 
 calls_in_quiet : {R : Type 0} (r : ReelPromise R) (device : Opened R) (reel : Option R) (new : Option (Opened R)) (request : PlainRequest) (reply : PlainReply)
-    → CallsIn r device reel new request reply → ReelCanFail r (reel_of new) → ReelCanFail r reel
+    → CallsReelOf r device reel new request reply → ReelCanFail r (reel_of new) → ReelCanFail r reel
 calls_in_quiet r device None new request reply call f = absurd call
 calls_in_quiet r device (Some reel) new request reply (answer, moved, n, e, call) f = call.quiet (subst (λ o. ReelCanFail r (reel_of o)) n f)
 

@@ -14,7 +14,7 @@ use Rattle.rmt_server.specs.Session.{PlainSession, plain_reel, session_view, sta
 use Rattle.rmt_server.specs.Session.PlainSession.{Online}
 use Rattle.drives.specs.Stacking.{ReelCanFail}
 use Rattle.rmt_server.specs.State.{IsSeenWith, IsViewedAs, reel_of, status_at, status_in}
-use Rattle.rmt_server.specs.Serving.{CallsIn, CallsOpenReel, ReelServes}
+use Rattle.rmt_server.specs.Serving.{CallsReelOf, CallsOpenReel, ReelServes}
 use Rattle.rmt_server.specs.Carrying.{ReelFailed}
 
 -- the reel's device is at fault
@@ -55,7 +55,7 @@ pub record ReelServed {R : Type 0} (r : ReelPromise R) (reel : Option R) (new : 
 
 calls_in : {R : Type 0} (r : ReelPromise R) (device : Opened R) (reel : Option R) (new : Option (Opened R)) (library : TapeLibrary) (session : PlainSession)
     (request : PlainRequest) (reply : PlainReply)
-    → CallsIn r device reel new request reply → IsSeenWith r device.drive device.access reel session
+    → CallsReelOf r device reel new request reply → IsSeenWith r device.drive device.access reel session
     → ReelServed r reel new library session None request reply
 calls_in r device None new library session request reply call seen = absurd call
 calls_in r device (Some reel) new library session request reply (answer, moved, n, e, call) (t, held, s) =

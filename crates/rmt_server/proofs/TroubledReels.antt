@@ -17,7 +17,7 @@ use Rattle.rmt_server.specs.Refusals.{refused}
 use Rattle.rmt_server.specs.Session.{PlainSession, plain_reel, session_view, status_of, refusal, tape_request, reel_reply}
 use Rattle.rmt_server.specs.Session.PlainSession.{Online}
 use Rattle.rmt_server.specs.State.{IsSeenWith, IsViewedAs, reel_of, status_at}
-use Rattle.rmt_server.specs.Serving.{CallsIn, CallsOpenReel, ReelServes}
+use Rattle.rmt_server.specs.Serving.{CallsReelOf, CallsOpenReel, ReelServes}
 use Rattle.rmt_server.specs.TroubledServe.{TroubledReelStep, IsSpent}
 use Rattle.rmt_server.proofs.Steps.{status_seen}
 
@@ -56,7 +56,7 @@ kept_left trouble reply None set = tt
 kept_left trouble reply (Some reel) set = inl set
 
 module _ (trouble : Trouble) (new : Option (Opened TroubledTape)) (library : TapeLibrary) (session : PlainSession) (request : PlainRequest) (reply : PlainReply) where
-  calls_in : (device : Opened TroubledTape) (reel : Option TroubledTape) → CallsIn of_reel device reel new request reply
+  calls_in : (device : Opened TroubledTape) (reel : Option TroubledTape) → CallsReelOf of_reel device reel new request reply
       → MatchOption reel (Unit {0}) (λ r. r.trouble ≡ trouble) → IsSeenWith of_reel device.drive device.access reel session
       → ReelServedSo trouble new library session None request reply
   calls_in device None call set seen = absurd call

@@ -13,16 +13,16 @@ use Rattle.rmt_server.specs.State.{State, status_at, IsReelCall}
 
 -- The request is one call of the reel of `device`, which is open. The call's answer gives the
 -- reply, and only the reel changes. If the device has no reel, this does not hold.
-abbrev pub CallsIn : {R : Type 0} → ReelPromise R → Opened R → Option R → Option (Opened R) → PlainRequest → PlainReply → Type 0
-CallsIn r device None new request reply = ⊥
-CallsIn {R} r device (Some reel) new request reply =
+abbrev pub CallsReelOf : {R : Type 0} → ReelPromise R → Opened R → Option R → Option (Opened R) → PlainRequest → PlainReply → Type 0
+CallsReelOf r device None new request reply = ⊥
+CallsReelOf {R} r device (Some reel) new request reply =
     (answer : TapeAnswer) × (moved : R) × (new ≡ Some (record device { reel = Some moved })) × (reply ≡ reel_reply request answer)
     × IsReelCall r reel (tape_request request) answer moved
 
--- `CallsIn` for the open device and its reel; if no device is open, this does not hold
+-- `CallsReelOf` for the open device and its reel; if no device is open, this does not hold
 abbrev pub CallsOpenReel : {R : Type 0} → ReelPromise R → Option (Opened R) → Option (Opened R) → PlainRequest → PlainReply → Type 0
 CallsOpenReel r None new request reply = ⊥
-CallsOpenReel r (Some device) new request reply = CallsIn r device device.reel new request reply
+CallsOpenReel r (Some device) new request reply = CallsReelOf r device device.reel new request reply
 
 -- A request that the open reel serves. If a check refuses it, nothing is done. Otherwise there is
 -- one call of the reel.
