@@ -18,7 +18,10 @@ use std::marker::Model;
 
 /// Returns the reply of the wanted kind that `unread` begins with, and how many of the bytes kept
 /// it takes. Returns None if it is not complete. If no reply is wanted, any byte is `TooMuchData`.
-fn front(unread: &[u8], wanted: Option<Wanted>) -> Result<Option<(Reply<'_>, usize)>, WireFault>
+fn first_reply(
+    unread: &[u8],
+    wanted: Option<Wanted>,
+) -> Result<Option<(Reply<'_>, usize)>, WireFault>
     requires { IsWithinIfSome (plain_wanted_if_some wanted) }
     ensures next { let held = spec.reply_held (plain_wanted_if_some wanted) unread.now in
         ReplyIsNext held (spec.plain_reply_front_result result) (spec.reply_held_after result held) }
@@ -159,7 +162,7 @@ impl ReplyReader {
         ensures for_good { ReplyStaysFaulty self.old (plain_reply_result result) }
     {
         let start = self.start;
-        match front(&self.buffer.as_slice()[start..], self.wanted)? {
+        match first_reply(&self.buffer.as_slice()[start..], self.wanted)? {
             None => Ok(None),
             Some((reply, len)) => {
                 self.start = start + len;

@@ -4,7 +4,7 @@ use Rattle.rmt_wire.specs.ReplyReader.{reply_held, IsWithinIfSome, ReplyIsNext, 
 use Rattle.rmt_wire.specs.declared.fault.WireFault.TheVariants.{TooMuchData}
 use Rattle.std.proofs.Common.{Err}
 use Rattle.rmt_wire.proofs.ReplyNexts.{some_next, some_faulty, none_faulty, some_kept}
-use Rattle.rmt_wire.proofs.reply.reader.front.Goals as goal
+use Rattle.rmt_wire.proofs.reply.reader.first_reply.Goals as goal
 
 pub returns-in-Some-clause-next : goal.returns-in-Some-clause-next
 returns-in-Some-clause-next c =
