@@ -67,7 +67,7 @@ fn discard_data(
 /// Returns the request that `unread` begins with, and how many of the bytes kept it takes. Returns
 /// None if it is not complete. If the request is a write with a complete line, `line` is that line.
 /// `dropped` bytes of its data were discarded.
-fn front(
+fn first_request(
     unread: &[u8],
     line: Option<(usize, u32)>,
     dropped: u32,
@@ -198,7 +198,7 @@ impl RequestReader {
         let start = self.start;
         let unread = &self.buffer.as_slice()[start..];
         self.line = line_of(self.line, unread);
-        match front(unread, self.line, self.dropped)? {
+        match first_request(unread, self.line, self.dropped)? {
             None => Ok(None),
             Some((request, len)) => {
                 self.start = start + len;

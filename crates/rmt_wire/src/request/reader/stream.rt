@@ -7,7 +7,7 @@ ghost use Rattle.rmt_wire.specs.RequestStream.{IsReadNext, CountsNext, plain_rea
 ghost use Rattle.rmt_wire.specs.declared.limits.TheConstants.{READER_LIMIT};
 
 use super::line::line_of;
-use super::{RequestReader, front};
+use super::{RequestReader, first_request};
 use crate::counted::Counted;
 use crate::fault::WireFault;
 use crate::request::Request;
@@ -43,7 +43,7 @@ impl RequestReader {
     {
         let unread = &self.buffer.as_slice()[self.start..];
         self.line = line_of(self.line, unread);
-        match front(unread, self.line, self.dropped) {
+        match first_request(unread, self.line, self.dropped) {
             Ok(found) => found.is_none(),
             Err(_) => false,
         }
