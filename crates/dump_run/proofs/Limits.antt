@@ -1,11 +1,14 @@
--- The limits of a run, as its fields need them.
+-- The limits of a run and of its id, as their fields need them.
 use Rattle.std.proofs.Common.{◌<◌, ◌≤◌, ◌^◌, length, arith}
+use Rattle.dump_run.specs.DumpId.{IsDumpId, plain_id}
 use Rattle.dump_run.specs.Run.{PlainRun, IsRun}
 
-pub number_of_run : (r : PlainRun) → IsRun r → (length r.device ≤ 255) × (length r.name ≤ 255) × (r.level < 2 ^ 8) × (r.blocks < 2 ^ 32)
+pub number_of_run : (r : PlainRun) → IsRun r → (length r.device ≤ 255) × (r.blocks < 2 ^ 32)
 number_of_run r is =
     let device = is.device.0.1 in
-    let name = is.name.0.1 in
-    let level = is.level in
     let blocks = is.blocks in
-    (device, name, omega arith, omega arith)
+    (device, omega arith)
+
+-- the id of a run is within its limits
+pub id_of_run : (r : PlainRun) → IsRun r → IsDumpId (plain_id r.name r.level r.date r.since)
+id_of_run r is = record { name = is.name; level = is.level; date = is.date; since = is.since }

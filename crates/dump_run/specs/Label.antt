@@ -60,6 +60,10 @@ pub record IsLabel (l : PlainLabel) : Type 0 where
   pub volume : IsInRange 1 blocks_limit l.volume
   pub first : l.first ≤ blocks_limit
 
+-- both labels are of one dump: the name, level and dates are the same
+abbrev pub AreLabelsOfOneDump : PlainLabel → PlainLabel → Type 0
+AreLabelsOfOneDump l m = (l.name ≡ m.name) × (l.level ≡ m.level) × (l.date ≡ m.date) × (l.since ≡ m.since)
+
 -- the record is the label with these contents, or no label
 abbrev pub ReadsLabel : List ℕ → Option PlainLabel → Type 0
 ReadsLabel bytes (Some l) = IsLabel l × (bytes ≡ label_record l)

@@ -1,5 +1,6 @@
--- In reading order: Run; Counts (its counted volumes); Checkpoint (the text of both),
+-- In reading order: DumpId; Run; Counts (its counted volumes); Checkpoint (the text of both),
 -- CheckpointParts; Label, LabelParts; Blocks (the contents of a volume).
+pub mod DumpId
 pub mod Run
 pub mod Counts
 pub mod Checkpoint

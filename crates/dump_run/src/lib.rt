@@ -10,6 +10,7 @@
 mod blocks;
 mod checkpoint;
 mod count;
+mod dump_id;
 mod fault;
 mod labels;
 mod laws;

@@ -1,10 +1,11 @@
 //! A run: what is dumped, to which drive, and in how many blocks.
 
-ghost use Rattle.std.specs.Prelude.{◌≡◌, ℕ, ◌≤◌, ◌↔◌, List, IsTrue, IsUtf8, IfOk, Ok};
+ghost use Rattle.std.specs.Prelude.{◌≡◌, ℕ, ◌≤◌, ◌↔◌, List, IsTrue, IfOk, Ok};
 ghost use Rattle.dumpdates.specs.Entry.{IsName, last_second};
 ghost use Rattle.dump_run.specs.Run.{IsDevice, IsBlockSize, IsRun, IsCheckedRun, IsRunOf, AreOfOneDump, plain_run};
 
 use crate::RunFault;
+use crate::dump_id::DumpId;
 use crate::row::Row;
 use dumpdates::{LAST_SECOND, is_name};
 use rmt_wire::{LINE_LIMIT, NUMBER_LIMIT, RECORD_LIMIT};
@@ -23,24 +24,19 @@ pub(crate) const LAST_LEVEL: u64 = 9;
 #[derive(Drop)]
 pub struct Run {
     device: Row,
-    name: Row,
-    level: u8,
-    date: u64,
-    since: u64,
+    id: DumpId,
     block_bytes: usize,
     blocks: u32,
 }
 
 impl Model for Run {
-    ghost use Rattle.std.specs.Prelude.{IsUtf8};
     ghost use Rattle.dump_run.specs.Run.{PlainRun, IsRun, plain_run};
 
     ghost Value = { PlainRun };
 
-    ghost view = { λ r. plain_run r.device r.name r.level r.date r.since r.block_bytes r.blocks };
+    ghost view = { λ r. plain_run r.device r.id.name r.id.level r.id.date r.id.since r.block_bytes r.blocks };
 
-    ghost invariant = { λ r. IsRun (plain_run r.device r.name r.level r.date r.since r.block_bytes r.blocks)
-        × IsUtf8 r.name };
+    ghost invariant = { λ r. IsRun (plain_run r.device r.id.name r.id.level r.id.date r.id.since r.block_bytes r.blocks) };
 }
 
 impl Clone for Run {
@@ -50,10 +46,7 @@ impl Clone for Run {
     {
         Ok(Run {
             device: Row::new(self.device.as_slice()),
-            name: Row::new(self.name.as_slice()),
-            level: self.level,
-            date: self.date,
-            since: self.since,
+            id: self.id.copy(),
             block_bytes: self.block_bytes,
             blocks: self.blocks,
         })
@@ -125,40 +118,19 @@ impl Run {
             return Err(RunFault::BadName);
         }
         check_numbers(level, date, since, block_bytes, blocks)?;
-        let run = Run::from_parts(
-            device,
-            fs.as_bytes(),
-            level,
-            date,
-            since,
-            block_bytes,
-            blocks,
-        );
-        Ok(run)
+        let id = DumpId::from_parts(fs.as_bytes(), level, date, since);
+        Ok(Run::from_parts(device, id, block_bytes, blocks))
     }
 
-    /// Makes a run of parts that are within the limits. `base` is the date of the dump that it
-    /// builds on.
+    /// Makes a run of parts that are within the limits.
     #[tactic(auto, using(crate::proofs::Limits::number_of_run))]
-    pub(crate) fn from_parts(
-        device: &[u8],
-        name: &[u8],
-        level: u64,
-        date: u64,
-        base: u64,
-        block_bytes: u64,
-        blocks: u64,
-    ) -> Run
-        requires limits { IsRun (plain_run device.now name.now level date base block_bytes blocks) }
-        requires text { IsUtf8 name.now }
-        ensures { result ≡ plain_run device.now name.now level date base block_bytes blocks }
+    pub(crate) fn from_parts(device: &[u8], id: DumpId, block_bytes: u64, blocks: u64) -> Run
+        requires { IsRun (plain_run device.now id.name id.level id.date id.since block_bytes blocks) }
+        ensures { result ≡ plain_run device.now id.name id.level id.date id.since block_bytes blocks }
     {
         Run {
             device: Row::new(device),
-            name: Row::new(name),
-            level: level as u8,
-            date,
-            since: base,
+            id,
             block_bytes: block_bytes as usize,
             blocks: blocks as u32,
         }
@@ -171,7 +143,7 @@ impl Run {
     {
         self.device() == other.device()
             && self.name() == other.name()
-            && self.level == other.level
+            && self.level() == other.level()
             && self.block_bytes == other.block_bytes
             && self.blocks == other.blocks
     }
@@ -189,7 +161,7 @@ impl Run {
         ensures told { result.now ≡ self.now.name }
         ensures limits { IsName self.now.name }
     {
-        std::str::from_utf8(self.name.as_slice()).unwrap()
+        self.id.name()
     }
 
     /// Returns the level, 0 to 9.
@@ -197,7 +169,7 @@ impl Run {
         ensures told { result ≡ self.now.level }
         ensures limit { self.now.level ≤ 9 }
     {
-        self.level
+        self.id.level()
     }
 
     /// Returns the date of this dump, in seconds since 1970 began, UTC.
@@ -205,7 +177,7 @@ impl Run {
         ensures told { result ≡ self.now.date }
         ensures limit { self.now.date ≤ last_second }
     {
-        self.date
+        self.id.date()
     }
 
     /// Returns the date of the dump that this one builds on, in seconds since 1970 began, UTC, or 0
@@ -214,7 +186,7 @@ impl Run {
         ensures told { result ≡ self.now.since }
         ensures limit { self.now.since ≤ last_second }
     {
-        self.since
+        self.id.since()
     }
 
     /// Returns the size of a block in bytes, 1 to `RECORD_LIMIT`.

@@ -1,15 +1,15 @@
 //! The label of a volume, as read from a reel.
 
-ghost use Rattle.std.specs.Prelude.{◌≡◌, ◌≤◌, ◌↔◌, IsTrue, IsUtf8, length, replicate};
+ghost use Rattle.std.specs.Prelude.{◌≡◌, ◌≤◌, ◌↔◌, IsTrue, length, replicate};
 ghost use Rattle.std.specs.Int.{IsInRange};
 ghost use Rattle.dumpdates.specs.Entry.{IsName, last_second};
 ghost use Rattle.dump_run.specs.Run.{blocks_limit};
-ghost use Rattle.dump_run.specs.Label.{IsLabel, ReadsLabel, plain_label};
+ghost use Rattle.dump_run.specs.Label.{IsLabel, ReadsLabel, AreLabelsOfOneDump, plain_label};
 ghost use Rattle.dump_run.specs.LabelParts.{FindsLabel};
 
 use crate::checkpoint::field::{name_field, number_field};
+use crate::dump_id::DumpId;
 use crate::labels::LABEL_BYTES;
-use crate::row::Row;
 use crate::run::{BLOCKS_LIMIT, LAST_LEVEL};
 use dumpdates::LAST_SECOND;
 use std::marker::Model;
@@ -21,23 +21,19 @@ const LAST_NUMBER: u64 = BLOCKS_LIMIT as u64;
 /// first block. It allocates nothing.
 #[derive(Drop)]
 pub struct VolumeLabel {
-    name: Row,
-    level: u8,
-    date: u64,
-    since: u64,
+    id: DumpId,
     volume: u32,
     first: u32,
 }
 
 impl Model for VolumeLabel {
-    ghost use Rattle.std.specs.Prelude.{IsUtf8};
     ghost use Rattle.dump_run.specs.Label.{PlainLabel, IsLabel, plain_label};
 
     ghost Value = { PlainLabel };
 
-    ghost view = { λ l. plain_label l.name l.level l.date l.since l.volume l.first };
+    ghost view = { λ l. plain_label l.id.name l.id.level l.id.date l.id.since l.volume l.first };
 
-    ghost invariant = { λ l. IsLabel (plain_label l.name l.level l.date l.since l.volume l.first) × IsUtf8 l.name };
+    ghost invariant = { λ l. IsLabel (plain_label l.id.name l.id.level l.id.date l.id.since l.volume l.first) };
 }
 
 impl VolumeLabel {
@@ -60,26 +56,22 @@ impl VolumeLabel {
     }
 
     /// Makes a label of parts that are within the limits.
-    fn from_parts(
-        name: &[u8],
-        level: u64,
-        date: u64,
-        base: u64,
-        volume: u64,
-        first: u64,
-    ) -> VolumeLabel
-        requires limits { IsLabel (plain_label name.now level date base volume first) }
-        requires text { IsUtf8 name.now }
-        ensures { result ≡ plain_label name.now level date base volume first }
+    fn from_parts(id: DumpId, volume: u64, first: u64) -> VolumeLabel
+        requires { IsLabel (plain_label id.name id.level id.date id.since volume first) }
+        ensures { result ≡ plain_label id.name id.level id.date id.since volume first }
     {
         VolumeLabel {
-            name: Row::new(name),
-            level: level as u8,
-            date,
-            since: base,
+            id,
             volume: volume as u32,
             first: first as u32,
         }
+    }
+
+    /// Whether both labels are of one dump: same name, level and dates. The volumes may differ.
+    pub fn is_same_dump(&self, other: &VolumeLabel) -> bool
+        ensures { IsTrue result ↔ AreLabelsOfOneDump self.now other.now }
+    {
+        self.id.is_same(&other.id)
     }
 
     /// Returns the name of the file system: 1 to 255 bytes of printable ASCII without a space.
@@ -87,7 +79,7 @@ impl VolumeLabel {
         ensures told { result.now ≡ self.now.name }
         ensures limits { IsName self.now.name }
     {
-        std::str::from_utf8(self.name.as_slice()).unwrap()
+        self.id.name()
     }
 
     /// Returns the level, 0 to 9.
@@ -95,7 +87,7 @@ impl VolumeLabel {
         ensures told { result ≡ self.now.level }
         ensures limit { self.now.level ≤ 9 }
     {
-        self.level
+        self.id.level()
     }
 
     /// Returns the date of the dump, in seconds since 1970 began, UTC.
@@ -103,7 +95,7 @@ impl VolumeLabel {
         ensures told { result ≡ self.now.date }
         ensures limit { self.now.date ≤ last_second }
     {
-        self.date
+        self.id.date()
     }
 
     /// Returns the date of the dump that this one builds on, in seconds since 1970 began, UTC, or 0
@@ -112,7 +104,7 @@ impl VolumeLabel {
         ensures told { result ≡ self.now.since }
         ensures limit { self.now.since ≤ last_second }
     {
-        self.since
+        self.id.since()
     }
 
     /// Returns the number of the volume, counted from 1, at most `BLOCKS_LIMIT`.
@@ -143,7 +135,8 @@ fn first_lines(bytes: &[u8]) -> Option<(VolumeLabel, &[u8])>
     let (base, rest) = number_field(rest, b"since ", 0, LAST_SECOND)?;
     let (volume, rest) = number_field(rest, b"volume ", 1, LAST_NUMBER)?;
     let (first, rest) = number_field(rest, b"first ", 0, LAST_NUMBER)?;
-    let label = VolumeLabel::from_parts(name, level, date, base, volume, first);
+    let id = DumpId::from_parts(name, level, date, base);
+    let label = VolumeLabel::from_parts(id, volume, first);
     Some((label, rest))
 }
 

@@ -2,6 +2,7 @@
 ghost use Rattle.dump_run.specs.CheckpointParts.{IsHead};
 
 use super::field::{device_field, name_field, number_field, title};
+use crate::dump_id::DumpId;
 use crate::run::LAST_LEVEL;
 use crate::{BLOCKS_LIMIT, ResumeFault, Run};
 use dumpdates::LAST_SECOND;
@@ -47,6 +48,7 @@ pub(super) fn read_head(bytes: &[u8]) -> Result<(Run, &[u8]), ResumeFault>
     let Some((block_count, rest)) = number_field(rest, b"blocks ", 0, LAST_BLOCK) else {
         return Err(ResumeFault::BadLine(8));
     };
-    let run = Run::from_parts(device, name, level, date, since, block_bytes, block_count);
+    let id = DumpId::from_parts(name, level, date, since);
+    let run = Run::from_parts(device, id, block_bytes, block_count);
     Ok((run, rest))
 }

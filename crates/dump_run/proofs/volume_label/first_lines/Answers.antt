@@ -94,4 +94,4 @@ returns c =
     } in
     let whole = all_lines name.name.now level.level date.date base.base volume.volume first.first c.args.bytes.now name.rest.now level.rest.now date.rest.now
     base.rest.now volume.rest.now first.rest.now name.ensures.found.1 level.ensures.1 date.ensures.1 base.ensures.1 volume.ensures.1 first.ensures.1 in
-    rw c.from_parts-label.ensures (limits, whole)
+    rw (c.from_parts-label.ensures, c.from_parts-id.ensures) (limits, whole)

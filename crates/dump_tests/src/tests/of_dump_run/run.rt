@@ -1,6 +1,7 @@
-//! Runs within and beyond each limit, the values that a run returns, and the longest label.
+//! Runs within and beyond each limit, the values that a run returns, the longest label, and labels
+//! of one dump.
 
-use dump_run::{LABEL_BYTES, Run, RunFault, label};
+use dump_run::{LABEL_BYTES, Run, RunFault, VolumeLabel, label};
 use std::alloc::Global;
 
 /// The longest device, and one that is a byte too long.
@@ -195,4 +196,21 @@ fn a_run_tells_what_it_is(rt: HostRuntime) {
     .expect(&rt, "a run");
     assert!(rt; tells(&run));
     assert!(rt; label_is_met(&run));
+}
+
+/// The label of a volume of a dump with these dates, which begins at block `first`.
+fn label_of(date: u64, since: u64, volume: u32, first: u32) -> Option<VolumeLabel> {
+    let run = Run::new(b"/dev/st0", "/usr", 1, date, since, 1024, 3).ok()?;
+    VolumeLabel::read(&label(&run, volume, first))
+}
+
+#[test]
+fn labels_of_one_dump(rt: HostRuntime) {
+    let first = label_of(7, 5, 1, 0).expect(&rt, "a label");
+    let second = label_of(7, 5, 2, 1).expect(&rt, "a label");
+    assert!(rt; first.is_same_dump(&second));
+    let later = label_of(8, 5, 1, 0).expect(&rt, "a label");
+    assert!(rt; !first.is_same_dump(&later));
+    let based_later = label_of(7, 6, 1, 0).expect(&rt, "a label");
+    assert!(rt; !first.is_same_dump(&based_later));
 }

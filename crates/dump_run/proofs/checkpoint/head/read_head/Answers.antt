@@ -80,20 +80,28 @@ returns-in_default-number_field-5 c =
     let to_block_bytes = then_line (codes "block " ++ decimal block_bytes.block_bytes) block_bytes.rest.now to_since (block_bytes.block_bytes, block_bytes.ensures.0, refl) block_bytes.ensures.1 in
     bad_line 8 to_block_bytes (lacks_number Blocks (codes "blocks ") 0 blocks_limit block_bytes.rest.now (λ _ its. its) (λ is. cc) c.in_default-number_field-5.ensures) refl
 
-pub from_parts-run-requires-clause-limits : goal.from_parts-run-requires-clause-limits
-from_parts-run-requires-clause-limits c =
+pub from_parts-id-requires-clause-limits : goal.from_parts-id-requires-clause-limits
+from_parts-id-requires-clause-limits c =
     record {
-      device = c.in-Some-device_field.ensures.0;
       name = c.in-Some-name_field.ensures.found.0;
       level = c.in-Some-number_field.ensures.0.1;
       date = c.in-Some-number_field-2.ensures.0.1;
       since = c.in-Some-number_field-3.ensures.0.1;
-      block_bytes = c.in-Some-number_field-4.ensures.0;
-      blocks = c.in-Some-number_field-5.ensures.0.1;
     }
 
-pub from_parts-run-requires-clause-text : goal.from_parts-run-requires-clause-text
-from_parts-run-requires-clause-text c = c.in-Some-name_field.ensures.text
+pub from_parts-id-requires-clause-text : goal.from_parts-id-requires-clause-text
+from_parts-id-requires-clause-text c = c.in-Some-name_field.ensures.text
+
+pub from_parts-run-requires : goal.from_parts-run-requires
+from_parts-run-requires c = rw c.from_parts-id.ensures (record {
+  device = c.in-Some-device_field.ensures.0;
+  name = c.in-Some-name_field.ensures.found.0;
+  level = c.in-Some-number_field.ensures.0.1;
+  date = c.in-Some-number_field-2.ensures.0.1;
+  since = c.in-Some-number_field-3.ensures.0.1;
+  block_bytes = c.in-Some-number_field-4.ensures.0;
+  blocks = c.in-Some-number_field-5.ensures.0.1;
+})
 
 pub returns : goal.returns
 returns c =
@@ -111,7 +119,7 @@ returns c =
     let to_block_bytes = then_line (codes "block " ++ decimal block_bytes.block_bytes) block_bytes.rest.now to_since (block_bytes.block_bytes, block_bytes.ensures.0, refl) block_bytes.ensures.1 in
     let blocks = c.in-Some-number_field-5 in
     let to_blocks = then_line (codes "blocks " ++ decimal blocks.block_count) blocks.rest.now to_block_bytes (blocks.block_count, blocks.ensures.0, refl) blocks.ensures.1 in
-    let limits : IsRun c.from_parts-run.result = rw c.from_parts-run.ensures (record {
+    let limits : IsRun c.from_parts-run.result = rw (c.from_parts-run.ensures, c.from_parts-id.ensures) (record {
       device = c.in-Some-device_field.ensures.0;
       name = c.in-Some-name_field.ensures.found.0;
       level = c.in-Some-number_field.ensures.0.1;
@@ -121,4 +129,4 @@ returns c =
       blocks = c.in-Some-number_field-5.ensures.0.1;
     }) in
     let split = to_blocks.split in
-    (limits, rw c.from_parts-run.ensures split)
+    (limits, rw (c.from_parts-run.ensures, c.from_parts-id.ensures) split)

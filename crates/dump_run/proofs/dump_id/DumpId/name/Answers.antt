@@ -1,5 +1,5 @@
 use Rattle.std.proofs.Common.{IsUtf8, rules, sym, subst}
-use Rattle.dump_run.proofs.run.Run.name.Goals as goal
+use Rattle.dump_run.proofs.dump_id.DumpId.name.Goals as goal
 
 pub unwrap-requires : goal.unwrap-requires
 unwrap-requires c =
