@@ -9,6 +9,7 @@ use crate::dump_start::{DumpStart, refuse_files, refuse_unknown_new};
 use crate::dumping::run_kept;
 use crate::run_limit::refuse_run;
 use dump_client::{Blocks, Client, ResumeFault, Run};
+use dump_run::Checkpoint;
 use exit_status::ExitStatus;
 use rdump_args::DumpLine;
 use rdump_files::{
@@ -98,12 +99,13 @@ fn resume<R: ClientSystem, M: Medium + Drop, T: Write + Copy + Drop>(
     requires { IsRunsPayload run.now payload }
 {
     let path = line.checkpoint.unwrap_or("");
-    let dates = match Run::spelled(rt.alloc(), bytes) {
-        Ok(kept) => dates_of(&kept),
-        Err(fault) => return refuse_checkpoint(rt, path, ResumedDumpFault::Unread(fault)),
+    let checkpoint = match Checkpoint::read(rt.alloc(), bytes) {
+        Ok(checkpoint) => checkpoint,
+        Err(fault) => return refuse_text(rt, path, fault),
     };
+    let dates = dates_of(checkpoint.run());
     let gauge = terminal.map(|it| ProgressLine::new(rt, it));
-    match resume_dump(rt.alloc(), run, bytes, payload, gauge) {
+    match resume_dump(rt.alloc(), run, checkpoint, payload, gauge) {
         Ok(mut client) => {
             let blocks = Some(run.blocks());
             dump_reported(rt, line, start, dates, blocks, &mut client, file, terminal)
@@ -163,16 +165,26 @@ fn report_going_on<R: ClientSystem, B: Blocks>(
     report_younger(rt, line, start, path, file.modified())
 }
 
+/// Prints why the bytes of the checkpoint file at this path are not a checkpoint, and returns the
+/// exit status.
+fn refuse_text<R: ClientSystem>(rt: &R, path: &str, fault: ResumeFault) -> ExitStatus
+    ensures { result ≡ StartupError }
+{
+    match fault {
+        ResumeFault::OutOfMemory => report_no_memory(rt),
+        fault => {
+            let _ = println!(rt; "{fault}");
+            print_fault(rt, path, "it is no checkpoint")
+        }
+    }
+}
+
 /// Prints why the checkpoint at this path cannot be resumed, and returns the exit status.
 fn refuse_checkpoint<R: ClientSystem>(rt: &R, path: &str, fault: ResumedDumpFault) -> ExitStatus
     ensures { result ≡ StartupError }
 {
     match fault {
-        ResumedDumpFault::Unread(ResumeFault::OutOfMemory) => report_no_memory(rt),
-        ResumedDumpFault::Unread(fault) => {
-            let _ = println!(rt; "{fault}");
-            print_fault(rt, path, "it is no checkpoint")
-        }
+        ResumedDumpFault::OutOfMemory => report_no_memory(rt),
         ResumedDumpFault::OfAnother => {
             let _ = println!(rt; "checkpoint is of another dump");
             print_fault(

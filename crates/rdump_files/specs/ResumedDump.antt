@@ -1,13 +1,10 @@
 -- A client that resumes a dump from its checkpoint. Public contracts cite it.
-use Rattle.std.specs.Prelude.{ℕ, List}
-use Rattle.dump_run.specs.Checkpoint.{HasResumeFault, SpellsCheckpoint}
 use Rattle.dump_run.specs.Run.{PlainRun, AreOfOneDump}
-use Rattle.dump_run.specs.declared.count.VolumeCount.{VolumeCount}
 use Rattle.rdump_files.specs.declared.resumed_dump.ResumedDumpFault.{ResumedDumpFault}
-use Rattle.rdump_files.specs.declared.resumed_dump.ResumedDumpFault.TheVariants.{Unread, OfAnother}
+use Rattle.rdump_files.specs.declared.resumed_dump.ResumedDumpFault.TheVariants.{OfAnother, OutOfMemory}
 
--- why a dump is not resumed: the bytes are not a checkpoint, or it is of another dump than this run
-abbrev pub IsResumedDumpFault : List ℕ → PlainRun → ResumedDumpFault → Type 0
-IsResumedDumpFault bytes run (Unread fault) = HasResumeFault bytes fault
-IsResumedDumpFault bytes run OfAnother =
-    (kept : PlainRun) × (counts : List VolumeCount) × SpellsCheckpoint bytes kept counts × (AreOfOneDump kept run → ⊥)
+-- why a dump is not resumed: the run of its checkpoint, `kept`, is of another dump than this run; an
+-- allocation can fail whatever the runs are
+abbrev pub IsResumedDumpFault : PlainRun → PlainRun → ResumedDumpFault → Type 0
+IsResumedDumpFault kept run OfAnother = AreOfOneDump kept run → ⊥
+IsResumedDumpFault kept run OutOfMemory = Unit {0}

@@ -6,7 +6,7 @@ use super::fake::{FakePeer, Replies};
 use super::fixture::{PayloadDumper, TWO_BYTES, client, line, payload};
 use super::lines::{EMPTY, FULL, LAST};
 use super::progress::Seen;
-use dump_client::ResumeFault;
+use dump_run::Checkpoint;
 use exit_status::ExitStatus;
 use rdump_commands::run_arguments;
 use rdump_files::{ReplacedFile, ResumedDumpFault, WholeFile, resume_dump, run_of};
@@ -152,42 +152,36 @@ fn checkpoints_that_are_kept(rt: HostRuntime) {
     }
 }
 
-/// Resumes a dump from these bytes. Returns the number of counted volumes and of counted blocks.
-fn comes_back(alloc: Global, bytes: &[u8]) -> Option<Result<(usize, u32), ResumedDumpFault>> {
+/// Resumes a dump from the checkpoint with this text. Returns the number of counted volumes and of
+/// counted blocks.
+fn comes_back(alloc: Global, text: &[u8]) -> Option<Result<(usize, u32), ResumedDumpFault>> {
     let payload = payload(alloc, TWO_BYTES)?;
     let run = run_of(&line(TWO_BYTES), 0, 0, &payload).ok()?;
+    let checkpoint = Checkpoint::read(alloc, text).ok()?;
     Some(
-        match resume_dump(alloc, &run, bytes, payload, Seen::new()) {
+        match resume_dump(alloc, &run, checkpoint, payload, Seen::new()) {
             Ok(client) => Ok((client.counted().len(), client.checkpoint().1)),
             Err(fault) => Err(fault),
         },
     )
 }
 
-/// The checkpoint of a dump at another level, and one whose counts are out of order.
+/// The checkpoint of a dump at another level.
 const ANOTHER: &[u8] =
     b"rdump 1\ndevice /dev/st0\nfs /usr\nlevel 2\ndate 951868800\nsince 951782400\nblock 2\nblocks 3\n";
 
-const TWICE: &[u8] =
-    b"rdump 1\ndevice /dev/st0\nfs /usr\nlevel 1\ndate 951868800\nsince 951782400\nblock 2\nblocks 3\ncounted 1 0 2\ncounted 1 0 2\n";
-
-/// Bytes, and the result of resuming a dump from them.
-static TEXTS: [(&[u8], Result<(usize, u32), ResumedDumpFault>); 6] = [
+/// The texts of checkpoints, and the result of resuming a dump from them.
+static TEXTS: [(&[u8], Result<(usize, u32), ResumedDumpFault>); 4] = [
     (NONE, Ok((0, 0))),
     (ONE, Ok((1, 2))),
     (BOTH, Ok((2, 3))),
-    (b"", Err(ResumedDumpFault::Unread(ResumeFault::BadLine(1)))),
-    (
-        TWICE,
-        Err(ResumedDumpFault::Unread(ResumeFault::NotInOrder(10))),
-    ),
     (ANOTHER, Err(ResumedDumpFault::OfAnother)),
 ];
 
 #[test]
 fn clients_that_come_back(rt: HostRuntime) {
-    for (at, (bytes, wanted)) in TEXTS.iter().enumerate() {
-        check_row(&rt, at, comes_back(rt.alloc(), bytes) == Some(*wanted));
+    for (at, (text, wanted)) in TEXTS.iter().enumerate() {
+        check_row(&rt, at, comes_back(rt.alloc(), text) == Some(*wanted));
     }
 }
 
@@ -218,9 +212,14 @@ static WORDS: [&str; 20] = [
     "checkpoint",
 ];
 
+/// A text whose counts are out of order.
+const TWICE: &[u8] =
+    b"rdump 1\ndevice /dev/st0\nfs /usr\nlevel 1\ndate 951868800\nsince 951782400\nblock 2\nblocks 3\ncounted 1 0 2\ncounted 1 0 2\n";
+
 /// The checkpoint file at the start, the exit status, and whether the file is there at the end.
-static STARTS: [(&[u8], ExitStatus, bool); 4] = [
+static STARTS: [(&[u8], ExitStatus, bool); 5] = [
     (b"", ExitStatus::StartupError, true),
+    (TWICE, ExitStatus::StartupError, true),
     (ANOTHER, ExitStatus::StartupError, true),
     (ONE, ExitStatus::Abnormal, false),
     (BOTH, ExitStatus::Success, false),
