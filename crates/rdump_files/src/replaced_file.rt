@@ -1,10 +1,13 @@
 //! A file on the file system that is replaced as a whole.
+ghost use Rattle.std.specs.Prelude.{◌≡◌, IfOk};
+ghost use Rattle.dump_run.specs.Checkpoint.{checkpoint_text};
 
 use crate::files::read_if_there;
 use crate::new_file::{Form, NewFile, find_unknown_new};
 use crate::{FileFailed, WholeFile};
+use dump_run::{Run, VolumeCount, push_checkpoint};
 use rdump_net::Keeper;
-use std::alloc::Global;
+use std::alloc::{AllocError, Global};
 use std::fs::File;
 use std::io::{self, ErrorKind};
 use std::rt::Files;
@@ -202,7 +205,25 @@ impl<'a, R: Files<File = File> + Clock> WholeFile for ReplacedFile<'a, R> {
 impl<'a, R: Files<File = File> + Clock> Keeper for ReplacedFile<'a, R> {
     ghost puts = { λ _ _. ⊥ };
 
-    fn keep(&mut self, text: &[u8]) -> bool {
-        self.replace(text).is_ok()
+    ghost can_fail = { λ _. Unit {0} };
+
+    /// Replaces the file by the text of the checkpoint.
+    fn keep(&mut self, run: &Run, counts: &[VolumeCount]) -> bool {
+        match text_of(self.alloc, run, counts) {
+            Ok(text) => self.replace(&text).is_ok(),
+            Err(error) => {
+                self.fail(error.into());
+                false
+            }
+        }
     }
+}
+
+/// Returns the text of a checkpoint. Fails only if an allocation fails.
+fn text_of(alloc: Global, run: &Run, counts: &[VolumeCount]) -> Result<Vec<u8>, AllocError>
+    ensures { IfOk result (λ text. text.items ≡ checkpoint_text run.now counts.now) }
+{
+    let mut text = Vec::new(alloc);
+    push_checkpoint(run, counts, &mut text)?;
+    Ok(text)
 }

@@ -1,76 +1,94 @@
--- A client that talks over a peer keeps its counts, and may have further ones after them.
-use Rattle.std.proofs.Common.{◌≡◌, ℕ, List, [], ◌++◌, Bool, true, false, Result, Ok, Err, refl, sym, ap, ◌∙◌, inl, inr, append-nil, append_assoc}
-use Rattle.dump_client.specs.Standing.{Standing, VolumeCount, IsOver, StartedAt, AnsweredAt}
-use Rattle.dump_client.specs.Client.{ClientHeld, HasFed, NextRequestAt}
+-- A client that talks over a peer stays in its run and keeps its counts, and may have further ones after them.
+use Rattle.std.proofs.Common.{◌≡◌, ℕ, List, [], ◌∷◌, ◌++◌, length, length-append, arith, Bool, true, false, Result, Ok, Err, refl, sym, ap, ◌∙◌, inl, inr, append-nil, append_assoc}
+use Rattle.dump_client.specs.Standing.{Standing, VolumeCount, standing, stage_after, IsOver, StartedAt, AnsweredAt, CutAt}
+use Rattle.dump_client.specs.Client.{ClientHeld, HasFed, AskedAt}
 use Rattle.dump_client.specs.declared.fault.AttemptFault.{AttemptFault}
 use Rattle.dump_client.specs.declared.fault.StartFault.{StartFault}
 use Rattle.dump_client.specs.declared.fault.StartFault.TheVariants.{WrongState, OutOfMemory}
 use Rattle.dump_client.specs.declared.stage.Answer.{Answer}
 use Rattle.dump_client.specs.declared.stage.Stage.{Stage}
-use Rattle.dump_client.specs.declared.stage.Stage.TheVariants.{Ready, ToSend, Asking}
+use Rattle.dump_client.specs.declared.stage.Progress.{Progress}
+use Rattle.dump_client.specs.declared.stage.Stage.TheVariants.{Ready, ToSend, Waiting, Asking, Finished}
+use Rattle.dump_client.specs.declared.step.Step.TheVariants.{Open}
 use Rattle.dump_client.proofs.Going.{fed_goes_on, cut_goes_on}
 use Rattle.rdump_net.specs.declared.peer.Passed.{Passed}
-use Rattle.rdump_net.specs.Lines.{IsPrefixOf}
+use Rattle.rdump_net.specs.Lines.{HasGrown}
 use Rattle.rdump_net.specs.Talk.{GoesOn, TalkStep, Talks, TalksOver}
 use Rattle.rdump_net.specs.Talk.TalkStep.{starts, stays, asks, has_none, hears, ends, answers}
 use Rattle.rdump_net.specs.Talk.Talks.{none, one_more}
 
-pub grown_none : (old new : List VolumeCount) → new ≡ old → IsPrefixOf old new
+pub grown_none : (old new : List VolumeCount) → new ≡ old → HasGrown old new
 grown_none old new same = ([], same ∙ sym (append-nil old))
 
-grown_both : (a b c : List VolumeCount) → IsPrefixOf a b → IsPrefixOf b c → IsPrefixOf a c
+pub grown_both : (a b c : List VolumeCount) → HasGrown a b → HasGrown b c → HasGrown a c
 grown_both a b c (one, is) (two, then) = (one ++ two, then ∙ ap (λ l. l ++ two) is ∙ append_assoc a one two)
 
+-- it is in the same run, and has the same counts and perhaps more
+abbrev pub HasGone : Standing → Standing → Type 0
+HasGone old new = (new.run ≡ old.run) × HasGrown old.counts new.counts
+
+gone_both : (a b c : Standing) → HasGone a b → HasGone b c → HasGone a c
+gone_both a b c one two = (two.0 ∙ one.0, grown_both a.counts b.counts c.counts one.1 two.1)
+
+-- it stands in this run, with these counts
+gone_to : (old new : Standing) (stage : Stage) → new ≡ standing old.run old.counts stage → HasGone old new
+gone_to old new stage is = (ap (λ (s : Standing). s.run) is, grown_none old.counts new.counts (ap (λ (s : Standing). s.counts) is))
+
 -- it stands where it did
-same_counts : (old new : Standing) → new ≡ old → IsPrefixOf old.counts new.counts
-same_counts old new is = grown_none old.counts new.counts (ap (λ (s : Standing). s.counts) is)
+gone_nowhere : (old new : Standing) → new ≡ old → HasGone old new
+gone_nowhere old new is = (ap (λ (s : Standing). s.run) is, grown_none old.counts new.counts (ap (λ (s : Standing). s.counts) is))
 
-over_counts : (old new : Standing) → IsOver old.run old.counts new → IsPrefixOf old.counts new.counts
-over_counts old new (inl (covers, is)) = grown_none old.counts new.counts (ap (λ (s : Standing). s.counts) is)
-over_counts old new (inr (left, is)) = grown_none old.counts new.counts (ap (λ (s : Standing). s.counts) is)
+over_goes : (old new : Standing) → IsOver old.run old.counts new → HasGone old new
+over_goes old new (inl (covers, is)) = gone_to old new Finished is
+over_goes old new (inr (left, is)) = gone_to old new Ready is
 
-start_counts : (stage : Stage) (old new : Standing) (room : ℕ) (result : Result Unit StartFault) → StartedAt stage old room result new
-    → IsPrefixOf old.counts new.counts
-start_counts Ready old new room (Ok x) is = grown_none old.counts new.counts (ap (λ (s : Standing). s.counts) is)
-start_counts Ready old new room (Err OutOfMemory) h = same_counts old new h.1
-start_counts Ready old new room (Err WrongState) h = absurd h
-start_counts stage old new room result h = same_counts old new h.1
+start_goes : (stage : Stage) (old new : Standing) (room : ℕ) (result : Result Unit StartFault) → StartedAt stage old room result new → HasGone old new
+start_goes Ready old new room (Ok x) is = gone_to old new (ToSend Open) is
+start_goes Ready old new room (Err OutOfMemory) h = gone_nowhere old new h.1
+start_goes Ready old new room (Err WrongState) h = absurd h
+start_goes stage old new room result h = gone_nowhere old new h.1
 
-ask_counts : (stage : Stage) (told : List (List ℕ) → Type 0) (old new : Standing) (capacity : ℕ) (before now : List ℕ) (result : Result Bool AttemptFault)
-    → NextRequestAt stage told old capacity before result now new → IsPrefixOf old.counts new.counts
-ask_counts (ToSend step) told old new capacity before now (Ok true) h = grown_none old.counts new.counts (ap (λ (s : Standing). s.counts) h.4)
-ask_counts (ToSend step) told old new capacity before now (Ok false) h = over_counts old new h.3
-ask_counts (ToSend step) told old new capacity before now (Err fault) h = grown_none old.counts new.counts (ap (λ (s : Standing). s.counts) h.3)
-ask_counts stage told old new capacity before now result h = same_counts old new h.2
+ask_goes : (stage : Stage) (told : List (List ℕ) → Type 0) (old new : Standing) (capacity : ℕ) (before now : List ℕ) (result : Result Bool AttemptFault)
+    → AskedAt stage told old capacity before result now new → HasGone old new
+ask_goes (ToSend step) told old new capacity before now (Ok true) h = gone_to old new (Waiting step) h.4
+ask_goes (ToSend step) told old new capacity before now (Ok false) h = over_goes old new h.3
+ask_goes (ToSend step) told old new capacity before now (Err fault) h = gone_to old new Asking h.3
+ask_goes stage told old new capacity before now result h = gone_nowhere old new h.2
 
-answer_counts : (stage : Stage) (old new : Standing) (answer : Answer) (result : Result Unit StartFault) → AnsweredAt stage old answer result new
-    → IsPrefixOf old.counts new.counts
-answer_counts Asking old new answer result h = grown_none old.counts new.counts (ap (λ (s : Standing). s.counts) h.1)
-answer_counts stage old new answer result h = same_counts old new h.1
+answer_goes : (stage : Stage) (old new : Standing) (answer : Answer) (result : Result Unit StartFault) → AnsweredAt stage old answer result new → HasGone old new
+answer_goes Asking old new answer result h = gone_to old new (stage_after answer) h.1
+answer_goes stage old new answer result h = gone_nowhere old new h.1
 
-go_counts : (made : Bool) (at new : Standing) (fed later : List ℕ) → GoesOn made at fed new later → IsPrefixOf at.counts new.counts
-go_counts true at new fed later h = same_counts at new h.0
-go_counts false at new fed later (progress, cut, fresh) = ([], (cut_goes_on at new progress cut).counts)
+cut_goes : (at new : Standing) (progress : Progress) → CutAt at.stage at progress new → HasGone at new
+cut_goes at new progress cut = let goes = cut_goes_on at new progress cut in (goes.run, ([], goes.counts))
 
-step_counts : {told : List (List ℕ) → Type 0} {allows : Standing → Type 0} {old new : Standing} {fed later : List ℕ} {passed : List Passed}
-    → TalkStep told allows old fed passed new later → IsPrefixOf old.counts new.counts
-step_counts {old = old} {new = new} {fed = fed} {later = later} (starts room begun made allowed h goes) =
-    grown_both old.counts begun.counts new.counts (start_counts old.stage old begun room (Ok tt) h) (go_counts made begun new fed later goes)
-step_counts {old = old} {new = new} (stays room fault h) = start_counts old.stage old new room (Err fault) h
-step_counts {told} {old = old} {new = new} {fed = fed} {later = later} (asks capacity text asked whole h sent goes) =
-    grown_both old.counts asked.counts new.counts (ask_counts old.stage told old asked capacity [] text (Ok true) h) (go_counts whole asked new fed later goes)
-step_counts {told} {old = old} {new = new} (has_none capacity result text h unmade) = ask_counts old.stage told old new capacity [] text result h
-step_counts {old = old} {new = new} {fed = fed} (hears piece progress h) = let goes = fed_goes_on old new fed piece progress h in (goes.0, goes.1.counts)
-step_counts {old = old} {new = new} (ends progress h) = ([], (cut_goes_on old new progress h).counts)
-step_counts {old = old} {new = new} (answers answer result h) = answer_counts old.stage old new answer result h
+go_goes : (made : Bool) (at new : Standing) (fed later : List ℕ) → GoesOn made at fed new later → HasGone at new
+go_goes true at new fed later h = gone_nowhere at new h.0
+go_goes false at new fed later (progress, cut, fresh) = cut_goes at new progress cut
 
-talk_counts : {told : List (List ℕ) → Type 0} {allows : Standing → Type 0} {old : Standing} {fed : List ℕ} {passed : List Passed} {new : Standing} {later : List ℕ}
-    → Talks told allows old fed passed new later → IsPrefixOf old.counts new.counts
-talk_counts {old = old} none = grown_none old.counts old.counts refl
-talk_counts {old = old} {new = new} (one_more {before = before} talks step) =
-    grown_both old.counts before.counts new.counts (talk_counts talks) (step_counts step)
+step_goes : {told : List (List ℕ) → Type 0} {allows : Standing → Type 0} {old new : Standing} {fed later : List ℕ} {passed : List Passed}
+    → TalkStep told allows old fed passed new later → HasGone old new
+step_goes {old = old} {new = new} {fed = fed} {later = later} (starts room begun made allowed h goes) =
+    gone_both old begun new (start_goes old.stage old begun room (Ok tt) h) (go_goes made begun new fed later goes)
+step_goes {old = old} {new = new} (stays room fault h) = start_goes old.stage old new room (Err fault) h
+step_goes {told} {old = old} {new = new} {fed = fed} {later = later} (asks capacity text asked whole h sent goes) =
+    gone_both old asked new (ask_goes old.stage told old asked capacity [] text (Ok true) h) (go_goes whole asked new fed later goes)
+step_goes {told} {old = old} {new = new} (has_none capacity result text h unmade) = ask_goes old.stage told old new capacity [] text result h
+step_goes {old = old} {new = new} {fed = fed} (hears piece progress h) = let goes = fed_goes_on old new fed piece progress h in (goes.1.run, (goes.0, goes.1.counts))
+step_goes {old = old} {new = new} (ends progress h) = cut_goes old new progress h
+step_goes {old = old} {new = new} (answers answer result h) = answer_goes old.stage old new answer result h
+
+pub talk_goes : {told : List (List ℕ) → Type 0} {allows : Standing → Type 0} {old : Standing} {fed : List ℕ} {passed : List Passed} {new : Standing} {later : List ℕ}
+    → Talks told allows old fed passed new later → HasGone old new
+talk_goes {old = old} none = gone_nowhere old old refl
+talk_goes {old = old} {new = new} (one_more {before = before} talks step) = gone_both old before new (talk_goes talks) (step_goes step)
 
 -- a client that talked over a peer
 pub talked_counts : {B P : Type 0} (holds : B → List (List ℕ) → Type 0) (allows : Standing → Type 0) (tells : P → List Passed → Type 0)
-    (c c' : ClientHeld B) (p p' : P) → (bytes : List ℕ) × HasFed c bytes → TalksOver holds allows tells c c' p p' → IsPrefixOf c.at.counts c'.at.counts
-talked_counts holds allows tells c c' p p' (bytes, fed) h = talk_counts (h.talked bytes fed).talks
+    (c c' : ClientHeld B) (p p' : P) → (bytes : List ℕ) × HasFed c bytes → TalksOver holds allows tells c c' p p' → HasGrown c.at.counts c'.at.counts
+talked_counts holds allows tells c c' p p' (bytes, fed) h = let goes = talk_goes (h.talked bytes fed).talks in goes.1
+
+-- counts of which there are as many as before are those
+pub grown_same : (old new : List VolumeCount) → HasGrown old new → length new ≡ length old → new ≡ old
+grown_same old new ([], is) e = is ∙ append-nil old
+grown_same old new (c ∷ more, is) e = absurd (omega (arith, e, ap length is, length-append old (c ∷ more)))

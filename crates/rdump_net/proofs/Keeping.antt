@@ -1,28 +1,77 @@
 -- A dump whose checkpoint is kept, put together.
-use Rattle.std.proofs.Common.{◌≡◌, ◌⊎◌, inl, inr, ℕ, List, [], ◌∷◌, ◌++◌, Bool, true, false, Option, Some, None, refl, sym, subst, ◌∙◌, append-nil, append_assoc}
+use Rattle.std.proofs.Common.{◌≡◌, ◌⊎◌, inl, inr, ℕ, List, [], ◌∷◌, ◌++◌, length, Bool, true, false, Option, Some, None, refl, sym, ap, subst, ◌∙◌, append-nil, append_assoc}
+use Rattle.exit_status.specs.declared.status.ExitStatus.{ExitStatus}
 use Rattle.rmt_wire.specs.Counted.{Counting}
 use Rattle.rmt_wire.specs.Print.{IsPrinted}
-use Rattle.dump_run.specs.Checkpoint.{checkpoint_text}
+use Rattle.dump_run.specs.Checkpoint.{PlainCheckpoint}
+use Rattle.dump_run.specs.Run.{PlainRun}
+use Rattle.dump_run.specs.declared.count.VolumeCount.{VolumeCount}
 use Rattle.dump_client.specs.Standing.{Standing}
 use Rattle.dump_client.specs.Client.{ClientHeld, HasFed}
-use Rattle.rdump_net.specs.Talk.{FromThis, TalksOver}
-use Rattle.rdump_net.specs.Lines.{DumpLines, IsConclusion, IsFinish, IsRound}
+use Rattle.rdump_net.specs.declared.peer.Passed.{Passed}
+use Rattle.rdump_net.specs.Talk.{FromAny, FromThis, Talks, TalksOver}
+use Rattle.rdump_net.specs.Talk.Talks.{none as no_talk}
+use Rattle.rdump_net.specs.Lines.{DumpLines, HasGrown, IsConclusion, IsDumped, IsFinish, IsRound, conclusion_status}
 use Rattle.rdump_net.specs.Lines.DumpLines.{none as no_lines}
 use Rattle.rdump_net.specs.declared.conclusion.Conclusion.{Conclusion}
 use Rattle.rdump_net.specs.declared.conclusion.Conclusion.TheVariants as ends
-use Rattle.rdump_net.specs.Keeping.{HasKept, IsDumpKept, IsKept, IsKeptConclusion, IsKeptUp, IsUnkept, KeptEnds, KeptKind, PutsOn, kept_ends, unkept_line}
+use Rattle.rdump_net.specs.Keeping.{HasKept, IsDumpKept, IsKept, IsKeptConclusion, IsKeptUp, IsUnkept, KeptDump, KeptEnds, KeptKind, PutsOn, kept_ends, plain_checkpoint, unkept_line}
 use Rattle.rdump_net.specs.Keeping.KeptDump.{none as not_begun, then_talk, then_print, then_put}
-use Rattle.rdump_net.proofs.Talking.{alone, talks_weaker}
-use Rattle.rdump_net.proofs.Printed.{lines_both, nothing_printed, printed_both}
+use Rattle.rdump_net.proofs.Growing.{grown_both, grown_none, grown_same, talk_goes}
+use Rattle.rdump_net.proofs.Talking.{alone, joined, talks_weaker}
+use Rattle.rdump_net.proofs.Printed.{dumped_so, lines_both, nothing_printed, printed_both}
 
--- this text was put last
-abbrev pub IsPutLast : Option (List ℕ) → List (List ℕ) → Type 0
-IsPutLast None texts = Unit {0}
-IsPutLast (Some text) texts = (before : List (List ℕ)) × (texts ≡ before ++ text ∷ [])
+-- The checkpoint that was put last counts `count` volumes. The client is in its run still, and has its counts and perhaps more.
+pub record IsLastOf (checkpoints : List PlainCheckpoint) (at : Standing) (count : ℕ) : Type 0 where
+  pub before : List PlainCheckpoint
+  pub run : PlainRun
+  pub counts : List VolumeCount
+  pub put : checkpoints ≡ before ++ plain_checkpoint run counts ∷ []
+  pub same : at.run ≡ run
+  pub grown : HasGrown counts at.counts
+  pub many : count ≡ length counts
 
--- a text that was put last is that of where the client stands
-kept_last : (kept : Option (List ℕ)) (texts : List (List ℕ)) (at : Standing) → kept ≡ Some (checkpoint_text at.run at.counts) → IsPutLast kept texts → IsKept texts at
-kept_last kept texts at e h = subst (λ q. IsPutLast q texts) e h
+-- the same, if one was put
+abbrev pub IsPutLast : Option ℕ → List PlainCheckpoint → Standing → Type 0
+IsPutLast None checkpoints at = Unit {0}
+IsPutLast (Some count) checkpoints at = IsLastOf checkpoints at count
+
+-- one that counts all volumes of the client is that of the client
+last_kept : (checkpoints : List PlainCheckpoint) (at : Standing) → IsLastOf checkpoints at (length at.counts) → IsKept checkpoints at
+last_kept checkpoints at h = (
+  h.before,
+  h.put ∙ ap (λ (run : PlainRun). h.before ++ plain_checkpoint run h.counts ∷ []) (sym h.same)
+      ∙ ap (λ (counts : List VolumeCount). h.before ++ plain_checkpoint at.run counts ∷ []) (sym (grown_same h.counts at.counts h.grown h.many)),
+)
+
+kept_last : (kept : Option ℕ) (checkpoints : List PlainCheckpoint) (at : Standing) → kept ≡ Some (length at.counts) → IsPutLast kept checkpoints at → IsKept checkpoints at
+kept_last kept checkpoints at e h = last_kept checkpoints at (subst (λ q. IsPutLast q checkpoints at) e h)
+
+-- the client's own, just put
+just_put : (checkpoints : List PlainCheckpoint) (at : Standing) → IsLastOf (checkpoints ++ plain_checkpoint at.run at.counts ∷ []) at (length at.counts)
+just_put checkpoints at = record {
+  before = checkpoints;
+  run = at.run;
+  counts = at.counts;
+  put = refl;
+  same = refl;
+  grown = grown_none at.counts at.counts refl;
+  many = refl;
+}
+
+-- after the client went on
+later_last : (kept : Option ℕ) (checkpoints : List PlainCheckpoint) (at new : Standing) → (new.run ≡ at.run) × HasGrown at.counts new.counts
+    → IsPutLast kept checkpoints at → IsPutLast kept checkpoints new
+later_last None checkpoints at new goes h = tt
+later_last (Some count) checkpoints at new goes h = record {
+  before = h.before;
+  run = h.run;
+  counts = h.counts;
+  put = h.put;
+  same = goes.0 ∙ h.same;
+  grown = grown_both h.counts at.counts new.counts h.grown goes.1;
+  many = h.many;
+}
 
 -- an end that is not that of a refusal
 kept_conclusion : (whole : Bool) (at : Standing) (last : List ℕ) (end : Conclusion) → IsConclusion whole at last end → IsKeptConclusion whole at last end
@@ -35,23 +84,38 @@ kept_conclusion false at last ends.Abandoned h = h
 kept_conclusion false at last ends.PrintFailed h = h
 kept_conclusion false at last ends.Unkept h = absurd h
 
-module _ {K : Type 0} (puts : K → List (List ℕ) → Type 0) where
+plain_conclusion : (whole : Bool) (at : Standing) (last : List ℕ) (end : Conclusion) → (end ≡ ends.Unkept → ⊥) → IsKeptConclusion whole at last end
+    → IsConclusion whole at last end
+plain_conclusion true at last ends.Complete other h = h
+plain_conclusion true at last ends.Abandoned other h = h
+plain_conclusion true at last ends.PrintFailed other h = h
+plain_conclusion true at last ends.Unkept other h = absurd (other refl)
+plain_conclusion false at last ends.Complete other h = h
+plain_conclusion false at last ends.Abandoned other h = h
+plain_conclusion false at last ends.PrintFailed other h = h
+plain_conclusion false at last ends.Unkept other h = absurd (other refl)
+
+never_unkept : (whole : Bool) (at : Standing) (last : List ℕ) (end : Conclusion) → IsConclusion whole at last end → end ≡ ends.Unkept → ⊥
+never_unkept true at last end h e = subst (IsConclusion true at last) e h
+never_unkept false at last end h e = subst (IsConclusion false at last) e h
+
+module _ {K : Type 0} (puts : K → List PlainCheckpoint → Type 0) where
   put_none : (a : K) → PutsOn puts a a []
   put_none a log h = subst (puts a) (sym (append-nil log)) h
 
-  put_both : (a b c : K) (one two : List (List ℕ)) → PutsOn puts a b one → PutsOn puts b c two → PutsOn puts a c (one ++ two)
+  put_both : (a b c : K) (one two : List PlainCheckpoint) → PutsOn puts a b one → PutsOn puts b c two → PutsOn puts a c (one ++ two)
   put_both a b c one two h k log t = subst (puts c) (append_assoc log one two) (k (log ++ one) (h log t))
 
-  put_no_more : (a b c : K) (one : List (List ℕ)) → PutsOn puts a b one → PutsOn puts b c [] → PutsOn puts a c one
+  put_no_more : (a b c : K) (one : List PlainCheckpoint) → PutsOn puts a b one → PutsOn puts b c [] → PutsOn puts a c one
   put_no_more a b c one h k = subst (PutsOn puts a c) (append-nil one) (put_both a b c one [] h k)
 
--- what was done so far, and the text that was put last
-pub record IsOn {B P W K : Type 0} (k : KeptKind B P W K) (old new : KeptEnds B P W K) (text : List ℕ) (kept : Option (List ℕ)) (fed : List ℕ) : Type 0 where
+-- what was done so far, and the checkpoint that was put last
+pub record IsOn {B P W K : Type 0} (k : KeptKind B P W K) (old new : KeptEnds B P W K) (text : List ℕ) (kept : Option ℕ) (fed : List ℕ) : Type 0 where
   pub has : HasKept k old new text fed
-  pub last : IsPutLast kept has.texts
+  pub last : IsPutLast kept has.checkpoints new.client.at
 
 -- a dump so far, between two rounds
-pub record KeptSoFar {B P W K : Type 0} (k : KeptKind B P W K) (old new : KeptEnds B P W K) (kept : Option (List ℕ)) : Type 0 where
+pub record KeptSoFar {B P W K : Type 0} (k : KeptKind B P W K) (old new : KeptEnds B P W K) (kept : Option ℕ) : Type 0 where
   pub text : List ℕ
   pub same : (payload : List (List ℕ)) → k.holds old.client.source payload → k.holds new.client.source payload
   pub on : (fed : List ℕ) → HasFed old.client fed → IsOn k old new text kept fed
@@ -64,7 +128,7 @@ module _ {B P W K : Type 0} (k : KeptKind B P W K) where
     text = [];
     same = λ payload h. h;
     on = λ fed h. record {
-      has = record { passed = []; texts = []; later = fed; dumped = not_begun; keeps = h; logs = alone k.tells e.peer; put = put_none k.puts e.keeper };
+      has = record { passed = []; checkpoints = []; later = fed; dumped = not_begun; keeps = h; logs = alone k.tells e.peer; put = put_none k.puts e.keeper };
       last = tt;
     };
     lines = no_lines;
@@ -72,8 +136,8 @@ module _ {B P W K : Type 0} (k : KeptKind B P W K) where
   }
 
   -- the client's checkpoint is kept
-  pub kept_up : (old new : KeptEnds B P W K) (kept after : Option (List ℕ)) (keeper : K) → KeptSoFar k old new kept
-      → IsKeptUp k.puts (checkpoint_text new.client.at.run new.client.at.counts) kept true after new.keeper keeper
+  pub kept_up : (old new : KeptEnds B P W K) (kept after : Option ℕ) (keeper : K) → KeptSoFar k old new kept
+      → IsKeptUp k.puts (plain_checkpoint new.client.at.run new.client.at.counts) kept true after new.keeper keeper
       → KeptSoFar k old (kept_ends new.client new.peer new.out keeper) after
   kept_up old new kept after keeper s (e, inl (same, put)) = record {
     text = s.text;
@@ -83,14 +147,14 @@ module _ {B P W K : Type 0} (k : KeptKind B P W K) where
         record {
           has = record {
             passed = one.has.passed;
-            texts = one.has.texts;
+            checkpoints = one.has.checkpoints;
             later = one.has.later;
             dumped = one.has.dumped;
             keeps = one.has.keeps;
             logs = one.has.logs;
-            put = put_no_more k.puts old.keeper new.keeper keeper one.has.texts one.has.put put;
+            put = put_no_more k.puts old.keeper new.keeper keeper one.has.checkpoints one.has.put put;
           };
-          last = subst (λ q. IsPutLast q one.has.texts) (same ∙ sym e) one.last;
+          last = subst (λ q. IsPutLast q one.has.checkpoints new.client.at) (same ∙ sym e) one.last;
         };
     lines = s.lines;
     printed = s.printed;
@@ -100,26 +164,26 @@ module _ {B P W K : Type 0} (k : KeptKind B P W K) where
     same = s.same;
     on = λ fed h.
         let one = s.on fed h in
-        let text = checkpoint_text new.client.at.run new.client.at.counts in
+        let own = plain_checkpoint new.client.at.run new.client.at.counts in
         record {
           has = record {
             passed = one.has.passed;
-            texts = one.has.texts ++ text ∷ [];
+            checkpoints = one.has.checkpoints ++ own ∷ [];
             later = one.has.later;
             dumped = then_put one.has.dumped s.lines;
             keeps = one.has.keeps;
             logs = one.has.logs;
-            put = put_both k.puts old.keeper new.keeper keeper one.has.texts (text ∷ []) one.has.put put;
+            put = put_both k.puts old.keeper new.keeper keeper one.has.checkpoints (own ∷ []) one.has.put put;
           };
-          last = subst (λ q. IsPutLast q (one.has.texts ++ text ∷ [])) (sym e) (one.has.texts, refl);
+          last = subst (λ q. IsPutLast q (one.has.checkpoints ++ own ∷ []) new.client.at) (sym e) (just_put one.has.checkpoints new.client.at);
         };
     lines = s.lines;
     printed = s.printed;
   }
 
   -- a round of talk, from where the client's checkpoint is kept
-  talked_on : (old new : KeptEnds B P W K) (kept : Option (List ℕ)) (c : ClientHeld B) (p : P) → (s : KeptSoFar k old new kept)
-      → kept ≡ Some (checkpoint_text new.client.at.run new.client.at.counts)
+  talked_on : (old new : KeptEnds B P W K) (kept : Option ℕ) (c : ClientHeld B) (p : P) → (s : KeptSoFar k old new kept)
+      → kept ≡ Some (length new.client.at.counts)
       → TalksOver k.holds (FromThis new.client.at) k.tells new.client c new.peer p
       → (fed : List ℕ) → HasFed old.client fed → IsOn k old (kept_ends c p new.out new.keeper) s.text kept fed
   talked_on old new kept c p s e t fed h =
@@ -128,19 +192,19 @@ module _ {B P W K : Type 0} (k : KeptKind B P W K) where
       record {
         has = record {
           passed = one.has.passed ++ two.passed;
-          texts = one.has.texts;
+          checkpoints = one.has.checkpoints;
           later = two.later;
           dumped = then_talk one.has.dumped
-              (talks_weaker s.same (λ at is. subst (IsKept one.has.texts) (sym is) (kept_last kept one.has.texts new.client.at e one.last)) two.talks);
+              (talks_weaker s.same (λ at is. subst (IsKept one.has.checkpoints) (sym is) (kept_last kept one.has.checkpoints new.client.at e one.last)) two.talks);
           keeps = two.keeps;
           logs = λ log told. subst (k.tells p) (append_assoc log one.has.passed two.passed) (two.logs (log ++ one.has.passed) (one.has.logs log told));
           put = one.has.put;
         };
-        last = one.last;
+        last = later_last kept one.has.checkpoints new.client.at c.at (talk_goes two.talks) one.last;
       }
 
-  pub round_on : (old new : KeptEnds B P W K) (kept : Option (List ℕ)) (c : ClientHeld B) (p : P) (out : Counting W) → KeptSoFar k old new kept
-      → kept ≡ Some (checkpoint_text new.client.at.run new.client.at.counts)
+  pub round_on : (old new : KeptEnds B P W K) (kept : Option ℕ) (c : ClientHeld B) (p : P) (out : Counting W) → KeptSoFar k old new kept
+      → kept ≡ Some (length new.client.at.counts)
       → TalksOver k.holds (FromThis new.client.at) k.tells new.client c new.peer p
       → IsRound k.contents new.client.at.counts c.at new.out out None → KeptSoFar k old (kept_ends c p out new.keeper) kept
   round_on old new kept c p out s e t r = record {
@@ -151,7 +215,7 @@ module _ {B P W K : Type 0} (k : KeptKind B P W K) where
         record {
           has = record {
             passed = one.has.passed;
-            texts = one.has.texts;
+            checkpoints = one.has.checkpoints;
             later = one.has.later;
             dumped = then_print r.0 one.has.dumped;
             keeps = one.has.keeps;
@@ -165,8 +229,8 @@ module _ {B P W K : Type 0} (k : KeptKind B P W K) where
   }
 
   -- the last round
-  pub round_ends : (old new : KeptEnds B P W K) (kept : Option (List ℕ)) (c : ClientHeld B) (p : P) (out : Counting W) (end : Conclusion) → KeptSoFar k old new kept
-      → kept ≡ Some (checkpoint_text new.client.at.run new.client.at.counts)
+  pub round_ends : (old new : KeptEnds B P W K) (kept : Option ℕ) (c : ClientHeld B) (p : P) (out : Counting W) (end : Conclusion) → KeptSoFar k old new kept
+      → kept ≡ Some (length new.client.at.counts)
       → TalksOver k.holds (FromThis new.client.at) k.tells new.client c new.peer p
       → IsRound k.contents new.client.at.counts c.at new.out out (Some end) → (end ≡ ends.Complete → c.at ≡ new.client.at)
       → IsDumpKept k old (kept_ends c p out new.keeper) end
@@ -182,14 +246,14 @@ module _ {B P W K : Type 0} (k : KeptKind B P W K) where
         record {
           has = record {
             passed = one.has.passed;
-            texts = one.has.texts;
+            checkpoints = one.has.checkpoints;
             later = one.has.later;
             dumped = one.has.dumped;
             keeps = one.has.keeps;
             logs = one.has.logs;
             put = one.has.put;
           };
-          last = λ complete. inr (subst (IsKept one.has.texts) (sym (still complete)) (kept_last kept one.has.texts new.client.at e one.last));
+          last = λ complete. inr (kept_last kept one.has.checkpoints c.at (e ∙ ap (λ (a : Standing). Some (length a.counts)) (sym (still complete))) one.last);
         };
     printed = s.printed;
     told = r.printed;
@@ -198,10 +262,10 @@ module _ {B P W K : Type 0} (k : KeptKind B P W K) where
   }
 
   -- the end of a dump that does nothing more but to print its last line
-  last_line : (old new : KeptEnds B P W K) (kept : Option (List ℕ)) (out : Counting W) (keeper : K) (last : List ℕ) (whole : Bool) (end : Conclusion)
+  last_line : (old new : KeptEnds B P W K) (kept : Option ℕ) (out : Counting W) (keeper : K) (last : List ℕ) (whole : Bool) (end : Conclusion)
       → KeptSoFar k old new kept → PutsOn k.puts new.keeper keeper [] → IsPrinted k.contents last new.out out whole
       → IsKeptConclusion whole new.client.at last end
-      → (end ≡ ends.Complete → (new.client.at ≡ old.client.at) ⊎ (kept ≡ Some (checkpoint_text new.client.at.run new.client.at.counts)))
+      → (end ≡ ends.Complete → (new.client.at ≡ old.client.at) ⊎ (kept ≡ Some (length new.client.at.counts)))
       → IsDumpKept k old (kept_ends new.client new.peer out keeper) end
   last_line old new kept out keeper last whole end s put printed is still = record {
     text = s.text;
@@ -215,16 +279,16 @@ module _ {B P W K : Type 0} (k : KeptKind B P W K) where
         record {
           has = record {
             passed = one.has.passed;
-            texts = one.has.texts;
+            checkpoints = one.has.checkpoints;
             later = one.has.later;
             dumped = one.has.dumped;
             keeps = one.has.keeps;
             logs = one.has.logs;
-            put = put_no_more k.puts old.keeper new.keeper keeper one.has.texts one.has.put put;
+            put = put_no_more k.puts old.keeper new.keeper keeper one.has.checkpoints one.has.put put;
           };
           last = λ complete. elim (still complete) [
             | inl same ↦ inl same
-            | inr up ↦ inr (kept_last kept one.has.texts new.client.at up one.last)
+            | inr up ↦ inr (kept_last kept one.has.checkpoints new.client.at up one.last)
           ];
         };
     printed = s.printed;
@@ -233,16 +297,55 @@ module _ {B P W K : Type 0} (k : KeptKind B P W K) where
     ends = is;
   }
 
-  pub unkept_ends : (old new : KeptEnds B P W K) (kept after : Option (List ℕ)) (out : Counting W) (keeper : K) (end : Conclusion) → KeptSoFar k old new kept
-      → IsKeptUp k.puts (checkpoint_text new.client.at.run new.client.at.counts) kept false after new.keeper keeper
+  pub unkept_ends : (old new : KeptEnds B P W K) (kept after : Option ℕ) (out : Counting W) (keeper : K) (end : Conclusion) → KeptSoFar k old new kept
+      → IsKeptUp k.puts (plain_checkpoint new.client.at.run new.client.at.counts) kept false after new.keeper keeper
       → IsUnkept k.contents new.out out end → IsDumpKept k old (kept_ends new.client new.peer out keeper) end
   unkept_ends old new kept after out keeper end s put u =
       last_line old new kept out keeper unkept_line u.1.0 end s put u.1.1
       (subst (IsKeptConclusion u.1.0 new.client.at unkept_line) (sym u.0) refl) (λ complete. (let clash = sym u.0 ∙ complete in absurd cc))
 
-  pub finish_ends : (old new : KeptEnds B P W K) (kept : Option (List ℕ)) (out : Counting W) (end : Conclusion) → KeptSoFar k old new kept
+  pub finish_ends : (old new : KeptEnds B P W K) (kept : Option ℕ) (out : Counting W) (end : Conclusion) → KeptSoFar k old new kept
       → IsFinish k.contents new.client.at new.out out end
-      → (new.client.at ≡ old.client.at) ⊎ (kept ≡ Some (checkpoint_text new.client.at.run new.client.at.counts))
+      → (new.client.at ≡ old.client.at) ⊎ (kept ≡ Some (length new.client.at.counts))
       → IsDumpKept k old (kept_ends new.client new.peer out new.keeper) end
   finish_ends old new kept out end s f up =
       last_line old new kept out new.keeper f.0 f.1 end s (put_none k.puts new.keeper) f.2 (kept_conclusion f.1 new.client.at f.0 end f.3) (λ complete. up)
+
+  -- the client's calls are those of a dump without a keeper
+  kept_talks : {told : List (List ℕ) → Type 0} {start : Standing} {first : List ℕ} {passed : List Passed} {text : List ℕ} {put : List PlainCheckpoint} {at : Standing} {fed : List ℕ}
+      → KeptDump told start first passed text put at fed → Talks told FromAny start first passed at fed
+  kept_talks not_begun = no_talk
+  kept_talks (then_talk before talks) = joined (kept_talks before) (talks_weaker (λ payload h. h) (λ at h. tt) talks)
+  kept_talks (then_print line before) = kept_talks before
+  kept_talks (then_put before lines) = kept_talks before
+
+  pub dump_talks : (old new : KeptEnds B P W K) (end : Conclusion) → IsDumpKept k old new end
+      → TalksOver k.holds FromAny k.tells old.client new.client old.peer new.peer
+  dump_talks old new end h = record {
+    same = h.same;
+    talked = λ fed has.
+        let one = h.kept fed has in
+        record { passed = one.has.passed; later = one.has.later; talks = kept_talks one.has.dumped; keeps = one.has.keeps; logs = one.has.logs };
+  }
+
+  -- so are its lines, if the keeper does not fail
+  pub dump_printed : (old new : KeptEnds B P W K) (end : Conclusion) (status : ExitStatus) → status ≡ conclusion_status end → (end ≡ ends.Unkept → ⊥)
+      → IsDumpKept k old new end → IsDumped k.contents old.client.at.counts new.client.at old.out new.out status
+  dump_printed old new end status e other h = dumped_so k.contents old.client.at.counts new.client.at old.out new.out end status e record {
+    text = h.text ++ h.rest;
+    last = h.last;
+    whole = h.whole;
+    lines = h.lines;
+    printed = subst (λ t. IsPrinted k.contents t old.out new.out h.whole) (sym (append_assoc h.text h.rest h.last))
+        (printed_both k.contents h.text (h.rest ++ h.last) old.out h.middle new.out h.whole h.printed h.told);
+    ends = plain_conclusion h.whole new.client.at h.last end other h.ends;
+  }
+
+-- a dump whose round is its last does not end as one whose keeper failed
+pub round_not_unkept : {W : Type 0} (contents : W → Option (List ℕ)) (first : List VolumeCount) (at : Standing) (out out' : Counting W) (end : Conclusion)
+    → IsRound contents first at out out' (Some end) → end ≡ ends.Unkept → ⊥
+round_not_unkept contents first at out out' end h = never_unkept h.whole at h.last end h.ends
+
+pub finish_not_unkept : {W : Type 0} (contents : W → Option (List ℕ)) (at : Standing) (out out' : Counting W) (end : Conclusion)
+    → IsFinish contents at out out' end → end ≡ ends.Unkept → ⊥
+finish_not_unkept contents at out out' end h = never_unkept h.1 at h.0 end h.3

@@ -47,7 +47,7 @@ pub talks_weaker : {told less : List (List ℕ) → Type 0} → ((payload : List
 talks_weaker f w none = none
 talks_weaker f w (one_more before step) = one_more (talks_weaker f w before) (step_weaker f w step)
 
-joined : {told : List (List ℕ) → Type 0} {allows : Standing → Type 0} {a b : Standing} {fa fb : List ℕ} {one : List Passed} → Talks told allows a fa one b fb
+pub joined : {told : List (List ℕ) → Type 0} {allows : Standing → Type 0} {a b : Standing} {fa fb : List ℕ} {one : List Passed} → Talks told allows a fa one b fb
     → {two : List Passed} {c : Standing} {fc : List ℕ} → Talks told allows b fb two c fc → Talks told allows a fa (one ++ two) c fc
 joined {told} {allows} {a} {b} {fa} {fb} {one} first none = subst (λ passed. Talks told allows a fa passed b fb) (sym (append-nil one)) first
 joined {told} {allows} {a} {b} {fa} {fb} {one} first {c = c} {fc = fc} (one_more {passed = passed} {more = more} before step) =

@@ -1,9 +1,10 @@
 -- A dump that keeps its checkpoint. Public contracts cite it.
-use Rattle.std.specs.Prelude.{◌≡◌, ◌⊎◌, ℕ, Bool, true, false, List, [], ◌∷◌, ◌++◌, Option, Some, option_map, codes, Vec}
-use Rattle.std.specs.Global.{Global}
+use Rattle.std.specs.Prelude.{◌≡◌, ◌⊎◌, ℕ, Bool, true, false, List, [], ◌∷◌, ◌++◌, length, Option, Some, codes}
 use Rattle.rmt_wire.specs.Counted.{Counting}
 use Rattle.rmt_wire.specs.Print.{IsPrinted}
-use Rattle.dump_run.specs.Checkpoint.{checkpoint_text}
+use Rattle.dump_run.specs.Checkpoint.{PlainCheckpoint}
+use Rattle.dump_run.specs.Run.{PlainRun}
+use Rattle.dump_run.specs.declared.count.VolumeCount.{VolumeCount}
 use Rattle.dump_client.specs.Standing.{Standing}
 use Rattle.dump_client.specs.Client.{ClientHeld, HasFed}
 use Rattle.rdump_net.specs.Peer.{Logs}
@@ -13,33 +14,37 @@ use Rattle.rdump_net.specs.declared.conclusion.Conclusion.{Conclusion}
 use Rattle.rdump_net.specs.declared.conclusion.Conclusion.TheVariants.{Complete, Unkept}
 use Rattle.rdump_net.specs.declared.peer.Passed.{Passed}
 
--- these texts were put into the keeper, and appended to its log
-abbrev pub PutsOn : {K : Type 0} → (K → List (List ℕ) → Type 0) → K → K → List (List ℕ) → Type 0
-PutsOn puts old new texts = (log : List (List ℕ)) → puts old log → puts new (log ++ texts)
+-- makes a `PlainCheckpoint`
+abbrev pub plain_checkpoint : PlainRun → List VolumeCount → PlainCheckpoint
+plain_checkpoint run counts = record { run = run; counts = counts }
 
--- a list with the text, if the keeper took it, or else an empty list
-abbrev pub put_if : List ℕ → Bool → List (List ℕ)
-put_if text true = text ∷ []
-put_if text false = []
+-- these checkpoints were appended to the keeper's log
+abbrev pub PutsOn : {K : Type 0} → (K → List PlainCheckpoint → Type 0) → K → K → List PlainCheckpoint → Type 0
+PutsOn puts old new put = (log : List PlainCheckpoint) → puts old log → puts new (log ++ put)
 
--- the last text put into the keeper is the checkpoint of a client in this state
-abbrev pub IsKept : List (List ℕ) → Standing → Type 0
-IsKept texts at = (before : List (List ℕ)) × (texts ≡ before ++ checkpoint_text at.run at.counts ∷ [])
+-- the checkpoint, if it was put
+abbrev pub put_if : PlainCheckpoint → Bool → List PlainCheckpoint
+put_if checkpoint true = checkpoint ∷ []
+put_if checkpoint false = []
 
--- What a dump did so far: what passed at the peer, what was printed, the texts that were put into
--- the keeper, and the client's state. An attempt starts only if the last text put is the client's
--- checkpoint. A text is put only after the lines of all volumes counted in it are printed.
+-- the last checkpoint put is that of a client in this state
+abbrev pub IsKept : List PlainCheckpoint → Standing → Type 0
+IsKept put at = (before : List PlainCheckpoint) × (put ≡ before ++ plain_checkpoint at.run at.counts ∷ [])
+
+-- What a dump did so far: what passed at the peer, what was printed, the checkpoints that were put,
+-- and the client's state. An attempt starts only if the last checkpoint put is the client's. A
+-- checkpoint is put only after the lines of all volumes counted in it are printed.
 pub data KeptDump (told : List (List ℕ) → Type 0) (start : Standing) (first : List ℕ)
-    : List Passed → List ℕ → List (List ℕ) → Standing → List ℕ → Type 0 where
+    : List Passed → List ℕ → List PlainCheckpoint → Standing → List ℕ → Type 0 where
   none : KeptDump told start first [] [] [] start first
-  then_talk : {passed more : List Passed} {text : List ℕ} {texts : List (List ℕ)} {before after : Standing} {fed later : List ℕ}
-      → KeptDump told start first passed text texts before fed → Talks told (IsKept texts) before fed more after later
-      → KeptDump told start first (passed ++ more) text texts after later
-  then_print : {passed : List Passed} {text : List ℕ} {texts : List (List ℕ)} {at : Standing} {fed : List ℕ} (line : List ℕ)
-      → KeptDump told start first passed text texts at fed → KeptDump told start first passed (text ++ line) texts at fed
-  then_put : {passed : List Passed} {text : List ℕ} {texts : List (List ℕ)} {at : Standing} {fed : List ℕ}
-      → KeptDump told start first passed text texts at fed → DumpLines start.counts at.counts text
-      → KeptDump told start first passed text (texts ++ checkpoint_text at.run at.counts ∷ []) at fed
+  then_talk : {passed more : List Passed} {text : List ℕ} {put : List PlainCheckpoint} {before after : Standing} {fed later : List ℕ}
+      → KeptDump told start first passed text put before fed → Talks told (IsKept put) before fed more after later
+      → KeptDump told start first (passed ++ more) text put after later
+  then_print : {passed : List Passed} {text : List ℕ} {put : List PlainCheckpoint} {at : Standing} {fed : List ℕ} (line : List ℕ)
+      → KeptDump told start first passed text put at fed → KeptDump told start first passed (text ++ line) put at fed
+  then_put : {passed : List Passed} {text : List ℕ} {put : List PlainCheckpoint} {at : Standing} {fed : List ℕ}
+      → KeptDump told start first passed text put at fed → DumpLines start.counts at.counts text
+      → KeptDump told start first passed text (put ++ plain_checkpoint at.run at.counts ∷ []) at fed
 
 -- the client, the peer, the output and the keeper of a dump
 pub record KeptEnds (B P W K : Type 0) : Type 0 where
@@ -53,27 +58,27 @@ abbrev pub kept_ends : {B P W K : Type 0} → ClientHeld B → P → Counting W 
 kept_ends client peer out keeper = record { client = client; peer = peer; out = out; keeper = keeper }
 
 -- the logs of these four: the source's blocks, what passed at the peer, what was written to the
--- output, the texts that were put
+-- output, the checkpoints that were put
 pub record KeptKind (B P W K : Type 0) : Type 1 where
   pub holds : B → List (List ℕ) → Type 0
   pub tells : P → List Passed → Type 0
   pub contents : W → Option (List ℕ)
-  pub puts : K → List (List ℕ) → Type 0
+  pub puts : K → List PlainCheckpoint → Type 0
 
 -- makes a `KeptKind`
 abbrev pub kept_kind : {B P W K : Type 0} → (B → List (List ℕ) → Type 0) → (P → List Passed → Type 0) → (W → Option (List ℕ))
-    → (K → List (List ℕ) → Type 0) → KeptKind B P W K
+    → (K → List PlainCheckpoint → Type 0) → KeptKind B P W K
 kept_kind holds tells contents puts = record { holds = holds; tells = tells; contents = contents; puts = puts }
 
 -- what a dump did while it printed `text`, which is what the peer and the keeper logged
 pub record HasKept {B P W K : Type 0} (k : KeptKind B P W K) (old new : KeptEnds B P W K) (text : List ℕ) (fed : List ℕ) : Type 0 where
   pub passed : List Passed
-  pub texts : List (List ℕ)
+  pub checkpoints : List PlainCheckpoint
   pub later : List ℕ
-  pub dumped : KeptDump (k.holds old.client.source) old.client.at fed passed text texts new.client.at later
+  pub dumped : KeptDump (k.holds old.client.source) old.client.at fed passed text checkpoints new.client.at later
   pub keeps : HasFed new.client later
   pub logs : Logs k.tells old.peer new.peer passed
-  pub put : PutsOn k.puts old.keeper new.keeper texts
+  pub put : PutsOn k.puts old.keeper new.keeper checkpoints
 
 -- the line that is printed if the checkpoint could not be kept
 abbrev pub unkept_line : List ℕ
@@ -84,14 +89,14 @@ abbrev pub IsKeptConclusion : Bool → Standing → List ℕ → Conclusion → 
 IsKeptConclusion whole at last Unkept = last ≡ unkept_line
 IsKeptConclusion whole at last end = IsConclusion whole at last end
 
--- What a dump did up to its end. If it is complete, and the client's state changed, the last text
--- that was kept is the client's checkpoint.
+-- What a dump did up to its end. If it is complete, and the client's state changed, the last
+-- checkpoint put is the client's.
 pub record HasKeptTo {B P W K : Type 0} (k : KeptKind B P W K) (old new : KeptEnds B P W K) (end : Conclusion) (text : List ℕ) (fed : List ℕ) : Type 0 where
   pub has : HasKept k old new text fed
-  pub last : end ≡ Complete → (new.client.at ≡ old.client.at) ⊎ IsKept has.texts new.client.at
+  pub last : end ≡ Complete → (new.client.at ≡ old.client.at) ⊎ IsKept has.checkpoints new.client.at
 
--- A dump that keeps its checkpoint. All that it printed up to the last text put was printed whole.
--- Then come the remaining lines and the last line.
+-- A dump that keeps its checkpoint. All that it printed up to the last checkpoint put was printed
+-- whole. Then come the remaining lines and the last line.
 pub record IsDumpKept {B P W K : Type 0} (k : KeptKind B P W K) (old new : KeptEnds B P W K) (end : Conclusion) : Type 0 where
   pub text : List ℕ
   pub rest : List ℕ
@@ -105,16 +110,12 @@ pub record IsDumpKept {B P W K : Type 0} (k : KeptKind B P W K) (old new : KeptE
   pub lines : DumpLines old.client.at.counts new.client.at.counts (text ++ rest)
   pub ends : IsKeptConclusion whole new.client.at last end
 
--- the bytes of a text that was kept
-abbrev pub plain_kept : Option (Vec ℕ Global) → Option (List ℕ)
-plain_kept kept = option_map (λ held. held.items) kept
-
--- The result of keeping a text. True: the text was put, unless it was the last one kept. False:
--- nothing was put.
-abbrev pub IsKeptUp : {K : Type 0} → (K → List (List ℕ) → Type 0) → List ℕ → Option (List ℕ) → Bool → Option (List ℕ) → K → K → Type 0
-IsKeptUp puts text old true new k k' =
-    (new ≡ Some text) × (((old ≡ Some text) × PutsOn puts k k' []) ⊎ PutsOn puts k k' (text ∷ []))
-IsKeptUp puts text old false new k k' = PutsOn puts k k' []
+-- The result of keeping a checkpoint; `old` and `new` are how many volumes the last one kept counts.
+-- True: the checkpoint was put, unless the last one counts as many volumes. False: nothing was put.
+abbrev pub IsKeptUp : {K : Type 0} → (K → List PlainCheckpoint → Type 0) → PlainCheckpoint → Option ℕ → Bool → Option ℕ → K → K → Type 0
+IsKeptUp puts one old true new k k' =
+    (new ≡ Some (length one.counts)) × (((old ≡ Some (length one.counts)) × PutsOn puts k k' []) ⊎ PutsOn puts k k' (one ∷ []))
+IsKeptUp puts one old false new k k' = PutsOn puts k k' []
 
 -- the line was printed, perhaps not whole, and the dump ends as `Unkept`
 abbrev pub IsUnkept : {W : Type 0} → (W → Option (List ℕ)) → Counting W → Counting W → Conclusion → Type 0

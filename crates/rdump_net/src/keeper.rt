@@ -1,18 +1,27 @@
 //! The store for a dump's checkpoint.
-ghost use Rattle.rdump_net.specs.Keeping.{PutsOn, put_if};
+ghost use Rattle.std.specs.Prelude.{◌≡◌, false};
+ghost use Rattle.rdump_net.specs.Keeping.{PutsOn, plain_checkpoint, put_if};
 
-/// A store for the checkpoint of a dump: it holds one text, which each new one replaces.
+use dump_client::{Run, VolumeCount};
+
+/// A store for the checkpoint of a dump: it holds one checkpoint, which each new one replaces.
 ///
-/// An implementation may log the texts that were put, in order (the ghost `puts`). Clauses about
-/// that log hold only if it does.
+/// An implementation may log the checkpoints that were put, in order (the ghost `puts`). Clauses
+/// about that log hold only if it does.
 pub trait Keeper {
-    ghost use Rattle.std.specs.Prelude.{List, ℕ};
+    ghost use Rattle.std.specs.Prelude.{List};
+    ghost use Rattle.dump_run.specs.Checkpoint.{PlainCheckpoint};
 
-    /// The texts that were put so far, in order, if this keeper logs them.
-    ghost puts: { Self → List (List ℕ) → Type 0 };
+    /// The checkpoints that were put so far, in order, if this keeper logs them.
+    ghost puts: { Self → List PlainCheckpoint → Type 0 };
 
-    /// Replaces the stored text by this one. Returns whether it could; if not, the earlier text
-    /// stays.
-    fn keep(&mut self, text: &[u8]) -> bool
-        ensures { PutsOn puts self.old self.new (put_if text.now result) };
+    /// Whether a call can fail.
+    ghost can_fail: { Self → Type 0 };
+
+    /// Replaces the stored checkpoint by that of this run, with these counted volumes. Returns
+    /// whether it could; if not, the earlier checkpoint stays.
+    fn keep(&mut self, run: &Run, counts: &[VolumeCount]) -> bool
+        ensures put { PutsOn puts self.old self.new (put_if (plain_checkpoint run.now counts.now) result) }
+        ensures able { result ≡ false → can_fail self.old }
+        ensures quiet { can_fail self.new → can_fail self.old };
 }

@@ -1,24 +1,69 @@
-//! A dump that keeps its checkpoint.
-ghost use Rattle.std.specs.Prelude.{◌≡◌, IsTrue, Some};
-ghost use Rattle.dump_run.specs.Checkpoint.{checkpoint_text};
-ghost use Rattle.rdump_net.specs.Keeping.{IsDumpKept, IsKeptUp, IsUnkept, kept_ends, kept_kind, plain_kept};
+//! A whole dump, which keeps its checkpoint or none.
+ghost use Rattle.std.specs.Prelude.{◌≡◌, false};
+ghost use Rattle.rdump_net.specs.Keeping.{IsDumpKept, IsKeptUp, IsUnkept, kept_ends, kept_kind, plain_checkpoint};
+ghost use Rattle.rdump_net.specs.Lines.{IsDumped};
+ghost use Rattle.rdump_net.specs.Talk.{FromAny, TalksOver};
+ghost use Rattle.rdump_net.specs.declared.conclusion.Conclusion.TheVariants as ends;
 
 use crate::rounds::{finish, round};
 use crate::{Conclusion, Keeper, Peer};
-use dump_client::{Blocks, Client, State};
+use dump_client::{Blocks, Client, Run, State, VolumeCount};
+use exit_status::ExitStatus;
 use rmt_wire::{Counted, print_text};
 use std::alloc::Global;
 use std::io::{Read, Write};
 
+/// Stores nothing.
+#[derive(Drop)]
+struct NoKeeper;
+
+impl Keeper for NoKeeper {
+    ghost puts = { λ _ _. ⊥ };
+
+    ghost can_fail = { λ _. ⊥ };
+
+    fn keep(&mut self, _run: &Run, _counts: &[VolumeCount]) -> bool {
+        true
+    }
+}
+
+/// Has a client write its run over a peer, each volume over a connection of its own, and prints the
+/// outcome.
+///
+/// For each counted volume it prints `volume 1: 2 blocks from 0`, and at the end
+/// `dump complete: 2 volumes, 3 blocks`.
+///
+/// If an attempt fails, it prints `volume 1 failed: Refused 16`, with the fault's name, and
+/// `retry?`, and reads one line from the operator. After `yes` it tries the volume again; after
+/// anything else it prints `dump abandoned`. If the peer does not let an attempt begin, it prints
+/// `retry?` alone and reads a line too; after `yes` it asks the peer again.
+///
+/// Returns the exit status of `rdump dump`: `Success` if the run is finished and every line was
+/// printed, else `Abnormal`. After a write that fails it does nothing more.
+pub fn dump<B: Blocks, P: Peer, R: Read, W: Write>(
+    alloc: Global,
+    client: &mut Client<B>,
+    peer: &mut P,
+    operator: &mut R,
+    out: &mut Counted<W>,
+) -> ExitStatus
+    ensures talks { TalksOver B.holds FromAny P.tells client.old client.new peer.old peer.new }
+    ensures printed { IsDumped W.contents client.old.at.counts client.new.at out.old out.new result }
+{
+    let mut keeper = NoKeeper;
+    let end = dump_kept(alloc, client, peer, operator, out, &mut keeper);
+    end.status()
+}
+
 /// Has a client write its run over a peer, as `dump` does, and keeps its checkpoint with `keeper`.
 ///
 /// It keeps the checkpoint before the first attempt, and after each count once the count's line is
-/// printed. It keeps nothing for a run that is finished or abandoned at the start.
+/// printed. It keeps nothing for a run that is finished or abandoned at the start, and nothing
+/// after an attempt that counted nothing.
 ///
-/// If the keeper fails, or an allocation for the text fails, it prints `checkpoint not written`,
-/// starts no further attempt, and returns `Unkept`. It returns `Complete` for a run that it has
-/// changed only if the last text kept is the client's checkpoint. After a failed attempt it
-/// allocates nothing for the text.
+/// If the keeper fails, it prints `checkpoint not written`, starts no further attempt, and returns
+/// `Unkept`. It returns `Complete` for a run that it has changed only if the last checkpoint kept
+/// is the client's.
 ///
 /// Returns how the dump ended: see `Conclusion`.
 pub fn dump_kept<B: Blocks, P: Peer, R: Read, W: Write, K: Keeper>(
@@ -29,67 +74,50 @@ pub fn dump_kept<B: Blocks, P: Peer, R: Read, W: Write, K: Keeper>(
     out: &mut Counted<W>,
     keeper: &mut K,
 ) -> Conclusion
-    ensures { IsDumpKept (kept_kind B.holds P.tells W.contents K.puts) (kept_ends client.old peer.old out.old keeper.old)
+    ensures kept { IsDumpKept (kept_kind B.holds P.tells W.contents K.puts) (kept_ends client.old peer.old out.old keeper.old)
         (kept_ends client.new peer.new out.new keeper.new) result }
+    ensures able { result ≡ ends.Unkept → K.can_fail keeper.old }
 {
     match client.state() {
         State::Finished | State::Abandoned => return finish(client, out),
         _ => {}
     }
-    let (mut text, mut checkpoint, mut kept) = (Vec::new(alloc), Vec::new(alloc), None);
+    let (mut text, mut kept) = (Vec::new(alloc), None);
     for _ in 0..u64::MAX {
-        if !keep_up(client, &mut checkpoint, &mut kept, keeper) {
+        if !keep_up(client, &mut kept, keeper) {
             return unkept(out);
         }
         if let Some(end) = round(client, peer, operator, out, &mut text) {
             return end;
         }
     }
-    if !keep_up(client, &mut checkpoint, &mut kept, keeper) {
+    if !keep_up(client, &mut kept, keeper) {
         return unkept(out);
     }
     finish(client, out)
 }
 
-/// Keeps the client's checkpoint, unless the keeper has that text already. Returns whether it is
-/// kept now.
-///
-/// `text` is the buffer for the checkpoint's text; `kept` is the text that was kept last. The same
-/// text again needs no allocation. Returns false if an allocation or the keeper fails.
+/// Keeps the client's checkpoint, unless no volume was counted since that was done. Returns whether
+/// it is kept now. `kept` is the number of volumes that the last checkpoint counts.
 fn keep_up<B: Blocks, K: Keeper>(
     client: &Client<B>,
-    text: &mut Vec<u8>,
-    kept: &mut Option<Vec<u8>>,
+    kept: &mut Option<usize>,
     keeper: &mut K,
 ) -> bool
-    ensures { IsKeptUp K.puts (checkpoint_text client.now.at.run client.now.at.counts) (plain_kept kept.old) result
-        (plain_kept kept.new) keeper.old keeper.new }
+    ensures put { IsKeptUp K.puts (plain_checkpoint client.now.at.run client.now.at.counts) kept.old result kept.new
+        keeper.old keeper.new }
+    ensures able { result ≡ false → K.can_fail keeper.old }
+    ensures quiet { K.can_fail keeper.new → K.can_fail keeper.old }
 {
-    text.clear();
-    if client.checkpoint_text(text).is_err() {
-        return false;
-    }
-    if is_kept(kept, text) {
+    let counts = client.counted();
+    if *kept == Some(counts.len()) {
         return true;
     }
-    let Ok(copy) = text.clone() else {
-        return false;
-    };
-    if !keeper.keep(text) {
+    if !keeper.keep(client.run(), counts) {
         return false;
     }
-    *kept = Some(copy);
+    *kept = Some(counts.len());
     true
-}
-
-/// Whether this is the text that was kept last.
-fn is_kept(kept: &Option<Vec<u8>>, text: &[u8]) -> bool
-    ensures { IsTrue result → plain_kept kept.now ≡ Some text.now }
-{
-    match kept {
-        Some(kept) => kept.as_slice() == text,
-        None => false,
-    }
 }
 
 /// Prints that the checkpoint could not be kept. Returns `Unkept`, whether or not that was printed.

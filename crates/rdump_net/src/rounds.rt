@@ -1,11 +1,12 @@
-//! A whole dump: attempt after attempt, the lines that report them, and the operator's answers.
+//! The rounds of a dump: attempt after attempt, the lines that report them, and the operator's
+//! answers.
 ghost use Rattle.std.specs.Prelude.{◌≡◌, ◌≢◌, false, Some, length, drop, if◌then◌else◌};
 ghost use Rattle.dump_client.specs.Standing.{checkpoint_of};
-ghost use Rattle.rdump_net.specs.Lines.{DumpLines, IsDumped, IsFinish, IsRound, complete_line, count_lines, failure_lines};
+ghost use Rattle.rdump_net.specs.Lines.{DumpLines, IsFinish, IsRound, complete_line, count_lines, failure_lines};
 ghost use Rattle.rdump_net.specs.declared.attempt.Attempted.TheVariants.{NotStarted};
 ghost use Rattle.rdump_net.specs.declared.conclusion.Conclusion.TheVariants as ends;
 ghost use Rattle.rmt_wire.specs.Print.{IsPrinted};
-ghost use Rattle.rdump_net.specs.Talk.{FromAny, FromThis, TalksAlone, TalksOver};
+ghost use Rattle.rdump_net.specs.Talk.{FromThis, TalksAlone, TalksOver};
 
 use crate::attempt::{Attempted, attempt};
 use crate::lines::{LINE_ROOM, QUESTION, complete_text, failure_text, print_counts};
@@ -13,43 +14,8 @@ use crate::operator::says_yes;
 use crate::{Conclusion, Peer};
 use arrayvec::ArrayString;
 use dump_client::{Answer, AttemptFault, Blocks, Client, State, VolumeCount};
-use exit_status::ExitStatus;
 use rmt_wire::{Counted, print_text};
-use std::alloc::Global;
 use std::io::{Read, Write};
-
-/// Has a client write its run over a peer, each volume over a connection of its own, and prints the
-/// outcome.
-///
-/// For each counted volume it prints `volume 1: 2 blocks from 0`, and at the end
-/// `dump complete: 2 volumes, 3 blocks`.
-///
-/// If an attempt fails, it prints `volume 1 failed: Refused 16`, with the fault's name, and
-/// `retry?`, and reads one line from the operator. After `yes` it tries the volume again; after
-/// anything else it prints `dump abandoned`. If the peer does not let an attempt begin, it prints
-/// `retry?` alone and reads a line too; after `yes` it asks the peer again.
-///
-/// Returns the exit status of `rdump dump`: `Success` if the run is finished and every line was
-/// printed, else `Abnormal`. After a write that fails it does nothing more.
-pub fn dump<B: Blocks, P: Peer, R: Read, W: Write>(
-    alloc: Global,
-    client: &mut Client<B>,
-    peer: &mut P,
-    operator: &mut R,
-    out: &mut Counted<W>,
-) -> ExitStatus
-    ensures talks { TalksOver B.holds FromAny P.tells client.old client.new peer.old peer.new }
-    ensures printed { IsDumped W.contents client.old.at.counts client.new.at out.old out.new result }
-{
-    let mut text = Vec::new(alloc);
-    for _ in 0..u64::MAX {
-        if let Some(end) = round(client, peer, operator, out, &mut text) {
-            return end.status();
-        }
-    }
-    let end = finish(client, out);
-    end.status()
-}
 
 /// Does the one thing that the client waits for. Returns how the dump ended, if it did.
 pub(crate) fn round<B: Blocks, P: Peer, R: Read, W: Write>(

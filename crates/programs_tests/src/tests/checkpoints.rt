@@ -6,7 +6,7 @@ use super::fake::{FakePeer, Replies};
 use super::fixture::{PayloadDumper, TWO_BYTES, client, line, payload};
 use super::lines::{EMPTY, FULL, LAST};
 use super::progress::Seen;
-use dump_run::Checkpoint;
+use dump_run::{Checkpoint, Run, VolumeCount, push_checkpoint};
 use exit_status::ExitStatus;
 use rdump_commands::run_arguments;
 use rdump_files::{ReplacedFile, ResumedDumpFault, WholeFile, resume_dump, run_of};
@@ -17,7 +17,8 @@ use std::fs;
 use std::io::Stderr;
 use std::test::Fail;
 
-/// A keeper in memory, which accepts `most` texts. It keeps the last, and counts them.
+/// A keeper in memory, which accepts `most` checkpoints. It keeps the text of the last, and counts
+/// them.
 #[derive(Drop)]
 struct Texts {
     last: Vec<u8>,
@@ -26,7 +27,7 @@ struct Texts {
 }
 
 impl Texts {
-    /// Makes a keeper without a text.
+    /// Makes a keeper without a checkpoint.
     fn new(alloc: Global, most: usize) -> Self {
         Texts {
             last: Vec::new(alloc),
@@ -39,13 +40,15 @@ impl Texts {
 impl Keeper for Texts {
     ghost puts = { λ _ _. ⊥ };
 
-    fn keep(&mut self, text: &[u8]) -> bool {
+    ghost can_fail = { λ _. Unit {0} };
+
+    fn keep(&mut self, run: &Run, counts: &[VolumeCount]) -> bool {
         if self.count >= self.most {
             return false;
         }
         self.count = self.count.saturating_add(1);
         self.last.clear();
-        self.last.extend_from_slice(text).is_ok()
+        push_checkpoint(run, counts, &mut self.last).is_ok()
     }
 }
 
@@ -59,8 +62,8 @@ const ONE: &[u8] =
 const BOTH: &[u8] =
     b"rdump 1\ndevice /dev/st0\nfs /usr\nlevel 1\ndate 951868800\nsince 951782400\nblock 2\nblocks 3\ncounted 1 0 2\ncounted 2 2 1\n";
 
-/// The replies of each connection, the number of accepted texts, what is printed, and how the dump
-/// ends. Then the number of kept texts, and the last.
+/// The replies of each connection, the number of accepted checkpoints, what is printed, and how the
+/// dump ends. Then the number of kept checkpoints, and the text of the last.
 struct Row {
     connections: &'static [Replies],
     most: usize,
@@ -71,7 +74,7 @@ struct Row {
 }
 
 /// Two volumes, and a dump that is abandoned. Then keepers that accept nothing, only the first
-/// text, and all but the last.
+/// checkpoint, and all but the last.
 static ROWS: [Row; 5] = [
     Row {
         connections: &[FULL, LAST],
@@ -256,11 +259,11 @@ fn a_file_that_is_held(rt: HostRuntime) -> Result<(), Fail> {
     let mut one = ReplacedFile::held(&rt, rt.alloc(), "held");
     let mut other = ReplacedFile::held(&rt, rt.alloc(), "held");
     let empty = one.read(rt.alloc()).is_ok() && other.read(rt.alloc()).is_ok();
-    let kept = one.keep(NONE) && one.keep(ONE);
-    let refused = !other.keep(NONE) && other.read(rt.alloc()).is_err();
+    let kept = one.replace(NONE).is_ok() && one.replace(ONE).is_ok();
+    let refused = other.replace(NONE).is_err() && other.read(rt.alloc()).is_err();
     let read = fs::read(&rt, "held")?;
     let removed = one.remove().is_ok() && !fs::exists(&rt, "held").unwrap_or(true);
     assert!(rt; empty && kept && refused && removed);
-    assert!(rt; read.as_slice() == ONE && other.keep(NONE) && other.remove().is_ok());
+    assert!(rt; read.as_slice() == ONE && other.replace(NONE).is_ok() && other.remove().is_ok());
     Ok(())
 }
