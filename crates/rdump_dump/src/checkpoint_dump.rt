@@ -3,10 +3,10 @@ ghost use Rattle.std.specs.Prelude.{◌≡◌};
 ghost use Rattle.exit_status.specs.declared.status.ExitStatus.TheVariants.{StartupError};
 ghost use Rattle.rdump_files.specs.Payload.{IsRunsPayload};
 
-use crate::dump_command::{RunDates, dated, report_first};
+use crate::checkpoint_file::CheckpointFile;
+use crate::dump_command::{RunDates, dump_reported};
 use crate::dump_end::report_younger;
 use crate::dump_start::{DumpStart, refuse_files, refuse_unknown_new};
-use crate::dumping::run_kept;
 use crate::run_limit::refuse_run;
 use dump_client::{Blocks, Client, ResumeFault, Run};
 use dump_run::Checkpoint;
@@ -59,8 +59,8 @@ fn dump_kept<R: ClientSystem, M: Medium + Drop, T: Write + Copy + Drop>(
 {
     let mut file = ReplacedFile::held(rt, rt.alloc(), path);
     match file.read(rt.alloc()) {
-        Ok(None) => dump_from_start(rt, line, run, payload, start, &mut file, terminal),
-        Ok(Some(bytes)) => resume(rt, line, &run, &bytes, payload, start, &mut file, terminal),
+        Ok(None) => dump_from_start(rt, line, run, payload, start, file, terminal),
+        Ok(Some(bytes)) => resume(rt, line, &run, &bytes, payload, start, file, terminal),
         Err(FileFailed) => report_unread(rt, path, file.failure()),
     }
 }
@@ -72,7 +72,7 @@ fn dump_from_start<R: ClientSystem, M: Medium + Drop, T: Write + Copy + Drop>(
     run: Run,
     payload: PayloadFile<M>,
     start: &DumpStart,
-    file: &mut ReplacedFile<'_, R>,
+    file: ReplacedFile<'_, R>,
     terminal: Option<T>,
 ) -> ExitStatus
     requires { IsRunsPayload run payload }
@@ -80,7 +80,7 @@ fn dump_from_start<R: ClientSystem, M: Medium + Drop, T: Write + Copy + Drop>(
     let dates = dates_of(&run);
     let gauge = terminal.map(|it| ProgressLine::new(rt, it));
     match dumper_of(rt.alloc(), run, payload, gauge) {
-        Ok(mut client) => dump_reported(rt, line, start, dates, None, &mut client, file, terminal),
+        Ok(mut client) => dump_held(rt, line, start, dates, None, &mut client, file, terminal),
         Err(_) => report_no_memory(rt),
     }
 }
@@ -93,7 +93,7 @@ fn resume<R: ClientSystem, M: Medium + Drop, T: Write + Copy + Drop>(
     bytes: &[u8],
     payload: PayloadFile<M>,
     start: &DumpStart,
-    file: &mut ReplacedFile<'_, R>,
+    file: ReplacedFile<'_, R>,
     terminal: Option<T>,
 ) -> ExitStatus
     requires { IsRunsPayload run.now payload }
@@ -108,7 +108,7 @@ fn resume<R: ClientSystem, M: Medium + Drop, T: Write + Copy + Drop>(
     match resume_dump(rt.alloc(), run, checkpoint, payload, gauge) {
         Ok(mut client) => {
             let blocks = Some(run.blocks());
-            dump_reported(rt, line, start, dates, blocks, &mut client, file, terminal)
+            dump_held(rt, line, start, dates, blocks, &mut client, file, terminal)
         }
         Err(fault) => refuse_checkpoint(rt, path, fault),
     }
@@ -122,30 +122,29 @@ fn dates_of(run: &Run) -> RunDates {
     }
 }
 
-/// Prints what is known before the first attempt, and has a client dump that keeps its checkpoint
-/// in `file`. Returns the exit status. `goes_on` is how many blocks a resumed dump has.
-fn dump_reported<R: ClientSystem, B: Blocks, T: Write + Copy + Drop>(
+/// Has a client dump that keeps its checkpoint in `file`, and returns the exit status. `goes_on` is
+/// how many blocks a resumed dump has.
+fn dump_held<R: ClientSystem, B: Blocks, T: Write + Copy + Drop>(
     rt: &R,
     line: &DumpLine<'_>,
     start: &DumpStart,
     dates: RunDates,
     goes_on: Option<u32>,
     client: &mut Client<B>,
-    file: &mut ReplacedFile<'_, R>,
+    file: ReplacedFile<'_, R>,
     terminal: Option<T>,
 ) -> ExitStatus {
     let path = line.checkpoint.unwrap_or("");
-    if let Some(status) = refuse_unknown_new(rt, path, file) {
+    if let Some(status) = refuse_unknown_new(rt, path, &file) {
         return status;
     }
-    let told = match goes_on {
-        Some(blocks) => report_going_on(rt, line, start, client, blocks, file),
-        None => Ok(()),
-    };
-    match told.and_then(|()| report_first(rt, line, start, dates, terminal.is_some())) {
-        Ok(()) => run_kept(rt, &dated(line, dates.date), start, client, file, terminal),
-        Err(error) => report(rt, line.dumpdates, error),
+    if let Some(blocks) = goes_on {
+        if let Err(error) = report_going_on(rt, line, start, client, blocks, &file) {
+            return report(rt, line.dumpdates, error);
+        }
     }
+    let file = CheckpointFile::held(file);
+    dump_reported(rt, line, start, dates, client, file, terminal)
 }
 
 /// Prints how much of a resumed dump of `blocks` blocks is counted, and whether its payload is

@@ -3,9 +3,10 @@ ghost use Rattle.std.specs.Prelude.{◌≡◌, IfErr, IfSome};
 ghost use Rattle.exit_status.specs.declared.status.ExitStatus.TheVariants.{StartupError};
 
 use crate::checkpoint_dump::dump_from;
+use crate::checkpoint_file::CheckpointFile;
 use crate::dump_end::report_end;
 use crate::dump_start::{DumpStart, refuse_files, refuse_unknown_new};
-use crate::dumping::run_printed;
+use crate::dumping::run_kept;
 use crate::run_limit::refuse_run;
 use dump_client::{Blocks, Client};
 use dumpdates::DatesFault;
@@ -186,35 +187,39 @@ fn dump_at<R: ClientSystem, M: Medium + Drop, T: Write + Copy + Drop>(
     }
     let gauge = terminal.map(|it| ProgressLine::new(rt, it));
     match dumper(rt.alloc(), line, dates.date, dates.since, payload, gauge) {
-        Ok(mut client) => dump_alone(rt, line, start, dates, &mut client, terminal),
+        Ok(mut client) => {
+            let file = CheckpointFile::none();
+            dump_reported(rt, line, start, dates, &mut client, file, terminal)
+        }
         Err(DumperFault::Run(fault)) => refuse_run(rt, line, dates.date, fault),
         Err(DumperFault::OutOfMemory) => report_no_memory(rt),
     }
 }
 
 /// Returns the line with this date.
-pub(crate) fn dated<'a>(line: &DumpLine<'a>, date: u64) -> DumpLine<'a> {
+fn dated<'a>(line: &DumpLine<'a>, date: u64) -> DumpLine<'a> {
     DumpLine {
         date: Some(date),
         ..*line
     }
 }
 
-/// Prints what is known before the first attempt, and has a client dump without a checkpoint.
-/// Returns the exit status.
-fn dump_alone<R: ClientSystem, B: Blocks, T: Write + Copy + Drop>(
+/// Prints what is known before the first attempt, has a client dump that keeps its checkpoint in
+/// `file`, and prints what a restore of a complete dump needs. Returns the exit status.
+pub(crate) fn dump_reported<R: ClientSystem, B: Blocks, T: Write + Copy + Drop>(
     rt: &R,
     line: &DumpLine<'_>,
     start: &DumpStart,
     dates: RunDates,
     client: &mut Client<B>,
+    file: CheckpointFile<'_, R>,
     terminal: Option<T>,
 ) -> ExitStatus {
     if let Err(error) = report_first(rt, line, start, dates, terminal.is_some()) {
         return report(rt, line.dumpdates, error);
     }
-    let dumped = run_printed(rt, &dated(line, dates.date), client, terminal);
-    if dumped.is_printed && client.finished().is_some() {
+    let dumped = run_kept(rt, &dated(line, dates.date), client, file, terminal);
+    if dumped.is_complete {
         report_end(rt, line, start, client);
     }
     dumped.status
@@ -237,7 +242,7 @@ pub(crate) struct RunDates {
 /// - why the dump could not be entered now
 ///
 /// Fails only if an allocation fails.
-pub(crate) fn report_first<R: ClientSystem>(
+fn report_first<R: ClientSystem>(
     rt: &R,
     line: &DumpLine<'_>,
     start: &DumpStart,

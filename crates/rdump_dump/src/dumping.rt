@@ -6,19 +6,18 @@ ghost use Rattle.rdump_net.specs.declared.conclusion.Conclusion.TheVariants as e
 ghost use Rattle.rdump_dump.specs.Status.{IsDumpStatus, IsEndStatus};
 
 use crate::asking::Asking;
-use crate::dump_end::report_end;
-use crate::dump_start::DumpStart;
+use crate::checkpoint_file::CheckpointFile;
 use crate::reporting_peer::ReportingPeer;
 use dump_client::{Blocks, Client};
 use dumpdates::DatesFault;
 use exit_status::ExitStatus;
 use printable::plain;
 use rdump_args::DumpLine;
-use rdump_files::{Clearing, FileFailed, ReplacedFile, UpdateFault, dump_and_update, enter_dump};
-use rdump_net::{Conclusion, Peer, dump, dump_kept};
+use rdump_files::{Clearing, FileFailed, ReplacedFile, UpdateFault, enter_dump};
+use rdump_net::{Conclusion, dump_kept};
 use rdump_system::{ClientSystem, NO_DUMPDATES, report_failed, report_failures};
 use rmt_wire::Counted;
-use std::io::{self, Read, Write};
+use std::io::{self, Write};
 
 /// Has a client dump to the server of `line`, as `rdump dump` does, and prints its lines on
 /// standard output. `terminal` is standard error, if that is a terminal. The line of progress on it
@@ -36,7 +35,7 @@ pub fn run_client<R: ClientSystem, B: Blocks, T: Write + Copy + Drop>(
 ) -> ExitStatus
     ensures { IsDumpStatus client.new.at result }
 {
-    run_printed(rt, line, client, terminal).status
+    run_kept(rt, line, client, CheckpointFile::none(), terminal).status
 }
 
 /// How a dump ended.
@@ -44,16 +43,21 @@ pub fn run_client<R: ClientSystem, B: Blocks, T: Write + Copy + Drop>(
 pub(crate) struct Dumped {
     /// The exit status.
     pub status: ExitStatus,
-    /// Whether everything was printed.
-    pub is_printed: bool,
+    /// Whether the run is finished, and every line of the dump was printed.
+    pub is_complete: bool,
 }
 
-/// Has a client dump as `run_client` does. Returns the exit status, and whether all lines were
-/// printed.
-pub(crate) fn run_printed<R: ClientSystem, B: Blocks, T: Write + Copy + Drop>(
+/// Has a client dump as `run_client` does, and keeps its checkpoint in `file`. The file is removed
+/// once the dump is complete and, if `line` asks for that, entered. It is also removed if the dump
+/// is abandoned. Standard error reports why a checkpoint could not be written or removed.
+///
+/// The exit status is `Success` if the run is finished, everything was printed, the dump is entered
+/// if `line` asks for that, and `file` is removed. It is `Abnormal` otherwise.
+pub(crate) fn run_kept<R: ClientSystem, B: Blocks, T: Write + Copy + Drop>(
     rt: &R,
     line: &DumpLine<'_>,
     client: &mut Client<B>,
+    mut file: CheckpointFile<'_, R>,
     terminal: Option<T>,
 ) -> Dumped
     ensures { IsDumpStatus client.new.at result.status }
@@ -64,93 +68,30 @@ pub(crate) fn run_printed<R: ClientSystem, B: Blocks, T: Write + Copy + Drop>(
         lines: io::writer(rt),
         terminal,
     });
-    let status = dump_over(rt, line, client, &mut peer, &mut operator, &mut out);
-    let failures = out.failures();
+    let end = dump_kept(
+        rt.alloc(),
+        client,
+        &mut peer,
+        &mut operator,
+        &mut out,
+        &mut file,
+    );
+    let status = end_kept(rt, line, client, end, &mut out, &mut file);
     Dumped {
-        status: report_failures(rt, failures, status),
-        is_printed: failures == 0,
+        status: report_failures(rt, out.failures(), status),
+        is_complete: end == Conclusion::Complete,
     }
 }
 
-/// Has a client dump over a peer, with its lines on `out`, and returns the exit status.
-fn dump_over<R: ClientSystem, B: Blocks, P: Peer, I: Read, W: Write>(
-    rt: &R,
-    line: &DumpLine<'_>,
-    client: &mut Client<B>,
-    peer: &mut P,
-    operator: &mut I,
-    out: &mut Counted<W>,
-) -> ExitStatus
-    ensures { IsDumpStatus client.new.at result }
-{
-    if line.update {
-        dump_entered(rt, line.dumpdates, client, peer, operator, out)
-    } else {
-        dump(rt.alloc(), client, peer, operator, out)
-    }
-}
-
-/// Has a client dump, enters a complete dump in a dumpdates file, and returns the exit status.
-/// Prints why the dump was not entered, if so.
-fn dump_entered<R: ClientSystem, B: Blocks, P: Peer, I: Read, W: Write>(
-    rt: &R,
-    dumpdates: &str,
-    client: &mut Client<B>,
-    peer: &mut P,
-    operator: &mut I,
-    out: &mut Counted<W>,
-) -> ExitStatus
-    ensures { IsDumpStatus client.new.at result }
-{
-    let mut file = ReplacedFile::new(rt, rt.alloc(), dumpdates);
-    let end = dump_and_update(rt.alloc(), client, peer, operator, out, &mut file);
-    if let Some(fault) = end.fault {
-        report_unentered(rt, dumpdates, fault, file.failure());
-    }
-    end.status
-}
-
-/// Has a client dump as `run_client` does, and keeps its checkpoint in `file`. The file is removed
-/// once the dump is complete and, if `line` asks for that, entered. It is also removed if the dump
-/// is abandoned. Standard error reports why a checkpoint could not be written or removed. After a
-/// complete dump, it reports what a restore needs.
-///
-/// Returns the exit status. It is `Success` if the run is finished, everything was printed, the
-/// dump is entered if `line` asks for that, and `file` is removed. It is `Abnormal` otherwise.
-pub(crate) fn run_kept<R: ClientSystem, B: Blocks, T: Write + Copy + Drop>(
-    rt: &R,
-    line: &DumpLine<'_>,
-    start: &DumpStart,
-    client: &mut Client<B>,
-    file: &mut ReplacedFile<'_, R>,
-    terminal: Option<T>,
-) -> ExitStatus
-    ensures { IsDumpStatus client.new.at result }
-{
-    let mut peer = ReportingPeer::new(rt, line, terminal);
-    let mut operator = Asking::new(rt.reader(), terminal);
-    let mut out = Counted::new(Clearing {
-        lines: io::writer(rt),
-        terminal,
-    });
-    let end = dump_kept(rt.alloc(), client, &mut peer, &mut operator, &mut out, file);
-    let status = end_kept(rt, line, client, end, &mut out, file);
-    if end == Conclusion::Complete {
-        report_end(rt, line, start, client);
-    }
-    let failures = out.failures();
-    report_failures(rt, failures, status)
-}
-
-/// Does what remains after a dump with a checkpoint. Enters a complete dump if `line` asks for
-/// that, and removes the checkpoint file of a complete or abandoned dump. Returns the exit status.
+/// Does what remains after a dump. Enters a complete dump if `line` asks for that, and removes the
+/// checkpoint file of a complete or abandoned dump. Returns the exit status.
 fn end_kept<R: ClientSystem, B: Blocks, W: Write>(
     rt: &R,
     line: &DumpLine<'_>,
     client: &Client<B>,
     end: Conclusion,
     out: &mut Counted<W>,
-    file: &mut ReplacedFile<'_, R>,
+    file: &mut CheckpointFile<'_, R>,
 ) -> ExitStatus
     requires { end ≡ ends.Complete → client.now.at.stage ≡ Finished }
     ensures { IsDumpStatus client.now.at result }
@@ -172,7 +113,7 @@ fn end_kept<R: ClientSystem, B: Blocks, W: Write>(
 fn remove<R: ClientSystem>(
     rt: &R,
     line: &DumpLine<'_>,
-    file: &mut ReplacedFile<'_, R>,
+    file: &mut CheckpointFile<'_, R>,
     status: ExitStatus,
 ) -> ExitStatus
     ensures { (result ≡ status) ⊎ (result ≡ Abnormal) }

@@ -7,6 +7,7 @@
 
 mod asking;
 mod checkpoint_dump;
+mod checkpoint_file;
 mod dump_command;
 mod dump_end;
 mod dump_start;
