@@ -1,7 +1,7 @@
 -- A client that talks over a peer stays in its run and keeps its counts, and may have further ones after them.
 use Rattle.std.proofs.Common.{◌≡◌, ℕ, List, [], ◌∷◌, ◌++◌, length, length-append, arith, Bool, true, false, Result, Ok, Err, refl, sym, ap, ◌∙◌, inl, inr, append-nil, append_assoc}
 use Rattle.dump_client.specs.Standing.{Standing, VolumeCount, standing, stage_after, IsOver, StartedAt, AnsweredAt, CutAt}
-use Rattle.dump_client.specs.Client.{ClientHeld, HasFed, AskedAt}
+use Rattle.dump_client.specs.Client.{ClientHeld, HasFed, NextRequestAt}
 use Rattle.dump_client.specs.declared.fault.AttemptFault.{AttemptFault}
 use Rattle.dump_client.specs.declared.fault.StartFault.{StartFault}
 use Rattle.dump_client.specs.declared.fault.StartFault.TheVariants.{WrongState, OutOfMemory}
@@ -12,20 +12,20 @@ use Rattle.dump_client.specs.declared.stage.Stage.TheVariants.{Ready, ToSend, Wa
 use Rattle.dump_client.specs.declared.step.Step.TheVariants.{Open}
 use Rattle.dump_client.proofs.Going.{fed_goes_on, cut_goes_on}
 use Rattle.rdump_net.specs.declared.peer.Passed.{Passed}
-use Rattle.rdump_net.specs.Lines.{HasGrown}
+use Rattle.rdump_net.specs.Lines.{IsPrefixOf}
 use Rattle.rdump_net.specs.Talk.{GoesOn, TalkStep, Talks, TalksOver}
 use Rattle.rdump_net.specs.Talk.TalkStep.{starts, stays, asks, has_none, hears, ends, answers}
 use Rattle.rdump_net.specs.Talk.Talks.{none, one_more}
 
-pub grown_none : (old new : List VolumeCount) → new ≡ old → HasGrown old new
+pub grown_none : (old new : List VolumeCount) → new ≡ old → IsPrefixOf old new
 grown_none old new same = ([], same ∙ sym (append-nil old))
 
-pub grown_both : (a b c : List VolumeCount) → HasGrown a b → HasGrown b c → HasGrown a c
+pub grown_both : (a b c : List VolumeCount) → IsPrefixOf a b → IsPrefixOf b c → IsPrefixOf a c
 grown_both a b c (one, is) (two, then) = (one ++ two, then ∙ ap (λ l. l ++ two) is ∙ append_assoc a one two)
 
 -- it is in the same run, and has the same counts and perhaps more
 abbrev pub HasGone : Standing → Standing → Type 0
-HasGone old new = (new.run ≡ old.run) × HasGrown old.counts new.counts
+HasGone old new = (new.run ≡ old.run) × IsPrefixOf old.counts new.counts
 
 gone_both : (a b c : Standing) → HasGone a b → HasGone b c → HasGone a c
 gone_both a b c one two = (two.0 ∙ one.0, grown_both a.counts b.counts c.counts one.1 two.1)
@@ -49,7 +49,7 @@ start_goes Ready old new room (Err WrongState) h = absurd h
 start_goes stage old new room result h = gone_nowhere old new h.1
 
 ask_goes : (stage : Stage) (told : List (List ℕ) → Type 0) (old new : Standing) (capacity : ℕ) (before now : List ℕ) (result : Result Bool AttemptFault)
-    → AskedAt stage told old capacity before result now new → HasGone old new
+    → NextRequestAt stage told old capacity before result now new → HasGone old new
 ask_goes (ToSend step) told old new capacity before now (Ok true) h = gone_to old new (Waiting step) h.4
 ask_goes (ToSend step) told old new capacity before now (Ok false) h = over_goes old new h.3
 ask_goes (ToSend step) told old new capacity before now (Err fault) h = gone_to old new Asking h.3
@@ -85,10 +85,10 @@ talk_goes {old = old} {new = new} (one_more {before = before} talks step) = gone
 
 -- a client that talked over a peer
 pub talked_counts : {B P : Type 0} (holds : B → List (List ℕ) → Type 0) (allows : Standing → Type 0) (tells : P → List Passed → Type 0)
-    (c c' : ClientHeld B) (p p' : P) → (bytes : List ℕ) × HasFed c bytes → TalksOver holds allows tells c c' p p' → HasGrown c.at.counts c'.at.counts
+    (c c' : ClientHeld B) (p p' : P) → (bytes : List ℕ) × HasFed c bytes → TalksOver holds allows tells c c' p p' → IsPrefixOf c.at.counts c'.at.counts
 talked_counts holds allows tells c c' p p' (bytes, fed) h = let goes = talk_goes (h.talked bytes fed).talks in goes.1
 
 -- counts of which there are as many as before are those
-pub grown_same : (old new : List VolumeCount) → HasGrown old new → length new ≡ length old → new ≡ old
+pub grown_same : (old new : List VolumeCount) → IsPrefixOf old new → length new ≡ length old → new ≡ old
 grown_same old new ([], is) e = is ∙ append-nil old
 grown_same old new (c ∷ more, is) e = absurd (omega (arith, e, ap length is, length-append old (c ∷ more)))

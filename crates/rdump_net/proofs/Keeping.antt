@@ -11,7 +11,7 @@ use Rattle.dump_client.specs.Client.{ClientHeld, HasFed}
 use Rattle.rdump_net.specs.declared.peer.Passed.{Passed}
 use Rattle.rdump_net.specs.Talk.{FromAny, FromThis, Talks, TalksOver}
 use Rattle.rdump_net.specs.Talk.Talks.{none as no_talk}
-use Rattle.rdump_net.specs.Lines.{DumpLines, HasGrown, IsConclusion, IsDumped, IsFinish, IsRound, conclusion_status}
+use Rattle.rdump_net.specs.Lines.{DumpLines, IsPrefixOf, IsConclusion, IsDumped, IsFinish, IsRound, conclusion_status}
 use Rattle.rdump_net.specs.Lines.DumpLines.{none as no_lines}
 use Rattle.rdump_net.specs.declared.conclusion.Conclusion.{Conclusion}
 use Rattle.rdump_net.specs.declared.conclusion.Conclusion.TheVariants as ends
@@ -28,7 +28,7 @@ pub record IsLastOf (checkpoints : List PlainCheckpoint) (at : Standing) (count 
   pub counts : List VolumeCount
   pub put : checkpoints ≡ before ++ plain_checkpoint run counts ∷ []
   pub same : at.run ≡ run
-  pub grown : HasGrown counts at.counts
+  pub grown : IsPrefixOf counts at.counts
   pub many : count ≡ length counts
 
 -- the same, if one was put
@@ -60,7 +60,7 @@ just_put checkpoints at = record {
 }
 
 -- after the client went on
-later_last : (kept : Option ℕ) (checkpoints : List PlainCheckpoint) (at new : Standing) → (new.run ≡ at.run) × HasGrown at.counts new.counts
+later_last : (kept : Option ℕ) (checkpoints : List PlainCheckpoint) (at new : Standing) → (new.run ≡ at.run) × IsPrefixOf at.counts new.counts
     → IsPutLast kept checkpoints at → IsPutLast kept checkpoints new
 later_last None checkpoints at new goes h = tt
 later_last (Some count) checkpoints at new goes h = record {
