@@ -12,7 +12,7 @@ use Rattle.rmt_wire.specs.Request.PlainRequest.{Close, Op}
 use Rattle.rdump_net.specs.KeptReply.{plain_kept, plain_result}
 use Rattle.rdump_net.specs.Call.{IsCalled}
 use Rattle.rdump_net.specs.Calls.{Stops, Extends}
-use Rattle.rdump_net.specs.Reading.{next_end, next_close, next_over, next_forward, next_again, next_back, next_mark, records_of, ReadFails, ReadEnds, is_whole, HasReply, IsMarkFound, IsMarkKnown, IsUnmarked, GoesOnBy, CallSteps, IsDone, IsDoneNext, IsAnswered, IsLooked, IsTakenAway, Concludes}
+use Rattle.rdump_net.specs.Reading.{next_end, next_close, next_over, next_forward, next_again, next_back, next_mark, records_of, ReadFails, ReadEnds, is_whole, HasReply, IsMarkFound, IsMarkKnown, IsUnmarked, GoesOnBy, CallSteps, IsDone, IsDoneNext, IsAnswered, HasSoughtMark, IsTakenAway, Concludes}
 use Rattle.rdump_net.specs.declared.kept_reply.KeptReply.{KeptReply}
 use Rattle.rdump_net.specs.declared.kept_reply.KeptReply.TheVariants as kept
 use Rattle.rdump_net.specs.declared.fault.CallFault.{CallFault}
@@ -84,15 +84,15 @@ module _ {P : Type 0} (next : List PlainReply → Option PlainRequest) (tells : 
   pub answered_as : (p q : P) (replies : List PlainReply) (result is : Result (Option ℕ) ReadFault) → result ≡ is → IsAnswered next tells p q replies result → IsAnswered next tells p q replies is
   answered_as p q replies result is e h = subst (IsAnswered next tells p q replies) e h
 
-  pub looked_as : (goes : AfterVolume) (p q : P) (replies : List PlainReply) (result is : Result (Option ReadFault) ReadFault) → result ≡ is → IsLooked next goes tells p q replies result → IsLooked next goes tells p q replies is
-  looked_as goes p q replies result is e h = subst (IsLooked next goes tells p q replies) e h
+  pub looked_as : (goes : AfterVolume) (p q : P) (replies : List PlainReply) (result is : Result (Option ReadFault) ReadFault) → result ≡ is → HasSoughtMark next goes tells p q replies result → HasSoughtMark next goes tells p q replies is
+  looked_as goes p q replies result is e h = subst (HasSoughtMark next goes tells p q replies) e h
 
   pub taken_as : (p q : P) (replies : List PlainReply) (result is : Result Unit ReadFault) → result ≡ is → IsTakenAway next tells p q replies result → IsTakenAway next tells p q replies is
   taken_as p q replies result is e h = subst (IsTakenAway next tells p q replies) e h
 
   -- calls, and then a look
-  looked_after : (goes : AfterVolume) (p q r : P) (a b : List PlainReply) (result : Result (Option ReadFault) ReadFault) → Extends next tells p q a b → records_of b ≡ records_of a → IsLooked next goes tells q r b result
-      → IsLooked next goes tells p r a result
+  looked_after : (goes : AfterVolume) (p q r : P) (a b : List PlainReply) (result : Result (Option ReadFault) ReadFault) → Extends next tells p q a b → records_of b ≡ records_of a → HasSoughtMark next goes tells q r b result
+      → HasSoughtMark next goes tells p r a result
   looked_after goes p q r a b (Ok None) x same y = (y.0, extends_both next tells p q r a b y.0 x y.1, y.2 ∙ same, y.3, y.4)
   looked_after goes p q r a b (Ok (Some fault)) x same y = (y.0, extends_both next tells p q r a b y.0 x y.1, y.2 ∙ same, y.3, y.4)
   looked_after goes p q r a b (Err fault) x same y = (y.0, breaks_after next tells p q r a b y.0 fault x y.1, y.2 ∙ same, y.3)
@@ -100,20 +100,20 @@ module _ {P : Type 0} (next : List PlainReply → Option PlainRequest) (tells : 
   -- an operation of the look is done, and it goes on
   pub look_on : (goes : AfterVolume) (p q r : P) (replies : List PlainReply) (step further : List PlainReply → Option PlainRequest) (k : ℕ) (result : Result (Option ReadFault) ReadFault) → GoesOnBy next step replies
       → ((ends : List PlainReply) → step (Done k ∷ ends) ≡ further ends) → CallSteps next tells p q replies (Ok (Done k))
-      → (GoesOnBy next further (replies ++ Done k ∷ []) → IsLooked next goes tells q r (replies ++ Done k ∷ []) result) → IsLooked next goes tells p r replies result
+      → (GoesOnBy next further (replies ++ Done k ∷ []) → HasSoughtMark next goes tells q r (replies ++ Done k ∷ []) result) → HasSoughtMark next goes tells p r replies result
   look_on goes p q r replies step further k result at turns x more =
       looked_after goes p q r replies (replies ++ Done k ∷ []) result x (records_same replies (Done k ∷ []) refl) (more (λ ends. on_after next step replies (Done k) at ends ∙ turns ends))
 
   -- it is refused, and the look goes on all the same
   pub look_round : (goes : AfterVolume) (p q r : P) (replies : List PlainReply) (step further : List PlainReply → Option PlainRequest) (k : ℕ) (text : List ℕ) (result : Result (Option ReadFault) ReadFault) → GoesOnBy next step replies
       → ((ends : List PlainReply) → step (Error k text ∷ ends) ≡ further ends) → CallSteps next tells p q replies (Ok (Error k text))
-      → (GoesOnBy next further (replies ++ Error k text ∷ []) → IsLooked next goes tells q r (replies ++ Error k text ∷ []) result) → IsLooked next goes tells p r replies result
+      → (GoesOnBy next further (replies ++ Error k text ∷ []) → HasSoughtMark next goes tells q r (replies ++ Error k text ∷ []) result) → HasSoughtMark next goes tells p r replies result
   look_round goes p q r replies step further k text result at turns x more =
       looked_after goes p q r replies (replies ++ Error k text ∷ []) result x (records_same replies (Error k text ∷ []) refl) (more (λ ends. on_after next step replies (Error k text) at ends ∙ turns ends))
 
   -- it is refused, and the close comes
   pub look_refused : (goes : AfterVolume) (p q : P) (replies : List PlainReply) (step : List PlainReply → Option PlainRequest) (request : PlainRequest) (k : ℕ) (text : List ℕ) → GoesOnBy next step replies → step [] ≡ Some request
-      → ((ends : List PlainReply) → step (Error k text ∷ ends) ≡ next_close ends) → CallSteps next tells p q replies (Ok (Error k text)) → IsLooked next goes tells p q replies (Ok (Some Undetermined))
+      → ((ends : List PlainReply) → step (Error k text ∷ ends) ≡ next_close ends) → CallSteps next tells p q replies (Ok (Error k text)) → HasSoughtMark next goes tells p q replies (Ok (Some Undetermined))
   look_refused goes p q replies step request k text at asks turns x =
       let closes : GoesOnBy next next_close (replies ++ Error k text ∷ []) = λ ends. on_after next step replies (Error k text) at ends ∙ turns ends in (
         replies ++ Error k text ∷ [],
@@ -125,7 +125,7 @@ module _ {P : Type 0} (next : List PlainReply → Option PlainRequest) (tells : 
 
   -- the rewind is done, and there are too many records
   pub look_too_far : (goes : AfterVolume) (p q : P) (replies : List PlainReply) (n k : ℕ) → GoesOnBy next (next_again goes n) replies → NUMBER_LIMIT < n → CallSteps next tells p q replies (Ok (Done k))
-      → IsLooked next goes tells p q replies (Ok (Some Undetermined))
+      → HasSoughtMark next goes tells p q replies (Ok (Some Undetermined))
   look_too_far goes p q replies n k at many x =
       let closes : GoesOnBy next next_close (replies ++ Done k ∷ []) = λ ends. on_after next (next_again goes n) replies (Done k) at ends ∙ ap (λ t. if t then next_close ends else next_forward goes n ends) (lt-ltb NUMBER_LIMIT n many) in (
         replies ++ Done k ∷ [],
@@ -136,7 +136,7 @@ module _ {P : Type 0} (next : List PlainReply → Option PlainRequest) (tells : 
       )
 
   -- back over a record is done: there is no mark
-  pub look_missing : (goes : AfterVolume) (p q : P) (replies : List PlainReply) (n k : ℕ) → GoesOnBy next (next_back goes n) replies → CallSteps next tells p q replies (Ok (Done k)) → IsLooked next goes tells p q replies (Ok (Some NoMark))
+  pub look_missing : (goes : AfterVolume) (p q : P) (replies : List PlainReply) (n k : ℕ) → GoesOnBy next (next_back goes n) replies → CallSteps next tells p q replies (Ok (Done k)) → HasSoughtMark next goes tells p q replies (Ok (Some NoMark))
   look_missing goes p q replies n k at x = (
     replies ++ Done k ∷ [],
     x,
@@ -146,7 +146,7 @@ module _ {P : Type 0} (next : List PlainReply → Option PlainRequest) (tells : 
   )
 
   -- over the mark is done
-  pub look_found : (goes : AfterVolume) (p q : P) (replies : List PlainReply) (k : ℕ) → GoesOnBy next (next_over goes) replies → CallSteps next tells p q replies (Ok (Done k)) → IsLooked next goes tells p q replies (Ok None)
+  pub look_found : (goes : AfterVolume) (p q : P) (replies : List PlainReply) (k : ℕ) → GoesOnBy next (next_over goes) replies → CallSteps next tells p q replies (Ok (Done k)) → HasSoughtMark next goes tells p q replies (Ok None)
   look_found goes p q replies k at x = (
     replies ++ Done k ∷ [],
     x,
@@ -156,14 +156,14 @@ module _ {P : Type 0} (next : List PlainReply → Option PlainRequest) (tells : 
   )
 
   -- it is not looked for
-  pub look_none : (goes : AfterVolume) (p : P) (replies : List PlainReply) (n : ℕ) → goes ≡ Stay → GoesOnBy next (next_mark goes n) replies → IsLooked next goes tells p p replies (Ok None)
+  pub look_none : (goes : AfterVolume) (p : P) (replies : List PlainReply) (n : ℕ) → goes ≡ Stay → GoesOnBy next (next_mark goes n) replies → HasSoughtMark next goes tells p p replies (Ok None)
   look_none goes p replies n is at =
-      subst (λ g. IsLooked next g tells p p replies (Ok None)) (sym is)
+      subst (λ g. HasSoughtMark next g tells p p replies (Ok None)) (sym is)
       (replies, extends_none next tells p replies, refl, subst (λ g. GoesOnBy next (next_mark g n) replies) is at, tt)
 
   -- it is
   pub look_so : (goes : AfterVolume) (p q : P) (replies : List PlainReply) (n : ℕ) (result : Result (Option ReadFault) ReadFault) → (goes ≡ Check) ⊎ (goes ≡ Offline) → GoesOnBy next (next_mark goes n) replies
-      → (GoesOnBy next (next_back goes n) replies → IsLooked next goes tells p q replies result) → IsLooked next goes tells p q replies result
+      → (GoesOnBy next (next_back goes n) replies → HasSoughtMark next goes tells p q replies result) → HasSoughtMark next goes tells p q replies result
   look_so goes p q replies n result (inl is) at looks =
       looks (λ ends. at ends ∙ ap (λ g. next_mark g n ends) is ∙ ap (λ g. next_back g n ends) (sym is))
   look_so goes p q replies n result (inr is) at looks =

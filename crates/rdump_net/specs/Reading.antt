@@ -380,29 +380,29 @@ IsUnmarked next replies OutOfMemory = ⊥
 
 -- the result of looking for the mark: it was found, or not looked for; or it was not found, and the
 -- close is next; or a call got no reply
-abbrev pub IsLooked : {P : Type 0} → (List PlainReply → Option PlainRequest) → AfterVolume → (P → List Passed → Type 0) → P → P
+abbrev pub HasSoughtMark : {P : Type 0} → (List PlainReply → Option PlainRequest) → AfterVolume → (P → List Passed → Type 0) → P → P
     → List PlainReply → Result (Option ReadFault) ReadFault → Type 0
-IsLooked next goes tells p p' replies (Ok None) =
+HasSoughtMark next goes tells p p' replies (Ok None) =
     (later : List PlainReply) × Extends next tells p p' replies later × (records_of later ≡ records_of replies)
     × GoesOnBy next (next_end goes) later × IsMarkKnown next goes later
-IsLooked next goes tells p p' replies (Ok (Some fault)) =
+HasSoughtMark next goes tells p p' replies (Ok (Some fault)) =
     (later : List PlainReply) × Extends next tells p p' replies later × (records_of later ≡ records_of replies)
     × GoesOnBy next next_close later × IsUnmarked next later fault
-IsLooked next goes tells p p' replies (Err fault) = CallSteps next tells p p' replies (Err fault)
+HasSoughtMark next goes tells p p' replies (Err fault) = CallSteps next tells p p' replies (Err fault)
 
--- `IsLooked` holds whenever `step` gives the next requests
+-- `HasSoughtMark` holds whenever `step` gives the next requests
 abbrev pub IsLookedBy : {P : Type 0} → (AfterVolume → List PlainReply → Option PlainRequest) → (P → List Passed → Type 0) → P → P
     → Result (Option ReadFault) ReadFault → Type 0
 IsLookedBy step tells p p' result =
     (goes : AfterVolume) (next : List PlainReply → Option PlainRequest) (replies : List PlainReply)
-    → GoesOnBy next (step goes) replies → IsLooked next goes tells p p' replies result
+    → GoesOnBy next (step goes) replies → HasSoughtMark next goes tells p p' replies result
 
--- `IsLooked` holds whenever the request after `n` records is next, which looks for the mark if
+-- `HasSoughtMark` holds whenever the request after `n` records is next, which looks for the mark if
 -- `goes` asks for it
 abbrev pub IsLookedAtEnd : {P : Type 0} → (P → List Passed → Type 0) → AfterVolume → ℕ → P → P → Result (Option ReadFault) ReadFault → Type 0
 IsLookedAtEnd tells goes n p p' result =
     (next : List PlainReply → Option PlainRequest) (replies : List PlainReply) → GoesOnBy next (next_mark goes n) replies
-    → IsLooked next goes tells p p' replies result
+    → HasSoughtMark next goes tells p p' replies result
 
 -- the reel was taken offline, if `Offline` asks for it, and the close is next; or a call failed
 -- with the fault
