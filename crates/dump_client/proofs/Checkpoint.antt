@@ -4,7 +4,7 @@ use Rattle.dump_run.specs.Run.{PlainRun}
 use Rattle.dump_client.specs.Script.{IsCount}
 use Rattle.dump_client.specs.Position.{Covers, CoversFrom}
 use Rattle.dump_client.specs.Standing.{checkpoint_after, checkpoint_of, count_to, counted_to}
-use Rattle.dump_client.specs.Lawful.{AreVolumes, IsRunLeft}
+use Rattle.dump_client.specs.Lawful.{AreVolumes, IsUnfinishedRun}
 use Rattle.dump_run.specs.declared.count.VolumeCount.{VolumeCount}
 
 -- the checkpoint is after the last count
@@ -81,7 +81,7 @@ covers_at run counts v some h = (some, covers_from run 1 0 counts v h)
 pub covers_up_to : (run : PlainRun) (counts : List VolumeCount) → Covers run counts → (checkpoint_of counts).1 ≡ run.blocks
 covers_up_to run counts h = covered_to run.blocks 1 0 counts h.1
 
-pub left_of : (run : PlainRun) (counts : List VolumeCount) → AreVolumes run 1 0 counts → (Covers run counts → ⊥) → IsRunLeft run counts
+pub left_of : (run : PlainRun) (counts : List VolumeCount) → AreVolumes run 1 0 counts → (Covers run counts → ⊥) → IsUnfinishedRun run counts
 left_of run [] v h = inl refl
 left_of run (c ∷ counts) v h = inr (below (last_within run (c ∷ counts) v) (λ same. h (covers_at run (c ∷ counts) v (omega arith) same)))
   where
@@ -122,7 +122,7 @@ volumes_with run volume first (c ∷ counts) next v left h =
           (volumes_with run (volume + 1) (first + c.count) counts next v.4 (inr some) (subst (λ p. IsCount run p.1 (next - p.1)) at h)),
     )
 
-pub volumes_to : (run : PlainRun) (counts : List VolumeCount) (next : ℕ) → AreVolumes run 1 0 counts → IsRunLeft run counts
+pub volumes_to : (run : PlainRun) (counts : List VolumeCount) (next : ℕ) → AreVolumes run 1 0 counts → IsUnfinishedRun run counts
     → IsCount run (checkpoint_of counts).1 (next - (checkpoint_of counts).1) → AreVolumes run 1 0 (counted_to counts next)
 volumes_to run counts next v left h = volumes_with run 1 0 counts next v left h
 

@@ -10,7 +10,7 @@ use Rattle.dump_client.specs.Script.{Wish}
 use Rattle.dump_client.specs.Position.{Received, outcome, after_step, after_reply, after_noise, after_end}
 use Rattle.dump_client.specs.Position.Received.{Reply, Noise, End}
 use Rattle.dump_client.specs.Standing.{Standing, IsAtStep, checkpoint_of}
-use Rattle.dump_client.specs.Lawful.{IsLawful, IsRunLeft, StepFits, StageFits, RoomFits, OutcomeFits}
+use Rattle.dump_client.specs.Lawful.{IsLawful, IsUnfinishedRun, StepFits, StageFits, RoomFits, OutcomeFits}
 use Rattle.dump_client.specs.Listening.{IsSummary}
 use Rattle.dump_client.specs.declared.listen.ReplySummary.{ReplySummary}
 use Rattle.dump_client.specs.declared.listen.ReplySummary.TheVariants as summary
@@ -35,7 +35,7 @@ some_room Close room other r = absurd other
 some_room step room other r = r
 
 module _ (run : PlainRun) (counts : List VolumeCount) (room : ℕ) where
-  within_fits : (step : Step) → IsRunLeft run counts → IsWithin run (checkpoint_of counts).1 step → StepFits run counts step
+  within_fits : (step : Step) → IsUnfinishedRun run counts → IsWithin run (checkpoint_of counts).1 step → StepFits run counts step
   within_fits (Operation (Mark end)) left w = (left, w)
   within_fits (Operation (Unload end)) left w = (left, w)
   within_fits (Operation op) left w = (left, tt)
@@ -43,7 +43,7 @@ module _ (run : PlainRun) (counts : List VolumeCount) (room : ℕ) where
   within_fits Close left w = absurd w
   within_fits step left w = left
 
-  leads_fit : (answered : List (Step × Wish)) (o : Outcome) → IsRunLeft run counts → 0 < room → LeadsOn run (checkpoint_of counts).1 answered o
+  leads_fit : (answered : List (Step × Wish)) (o : Outcome) → IsUnfinishedRun run counts → 0 < room → LeadsOn run (checkpoint_of counts).1 answered o
       → OutcomeFits run counts room o
   leads_fit answered (GoesOn next) left r h = (left, within_fits next left h.0, r)
   leads_fit answered (Counted end) left r h = ((left, h.0), r)

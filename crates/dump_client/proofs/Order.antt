@@ -10,7 +10,7 @@ use Rattle.dump_client.specs.Script.{Wish, request_of}
 use Rattle.dump_client.specs.Position.{after_reply}
 use Rattle.dump_client.specs.Position.Received.{Reply}
 use Rattle.dump_client.specs.Standing.{checkpoint_of, count_to, counted_to}
-use Rattle.dump_client.specs.Lawful.{IsRunLeft, StepFits, steps_before, counts_before, sent_before, sent_with}
+use Rattle.dump_client.specs.Lawful.{IsUnfinishedRun, StepFits, steps_before, counts_before, sent_before, sent_with}
 use Rattle.dump_client.specs.declared.step.Step.{Step}
 use Rattle.dump_client.specs.declared.step.Step.TheVariants.{Open, Operation, Block, Close}
 use Rattle.dump_client.specs.declared.step.TapeOp.TheVariants.{Mark, Unload}
@@ -22,7 +22,7 @@ use Rattle.dump_client.proofs.Outcomes.{NotClose}
 use Rattle.dump_client.proofs.Steps.{CanBegin, IsWithin, within_not_close, LeadsOn, before, plain_before, plain_then, reply_leads}
 
 -- A step that fits before the close is one of the volume at the checkpoint.
-pub left_begins : (run : PlainRun) (counts : List VolumeCount) → IsRunLeft run counts → CanBegin run (checkpoint_of counts).1
+pub left_begins : (run : PlainRun) (counts : List VolumeCount) → IsUnfinishedRun run counts → CanBegin run (checkpoint_of counts).1
 left_begins run counts (inr more) = inl more
 left_begins run counts (inl none) = by run.blocks refl
   where
@@ -33,7 +33,7 @@ left_begins run counts (inl none) = by run.blocks refl
     by zero is = inr (first, is)
     by (suc blocks) is = inl (omega (arith, first, is))
 
-pub fits_left : (run : PlainRun) (counts : List VolumeCount) (step : Step) → NotClose step → StepFits run counts step → IsRunLeft run counts
+pub fits_left : (run : PlainRun) (counts : List VolumeCount) (step : Step) → NotClose step → StepFits run counts step → IsUnfinishedRun run counts
 fits_left run counts (Operation op) before fits = fits.0
 fits_left run counts (Block number) before fits = fits.0
 fits_left run counts Close before fits = absurd before

@@ -21,8 +21,8 @@ use Rattle.dump_run.specs.declared.count.VolumeCount.{VolumeCount}
 
 -- blocks of the run are left to dump: no volume is counted yet, or the counts end before the last
 -- block
-abbrev pub IsRunLeft : PlainRun → List VolumeCount → Type 0
-IsRunLeft run counts = (counts ≡ []) ⊎ ((checkpoint_of counts).1 < run.blocks)
+abbrev pub IsUnfinishedRun : PlainRun → List VolumeCount → Type 0
+IsUnfinishedRun run counts = (counts ≡ []) ⊎ ((checkpoint_of counts).1 < run.blocks)
 
 -- the volume at the checkpoint can end before block `next`
 abbrev pub CanVolumeEnd : PlainRun → List VolumeCount → ℕ → Type 0
@@ -36,10 +36,10 @@ OpFits run counts op = Unit {0}
 
 -- the step is one of the volume at the checkpoint; the close comes after a count
 abbrev pub StepFits : PlainRun → List VolumeCount → Step → Type 0
-StepFits run counts (Operation op) = IsRunLeft run counts × OpFits run counts op
-StepFits run counts (Block number) = IsRunLeft run counts × ((checkpoint_of counts).1 ≤ number) × (number < run.blocks)
+StepFits run counts (Operation op) = IsUnfinishedRun run counts × OpFits run counts op
+StepFits run counts (Block number) = IsUnfinishedRun run counts × ((checkpoint_of counts).1 ≤ number) × (number < run.blocks)
 StepFits run counts Close = 0 < length counts
-StepFits run counts step = IsRunLeft run counts
+StepFits run counts step = IsUnfinishedRun run counts
 
 -- the stage fits the counts: in an attempt its step does; a finished run is covered, and any other
 -- is not
@@ -47,7 +47,7 @@ abbrev pub StageFits : PlainRun → List VolumeCount → Stage → Type 0
 StageFits run counts (ToSend step) = StepFits run counts step
 StageFits run counts (Waiting step) = StepFits run counts step
 StageFits run counts Finished = Covers run counts
-StageFits run counts stage = IsRunLeft run counts
+StageFits run counts stage = IsUnfinishedRun run counts
 
 -- a lawful client: its run is within its limits, its counts are volumes of the run in order, and
 -- its stage fits them
@@ -67,8 +67,8 @@ RoomFits stage room = Unit {0}
 -- the outcome fits the run, the counts and the room for more counts, so the client can go on from
 -- it
 abbrev pub OutcomeFits : PlainRun → List VolumeCount → ℕ → Outcome → Type 0
-OutcomeFits run counts room (GoesOn step) = IsRunLeft run counts × StepFits run counts step × (0 < room)
-OutcomeFits run counts room (Fails fault) = IsRunLeft run counts
+OutcomeFits run counts room (GoesOn step) = IsUnfinishedRun run counts × StepFits run counts step × (0 < room)
+OutcomeFits run counts room (Fails fault) = IsUnfinishedRun run counts
 OutcomeFits run counts room (Counted next) = StepFits run counts (Operation (Unload next)) × (0 < room)
 OutcomeFits run counts room Ended = 0 < length counts
 

@@ -8,7 +8,7 @@ ghost use Rattle.dump_client.specs.Listening.{IsSummary};
 ghost use Rattle.dump_client.specs.Position.Received.{Reply, Noise, End};
 ghost use Rattle.dump_run.specs.Run.{IsRun};
 ghost use Rattle.dump_client.specs.Standing.{standing, checkpoint_of, StartedAt, AnsweredAt, ReceivesAt, Becomes, IsOver, IsAtStep};
-ghost use Rattle.dump_client.specs.Lawful.{IsLawful, AreVolumes, IsRunLeft, StageFits, OutcomeFits, RoomFits};
+ghost use Rattle.dump_client.specs.Lawful.{IsLawful, AreVolumes, IsUnfinishedRun, StageFits, OutcomeFits, RoomFits};
 ghost use Rattle.dump_client.specs.declared.stage.Stage.TheVariants as stages;
 ghost use Rattle.dump_client.specs.declared.stage.Progress.TheVariants as moved;
 ghost use Rattle.dump_client.specs.declared.outcome.Outcome.TheVariants as outcomes;
@@ -223,7 +223,7 @@ impl Ledger {
 
     /// Fails the attempt. The stage is `Asking` then.
     pub(crate) fn fail(&mut self, fault: AttemptFault) -> Progress
-        requires { IsRunLeft self.old.at.run self.old.at.counts }
+        requires { IsUnfinishedRun self.old.at.run self.old.at.counts }
         ensures failed { (result ≡ moved.Failed fault) × (self.new.at ≡ standing self.old.at.run self.old.at.counts stages.Asking) }
         ensures slots { self.new.room + length self.new.at.counts ≡ self.old.room + length self.old.at.counts }
     {

@@ -14,7 +14,7 @@ use Rattle.dump_run.specs.Blocks.{cut_blocks}
 use Rattle.dump_run.proofs.Cut.{size_cut}
 use Rattle.dump_client.specs.Script.{request_of, number_of}
 use Rattle.dump_client.specs.Standing.{Standing, standing, checkpoint_of}
-use Rattle.dump_client.specs.Lawful.{IsLawful, StageFits, IsRunLeft, attempt_at}
+use Rattle.dump_client.specs.Lawful.{IsLawful, StageFits, IsUnfinishedRun, attempt_at}
 use Rattle.dump_client.specs.Client.{HasFedAt}
 use Rattle.dump_run.specs.declared.count.VolumeCount.{VolumeCount}
 use Rattle.dump_client.specs.declared.step.Step.{Step}
@@ -101,7 +101,7 @@ asking_idle w x is asks o = idle_none w o (λ c there attempt. (
     let clash : IsTrue (is_in_attempt Asking) = subst (λ s. IsTrue (is_in_attempt s)) stage attempt in cc))
 
 -- the block at which the next volume begins is within the run
-left_within : (run : PlainRun) (counts : List VolumeCount) → IsRunLeft run counts → (checkpoint_of counts).1 ≤ run.blocks
+left_within : (run : PlainRun) (counts : List VolumeCount) → IsUnfinishedRun run counts → (checkpoint_of counts).1 ≤ run.blocks
 left_within run counts (inl none) = subst (λ l. (checkpoint_of l).1 ≤ run.blocks) (sym none) (omega arith)
 left_within run counts (inr less) = omega (arith, less)
 
@@ -137,7 +137,7 @@ connected_told w c tidy booked lawful there ready t =
       label = refl;
       blocks = refl;
       within = (
-          let left : IsRunLeft c.at.run c.at.counts = subst (StageFits c.at.run c.at.counts) ready lawful.stage in
+          let left : IsUnfinishedRun c.at.run c.at.counts = subst (StageFits c.at.run c.at.counts) ready lawful.stage in
           let fits = left_within c.at.run c.at.counts left in
           let run = ap (λ (r : PlainRun). r.blocks) b.2 in
           omega (arith, fits, run));
