@@ -9,7 +9,7 @@ use Rattle.rmt_wire.specs.ReplyWriter.{AppendsBeginning}
 use Rattle.rmt_wire.specs.declared.request.Request.{Request}
 use Rattle.rmt_wire.specs.Request.{PlainRequest}
 use Rattle.rmt_wire.specs.RequestParts.{Spelled, IsRequestPrefix, HasFault, HasNoSpelling}
-use Rattle.rmt_wire.specs.RequestReader.{RequestHeld, Continues, LeavesRoom, Shrinks, StaysUnlessGiven, GivesOn, IsNext, plain_next_result}
+use Rattle.rmt_wire.specs.RequestReader.{RequestHeld, Continues, LeavesRoom, Shrinks, StaysUnlessGiven, KeepsGiving, IsNext, plain_next_result}
 use Rattle.rmt_wire.specs.declared.fault.WireFault.{WireFault}
 
 -- more bytes change no whole request
@@ -42,7 +42,7 @@ pub next_is : (old new : RequestHeld) (result answer : Result (Option Request) W
 next_is old new result answer n e = subst (λ r. IsNext old (plain_next_result r) new) e n
 
 -- a reader that goes on in what is unread gives on
-gives_on : (old new : RequestHeld) (answer : Result (Option PlainRequest) WireFault) → Continues old answer new → GivesOn old answer new
+gives_on : (old new : RequestHeld) (answer : Result (Option PlainRequest) WireFault) → Continues old answer new → KeepsGiving old answer new
 gives_on old new (Ok (Some request)) c = λ pushed requests g.
     let w = c g.0 g.1 in
     (w.0, w.1, spelled_then pushed g.0 w.0 requests (request ∷ []) g.2 (w.2.0, w.0, w.2.1, w.2.2, refl))

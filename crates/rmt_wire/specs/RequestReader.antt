@@ -106,8 +106,8 @@ GivesMore (Err fault) new pushed requests =
     (rest : List ℕ) × Unread new rest × Spelled pushed requests rest × HasFault rest fault × HasNoSpelling rest
 
 -- call after call, the requests returned are those that the pushed bytes spell
-abbrev pub GivesOn : RequestHeld → Result (Option PlainRequest) WireFault → RequestHeld → Type 0
-GivesOn old answer new =
+abbrev pub KeepsGiving : RequestHeld → Result (Option PlainRequest) WireFault → RequestHeld → Type 0
+KeepsGiving old answer new =
     (pushed : List ℕ) (requests : List PlainRequest) → IsGiven old pushed requests → GivesMore answer new pushed requests
 
 -- one call of `next`
@@ -116,7 +116,7 @@ pub record IsNext (old : RequestHeld) (answer : Result (Option PlainRequest) Wir
   pub room : LeavesRoom answer new
   pub shrinks : Shrinks old answer new
   pub unchanged : StaysUnlessGiven old answer new
-  pub gives_on : GivesOn old answer new
+  pub gives_on : KeepsGiving old answer new
 
 -- once a fault was returned, it is returned at each later call, whatever is pushed
 abbrev pub StaysFaulty : RequestHeld → Result (Option PlainRequest) WireFault → Type 0
