@@ -61,7 +61,7 @@ pub(crate) fn report_held<R: Eprint>(
             front,
             *protection,
         ),
-        AttemptRefusal::Failed(fault) => report_unfound(rt, line.to, *fault, failure),
+        AttemptRefusal::Failed(fault) => report_failed_look(rt, line.to, *fault, failure),
     }
 }
 
@@ -114,7 +114,12 @@ fn label_of(front: &ReelFront) -> Option<VolumeLabel> {
 }
 
 /// Prints why a look at the reel at this address failed.
-fn report_unfound<R: Eprint>(rt: &R, address: &str, fault: LookFault, failure: Option<&io::Error>) {
+fn report_failed_look<R: Eprint>(
+    rt: &R,
+    address: &str,
+    fault: LookFault,
+    failure: Option<&io::Error>,
+) {
     let address = plain(address);
     let _ = match (fault, failure) {
         (LookFault::Refused { asked, number }, _) => {
