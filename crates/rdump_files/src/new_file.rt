@@ -54,16 +54,16 @@ impl Form {
     }
 
     /// Whether a run may have left this file, which must be locked and open at its beginning.
-    fn is_left(self, alloc: Global, file: &mut File) -> io::Result<bool> {
+    fn may_be_leftover(self, alloc: Global, file: &mut File) -> io::Result<bool> {
         if file.metadata()?.len() > MOST_LEFT {
             return Ok(false);
         }
         let bytes = read_rest(alloc, file)?;
-        let is_left = match self {
+        let may_be_leftover = match self {
             Form::Dates => is_left_dates(alloc, &bytes)?,
             Form::Checkpoint => is_left_checkpoint(alloc, &bytes)?,
         };
-        Ok(is_left)
+        Ok(may_be_leftover)
     }
 }
 
@@ -359,7 +359,7 @@ fn remove_leftover_at<R: Files<File = File>>(
     if !lock(rt, path, &file)? {
         return Ok(());
     }
-    if !form.is_left(alloc, &mut file)? {
+    if !form.may_be_leftover(alloc, &mut file)? {
         return Err(io::Error::new(ErrorKind::AlreadyExists, NOT_LEFT));
     }
     if has_name(rt, path, &file)? {
@@ -381,7 +381,7 @@ pub(crate) fn find_unknown_new<R: Files<File = File>>(
     let Some(mut file) = open_left(rt, path.as_str())? else {
         return Ok(None);
     };
-    if lock(rt, path.as_str(), &file)? && !form.is_left(alloc, &mut file)? {
+    if lock(rt, path.as_str(), &file)? && !form.may_be_leftover(alloc, &mut file)? {
         return Ok(Some(path));
     }
     Ok(None)
