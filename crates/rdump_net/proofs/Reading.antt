@@ -17,7 +17,7 @@ use Rattle.rdump_net.specs.Calls.{is_done, CallsFollow, Stops, Extends}
 use Rattle.rdump_net.specs.DriveCalls.{read_fault}
 use Rattle.rmt_wire.specs.Print.{IsPrinted}
 use Rattle.rdump_net.specs.Ends.{copy_ends, copy_kind, stream_ends, stream_kind}
-use Rattle.rdump_net.specs.Reading.{next_of, next_read, next_mark, after_for_count, after_for_records, records_of, text_of, label_text, file_bytes, IsNamed, ReadFails, ReadEnds, is_whole, is_copied, AreRecords, IsAtLabel, IsVolumeReading, IsVolumeRead, EndsAtRefusal, GoesOnBy, Breaks, CallSteps, IsBegun, IsDone, IsDoneBy, IsRecordRead, Reads, ReadsVolume, AreRecordsWritten, Concludes, IsCopied, IsThrough}
+use Rattle.rdump_net.specs.Reading.{next_of, next_read, next_mark, after_for_count, after_for_records, records_of, text_of, label_text, file_bytes, IsNamed, ReadFails, ReadEnds, is_whole, is_copied, AreRecords, IsAtLabel, IsVolumeReading, IsVolumeRead, EndsAtRefusal, GoesOnBy, Breaks, CallSteps, IsBegun, IsDone, IsDoneBy, IsRecordRead, Reads, ReadsVolume, AreRecordsWritten, Concludes, IsCopied, HasReadVolume}
 use Rattle.rdump_net.specs.declared.kept_reply.KeptReply.{KeptReply}
 use Rattle.rdump_net.specs.declared.kept_reply.KeptReply.TheVariants as kept
 use Rattle.rdump_net.specs.declared.fault.VolumeRequest.{VolumeRequest}
@@ -390,7 +390,7 @@ module _ {P F W : Type 0} (tells : P → List Passed → Type 0) (filed : F → 
 module _ {P F W : Type 0} (tells : P → List Passed → Type 0) (filed : F → Option (List ℕ)) (contents : W → Option (List ℕ)) (device : List ℕ) (after : AfterVolume) where
   -- a call before the records fails
   pub through_none : (p q r : P) (f : Counting F) (o : Counting W) (replies : List PlainReply) (fault : ReadFault) → records_of replies ≡ [] → Extends (next_of device after) tells p q [] replies
-      → CallSteps (next_of device after) tells q r replies (Err fault) → IsThrough (copy_kind tells filed contents) device after (copy_ends p f o) (copy_ends r f o) (Err fault)
+      → CallSteps (next_of device after) tells q r replies (Err fault) → HasReadVolume (copy_kind tells filed contents) device after (copy_ends p f o) (copy_ends r f o) (Err fault)
   through_none p q r f o replies fault none x y =
       let all = breaks_after (next_of device after) tells p q r [] replies y.0 fault x y.1 in
       record {
@@ -407,7 +407,7 @@ module _ {P F W : Type 0} (tells : P → List Passed → Type 0) (filed : F → 
 
   -- the records fail
   pub through_part : (p q r : P) (f f' : Counting F) (o o' : Counting W) (replies : List PlainReply) (fault : ReadFault) → Extends (next_of device after) tells p q [] replies
-      → IsCopied (next_of device after) after (copy_kind tells filed contents) replies (copy_ends q f o) (copy_ends r f' o') (Err fault) → IsThrough (copy_kind tells filed contents) device after (copy_ends p f o) (copy_ends r f' o') (Err fault)
+      → IsCopied (next_of device after) after (copy_kind tells filed contents) replies (copy_ends q f o) (copy_ends r f' o') (Err fault) → HasReadVolume (copy_kind tells filed contents) device after (copy_ends p f o) (copy_ends r f' o') (Err fault)
   through_part p q r f f' o o' replies fault x y =
       let all = breaks_after (next_of device after) tells p q r [] replies y.later fault x y.reads in
       record {
@@ -425,7 +425,7 @@ module _ {P F W : Type 0} (tells : P → List Passed → Type 0) (filed : F → 
   -- what comes after the records
   pub through_end : (p q r s : P) (f f' : Counting F) (o o' : Counting W) (replies : List PlainReply) (n : ℕ) (goes : AfterVolume) (result : Result Unit ReadFault) → Extends (next_of device after) tells p q [] replies
       → (y : IsCopied (next_of device after) after (copy_kind tells filed contents) replies (copy_ends q f o) (copy_ends r f' o') (Ok n)) → goes ≡ after_for_count after n
-      → Concludes (next_of device after) goes tells r s y.later result → IsThrough (copy_kind tells filed contents) device after (copy_ends p f o) (copy_ends s f' o') result
+      → Concludes (next_of device after) goes tells r s y.later result → HasReadVolume (copy_kind tells filed contents) device after (copy_ends p f o) (copy_ends s f' o') result
   through_end p q r s f f' o o' replies n goes result x y e z =
       let next = next_of device after in
       let a = extends_both next tells p q r [] replies y.later x y.reads.0 in

@@ -451,7 +451,7 @@ IsConcludedAtEnd tells goes n p p' result =
 
 -- all calls of reading a volume over a peer that is connected, with what they print and write and
 -- the result
-pub record IsThrough {P F W : Type 0} (kind : CopyKind P F W) (device : List ℕ) (after : AfterVolume) (old new : CopyEnds P F W)
+pub record HasReadVolume {P F W : Type 0} (kind : CopyKind P F W) (device : List ℕ) (after : AfterVolume) (old new : CopyEnds P F W)
     (result : Result Unit ReadFault) : Type 0 where
   pub replies : List PlainReply
   pub more : List Passed

@@ -10,7 +10,7 @@ ghost use Rattle.rdump_net.specs.Ends.{copy_ends, copy_kind, stream_ends, stream
 ghost use Rattle.rmt_wire.specs.Print.{IsPrinted};
 ghost use Rattle.rdump_net.specs.Reading as spec;
 ghost use Rattle.rdump_net.specs.declared.fault.ReadFault.TheVariants as faults;
-ghost use Rattle.rdump_net.specs.Reading.{AreFurtherRecordsWritten, IsBegun, IsClosedUnmarked, IsConcludedAtEnd, IsConcludedAtMark, IsCopiedAtLabel, IsDoneBy, IsDoneNext, IsLookedAtEnd, IsLookedBy, IsNamed, IsRead, IsReadStatus, IsTakenAwayAtMark, IsThrough, is_whole};
+ghost use Rattle.rdump_net.specs.Reading.{AreFurtherRecordsWritten, IsBegun, IsClosedUnmarked, IsConcludedAtEnd, IsConcludedAtMark, IsCopiedAtLabel, IsDoneBy, IsDoneNext, IsLookedAtEnd, IsLookedBy, IsNamed, IsRead, IsReadStatus, IsTakenAwayAtMark, HasReadVolume, is_whole};
 ghost use Rattle.rdump_net.specs.declared.volume.AfterVolume.{AfterVolume};
 
 use crate::Peer;
@@ -118,7 +118,7 @@ fn go_through<P: Peer, F: Write, W: Write>(
     out: &mut Counted<W>,
 ) -> Result<(), ReadFault>
     requires { IsLine device.now }
-    ensures { IsThrough (copy_kind P.tells F.contents W.contents) device.now after
+    ensures { HasReadVolume (copy_kind P.tells F.contents W.contents) device.now after
         (copy_ends peer.old file.old out.old) (copy_ends peer.new file.new out.new) result }
 {
     begin(caller, peer, device)?;
