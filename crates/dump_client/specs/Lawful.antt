@@ -19,8 +19,8 @@ use Rattle.dump_client.specs.declared.stage.Stage.{Stage}
 use Rattle.dump_client.specs.declared.stage.Stage.TheVariants.{ToSend, Waiting, Finished}
 use Rattle.dump_run.specs.declared.count.VolumeCount.{VolumeCount}
 
--- blocks of the run are left to dump: no volume is counted yet, or the counts end before the last
--- block
+-- the run is not finished: no volume is counted yet, or the counts end before the last block; so a
+-- run of 0 blocks is finished once its only volume is counted
 abbrev pub IsUnfinishedRun : PlainRun → List VolumeCount → Type 0
 IsUnfinishedRun run counts = (counts ≡ []) ⊎ ((checkpoint_of counts).1 < run.blocks)
 

@@ -95,11 +95,14 @@ after_number run first Label n = after_write run first Label label_bytes n
 after_number run first (Block number) n = after_write run first (Block number) run.block_bytes n
 after_number run first Close n = Ended
 
--- the outcome if the reply to a write is error `n`
+-- the outcome if the reply to the write of the label or a block is error `n`, in a volume that
+-- begins at block `first`; with ENOSPC it is the end of the reel
 abbrev pub after_refusal : ℕ → Step → ℕ → Outcome
 after_refusal first step n = if n == ENOSPC then at_end_of_reel first step else Fails (Refused n)
 
--- the outcome if the reply to a step is error `n`
+-- The outcome if the reply to a step is error `n`. `first` is the first block of the attempt's
+-- volume. An error fails the attempt, with two exceptions: ENOSPC in reply to a write is the end of
+-- the reel, as `after_refusal` says, and any error in reply to the close ends the attempt.
 abbrev pub after_error : ℕ → Step → ℕ → Outcome
 after_error first Label n = after_refusal first Label n
 after_error first (Block number) n = after_refusal first (Block number) n

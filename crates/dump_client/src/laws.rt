@@ -78,11 +78,11 @@ pub fn granted_replies()
         GrantedAtTheCount run had first next replies }
 {}
 
-/// A client in an attempt is at a position of its volume. Its state determines which requests were
-/// sent, and they begin the script of a volume with some number of blocks. It also determines how
-/// many replies came: one to each request before its step. MTOFFL has its reply only at the close,
-/// when the last count is that volume's. The request of a step is the same whether it is taken from
-/// the checkpoint now or from that at the attempt's start.
+/// Two laws of a client. First: during an attempt, its state determines its position in its volume,
+/// that is, which first part of the volume's request script was sent, and how many replies came.
+/// The reply to MTOFFL is among them only at the close, when the last count is that volume's.
+/// Second: the request of a step is the same whether it is taken from the checkpoint now or from
+/// the one at the attempt's start.
 ///
 /// The function does nothing: its contract is a law of the definitions.
 pub fn lawful_positions()

@@ -89,7 +89,7 @@ impl Checkpoint {
 }
 
 impl Run {
-    /// Reads the text of a checkpoint, and returns its run alone.
+    /// Returns the run that the text of a checkpoint spells, without the counts.
     ///
     /// It reads the counts too and frees them. Its errors are those of `Checkpoint::read`, under
     /// the same conditions.

@@ -30,9 +30,10 @@ answer_to (Op op count) = Done count
 abbrev pub answer_text : PlainRequest → List ℕ
 answer_text request = reply_text (answer_to request)
 
--- The outcome of serving. The bytes that were read are requests and then a rest. Only the replies
--- to these requests were written, in order, or a beginning of them if the output failed. The rest
--- is empty at the end of the stream, and otherwise it is as the error says.
+-- The outcome of serving. `first` is what the stream still had at the start, and `left` what it has
+-- at the end, if they are known. The bytes that were read in between are requests and then a rest.
+-- Only the replies to these requests were written, in order, or a beginning of them if the output
+-- failed. The rest is empty at the end of the stream, and otherwise it is as the error says.
 abbrev pub IsServed : Result Unit Stop → (first left : Option (List ℕ)) → RequestHeld → (output output' : Option (List ℕ)) → Type 0
 IsServed (Ok done) first left held output output' = HasAnsweredAll (Ok tt) answer_text first left held output output'
 IsServed (Err (Requests fault)) first left held output output' = HasAnsweredAll (Err fault) answer_text first left held output output'

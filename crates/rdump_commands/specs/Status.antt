@@ -3,7 +3,7 @@ use Rattle.std.specs.Prelude.{◌≡◌, ◌⊎◌}
 use Rattle.exit_status.specs.declared.status.ExitStatus.{ExitStatus}
 use Rattle.exit_status.specs.declared.status.ExitStatus.TheVariants.{Success, StartupError, Abnormal}
 
--- the status if no command is run: `Success` for help and the version, `StartupError` for wrong
+-- the status if no command is run: `Success` for help or the version, `StartupError` for wrong
 -- arguments
 abbrev pub IsHelpStatus : ExitStatus → Type 0
 IsHelpStatus status = (status ≡ Success) ⊎ (status ≡ StartupError)

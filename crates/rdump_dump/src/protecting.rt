@@ -113,7 +113,9 @@ fn label_of(front: &ReelFront) -> Option<VolumeLabel> {
     }
 }
 
-/// Prints why a look at the reel at this address failed.
+/// Prints why the look at the reel at `address` failed. `fault` is how it failed. `failure` is the
+/// system's error, if the connection of the look failed with one; it is printed in place of a fault
+/// that says only that the connection ended.
 fn report_failed_look<R: Eprint>(
     rt: &R,
     address: &str,

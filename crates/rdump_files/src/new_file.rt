@@ -53,7 +53,8 @@ impl Form {
         }
     }
 
-    /// Whether a run may have left this file, which must be locked and open at its beginning.
+    /// Whether this file may be the leftover of an interrupted run. It must be locked, and open at
+    /// its beginning.
     fn may_be_leftover(self, alloc: Global, file: &mut File) -> io::Result<bool> {
         if file.metadata()?.len() > MOST_LEFT {
             return Ok(false);

@@ -70,7 +70,10 @@ abbrev pub kept_kind : {B P W K : Type 0} → (B → List (List ℕ) → Type 0)
     → (K → List PlainCheckpoint → Type 0) → KeptKind B P W K
 kept_kind holds tells contents puts = record { holds = holds; tells = tells; contents = contents; puts = puts }
 
--- what a dump did while it printed `text`, which is what the peer and the keeper logged
+-- What a dump did between `old` and `new`: it exchanged `passed` with the peer, printed `text`, and
+-- gave `checkpoints` to the keeper, which stores the dump's checkpoint. The peer logged what
+-- passed, and the keeper logged the checkpoints. `fed` and `later` are the bytes that the client
+-- was fed since the request that awaits its reply was sent: `fed` at `old`, and `later` at `new`.
 pub record HasKept {B P W K : Type 0} (k : KeptKind B P W K) (old new : KeptEnds B P W K) (text : List ℕ) (fed : List ℕ) : Type 0 where
   pub passed : List Passed
   pub checkpoints : List PlainCheckpoint

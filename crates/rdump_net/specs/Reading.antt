@@ -42,29 +42,35 @@ next_end Check ends = next_close ends
 next_end Offline [] = Some (Op MTOFFL 1)
 next_end Offline (taken ∷ ends) = if is_done taken then next_close ends else None
 
--- space over the mark behind the last record; if that is refused, the close
+-- the next request, after these replies, when reading spaces over the mark behind the last record
+-- and goes on as `goes` says; the close if the space is refused
 abbrev pub next_over : AfterVolume → List PlainReply → Option PlainRequest
 next_over goes [] = Some (Op MTFSF 1)
 next_over goes (Done k ∷ ends) = next_end goes ends
 next_over goes (Error k text ∷ ends) = next_close ends
 next_over goes (Data bytes ∷ ends) = None
 
--- space forward over the `n` records, and then over the mark
+-- the next request, after these replies, when reading spaces forward over the `n` records and then
+-- over the mark, and goes on as `goes` says; the close if a space is refused; None at the end, or
+-- if a reply does not fit
 abbrev pub next_forward : AfterVolume → ℕ → List PlainReply → Option PlainRequest
 next_forward goes n [] = Some (Op MTFSR n)
 next_forward goes n (Done k ∷ ends) = next_over goes ends
 next_forward goes n (Error k text ∷ ends) = next_close ends
 next_forward goes n (Data bytes ∷ ends) = None
 
--- rewind first; then space forward as `next_forward` does, if one request can name `n` records
+-- the next request, after these replies, when reading rewinds and then spaces forward as
+-- `next_forward` does; the close if the rewind is refused, or if `n` records are too many for one
+-- request; None at the end, or if a reply does not fit
 abbrev pub next_again : AfterVolume → ℕ → List PlainReply → Option PlainRequest
 next_again goes n [] = Some (Op MTREW 1)
 next_again goes n (Done k ∷ ends) = if nat_lt NUMBER_LIMIT n then next_close ends else next_forward goes n ends
 next_again goes n (Error k text ∷ ends) = next_close ends
 next_again goes n (Data bytes ∷ ends) = None
 
--- Space back over one record. If that is done, there is no mark. If it is refused with EIO, as at a
--- mark, look from the beginning.
+-- The next request, after these replies, when reading spaces back over one record. If that is done,
+-- there is no mark, and the close is next. If it is refused with EIO, as at a mark, reading looks
+-- from the beginning, as `next_again` does.
 abbrev pub next_back : AfterVolume → ℕ → List PlainReply → Option PlainRequest
 next_back goes n [] = Some (Op MTBSR 1)
 next_back goes n (Done k ∷ ends) = next_close ends
@@ -378,8 +384,10 @@ IsUnmarked next replies ConnectionEnded = ⊥
 IsUnmarked next replies Botched = ⊥
 IsUnmarked next replies OutOfMemory = ⊥
 
--- the result of looking for the mark: it was found, or not looked for; or it was not found, and the
--- close is next; or a call got no reply
+-- The result of looking for the mark after `replies`; `next` gives the request that follows some
+-- replies. Ok None: the mark was found, or not looked for, and reading goes on as `goes` says. Ok
+-- (Some fault): it was not found, for this reason, and the close is next. Err: a call got no reply.
+-- `later` are all replies that came until then; those of the search have no record.
 abbrev pub HasSoughtMark : {P : Type 0} → (List PlainReply → Option PlainRequest) → AfterVolume → (P → List Passed → Type 0) → P → P
     → List PlainReply → Result (Option ReadFault) ReadFault → Type 0
 HasSoughtMark next goes tells p p' replies (Ok None) =
@@ -449,8 +457,10 @@ IsConcludedAtEnd tells goes n p p' result =
     (next : List PlainReply → Option PlainRequest) (replies : List PlainReply) → GoesOnBy next (next_mark goes n) replies
     → Concludes next goes tells p p' replies result
 
--- all calls of reading a volume over a peer that is connected, with what they print and write and
--- the result
+-- All calls of reading a volume over a peer that is connected: what they do over it, what they
+-- print and write, and the result. `replies` are all replies, and `more` is what passed. `named`
+-- says whether the label's text was printed whole, and `filled` whether the records were written to
+-- the file whole. The result is `OutputFailed` exactly if one of the two is false.
 pub record HasReadVolume {P F W : Type 0} (kind : CopyKind P F W) (device : List ℕ) (after : AfterVolume) (old new : CopyEnds P F W)
     (result : Result Unit ReadFault) : Type 0 where
   pub replies : List PlainReply

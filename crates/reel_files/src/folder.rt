@@ -195,8 +195,8 @@ impl<R: FolderSystem, L: Log + Drop> FolderStacks<R, L> {
         }
     }
 
-    /// Takes the file of the latched reel, with this medium, offline, as `Stacks::offline` does,
-    /// and logs the result.
+    /// Moves the latched reel's file to the bin, as `Stacks::offline` does, and logs the result.
+    /// `medium` is the open file of that reel.
     fn take_off(&mut self, drive: usize, medium: &FileMedium) -> Result<(), DriveFault>
         requires { drive < length self.old.rows }
         ensures { IsFolderMove self.old drive medium.now result self.new }

@@ -65,6 +65,7 @@ unsent (WriteDropped count) = count
 unsent (Read count) = 0
 unsent (Op op count) = 0
 
--- the text spells the request once as many bytes follow, of any value, as must still follow
+-- the text is the request up to the data of a dropped write, or all of any other request: with any
+-- `unsent request` bytes after it, it spells the request
 abbrev pub IsTextOf : List ℕ → PlainRequest → Type 0
 IsTextOf text request = (more : List ℕ) → length more ≡ unsent request → SpellsRequest (text ++ more) request

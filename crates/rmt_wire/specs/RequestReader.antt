@@ -105,7 +105,8 @@ GivesMore (Ok None) new pushed requests =
 GivesMore (Err fault) new pushed requests =
     (rest : List ℕ) × Unread new rest × Spelled pushed requests rest × HasFault rest fault × HasNoSpelling rest
 
--- call after call, the requests returned are those that the pushed bytes spell
+-- if the requests returned so far are those that the pushed bytes spell, they still are after this
+-- call, which returns `answer`
 abbrev pub KeepsGiving : RequestHeld → Result (Option PlainRequest) WireFault → RequestHeld → Type 0
 KeepsGiving old answer new =
     (pushed : List ℕ) (requests : List PlainRequest) → IsGiven old pushed requests → GivesMore answer new pushed requests

@@ -19,7 +19,9 @@ pub(crate) struct IdleWorkers<'t, S: Stacks + Drop, B: NamesTable> {
 }
 
 impl<'t, S: Stacks + Drop, B: NamesTable> IdleWorkers<'t, S, B> {
-    /// Starts with the seats of `unused_seats`. None is reserved. It allocates nothing.
+    /// Starts with the seats of `unused_seats`: a worker is made from one of them when it is first
+    /// taken. A seat is a place at the table of the drives' holders; a worker is a seat with the
+    /// stacks on which its sessions work. No worker is reserved. It allocates nothing.
     pub(crate) fn new(alloc: Global, unused_seats: UnusedSeats<'t, S, B>) -> Self {
         IdleWorkers {
             unused_seats,

@@ -386,9 +386,9 @@ fn bind<R: ServerSystem, L: Log>(rt: &R, address: &str, log: &L) -> io::Result<T
     Ok(listener)
 }
 
-/// Prints why the arguments leave nothing to do: an error on standard error, or help and the
-/// version on standard output. Returns `End`, with the status `Ended` for help and the version,
-/// else `Failed`.
+/// Prints why the arguments leave nothing to do: an error on standard error, or help or the version
+/// on standard output. Returns `End`, with the status `Ended` for help or the version, else
+/// `Failed`.
 fn refuse<R: ServerSystem>(rt: &R, error: Error) -> io::Result<Begun<R>>
     ensures { IfOk result (λ begun. (begun ≡ Begun.End Failed) ⊎ ((begun ≡ Begun.End Ended) × IsShown (kind_of error))) }
 {

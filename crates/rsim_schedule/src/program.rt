@@ -17,7 +17,7 @@ use std::{fs, io};
 ///
 /// Returns the exit status of the schedule. If the arguments are wrong or the file cannot be read,
 /// it prints one line on standard error and returns `StartupError`. It does the same if parsing the
-/// arguments runs out of memory. It prints the help and the version on standard output and returns
+/// arguments runs out of memory. It prints the help or the version on standard output and returns
 /// `Success`, or `StartupError` if that write fails.
 ///
 /// Fails only if an allocation for the list of arguments fails, or if a line cannot be printed on
@@ -56,9 +56,8 @@ fn run_file<R: Files + Eprint + AllocGlobal, W: Write>(
     }
 }
 
-/// Prints what clap returned in place of matches, and returns the exit status. The help and the
-/// version are printed on standard output. For wrong arguments, one line is printed on standard
-/// error.
+/// Prints what clap returned in place of matches, and returns the exit status. Help or the version
+/// is printed on standard output. For wrong arguments, one line is printed on standard error.
 fn refuse<R: Print + Eprint>(rt: &R, error: clap::Error) -> io::Result<ExitStatus>
     ensures { IfOk result (λ status. (status ≡ Success) ⊎ (status ≡ StartupError)) }
 {

@@ -188,7 +188,8 @@ impl FolderDriveState {
         Some(report)
     }
 
-    /// Takes the file of the latched reel, with this medium, offline. It allocates nothing.
+    /// Moves the latched reel's file to the bin. `medium` is the open file of that reel. It
+    /// allocates nothing.
     ///
     /// Fails also if no reel is latched; nothing is changed then. A sync that failed is recorded.
     pub(super) fn take_off<R: FolderSystem>(

@@ -73,7 +73,7 @@ fn client_of(alloc: Global, run: &Run, payload: &[u8]) -> Result<Client<ListBloc
     Ok(client)
 }
 
-/// Adds a run that begins with this payload, as the last of `begun`, and returns a client of it.
+/// Begins a run of this payload: adds it at the end of `begun`, and returns its client.
 ///
 /// Fails if an allocation fails. Nothing has changed then.
 fn begin(
