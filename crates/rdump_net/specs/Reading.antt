@@ -37,51 +37,51 @@ next_close (closed ∷ more) = None
 
 -- once the mark is found or not looked for: the close, with `Offline` after taking the reel offline
 abbrev pub next_end : AfterVolume → List PlainReply → Option PlainRequest
-next_end Stay ends = next_close ends
-next_end Check ends = next_close ends
+next_end Stay replies = next_close replies
+next_end Check replies = next_close replies
 next_end Offline [] = Some (Op MTOFFL 1)
-next_end Offline (taken ∷ ends) = if is_done taken then next_close ends else None
+next_end Offline (taken ∷ replies) = if is_done taken then next_close replies else None
 
 -- the next request, after these replies, when reading spaces over the mark behind the last record
 -- and goes on as `goes` says; the close if the space is refused
 abbrev pub next_over : AfterVolume → List PlainReply → Option PlainRequest
 next_over goes [] = Some (Op MTFSF 1)
-next_over goes (Done k ∷ ends) = next_end goes ends
-next_over goes (Error k text ∷ ends) = next_close ends
-next_over goes (Data bytes ∷ ends) = None
+next_over goes (Done k ∷ replies) = next_end goes replies
+next_over goes (Error k text ∷ replies) = next_close replies
+next_over goes (Data bytes ∷ replies) = None
 
 -- the next request, after these replies, when reading spaces forward over the `n` records and then
 -- over the mark, and goes on as `goes` says; the close if a space is refused; None at the end, or
 -- if a reply does not fit
 abbrev pub next_forward : AfterVolume → ℕ → List PlainReply → Option PlainRequest
 next_forward goes n [] = Some (Op MTFSR n)
-next_forward goes n (Done k ∷ ends) = next_over goes ends
-next_forward goes n (Error k text ∷ ends) = next_close ends
-next_forward goes n (Data bytes ∷ ends) = None
+next_forward goes n (Done k ∷ replies) = next_over goes replies
+next_forward goes n (Error k text ∷ replies) = next_close replies
+next_forward goes n (Data bytes ∷ replies) = None
 
 -- the next request, after these replies, when reading rewinds and then spaces forward as
 -- `next_forward` does; the close if the rewind is refused, or if `n` records are too many for one
 -- request; None at the end, or if a reply does not fit
 abbrev pub next_again : AfterVolume → ℕ → List PlainReply → Option PlainRequest
 next_again goes n [] = Some (Op MTREW 1)
-next_again goes n (Done k ∷ ends) = if nat_lt NUMBER_LIMIT n then next_close ends else next_forward goes n ends
-next_again goes n (Error k text ∷ ends) = next_close ends
-next_again goes n (Data bytes ∷ ends) = None
+next_again goes n (Done k ∷ replies) = if nat_lt NUMBER_LIMIT n then next_close replies else next_forward goes n replies
+next_again goes n (Error k text ∷ replies) = next_close replies
+next_again goes n (Data bytes ∷ replies) = None
 
 -- The next request, after these replies, when reading spaces back over one record. If that is done,
 -- there is no mark, and the close is next. If it is refused with EIO, as at a mark, reading looks
 -- from the beginning, as `next_again` does.
 abbrev pub next_back : AfterVolume → ℕ → List PlainReply → Option PlainRequest
 next_back goes n [] = Some (Op MTBSR 1)
-next_back goes n (Done k ∷ ends) = next_close ends
-next_back goes n (Error k text ∷ ends) = if nat_eq k EIO then next_again goes n ends else next_close ends
-next_back goes n (Data bytes ∷ ends) = None
+next_back goes n (Done k ∷ replies) = next_close replies
+next_back goes n (Error k text ∷ replies) = if nat_eq k EIO then next_again goes n replies else next_close replies
+next_back goes n (Data bytes ∷ replies) = None
 
 -- after the last of `n` records: look for the mark, unless the reel stays unchecked
 abbrev pub next_mark : AfterVolume → ℕ → List PlainReply → Option PlainRequest
-next_mark Stay n ends = next_close ends
-next_mark Check n ends = next_back Check n ends
-next_mark Offline n ends = next_back Offline n ends
+next_mark Stay n replies = next_close replies
+next_mark Check n replies = next_back Check n replies
+next_mark Offline n replies = next_back Offline n replies
 
 -- a reel without records stays, and no mark is looked for
 abbrev pub after_for_count : AfterVolume → ℕ → AfterVolume
@@ -91,7 +91,7 @@ after_for_count after n = if nat_eq n 0 then Stay else after
 abbrev pub next_read : AfterVolume → ℕ → List PlainReply → Option PlainRequest
 next_read after n [] = Some (Read RECORD_LIMIT)
 next_read after n (Data (b ∷ bytes) ∷ reads) = next_read after (n + 1) reads
-next_read after n (Data [] ∷ ends) = next_mark (after_for_count after n) n ends
+next_read after n (Data [] ∷ replies) = next_mark (after_for_count after n) n replies
 next_read after n (Done k ∷ reads) = None
 next_read after n (Error k text ∷ reads) = None
 
