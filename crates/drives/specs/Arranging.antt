@@ -63,7 +63,8 @@ is_piled s d name = is_among s.bin name || is_among (drive_at s d).stack name
 abbrev pub may_arrange : {X : Type 0} → LibraryOf X → ℕ → List (List ℕ) → Bool
 may_arrange s d names = (not (is_some (latched_at s d)) && are_distinct names) && list_all (is_piled s d) names
 
--- The stack was arranged. This fails only with OutOfMemory; then nothing is changed.
+-- The stack of drive `d` was arranged: `arranged` gives its reels, in the order of `names`. This
+-- fails only with OutOfMemory; then nothing is changed.
 abbrev pub IsArranged : {U : Type 0} → ListLibrary → ℕ → List (List ℕ) → Result U DriveFault → ListLibrary → Type 0
 IsArranged old d names (Ok x) new = new ≡ with_library old (arranged old.library d names)
 IsArranged old d names (Err OutOfMemory) new = new ≡ old

@@ -23,7 +23,7 @@ LatchStep holds capacity d (Err fault) s now = (waiting_reel s d ≢ None) × (n
 abbrev pub StaysOnline : ℕ → DriveFault → TapeLibrary → TapeLibrary → Type 0
 StaysOnline d fault s now = (now ≡ s) × (fault ≡ NameTaken → IsNameInBin s (latched_at s d))
 
--- a reel is latched at drive d, if the contents of the stacks are specified
+-- if the contents of `stacks` are specified, a reel is latched at drive `d`
 abbrev pub HasLatched : {S : Type 0} → (S → TapeLibrary → Type 0) → S → ℕ → Type 0
 HasLatched {S} holds stacks d = (s : TapeLibrary) → holds stacks s → IsSome (latched_at s d)
 

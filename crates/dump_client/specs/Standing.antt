@@ -65,8 +65,8 @@ count_to at next = record { volume = at.0; first = at.1; count = next - at.1 }
 abbrev pub counted_to : List VolumeCount → ℕ → List VolumeCount
 counted_to counts next = counts ++ count_to (checkpoint_of counts) next ∷ []
 
--- the attempt is over: the run is finished if its counts cover it, and otherwise another attempt
--- can start
+-- an attempt is over, and the client's state is `new`, with this run and these counts: the run is
+-- finished if its counts cover it, and otherwise another attempt can start
 abbrev pub IsOver : PlainRun → List VolumeCount → Standing → Type 0
 IsOver run counts new =
     (Covers run counts × (new ≡ standing run counts Finished))

@@ -87,7 +87,8 @@ IsNext blocks volume first c =
     (c.volume ≡ volume) × (c.first ≡ first) × (first + c.count ≤ blocks) × ((0 < c.count) ⊎ (blocks ≡ 0))
     × ((volume ≡ 1) ⊎ (first < blocks))
 
--- the first `n` counts are volumes of the run in order, and not one more
+-- the first `n` counts are volumes of the run in order; the first `n + 1`, if there are so many,
+-- are not
 abbrev pub AreOrdered : PlainRun → List VolumeCount → ℕ → Type 0
 AreOrdered run counts n =
     (n ≤ length counts) × AreVolumes run 1 0 (take n counts) × (n < length counts → AreVolumes run 1 0 (take (n + 1) counts) → ⊥)

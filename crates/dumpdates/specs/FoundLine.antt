@@ -42,7 +42,8 @@ IsLineFound line (Ok (Some entry)) = SpellsLine line (plain_entry entry)
 IsLineFound line (Err BadShape) = IsBadLine line
 IsLineFound line (Err NoDate) = IsBadDate line
 
--- reading the line changed nothing, if it is blank, or appended its entry
+-- `now` are the entries `before`, once the line was read: the same if it is blank, or with its
+-- entry at the end
 abbrev pub IsAdded : List ℕ → List DatesEntry → List DatesEntry → Type 0
 IsAdded line before now = (AreSpaces line × (now ≡ before)) ⊎ ((e : DatesEntry) × SpellsLine line e × (now ≡ before ++ e ∷ []))
 

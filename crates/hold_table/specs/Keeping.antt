@@ -55,9 +55,9 @@ following x = seated (newcomer (x.view.number + 1)) 0 (x.spare - 1)
 abbrev pub stepped : Seated → View → Seated
 stepped x v = seated v (x.made + 1) x.spare
 
--- The seat at index k has the number k + 1 and a mark for each drive that a table can have. It
--- shows how many steps it has made. Only the newest seat has numbers left to pass on. A seat that
--- has made no step holds no drive.
+-- The seat `x`, at index `k` of `count` seats, has the number `k + 1` and a mark for each drive
+-- that a table can have. It shows how many steps it has made. Only the newest seat has numbers left
+-- to pass on. A seat that has made no step holds no drive.
 pub record IsNumbered (count k : ℕ) (x : Seated) : Type 0 where
   pub number : x.view.number ≡ k + 1
   pub most : x.view.number + x.spare ≤ SEAT_LIMIT

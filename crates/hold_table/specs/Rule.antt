@@ -17,7 +17,7 @@ seated v made spare = record { view = v; made = made; spare = spare }
 abbrev pub HasNoHolder : List Seated → ℕ → Type 0
 HasNoHolder seats d = (k : ℕ) (x : Seated) → get_elem? seats k ≡ some x → has x.view d ≡ false
 
--- there is a seat numbered n
+-- one of `seats` has the number `n`
 abbrev pub IsSeated : List Seated → ℕ → Type 0
 IsSeated seats n = (k : ℕ) × (x : Seated) × (get_elem? seats k ≡ some x) × (x.view.number ≡ n)
 

@@ -19,7 +19,7 @@ use Rattle.rdump_files.specs.declared.dump_update.DumpEnd.{DumpEnd}
 abbrev pub dates_entry_of : PlainRun → DatesEntry
 dates_entry_of run = record { name = run.name; level = run.level; date = run.date }
 
--- the dump ended with this status, and without a fault
+-- the dump ended as `end`, with the status `status` and without a fault
 abbrev pub IsUncaused : DumpEnd → ExitStatus → Type 0
 IsUncaused end status = (end.status ≡ status) × (end.fault ≡ None)
 
@@ -39,8 +39,9 @@ pub record DumpSinks (W F : Type 0) : Type 0 where
 abbrev pub sinks : {W F : Type 0} → Counting W → F → DumpSinks W F
 sinks out file = record { out = out; file = file }
 
--- The entry of a finished run was put into the file, or its failure was reported. For an unfinished
--- run, nothing changed.
+-- The end of a dump whose client has the state `at`. If the run is finished, its entry was put into
+-- the file, or the failure of that was reported on the output. If it is unfinished, output and file
+-- are unchanged.
 pub record IsEntered {W F : Type 0} (contents : W → Option (List ℕ)) (k : WholeFileKind F) (at : Standing) (old new : DumpSinks W F)
     (end : DumpEnd) : Type 0 where
   pub unfinished : at.stage ≢ Finished → (new ≡ old) × IsUncaused end Abnormal

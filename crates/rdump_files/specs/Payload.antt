@@ -52,8 +52,8 @@ HasPayloadBlocks holds p blocks = (bytes : List ℕ) × holds p.medium bytes × 
 abbrev pub PayloadCanFail : {M : Type 0} → MediumKind M → FiledPayload M → Type 0
 PayloadCanFail m p = m.can_fail p.medium ⊎ ((bytes : List ℕ) → m.holds p.medium bytes → length bytes ≡ p.len → ⊥)
 
--- A payload was opened: the length of the medium was read, once. If that failed, there is no
--- payload.
+-- A payload with blocks of `size` bytes was opened on `medium`: the medium's length was read, once.
+-- If that failed, there is no payload.
 abbrev pub IsOpened : {M : Type 0} → MediumKind M → M → ℕ → Result (FiledPayload M) MediumFailed → Type 0
 IsOpened m medium size (Ok p) = IsMediumCall m medium (Len (Ok p.len)) p.medium × (p.size ≡ size) × (p.failures ≡ 0)
 IsOpened {M} m medium size (Err failed) = (after : M) × IsMediumCall m medium (Len (Err failed)) after

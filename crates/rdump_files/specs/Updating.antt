@@ -26,7 +26,8 @@ PutsInto k entry (Ok bytes) old new (Err (Dates fault)) = (new ≡ old) × (HasD
 PutsInto k entry (Err failed) old new (Err Unread) = new ≡ old
 PutsInto k entry read old new result = ⊥
 
--- the file is read, and then the entry is put into its contents
+-- `old` was read, and then `entry` was put into its contents; `new` is the file after that, and
+-- `result` says whether the update succeeded
 abbrev pub IsUpdated : {F : Type 0} → WholeFileKind F → DatesEntry → F → F → Result Unit UpdateFault → Type 0
 IsUpdated {F} k entry old new result =
     (read : Result (Option (List ℕ)) FileFailed) × (between : F) × k.gives old read between × PutsInto k entry read between new result

@@ -52,11 +52,13 @@ IsPeerCall request result passed =
     ⊎ ((result ≡ Err ConnectionEnded) × AreBytesSent (request_text request) false passed)
     ⊎ ((result ≡ Err OutOfMemory) × (passed ≡ []))
 
--- a reply was awaited over a peer; the result is the reply, or why none came
+-- a reply of the kind `wanted` was awaited over a peer, which was `p` before and is `p'` after;
+-- `result` is the reply, or why none came
 abbrev pub IsReplyHeard : {P : Type 0} → (P → List Passed → Type 0) → Wanted → Result PlainReply CallFault → P → P → Type 0
 IsReplyHeard tells wanted result p p' = (passed : List Passed) × Brings wanted result passed × Logs tells p p' passed
 
--- the request was sent over a peer; the result is its reply, or why none came
+-- `request` was sent over a peer, which was `p` before and is `p'` after; `result` is its reply, or
+-- why none came
 abbrev pub IsCalled : {P : Type 0} → (P → List Passed → Type 0) → PlainRequest → Result PlainReply CallFault → P → P → Type 0
 IsCalled tells request result p p' = (passed : List Passed) × IsPeerCall request result passed × Logs tells p p' passed
 
@@ -79,7 +81,9 @@ IsFront wanted bytes (Err OutOfMemory) new =
     (reply : PlainReply) × (rest : List ℕ) × ReplyParsesAs (Some wanted) bytes (Ok (Some reply)) rest
 IsFront wanted bytes (Err ConnectionEnded) new = ⊥
 
--- the bytes are the beginning of a reply, or exactly one reply, or neither
+-- The result says what the bytes are, for a reader that awaits a reply of the kind `wanted`. Ok
+-- None: the beginning of a reply; the reader `new` awaits the rest. Ok (Some answer): exactly this
+-- reply. Botched: neither. OutOfMemory: they begin with a reply, but an allocation failed.
 abbrev pub IsTaken : Wanted → List ℕ → Result (Option KeptReply) CallFault → ReplyHeld → Type 0
 IsTaken wanted bytes (Ok None) new = IsReplyAwaited wanted new bytes
 IsTaken wanted bytes (Ok (Some answer)) new = SpellsReply bytes (plain_kept answer) wanted

@@ -27,7 +27,7 @@ abbrev pub put_if : PlainCheckpoint → Bool → List PlainCheckpoint
 put_if checkpoint true = checkpoint ∷ []
 put_if checkpoint false = []
 
--- the last checkpoint put is that of a client in this state
+-- the last of the checkpoints `put` is that of a client in the state `at`
 abbrev pub IsKept : List PlainCheckpoint → Standing → Type 0
 IsKept put at = (before : List PlainCheckpoint) × (put ≡ before ++ plain_checkpoint at.run at.counts ∷ [])
 
@@ -120,6 +120,7 @@ IsKeptUp puts one old true new k k' =
     (new ≡ Some (length one.counts)) × (((old ≡ Some (length one.counts)) × PutsOn puts k k' []) ⊎ PutsOn puts k k' (one ∷ []))
 IsKeptUp puts one old false new k k' = PutsOn puts k k' []
 
--- the line was printed, perhaps not whole, and the dump ends as `Unkept`
+-- the checkpoint could not be kept: the line that says so was printed, perhaps not whole, and the
+-- dump ends as `Unkept`
 abbrev pub IsUnkept : {W : Type 0} → (W → Option (List ℕ)) → Counting W → Counting W → Conclusion → Type 0
 IsUnkept contents out out' end = (end ≡ Unkept) × ((whole : Bool) × IsPrinted contents unkept_line out out' whole)

@@ -113,7 +113,9 @@ abbrev pub conclusion_status : Conclusion → ExitStatus
 conclusion_status Complete = Success
 conclusion_status end = Abnormal
 
--- what one round of a dump prints; the last round also prints the last line
+-- What one round of a dump prints, from the counts `first` up to the client's state `at`. Before
+-- the last round (None), these are the lines of the volumes counted in it. The last round, which
+-- ends as `end`, also prints the last line.
 abbrev pub IsRound : {W : Type 0} → (W → Option (List ℕ)) → List VolumeCount → Standing → Counting W → Counting W → Option Conclusion → Type 0
 IsRound contents first at out out' None = (text : List ℕ) × DumpLines first at.counts text × IsPrinted contents text out out' true
 IsRound contents first at out out' (Some end) = IsConcluded contents first at out out' end

@@ -150,7 +150,8 @@ IsAnsweredAt tells device from named p p' (Err (Refused other n)) =
     (other ≡ named) × ((text : List ℕ) × Goes tells device from (stage_then from (Error n text)) p p')
 IsAnsweredAt tells device from named p p' (Err (NoReply fault)) = Fails tells device from fault p p'
 
--- `IsAnsweredAt` holds at each stage that makes this request
+-- `IsAnsweredAt` holds at each stage that makes `request`, which a fault calls `named`, whatever
+-- the device
 abbrev pub IsAnswered : {P : Type 0} → (P → List Passed → Type 0) → LookRequest → PlainRequest → P → P → Result Unit LookFault → Type 0
 IsAnswered tells named request p p' result =
     (device : List ℕ) (from : LookStage) → request_at device from ≡ Some request → IsAnsweredAt tells device from named p p' result

@@ -62,7 +62,8 @@ pub record IsMt {P W : Type 0} (kind : StreamKind P W) (device : List ℕ) (op c
   pub printed : IsPrinted kind.contents (printed_line (printed_reply replies)) old.out new.out whole
   pub result : status ≡ status_after (printed_reply replies) whole
 
--- what an operation does over a peer that is connected, what it prints, and its exit status
+-- what the operation `op` of count `count` on `device` does over a peer that is connected, what it
+-- prints, and its exit status
 pub record IsOperated {P W : Type 0} (kind : StreamKind P W) (device : List ℕ) (op count : ℕ) (old new : StreamEnds P W)
     (status : ExitStatus) : Type 0 where
   pub replies : List PlainReply

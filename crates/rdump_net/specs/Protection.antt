@@ -35,8 +35,8 @@ IsRecordDecided key bytes (Some why.OtherDump) = (l : PlainLabel) × ReadsLabel 
 IsRecordDecided key bytes (Some why.NoLabel) = ReadsLabel bytes None
 IsRecordDecided key bytes (Some why.Mark) = ⊥
 
--- A dump may write on an empty reel, and on one with its own label. For any other reel, the result
--- says why not.
+-- The dump `key` may write on an empty reel, and on one with its own label: then `result` is None.
+-- For a reel that begins with anything else, `result` says why not.
 abbrev pub IsDecided : DumpKey → PlainFront → Option Protection → Type 0
 IsDecided key Empty result = result ≡ None
 IsDecided key Mark result = result ≡ Some why.Mark

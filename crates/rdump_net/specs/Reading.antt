@@ -168,7 +168,7 @@ IsUndetermined next replies =
     × (replies ≡ before ++ reply ∷ rest) × (next before ≡ Some request) × (next (before ++ reply ∷ []) ≡ Some Close)
     × StopsTheSearch request reply
 
--- the request is the one that a fault names in this way
+-- a fault that names a request as `named` means this request
 abbrev pub IsNamed : VolumeRequest → PlainRequest → Type 0
 IsNamed asked.Open request = (device : List ℕ) × (request ≡ Open device O_RDONLY)
 IsNamed asked.Rewind request = request ≡ Op MTREW 1
@@ -278,7 +278,8 @@ CallSteps next tells p p' replies (Err fault) =
     (later : List PlainReply) × Breaks next tells p p' replies fault later × (records_of later ≡ records_of replies)
     × (is_whole (Err fault) ≡ true)
 
--- one more call is made, which succeeds only if its request is done
+-- One more call is made after `replies`. Ok: its reply says that the request was done. Err: it was
+-- refused, or got no reply.
 abbrev pub IsDone : {P : Type 0} → (List PlainReply → Option PlainRequest) → (P → List Passed → Type 0) → P → P → List PlainReply
     → Result Unit ReadFault → Type 0
 IsDone next tells p p' replies (Ok x) =
@@ -302,7 +303,8 @@ IsDoneBy answer named (Err fault) =
     ((number : ℕ) × (text : Vec ℕ Global) × (answer ≡ kept.Error number text) × (fault ≡ Refused named number))
     ⊎ ((bytes : Vec ℕ Global) × (answer ≡ kept.Data bytes))
 
--- the device is open and rewound, or why it is not
+-- The first two calls of reading a volume. Ok: `device` was opened and rewound. Err: why it was
+-- not.
 abbrev pub IsBegun : {P : Type 0} → (P → List Passed → Type 0) → List ℕ → AfterVolume → P → P → Result Unit ReadFault → Type 0
 IsBegun tells device after p p' (Ok x) =
     (opened : PlainReply) × (rewound : PlainReply) × (is_done rewound ≡ true) × (records_of (opened ∷ rewound ∷ []) ≡ [])
@@ -349,8 +351,10 @@ ReadsVolume next after tells p p' replies (Ok n) later =
     × (after_for_records after (records_of later) ≡ after_for_count after n)
 ReadsVolume next after tells p p' replies (Err fault) later = Breaks next tells p p' replies fault later
 
--- the label is read and printed, and the records after it are read and written to the file, up to
--- the result
+-- The calls after `replies`, until the reads end with `result`: the text of the label is printed,
+-- and the records after it are written to the file. `later` are all replies that came until then.
+-- `named` says whether the label's text was printed whole, and `filled` whether the records were
+-- written whole.
 pub record IsCopied {P F W : Type 0} (next : List PlainReply → Option PlainRequest) (after : AfterVolume) (kind : CopyKind P F W)
     (replies : List PlainReply) (old new : CopyEnds P F W) (result : Result ℕ ReadFault) : Type 0 where
   pub later : List PlainReply
@@ -367,14 +371,16 @@ IsCopiedAtLabel kind old new result =
     (device : List ℕ) (after : AfterVolume) (seen : List PlainReply) → IsAtLabel seen
     → IsCopied (next_of device after) after kind seen old new result
 
--- the next call, an operation, was done, or refused with this error number, or got no reply
+-- One more call is made after `replies`, an operation. Ok None: it was done. Ok (Some number): it
+-- was refused with this error number. Err: it got no reply.
 abbrev pub IsAnswered : {P : Type 0} → (List PlainReply → Option PlainRequest) → (P → List Passed → Type 0) → P → P → List PlainReply
     → Result (Option ℕ) ReadFault → Type 0
 IsAnswered next tells p p' replies (Ok None) = (number : ℕ) × CallSteps next tells p p' replies (Ok (Done number))
 IsAnswered next tells p p' replies (Ok (Some number)) = (text : List ℕ) × CallSteps next tells p p' replies (Ok (Error number text))
 IsAnswered next tells p p' replies (Err fault) = CallSteps next tells p p' replies (Err fault)
 
--- `fault` is why no mark was found
+-- after `replies` no mark was found, and `fault` is why: there is none, or it could not be
+-- determined
 abbrev pub IsUnmarked : (List PlainReply → Option PlainRequest) → List PlainReply → ReadFault → Type 0
 IsUnmarked next replies NoMark = IsMarkMissing next replies
 IsUnmarked next replies Undetermined = IsUndetermined next replies

@@ -12,14 +12,16 @@ pub data FileStep : Type 0 where
 abbrev pub Makes : {F : Type 0} → (F → List FileStep → Type 0) → F → F → List FileStep → Type 0
 Makes told old new steps = Steps told old new (λ before after. after ≡ before ++ steps)
 
--- Why a file that was truncated to zero length this often could not be synced. Either a sync had
--- failed since the last time, and no step was made. Or the sync failed now, and this is recorded.
+-- Why a file that was truncated to zero length `truncations` times could not be synced. `failed`
+-- and `noted` are what is recorded before and after: the number of truncations when a sync failed
+-- last. `before` and `after` are the steps of the file. Either a sync had failed since the last
+-- truncation, and no step was made. Or the sync failed now, and this is recorded.
 abbrev pub IsUnsynced : ℕ → Option ℕ → Option ℕ → List FileStep → List FileStep → Type 0
 IsUnsynced truncations failed noted before after =
     ((failed ≡ Some truncations) × (after ≡ before)) ⊎ ((noted ≡ Some truncations) × (after ≡ before ++ Sync false ∷ []))
 
--- Why the file was not moved: it could not be synced, or the move failed after a sync that
--- succeeded.
+-- Why the file was left in its stack, and not moved to the bin: it could not be synced, as
+-- `IsUnsynced` says of the same arguments, or the move failed after a sync that succeeded.
 abbrev pub IsLeft : ℕ → Option ℕ → Option ℕ → List FileStep → List FileStep → Type 0
 IsLeft truncations failed noted before after =
     IsUnsynced truncations failed noted before after ⊎ (after ≡ before ++ Sync true ∷ Move false ∷ [])

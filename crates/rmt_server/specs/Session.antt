@@ -116,7 +116,8 @@ reel_reply request Did = done_reply request
 reel_reply request (Gave bytes) = Data bytes
 reel_reply request (Fault why) = fault_reply request why
 
--- the device fails only if there was trouble, and memory runs out only if the reel can allocate
+-- if the answer is that the device failed, there was trouble (`troubled`); if it is that an
+-- allocation failed, the reel can allocate (`grows`)
 abbrev pub IsExcused : Bool → Bool → TapeAnswer → Type 0
 IsExcused troubled grows (Fault fault.Device) = IsTrue troubled
 IsExcused troubled grows (Fault fault.OutOfMemory) = IsTrue grows

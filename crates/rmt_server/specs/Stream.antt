@@ -44,8 +44,9 @@ pub data CarryRun {H S Seat R : Type 0} (k : Kinds H Seat S R) (start : State H 
       → CarryRun k start done between → IsCarriedOut k between request reply after → ReplyHasSpelling reply
       → CarryRun k start (done ++ (request, reply) ∷ []) after
 
--- The bytes are the spellings of these requests, then the rest. The replies to the requests were
--- written in order.
+-- The bytes are the spellings of the requests of `done`, then `rest`. The replies of `done` were
+-- written in order, to an output that had `known` before and has `known'` after, if these are
+-- known.
 pub record IsAnswered (known known' : Option (List ℕ)) (bytes : List ℕ) (done : List Exchange) (rest : List ℕ) : Type 0 where
   pub spelled : Spelled bytes (requests_of done) rest
   pub written : Appends known known' (replies_text done)
@@ -68,8 +69,8 @@ pub record Advances {H S Seat R : Type 0} (k : Kinds H Seat S R) (old new : Stat
   pub run : CarryRun k old done new
   pub outcome : Outcome done rest
 
--- The unread bytes of the reader are a beginning of a request, and there is room for the rest of
--- it.
+-- `rest`, the unread bytes of the reader `wire`, is a beginning of a request but not a whole one,
+-- and there is room for what is missing.
 pub record IsSettled (wire : RequestHeld) (rest : List ℕ) : Type 0 where
   pub unread : Unread wire rest
   pub begins : IsRequestPrefix rest
@@ -113,7 +114,8 @@ streams_kind remaining contents = record { remaining = remaining; contents = con
 abbrev pub AreRead : {In Out : Type 0} → StreamsKind In Out → Streams In Out → Streams In Out → List ℕ → Type 0
 AreRead kind old new read = Consumes (kind.remaining old.input.inner) (kind.remaining new.input.inner) read
 
--- the bytes that were read are these requests and then the rest, and all replies were written
+-- `read`, the bytes that were read between `old` and `new`, are the requests of `done` and then
+-- `rest`, and all replies of `done` were written
 abbrev pub AreAnswered : {In Out : Type 0} → StreamsKind In Out → Streams In Out → Streams In Out → List ℕ → List Exchange → List ℕ → Type 0
 AreAnswered kind old new read done rest = IsAnswered (kind.contents old.output.inner) (kind.contents new.output.inner) read done rest
 

@@ -137,8 +137,8 @@ abbrev pub set_online : Trouble → PlainRequest → Trouble
 set_online trouble Close = NoTrouble
 set_online trouble request = if is_of_stacks request then NoTrouble else trouble
 
--- The trouble that is left of one that was set: all of it, or none if a device call met it. In the
--- second case the reply is error 5.
+-- What is `left` of the trouble `set` after a request with this reply: all of it, or none if a
+-- device call met it. In the second case the reply is error 5.
 abbrev pub IsSpent : Trouble → PlainReply → Trouble → Type 0
 IsSpent set reply left = (left ≡ set) ⊎ ((set ≢ NoTrouble) × (left ≡ NoTrouble) × (reply ≡ refused InputOutput))
 
@@ -173,8 +173,8 @@ abbrev pub set_for : Trouble → PlainRequest → MemoryState → MemoryState
 set_for trouble Close x = with_troubles NoTrouble false x
 set_for trouble request x = set_at (is_of_stacks request) trouble x
 
--- The open device was closed. Its reel is back on its stack and its drive has no holder. No reel on
--- the stacks or in the bin has a trouble.
+-- The open device was closed between `old`, with the view `before`, and `new`. Its reel is back on
+-- its stack and its drive has no holder. No reel on the stacks or in the bin has a trouble.
 pub record IsEnded (old : MemoryState) (before : SessionView) (new : MemoryState) : Type 0 where
   pub tells : HasView in_memory new (closed before)
   pub held : new.drives.holds.numbers ≡ with_holder (drive_in before.session) 0 old.drives.holds.numbers

@@ -56,7 +56,8 @@ IsMadeOf given p = IsMadeWith given p.drives p.session
 abbrev pub IsAfterEnd : Drives → Seated → Drives → Type 0
 IsAfterEnd drives session left = (after : MemoryState) × IsClosed in_memory (state drives session) after × (left ≡ after.drives)
 
--- what was open is closed: the reels and the holders are those after that
+-- what the session `was` had open at the drives `old` is closed; `drives` has the reels and the
+-- holders that are left after that
 abbrev pub IsCleared : Drives → Seated → Drives → Type 0
 IsCleared old was drives = (left : Drives) × IsAfterEnd old was left × (drives.stacks ≡ left.stacks) × (drives.holds.numbers ≡ left.holds.numbers)
 

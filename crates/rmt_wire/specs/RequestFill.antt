@@ -4,8 +4,8 @@ use Rattle.std.specs.Io.KnownBytes.{Consumes, Keeps}
 use Rattle.rmt_wire.specs.Request.{PlainRequest}
 use Rattle.rmt_wire.specs.RequestReader.{RequestHeld, IsGiven, Unread}
 
--- `count` bytes came from the stream. They are unread, after those that were, as if they had been
--- pushed.
+-- `count` bytes came from the stream, which had `left` before and has `left'` after, if these are
+-- known. In the reader they are unread, after those that were, as if they had been pushed.
 pub record IsFilled (left left' : Option (List ℕ)) (old new : RequestHeld) (count : ℕ) : Type 0 where
   pub came : List ℕ
   pub long : length came ≡ count

@@ -31,7 +31,8 @@ pub record RequestHeld : Type 0 where
 abbrev pub held : List ℕ → ℕ → RequestHeld
 held kept dropped = record { kept = kept; dropped = dropped }
 
--- no more data were discarded than the dropped write has, and none if there is no such write
+-- `dropped`, the number of bytes of data that were discarded, is at most what the dropped write has
+-- whose line this is, and 0 if there is no such line
 abbrev pub IsDropped : Option (ℕ × ℕ) → ℕ → Type 0
 IsDropped None dropped = dropped ≡ 0
 IsDropped (Some line) dropped = dropped ≤ line.1
@@ -111,7 +112,7 @@ abbrev pub KeepsGiving : RequestHeld → Result (Option PlainRequest) WireFault 
 KeepsGiving old answer new =
     (pushed : List ℕ) (requests : List PlainRequest) → IsGiven old pushed requests → GivesMore answer new pushed requests
 
--- one call of `next`
+-- one call of `next` of the reader `old`: it returns `answer`, and the reader is `new` then
 pub record IsNext (old : RequestHeld) (answer : Result (Option PlainRequest) WireFault) (new : RequestHeld) : Type 0 where
   pub continues : Continues old answer new
   pub room : LeavesRoom answer new

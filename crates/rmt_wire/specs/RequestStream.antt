@@ -56,8 +56,10 @@ pub record Answers (answer : PlainRequest → List ℕ) (first left : Option (Li
   pub given : IsGivenAs read requests
   pub written : Writes (flat_map answer requests)
 
--- a conversation between two requests: the reader holds the bytes after the last one, and the
--- output has the replies
+-- A conversation between two requests. `first` is what the stream of requests had at the start, and
+-- `left` what it has now; `output` and `output'` are what the output had then and has now. All are
+-- None if they are unknown. The reader `held` holds the bytes after the last request, and `answer`
+-- gives the replies that the output has.
 abbrev pub HasAnswered : (PlainRequest → List ℕ) → (first left : Option (List ℕ)) → RequestHeld
     → (output output' : Option (List ℕ)) → Type 0
 HasAnswered answer first left held output output' = Answers answer first left (IsGiven held) (Appends output output')

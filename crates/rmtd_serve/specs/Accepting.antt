@@ -16,7 +16,7 @@ abbrev pub lasting_of : Option ℤ → Option ℕ
 lasting_of None = None
 lasting_of (Some code) = if is_lasting (unsigned_abs code) then Some (unsigned_abs code) else None
 
--- All connections have come, or as many accepts have failed as may fail, or the listener can never
--- accept again.
+-- Accepting is over. All connections have come (`left` is 0), or as many accepts have failed as may
+-- fail (`tries` is 0), or the listener can never accept again (`broken` is the error).
 abbrev pub AreOver : ℕ → ℕ → Option ℕ → Type 0
 AreOver left tries broken = (left ≡ 0) ⊎ (tries ≡ 0) ⊎ IsSomeAnd broken IsLasting

@@ -50,7 +50,9 @@ abbrev pub ListensOrEnds : {R Dir : Type 0} {reads : ReadPromise Dir} {clones : 
 ListensOrEnds line (End status) = status ≡ Failed
 ListensOrEnds line (Serve listener listener_setup) = IsListenerSetupOf line listener_setup.left listener_setup.table.words listener_setup.stacks.items
 
--- the effect of a line, and what remains to be done
+-- The effect of following `line`, on streams that are `old` before and `new` after, and what
+-- remains to be done: nothing, with this status, or to serve a listener, if the line names an
+-- address to listen on.
 abbrev pub IsDone : {In Out R Dir : Type 0} {reads : ReadPromise Dir} {clones : ClonePromise R} → StreamsKind In Out
     → ServerLine → Streams In Out → Streams In Out → Begun R Dir reads clones → Type 0
 IsDone kind line old new (End status) = EndsLine kind line old new status
