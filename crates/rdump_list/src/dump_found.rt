@@ -1,6 +1,7 @@
 //! The volumes of a dump that are on the reels.
 use crate::reel::ListedReel;
 use crate::verdict::push_count;
+use dump_run::VolumeLabel;
 use dumpdates::Entry;
 use reel_check::Volume;
 use std::alloc::{AllocError, Global};
@@ -23,9 +24,8 @@ pub(crate) enum DumpFound {
 /// A volume with its mark that continues its dump from the first block: each earlier volume is
 /// there, and each begins where the one before it ends.
 #[derive(Clone, Copy)]
-struct Reached {
-    volume: u32,
-    since: u64,
+struct Reached<'a> {
+    label: &'a VolumeLabel,
     block_bytes: usize,
     end: u64,
 }
@@ -82,25 +82,24 @@ impl DumpFound {
     }
 }
 
-impl Reached {
-    /// Returns the numbers of this volume that decide which volume continues it.
-    fn of(volume: &Volume) -> Reached {
+impl<'a> Reached<'a> {
+    /// Returns what decides which volume continues this one.
+    fn of(volume: &'a Volume) -> Reached<'a> {
         Reached {
-            volume: volume.label.volume(),
-            since: volume.label.since(),
+            label: &volume.label,
             block_bytes: volume.block_bytes,
             end: u64::from(volume.label.first()).saturating_add(volume.blocks),
         }
     }
 
-    /// Whether `next` continues where this volume ends. Volumes of one dump are based on the same
-    /// date, and have blocks of the same length.
+    /// Whether `next` continues where this volume ends. Volumes of one dump have blocks of the same
+    /// length.
     fn is_continued_by(&self, next: &Volume) -> bool {
-        let is_next = u64::from(next.label.volume()) == u64::from(self.volume) + 1;
+        let is_next = u64::from(next.label.volume()) == u64::from(self.label.volume()) + 1;
         let goes_on = u64::from(next.label.first()) == self.end;
         let has_blocks = self.block_bytes != 0 && next.block_bytes != 0;
         let is_alike = !has_blocks || self.block_bytes == next.block_bytes;
-        is_next && goes_on && is_alike && self.since == next.label.since()
+        is_next && goes_on && is_alike && self.label.is_same_dump(&next.label)
     }
 }
 
@@ -118,7 +117,7 @@ fn volume_of<'a>(reel: &'a ListedReel, entry: Entry<'_>) -> Option<&'a Volume> {
 
 /// Whether a volume is the first of its dump and begins at block 0, or continues where a reached
 /// volume ends.
-fn is_reached(reached: &[Reached], volume: &Volume) -> bool {
+fn is_reached(reached: &[Reached<'_>], volume: &Volume) -> bool {
     let is_first = volume.label.volume() == 1 && volume.label.first() == 0;
     is_first
         || reached
@@ -127,9 +126,13 @@ fn is_reached(reached: &[Reached], volume: &Volume) -> bool {
             .any(|before| before.is_continued_by(volume))
 }
 
-/// Returns the greatest volume number in `reached`, or 0 if `reached` is empty.
-fn last_of(reached: &[Reached]) -> u32 {
-    reached.iter().map(|it| it.volume).max().unwrap_or(0)
+/// Returns the greatest number of a reached volume, or 0 if there is none.
+fn last_of(reached: &[Reached<'_>]) -> u32 {
+    reached
+        .iter()
+        .map(|it| it.label.volume())
+        .max()
+        .unwrap_or(0)
 }
 
 /// Returns the first volume of this entry's dump whose number is greater than `last`.
@@ -146,7 +149,7 @@ fn next_after<'a>(reels: &'a [ListedReel], entry: Entry<'_>, last: u32) -> Optio
 
 /// Returns what was found if the volumes up to `last` are reached and `next`, the following one on
 /// the reels, is not.
-fn stopped(reached: &[Reached], last: u32, next: &Volume) -> DumpFound {
+fn stopped(reached: &[Reached<'_>], last: u32, next: &Volume) -> DumpFound {
     let volume = u64::from(last) + 1;
     let first = u64::from(next.label.first());
     let end = end_of(reached, last);
@@ -158,16 +161,16 @@ fn stopped(reached: &[Reached], last: u32, next: &Volume) -> DumpFound {
 }
 
 /// Returns the farthest block at which a reached volume of this number ends, or 0 if there is none.
-fn end_of(reached: &[Reached], volume: u32) -> u64 {
-    let ends = reached.iter().filter(|it| it.volume == volume);
+fn end_of(reached: &[Reached<'_>], volume: u32) -> u64 {
+    let ends = reached.iter().filter(|it| it.label.volume() == volume);
     ends.map(|it| it.end).max().unwrap_or(0)
 }
 
 /// Returns what was found if all volumes on the reels are reached, or if there are none.
-fn farthest(reached: &[Reached]) -> DumpFound {
-    match reached.iter().max_by_key(|it| (it.end, it.volume)) {
+fn farthest(reached: &[Reached<'_>]) -> DumpFound {
+    match reached.iter().max_by_key(|it| (it.end, it.label.volume())) {
         Some(it) => DumpFound::Volumes {
-            last: it.volume,
+            last: it.label.volume(),
             end: it.end,
         },
         None => DumpFound::NoVolume,
