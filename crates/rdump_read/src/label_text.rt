@@ -91,7 +91,7 @@ impl<'a, W: Write> Write for LabelPrinter<'a, W> {
 fn look(text: &[u8], wanted: LabelFilter<'_>) -> LabelKind {
     match (label_of(text), wanted) {
         (None, _) => LabelKind::Foreign,
-        (Some(label), LabelFilter::DumpOf(first)) if !are_of_one_dump(&label, first) => {
+        (Some(label), LabelFilter::DumpOf(first)) if !label.is_same_dump(first) => {
             LabelKind::OtherDump(label)
         }
         (Some(label), _) => LabelKind::Label(label),
@@ -111,12 +111,4 @@ fn label_of(text: &[u8]) -> Option<VolumeLabel> {
     let mut record = [0; LABEL_BYTES];
     record.get_mut(..text.len())?.copy_from_slice(text);
     VolumeLabel::read(&record)
-}
-
-/// Whether two labels are of the same dump.
-fn are_of_one_dump(one: &VolumeLabel, other: &VolumeLabel) -> bool {
-    one.name() == other.name()
-        && one.level() == other.level()
-        && one.date() == other.date()
-        && one.since() == other.since()
 }
