@@ -41,6 +41,7 @@ test: kit ## the gate: each proof from nothing, each wrong body that has to be r
 	python3 tests/messages.py
 	python3 tests/links.py
 	python3 tests/test_further.py
+	python3 tests/test_promises.py
 	sum=$$(python3 tests/build.py --sum $(PROGRAMS)) && python3 tests/gate.py --minutes $(MINUTES) && python3 tests/build.py --proved $$sum $(PROGRAMS)
 	test -x $(SERVER) -a -x $(CLIENT) -a -x $(SIMULATOR) || $(MAKE) build
 	python3 tests/outside.py --minutes $(MINUTES) $(SERVER) $(CLIENT) $(SIMULATOR)

@@ -1,16 +1,16 @@
 #!/usr/bin/env python3
-"""Checks docs/PROMISES.md against the crates. Each line with a name in bold tells of a call or a law of the crate of its section, it or a line
-below it of clauses of its contract, and each `refused` of an edit that is there. Each public call with a contract, each of its clauses, and each
-edit is named, whether `rt ci` tries it (must-fail/) or further.py (further/). At most 25 edits are in must-fail/, since `rt ci` tries each in a check
-of its own. Each call with a contract of its own that answers or changes something
-has an edit below its name, which the calls of a trait have in common, or its line says that no other body has its type. The section "Edits without a control" names just the edits beside
-which no NAME.control.md stands. Each edit and control can be applied: what it takes away stands in its file once; and a control changes the same
-places as its edit. No line has more than 120 characters.
+"""Makes docs/PROMISES.md from the crates, or compares it with them. For each public call the page has the docstring's first sentence, the words that
+stand at each clause of its contract (tests/contracts.py says where), and the edits that break it: each edit says so by lines `# breaks:`.
 
     promises.py
-    promises.py --without-controls
+    promises.py --write
 
-With the word it prints what that section has to hold, as the crates are.
+Without the word it checks that the page is what the crates make it. Both check that each clause of each public call has words, and that each edit,
+whether `rt ci` tries it (must-fail/) or further.py (further/), breaks a call that is there. At most 25 edits are in must-fail/, since `rt ci` tries
+each in a check of its own. Each call with a contract of its own that answers or changes something has an edit, which the calls of a trait have in
+common, or its words say that no other body has its type. Each edit and control can be applied: what it takes away stands in its file once; and a
+control changes the same places as its edit. An edit that the prover refuses at a limit of a tactic says so by a line `# limit:`. The edits beside which
+no NAME.control.md stands are listed. docs/MISTAKES.md names no edit that is not there.
 """
 
 from __future__ import annotations
@@ -21,47 +21,58 @@ import textwrap
 from functools import lru_cache
 from itertools import groupby
 from pathlib import Path
-from typing import Iterator, NamedTuple
+from typing import NamedTuple
 
+from contracts import RECORDS, TOP, Call, Text, breaks_of, broken, calls_of, first_sentence, libraries, paragraphs
 from controls import FOLDERS, applied, is_beside, pairs
 
-TOP = Path(__file__).resolve().parent.parent
 PROMISES = TOP / "docs" / "PROMISES.md"
 MISTAKES = PROMISES.with_name("MISTAKES.md")
 # An edit in the table of mistakes.
 EDIT = re.compile(r"^\|[^|]*\| `(\w+/\w+)` \|", re.M)
-LONGEST = 120
-QUOTED = re.compile(r"`([^`]+)`")
-SECTION = re.compile(r"## `(\w+)`")
-# A call: its name in bold, and the clauses of its contract where all is said in this line.
-CALL = re.compile(r"- \*\*(.+?)\*\*(?: \((.+?)\))?(?::|$)")
-# The clauses that a line below a call is about: names up to the first colon.
-CLAUSES = re.compile(r"  - ((?:`\w+`, )*`\w+`):")
-REFUSED = re.compile(r" +- refused: ")
-UNCONTROLLED = "## Edits without a control"
+# The lines that an edit may have.
+LINES = re.compile(r"(?:file|old|new|# breaks|# limit):|$")
+LONGEST = 100
+NO_CONTRACT = "It has no contract of its own."
 NO_OTHER = "No other body has its type."
 # How many edits `rt ci` tries at most.
 MOST_ALONE = 25
-# A contract, with the head of its function, has fewer characters.
-MOST_OF_A_CONTRACT = 20_000
+UNCONTROLLED = "Edits without a control"
+LIMITS = "Edits that are refused at a limit"
+HEAD = """\
+# Promises
+
+What each public call promises, clause by clause, and the wrong bodies that the prover refuses. Do not edit this page: `python3 tests/promises.py
+--write` makes it from the sources.
+
+- A name in bold is a call, a law, a trait, a type with a trait that it implements, or a record of `specs/`. The first sentence of its documentation
+  follows.
+- Below it is what its contract promises, with the names of the clauses; a contract of one clause has no name for it. A call without a contract is
+  only safe. Some private calls are listed, because a clause of theirs is what an edit breaks.
+- `refused` lists edits that break the promise: `crate/name` is `name.edit` in `crates/crate/must-fail/` or in `crates/crate/further/`. `make test`
+  tries all of them. `name.control.md` beside it is a right body in the same place that is proved, so the refusal shows the promise.
+
+A stream, reel, source or other thing *tells* its content if its contract gives that content, which is *known* then. The system's streams, files,
+folders and sockets tell nothing. [TRUSTED.md](TRUSTED.md#to-what-the-promises-apply) says what is promised of these, what is proved of every function,
+and what is trusted. [TESTED.md](TESTED.md) says what is only tested, and what a body can still get away with.
+"""
+ABOUT_LIMITS = """\
+For these edits the prover stops at a limit of a tactic, and not because nothing is left to try: such a refusal says less. Each is refused for the
+goal of a clause, which is named, and its control is proved by the same tactics.
+"""
+ABOUT_UNCONTROLLED = """\
+An edit in this list has no right body beside it that is proved, so it may be refused only because its text changed.
+"""
 
 
-class Call(NamedTuple):
-    """A call of a crate, or the trait's part of a type: how it is named, and the names of its clauses. One acts where it has a body, and answers
-    something or changes what it is given: a law does neither."""
+class Entry(NamedTuple):
+    """What the page says of one heading: its calls, the first sentence, the texts, and the edits that break each, or the contract as a whole."""
 
     heading: str
-    method: str
-    clauses: frozenset[str]
-    public: bool
-    has_contract: bool
-    acts: bool
-
-
-@lru_cache
-def libraries() -> list[str]:
-    names = [line.split(":")[0].split()[0] for line in (TOP / "crates.txt").read_text().splitlines() if line.strip()]
-    return [it for it in names if not it.endswith("_tests") and (TOP / "crates" / it / "src" / "lib.rt").exists()]
+    calls: list[Call]
+    sentence: str
+    texts: list[Text]
+    refused: dict[Text | None, list[str]]
 
 
 def files(ending: str) -> list[Path]:
@@ -70,13 +81,13 @@ def files(ending: str) -> list[Path]:
 
 
 def edits() -> dict[str, Path]:
-    """The file of each edit, by the name that the document has for it."""
+    """The file of each edit, by the name that the page has for it."""
     return {f"{it.parent.parent.name}/{it.stem}": it for it in files(".edit")}
 
 
 def faults_of_edits() -> list[str]:
-    """What is wrong with edits and controls: a file is neither, two edits of a crate have one name, one can't be applied to its file, or a control
-    stands elsewhere than its edit."""
+    """What is wrong with edits and controls: a file is neither, two edits of a crate have one name, one can't be applied to its file, it has a line
+    that nothing reads, or a control stands elsewhere than its edit."""
     known = edits()
     alone = [it for it in files(".edit") if it.parent.name == FOLDERS[0]]
     others = {*files("")} - {*files(".edit"), *(it.with_suffix(".control.md") for it in files(".edit"))}
@@ -91,218 +102,172 @@ def faults_of_edits() -> list[str]:
             wrong.append(f"{it.relative_to(TOP)} can't be applied: {why}")
     for name, edit in known.items():
         control = edit.with_suffix(".control.md")
+        wrong += [f"{name} has a line that nothing reads: {line}" for line in edit.read_text().split("\n") if not LINES.match(line)]
         if control.exists() and not is_beside(pairs(control.read_text()), pairs(edit.read_text())):
             wrong.append(f"the control of {name} is no other text at the places of its edit")
     return wrong
 
 
-def without_controls() -> set[str]:
+def without_controls() -> list[str]:
     """The edits beside which no control stands."""
-    return {name for name, it in edits().items() if not it.with_suffix(".control.md").exists()}
+    return sorted(name for name, it in edits().items() if not it.with_suffix(".control.md").exists())
 
 
-def told_without_controls(lines: list[str]) -> set[str]:
-    """The edits that the section of them names."""
-    found, crate, within = set[str](), "", False
-    for line in lines:
-        within = line == UNCONTROLLED if line.startswith("## ") else within
-        if not within or not re.match(r"(?:- |  )`", line):
-            continue
-        names = QUOTED.findall(line)
-        crate, names = (names[0], names[1:]) if line.startswith("- ") else (crate, names)
-        found |= {f"{crate}/{it}" for it in names}
-    return found
-
-
-def section_of(edits_named: set[str]) -> str:
-    """The lines of the section, one crate after the other."""
-    out = []
-    for crate, names in groupby(sorted(it.split("/") for it in edits_named), key=lambda it: it[0]):
-        text = f"- `{crate}`: " + ", ".join(f"`{name}`" for _, name in names)
-        out.append(textwrap.fill(text, LONGEST, subsequent_indent="  ", break_long_words=False, break_on_hyphens=False))
-    return "\n".join(out) if out else "- None."
-
-
-def exported(crate: str) -> set[str]:
-    text = (TOP / "crates" / crate / "src" / "lib.rt").read_text()
-    return {name for used in re.findall(r"pub use ([^;]+);", text) for name in re.findall(r"\w+", used)}
-
-
-def without_generics(text: str) -> str:
-    """What follows the parameters `<..>` at the front of a text."""
-    depth = 0
-    for i, it in enumerate(text):
-        depth += (it == "<") - (it == ">" and text[i - 1] not in "-=")
-        if depth == 0:
-            return text[i + 1 :].strip() if text.startswith("<") else text.strip()
-    return text
-
-
-def owner_of(line: str) -> tuple[str, bool] | None:
-    """The type or trait whose calls follow a line, and whether they are as public as that; None where the line begins none."""
-    if found := re.match(r"(?:pub )?trait (\w+)", line):
-        return found[1], True
-    if re.match(r"impl\b", line):
-        rest = without_generics(line[4:].strip())
-        held = re.match(r"(\w+).*? for &?(?:'\w+ )?(\w+)", rest)
-        return (f"{held[2]} as {held[1]}", True) if held else (re.match(r"\w+", rest)[0], False)
-    return ("", False) if re.match(r"(?:pub(?:\([^)]*\))? )?(?:const |unsafe )*fn ", line) else None
-
-
-def contract(lines: list[str]) -> list[str]:
-    """The clauses' names of the contract at the head of a call, "" for one without a name."""
-    names = []
-    for line in lines:
-        if re.match(r"\s*(///|\{$|\}|#\[)|.*\bfn \w|\s*$", line):
-            break
-        if found := re.match(r"\s*ensures\*?\s+(\w+)?\s*\{", line):
-            names.append(found[1] or "")
-    return names
-
-
-def can_act(text: str) -> bool:
-    """Whether the function whose declaration this text begins with has a body, and answers something or changes what it is given."""
-    text = re.sub(r"\[[^][]*\]", "", text[:MOST_OF_A_CONTRACT])
-    head = re.split(r"\b(?:ensures|requires)\b|[{;]", text, maxsplit=1)[0]
-    return bool(re.search(r"->|&(?:'\w+ )?mut ", head)) and has_body(text)
-
-
-def has_body(text: str) -> bool:
-    """Whether a body follows the clauses of the declaration that this text begins with, and not a semicolon."""
-    depth, within_clause = 0, False
-    for word in re.findall(r"\bensures\b|\brequires\b|[{}();]", text):
-        if depth == 0 and word in "{;" and not within_clause:
-            return word == "{"
-        depth += (word in "({") - (word in ")}")
-        within_clause = word in ("ensures", "requires") or (within_clause and not (word == "}" and depth == 0))
-    return False
+def limits() -> list[tuple[str, str]]:
+    """The edits that are refused at a limit, each with the clause that it is refused for."""
+    return [(name, found[1]) for name, it in sorted(edits().items()) if (found := re.search(r"^# limit: (.+)$", it.read_text(), re.M))]
 
 
 @lru_cache
-def calls_of(crate: str) -> list[Call]:
-    return list(read_calls(crate))
+def entries(crate: str) -> dict[str, Entry]:
+    """What the page says of a crate, by headings: all that is public, but for types with a trait that promise no more than the trait, and whatever has
+    words."""
+    found: dict[str, list[Call]] = {}
+    for it in calls_of(crate):
+        if it.texts or (it.public and it.method and (it.has_contract or " as " not in it.heading)):
+            found.setdefault(it.heading, []).append(it)
+    return {heading: entry_of(heading, calls) for heading, calls in found.items()}
 
 
-def read_calls(crate: str) -> Iterator[Call]:
-    shown = exported(crate)
-    for file in sorted((TOP / "crates" / crate / "src").glob("**/*.rt")):
-        owner, of_trait = "", False
-        lines = file.read_text().split("\n")
-        for i, line in enumerate(lines):
-            owner, of_trait = owner_of(line) or (owner, of_trait)
-            if found := re.match(r"    ghost (\w+):?", line):
-                yield Call(owner, found[1], frozenset([found[1]]), False, False, False)
-            if not (found := re.match(r"(?: {4})?(pub(?:\([^)]*\))? )?(?:const |unsafe )*fn (\w+)", line)):
+def entry_of(heading: str, calls: list[Call]) -> Entry:
+    said = next((it.sentence for it in calls if it.sentence), "")
+    sentence = said and said[0].upper() + said[1:] + ("" if said[-1] in ".!?:" else ".")
+    return Entry(heading, calls, sentence, [*dict.fromkeys(one for it in calls for one in it.texts)], {})
+
+
+def take_edits() -> list[str]:
+    """Notes at each entry the edits that break it; answers what is wrong with what they say."""
+    wrong = []
+    for name, file in sorted(edits().items()):
+        said = breaks_of(name.split("/")[0], file.read_text())
+        wrong += [] if said else [f"{name} does not say what it breaks"]
+        for it in said:
+            entry = entries(it.crate).get(it.heading) if it.crate in libraries() else None
+            if not entry or not entry.texts:
+                wrong.append(f"{name} breaks {it.heading} of {it.crate}, which has no words or is not there")
                 continue
-            names = contract(lines[i + 1 :])
-            head = owner if " as " in owner else f"{owner}::{found[2]}" if owner else found[2]
-            public = (of_trait or found[1] == "pub ") and (owner.split(" ")[0] or found[2]) in shown
-            yield Call(head, found[2], frozenset(names) - {""}, public, bool(names), can_act("\n".join(lines[i:])))
+            try:
+                entry.refused.setdefault(broken(entry.texts, it), []).append(name)
+            except ValueError as why:
+                wrong.append(f"{name}: {why}")
+    return wrong
 
 
 @lru_cache
 def facts(crate: str) -> set[str]:
-    """The names of the specs, whose fields a line may name."""
+    """The words of the specs of a crate, whose fields a block's comment may name."""
     texts = [it.read_text() for it in (TOP / "crates" / crate / "specs").glob("**/*.antt")]
     return {word for text in texts for word in re.findall(r"[A-Za-z_]\w*", text)}
 
 
-class Section:
-    """The part of the document about one crate, as it is read."""
+def of_trait(trait: str) -> set[str]:
+    """The clauses and the calls of a trait, and of each type that has it."""
+    every = [it for crate in libraries() for it in calls_of(crate)]
+    return {one for it in every if it.heading.split("::")[0].split(" as ")[-1] == trait for one in it.clauses | {it.method}}
 
-    def __init__(self, crate: str) -> None:
-        self.crate = crate
-        self.calls = list(calls_of(crate)) if crate in libraries() else []
-        self.heading = ""
-        self.named: dict[str, set[str]] = {}
-        # The calls that have an edit, or are said to need none.
-        self.shown: set[str] = set()
 
-    def traits(self, name: str) -> set[str]:
-        """The clauses that a trait's methods have, where a heading is that of the trait or of a type with it."""
-        trait = name.split(" as ")[-1]
-        every = [it for crate in libraries() for it in calls_of(crate)] if name not in {it.heading for it in self.calls if it.has_contract} or " as " in name else []
-        return {one for it in every if it.heading.split("::")[0].split(" as ")[-1] == trait for one in it.clauses | {it.method}}
+def missing(crate: str) -> list[str]:
+    """What a crate's calls lack: words for a clause, or an edit; and names in the comment of a block that are none of its clauses."""
+    wrong = []
+    for entry in entries(crate).values():
+        named = {one for it in entry.texts for one in it.names}
+        for it in entry.calls:
+            lacking = set(it.unsaid) if " as " not in it.heading else {*it.clauses} - named
+            if it.has_contract and (it.public or it.heading in RECORDS):
+                wrong += [f"{it.heading} of {crate} has no words for {one or 'its clause'}" for one in sorted(lacking)]
+            has_edit = entry.refused or any(NO_OTHER in one.words for one in entry.texts)
+            if it.public and it.has_contract and it.acts and not has_edit:
+                wrong.append(f"{it.heading} of {crate} has no edit")
+        if any(it.has_contract for it in entry.calls) and not entry.texts:
+            wrong.append(f"{entry.heading} of {crate} has no words")
+        if not entry.calls[0].method:
+            allowed = of_trait(entry.heading.split(" as ")[-1]) | facts(crate) | facts("tape")
+            wrong += [f"{entry.heading} of {crate} has no clause {one}" for one in sorted(named - allowed)]
+    return wrong
 
-    def open(self, call: str, clauses: str) -> list[str]:
-        """Reads the name of a call, and of the clauses that its line is about; answers what is wrong with them."""
-        self.heading = " as ".join(QUOTED.findall(call))
-        self.named.setdefault(self.heading, set())
-        known = {it.heading for it in self.calls} | {it.heading.split("::")[0] for it in self.calls}
-        if self.heading not in known | self.definitions():
-            return [f"{self.crate} has no {self.heading}"]
-        return self.names(QUOTED.findall(clauses))
 
-    def definitions(self) -> set[str]:
-        """The records of the crate's specs: a heading may be one, with its fields below."""
-        return {it for it in facts(self.crate) if re.match(r"Is[A-Z]", it)}
+def wrapped(text: str, indent: str = "") -> str:
+    """A text in lines of the page, a bullet's further lines below its words."""
+    below = indent + "  " if text.startswith("- ") else indent
+    return textwrap.fill(text, LONGEST, initial_indent=indent, subsequent_indent=below, break_long_words=False, break_on_hyphens=False)
 
-    def clauses(self) -> set[str]:
-        if self.heading in self.definitions():
-            return facts(self.crate)
-        own = {one for it in self.calls if it.heading == self.heading for one in it.clauses}
-        if " as " in self.heading or self.heading in {it.heading.split("::")[0] for it in self.calls if "::" in it.heading}:
-            own |= {it.method for it in self.calls if it.heading == self.heading} | self.traits(self.heading) | facts(self.crate) | facts("tape")
-        return own
 
-    def line(self, line: str) -> list[str]:
-        """Reads a line of clauses; answers the names that are none of the call's contract."""
-        found = CLAUSES.match(line)
-        return self.names(QUOTED.findall(found[1])) if found else []
+def refused(names: list[str], indent: str) -> list[str]:
+    return [wrapped("- refused: " + ", ".join(f"`{it}`" for it in names), indent)] if names else []
 
-    def names(self, names: list[str]) -> list[str]:
-        """Takes the names of clauses; answers those that are none of the call's contract."""
-        self.named.setdefault(self.heading, set()).update(names)
-        allowed = self.clauses() if names else set()
-        return [f"{self.heading} of {self.crate} has no clause {it}" for it in names if it not in allowed]
 
-    def missing(self) -> list[str]:
-        wrong = []
-        for it in self.calls:
-            if not it.public or not it.has_contract:
-                continue
-            if it.heading not in self.named:
-                wrong.append(f"docs/PROMISES.md does not name {it.heading} of {self.crate}")
-                continue
-            if it.acts and it.heading not in self.shown:
-                wrong.append(f"{it.heading} of {self.crate} has no edit")
-            unsaid = it.clauses - self.named[it.heading]
-            wrong += [f"docs/PROMISES.md does not name {one} of {it.heading} of {self.crate}" for one in sorted(unsaid)]
-        return wrong
+def lines_of(entry: Entry) -> list[str]:
+    name = " as ".join(f"`{it}`" for it in entry.heading.split(" as "))
+    is_private = not any(it.public or not it.method for it in entry.calls)
+    out = [wrapped(f"- **{name}**" + (" (private)" if is_private else "") + (f": {entry.sentence}" if entry.sentence else ""))]
+    if not entry.texts:
+        out.append(f"  - {NO_CONTRACT}")
+    for text in entry.texts:
+        names = ", ".join(f"`{it}`" for it in text.names)
+        out.append(wrapped(f"- {names}: {text.words}" if names else f"- {text.words}", "  "))
+        out += refused(entry.refused.get(text, []), "    ")
+    return out + refused(entry.refused.get(None, []), "  ")
+
+
+def about(crate: str) -> str:
+    """The first sentence about a crate, which its lib.rt begins with, and what its docstring says of the contracts under `# Contracts`."""
+    text = (TOP / "crates" / crate / "src" / "lib.rt").read_text()
+    said, _, contracts = "\n".join(re.findall(r"^//! ?(.*)$", text, re.M)).partition("\n# Contracts\n")
+    parts = re.split(r"\n\n+", contracts.partition("\n# ")[0].strip())
+    first = [first_sentence(it) for it in paragraphs(said.split("\n"))[:1]]
+    return "\n\n".join([*map(wrapped, first), *("\n".join(wrapped(it) for it in bullets(part)) for part in parts if part)])
+
+
+def page() -> str:
+    """The page as the crates make it. The edits are taken already."""
+    shown = [it for it in libraries() if entries(it)]
+    last = [title for title, has in ((LIMITS, limits()), (UNCONTROLLED, without_controls())) if has]
+    links = [f"- [`{it}`](#{it})" for it in shown] + [f"- [{it}](#{it.lower().replace(' ', '-')})" for it in last]
+    out = ["\n\n".join("\n".join(wrapped(it) for it in bullets(part)) for part in HEAD.strip().split("\n\n")), "\n".join(links)]
+    for crate in shown:
+        out += [f"## `{crate}`", about(crate), "\n".join(line for it in entries(crate).values() for line in lines_of(it))]
+    if LIMITS in last:
+        out += [f"## {LIMITS}", wrapped(joined(ABOUT_LIMITS)), "\n".join(wrapped(f"- `{name}`: {words}") for name, words in limits())]
+    if UNCONTROLLED in last:
+        out += [f"## {UNCONTROLLED}", wrapped(joined(ABOUT_UNCONTROLLED)), "\n".join(uncontrolled())]
+    return linked("\n\n".join(out) + "\n")
+
+
+def linked(text: str) -> str:
+    """A text of the page with the documents that it names as links."""
+    return re.sub(r"(?<![`\w/(\[])docs/([A-Z]+)\.md\b", r"[\1.md](\1.md)", text)
+
+
+def uncontrolled() -> list[str]:
+    """The edits without a control, one crate after the other."""
+    found = groupby((it.split("/") for it in without_controls()), key=lambda it: it[0])
+    return [wrapped(f"- `{crate}`: " + ", ".join(f"`{name}`" for _, name in names)) for crate, names in found]
+
+
+def joined(text: str) -> str:
+    return " ".join(text.split())
+
+
+def bullets(part: str) -> list[str]:
+    """The bullets of a part of a page, or the part itself, each in one line."""
+    return [joined(it) for it in re.split(r"\n(?=- )", part)]
 
 
 def main() -> int:
-    if sys.argv[1:] == ["--without-controls"]:
-        print(section_of(without_controls()))
-        return 0
-    there, told, wrong = set(edits()), set[str](), faults_of_edits()
-    sections: dict[str, Section] = {}
-    section: Section | None = None
-    for number, line in enumerate(PROMISES.read_text().split("\n"), 1):
-        faults: list[str] = [f"{len(line)} characters"] if len(line) > LONGEST else []
-        if line.startswith("## "):
-            found = SECTION.match(line)
-            section = sections.setdefault(found[1], Section(found[1])) if found else None
-        elif section and (found := CALL.match(line)):
-            faults += section.open(found[1], found[2] or "")
-        elif section and section.heading and CLAUSES.match(line):
-            faults += section.line(line)
-        elif REFUSED.match(line):
-            names = QUOTED.findall(line)
-            told |= set(names)
-            faults += [f"there is no edit {it}" for it in names if it not in there]
-        if section and (REFUSED.match(line) and QUOTED.search(line) or NO_OTHER in line):
-            section.shown.add(section.heading)
-        wrong += [f"line {number}: {it}" for it in faults]
-    for crate in libraries():
-        wrong += sections[crate].missing() if crate in sections else Section(crate).missing()
-    wrong += [f"docs/PROMISES.md does not name the edit {it}" for it in sorted(there - told)]
+    wrong = faults_of_edits() + take_edits()
+    wrong += [it for crate in libraries() for it in missing(crate)]
+    there = edits()
     wrong += [f"docs/MISTAKES.md names {it}, and there is no such edit" for it in EDIT.findall(MISTAKES.read_text()) if it not in there]
-    bare, said = without_controls(), told_without_controls(PROMISES.read_text().split("\n"))
-    wrong += [f"{it} has no control, and \"Edits without a control\" does not name it" for it in sorted(bare - said)]
-    wrong += [f"\"Edits without a control\" names {it}, which has one or is not there" for it in sorted(said - bare)]
-    count = sum(len(it.named) for it in sections.values())
-    print("\n".join(wrong) if wrong else f"promises: {count} calls and laws and {len(told)} edits are as the crates have them")
+    made = page()
+    long = [it for it in made.split("\n") if len(it) > LONGEST and "](" not in it and " " in it.strip("- ")]
+    wrong += [f"a line of docs/PROMISES.md has {len(it)} characters: {it}" for it in long]
+    if sys.argv[1:] == ["--write"]:
+        PROMISES.write_text(made)
+    elif made != PROMISES.read_text():
+        wrong.append("docs/PROMISES.md is not what the crates make it: python3 tests/promises.py --write")
+    count = sum(len(entries(it)) for it in libraries())
+    texts = sum(len(one.texts) for it in libraries() for one in entries(it).values())
+    print("\n".join(wrong) if wrong else f"promises: {count} calls and laws with {texts} texts and {len(there)} edits are as the crates have them")
     return 1 if wrong else 0
 
 
