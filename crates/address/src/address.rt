@@ -10,6 +10,9 @@ use rmt_wire::find_byte;
 /// A host has at least one byte. If it contains a colon, as an IPv6 address does, it must be in
 /// brackets. A port is a number of 16 bits, written in digits only.
 pub fn is_address(text: &str) -> bool
+    // Returns true exactly if the text is a host, a colon and a port. The port is a number of 16
+    // bits, written in digits only. The host is not empty. If the host contains a colon, the host
+    // is in brackets. No clause says more about the host.
     ensures { IsTrue result ↔ HasPort text.now }
 {
     match split_port(text) {

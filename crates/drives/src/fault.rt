@@ -29,6 +29,8 @@ pub enum DriveFault {
 }
 
 impl From<AllocError> for DriveFault {
+    // from_gives: A failed allocation becomes `OutOfMemory`.
+
     ghost use Rattle.std.specs.Prelude.{◌≡◌};
     ghost use Rattle.drives.specs.declared.fault.DriveFault.TheVariants.{OutOfMemory};
 

@@ -17,6 +17,12 @@ pub const DRIVE_LIMIT: usize = 64;
 /// An implementation may leave the holders unspecified, as std's readers may with their bytes.
 /// Clauses about holders apply only if they are specified.
 pub trait Holds {
+    // numbered: The hold record assigned each seat its number. The number is at least 1 and at most
+    // the last number assigned.
+    //
+    // agrees: Suppose that the holder of a drive is known. Then a seat is this holder if and only
+    // if the seat holds the drive.
+
     /// A seat at these drives.
     type Seat: Drop;
 
@@ -43,14 +49,26 @@ pub trait Holds {
     fn take(&mut self, seat: &mut Self::Seat, drive: usize) -> Taken
         requires seat { belongs self.old seat.old }
         requires drive { drive < drives self.old }
+        // A take is one step of the seat. The take finds a number at the drive. If the number is 0,
+        // the seat did not hold the drive before the take, and holds the drive afterwards. If the
+        // number is not 0, `take` returns it, and the seat holds what it held before.
         ensures step { shows seat.new ≡ taken (shows seat.old) drive (found_by result) }
         ensures answer { TakeAnswers result (shows seat.old) (shows seat.new) drive }
+        // The number that a take finds is 0 or was assigned to a seat.
         ensures known { found_by result ≤ seated self.old }
+        // If the holder of the drive is known, the take finds the holder's number, or 0 if there is
+        // no holder.
         ensures found { (n : ℕ) → tells self.old drive n → found_by result ≡ n }
+        // If the holder of a drive was known before the take, the holder is known afterwards. If
+        // the taken drive was free, its known holder is now the seat. Every other known holder is
+        // as before.
         ensures told { (d n : ℕ) → tells self.old d n → tells self.new d (holder_after_take (shows seat.old).number drive d n) }
+        // The seat still belongs to the hold record, and so does each seat with another number. The
+        // number of drives does not change.
         ensures own { belongs self.new seat.new }
         ensures others { (s : Self.Seat) → (shows s).number ≢ (shows seat.old).number → belongs self.old s → belongs self.new s }
         ensures same_drives { drives self.new ≡ drives self.old }
+        // A take assigns no number to a seat.
         ensures same_seats { seated self.new ≡ seated self.old };
 
     /// Gives back a drive that the seat holds. Drives are numbered from 0. The seat must belong to
@@ -59,11 +77,17 @@ pub trait Holds {
         requires seat { belongs self.old seat.old }
         requires drive { drive < drives self.old }
         requires held { IsTrue (has (shows seat.old) drive) }
+        // A give is one step of the seat. The seat does not hold the drive afterwards.
         ensures step { shows seat.new ≡ given (shows seat.old) drive }
+        // If the holder of a drive was known before the give, the holder is known afterwards. The
+        // drive that was given back is now known to be free. Every other known holder is as before.
         ensures told { (d n : ℕ) → tells self.old d n → tells self.new d (holder_after_give drive d n) }
+        // The seat still belongs to the hold record, and so does each seat with another number. The
+        // number of drives does not change.
         ensures own { belongs self.new seat.new }
         ensures others { (s : Self.Seat) → (shows s).number ≢ (shows seat.old).number → belongs self.old s → belongs self.new s }
         ensures same_drives { drives self.new ≡ drives self.old }
+        // A give assigns no number to a seat.
         ensures same_seats { seated self.new ≡ seated self.old };
 
     /// Returns the number of the seat that holds the drive, or 0 if no seat does. Any other number
@@ -72,10 +96,17 @@ pub trait Holds {
     fn holder(&self, seat: &mut Self::Seat, drive: usize) -> u64
         requires seat { belongs self.now seat.old }
         requires drive { drive < drives self.now }
+        // `holder` is one step of the seat, which only looks at the drive. `holder` returns the
+        // number that it found at the drive. The seat holds what it held before.
         ensures step { shows seat.new ≡ looked (shows seat.old) drive result }
+        // The number that `holder` returns is 0 or was assigned to a seat.
         ensures known { result ≤ seated self.now }
+        // `holder` returns the seat's own number if and only if the seat holds the drive.
         ensures mine { result ≡ (shows seat.old).number ↔ IsTrue (has (shows seat.old) drive) }
+        // If the holder of the drive is known, `holder` returns the holder's number, or 0 if there
+        // is no holder.
         ensures found { (n : ℕ) → tells self.now drive n → result ≡ n }
+        // The seat still belongs to the hold record.
         ensures own { belongs self.now seat.new };
 
     /// The number of a seat was assigned: it is at least 1 and at most the last assigned number.

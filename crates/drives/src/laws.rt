@@ -15,12 +15,17 @@ ghost use Rattle.drives.specs.Calls.StacksCall.{Latch, LayBack, Move};
 ///
 /// It does nothing: its contract is a law of the definitions.
 pub fn lying_troubles()
+    // Some reels on the stacks in memory and in their bin may have a trouble. These clauses say how
+    // each call changes the number of reels with a trouble. A latch takes the reel's trouble away
+    // with the reel. A reel that is laid back, or moved to the bin, brings its trouble back. A
+    // failed call leaves the number unchanged.
     ensures latched { (old new : ListLibrary) (d : ℕ) (result : Result TroubledTape DriveFault) →
         d < length old.library.drives → MovesTroubles old (Latch d result) new }
     ensures laid_back { (old new : ListLibrary) (d : ℕ) (reel : TroubledTape) →
         HasReelAt old d → MovesTroubles old (LayBack d reel) new }
     ensures moved { (old new : ListLibrary) (d : ℕ) (reel : TroubledTape) (result : Result Unit DriveFault) →
         HasReelAt old d → MovesTroubles old (Move d reel result) new }
+    // Each call leaves the number of drives unchanged.
     ensures same_drives { (old new : ListLibrary) (call : StacksCall TroubledTape) →
         IsListStacksCall old new call → length new.library.drives ≡ length old.library.drives }
 {}
@@ -30,5 +35,6 @@ pub fn lying_troubles()
 ///
 /// It does nothing: its contract is a law of the definitions.
 pub fn arranged_at_rest()
+    // Stacks in memory allow an arrangement of a stack if and only if their library allows it.
     ensures { (s : ListLibrary) (d : ℕ) (names : List (List ℕ)) → may_arrange s.library d names ≡ may_arrange (library_of s) d names }
 {}

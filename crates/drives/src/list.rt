@@ -44,6 +44,8 @@ impl Model for ListStacks {
 impl ListStacks {
     /// Returns stacks with no drive, an empty bin and no trouble. It allocates nothing.
     pub fn new(alloc: Global) -> ListStacks
+        // The new stacks have no drive, an empty bin and no trouble. No device can fail, and no
+        // reel name occurs twice.
         ensures empty { result ≡ empty_library }
         ensures told { IsLibrary result (library_of result) }
         ensures quiet { StacksCanFail result → ⊥ }
@@ -64,7 +66,10 @@ impl ListStacks {
     /// Fails with `NameTaken` if a drive has that name, and with `OutOfMemory`. Nothing is changed
     /// then.
     pub fn add_drive(&mut self, name: &[u8]) -> Result<usize, DriveFault>
+        // The new drive has an empty stack and the next number. `add_drive` fails only if an older
+        // drive has the same name or an allocation fails. If `add_drive` fails, nothing changed.
         ensures added { IsDriveAdded self.old name.now result self.new }
+        // Each reel name still occurs only once. `add_drive` makes no device able to fail.
         ensures told { IsLibrary self.new (library_of self.new) }
         ensures quiet { StacksCanFail self.new → StacksCanFail self.old }
     {
@@ -81,7 +86,11 @@ impl ListStacks {
     /// with `OutOfMemory`. Nothing is changed then.
     pub fn add_reel(&mut self, drive: usize, name: &[u8], capacity: u64) -> Result<(), DriveFault>
         requires { drive < length self.old.library.drives }
+        // The new reel is empty, has the given capacity and no trouble, and is last on its stack.
+        // `add_reel` fails only if an older reel (latched, on a stack or in the bin) has the same
+        // name or an allocation fails. If `add_reel` fails, nothing changed.
         ensures added { IsReelAdded self.old drive name.now capacity result self.new }
+        // Each reel name still occurs only once. `add_reel` makes no device able to fail.
         ensures told { IsLibrary self.new (library_of self.new) }
         ensures quiet { StacksCanFail self.new → StacksCanFail self.old }
     {
@@ -95,6 +104,8 @@ impl ListStacks {
     /// latched next. `drive` is a number that `add_drive` returned.
     pub fn stack(&self, drive: usize) -> &[ListedReel]
         requires { drive < length self.now.library.drives }
+        // `stack` returns the entries of the drive's stack, in the order of the stacks' library.
+        // The entry of a latched reel does not contain the reel.
         ensures lying { result.now ≡ (drive_at self.now.library drive).stack }
         ensures told { map rest_slot result.now ≡ (drive_at (library_of self.now) drive).stack }
     {
@@ -104,6 +115,7 @@ impl ListStacks {
 
     /// Returns the reels in the bin, in the order in which they were moved there.
     pub fn bin(&self) -> &[ListedReel]
+        // `bin` returns the reels of the bin, in the order of the stacks' library.
         ensures lying { result.now ≡ self.now.library.bin }
         ensures told { map rest_slot result.now ≡ (library_of self.now).bin }
     {
@@ -113,6 +125,9 @@ impl ListStacks {
     /// Returns the reel with that name, on a stack or in the bin. Returns `None` if no reel has the
     /// name or the reel is latched.
     pub fn reel(&self, name: &[u8]) -> Option<&TroubledReel>
+        // `reel` returns the reel with the given name, on a stack or in the bin. While the reel is
+        // latched, `reel` returns `None`. The stacks' library has the same reel, at rest, under the
+        // same name.
         ensures found { option_copied result ≡ reel_named name.now (slots_in self.now.library) }
         ensures told { option_map at_rest (option_copied result) ≡ reel_named name.now (slots_in (library_of self.now)) }
     {
@@ -127,6 +142,10 @@ impl ListStacks {
     /// bin. `drive` is a number that `add_drive` returned.
     pub fn can_arrange(&self, drive: usize, names: &[&[u8]]) -> bool
         requires { drive < length self.now.library.drives }
+        // `can_arrange` returns true if and only if three conditions hold. The names are distinct.
+        // Each name is that of a reel on that stack or in the bin. No reel of the drive is latched.
+        // `can_arrange` returns the same result as a check of the three conditions in the stacks'
+        // library.
         ensures may { result ≡ may_arrange self.now.library drive (map (λ n. n.now) names.now) }
         ensures told { result ≡ may_arrange (library_of self.now) drive (map (λ n. n.now) names.now) }
     {
@@ -141,13 +160,22 @@ impl ListStacks {
     pub fn arrange(&mut self, drive: usize, names: &[&[u8]]) -> Result<(), DriveFault>
         requires drive { drive < length self.old.library.drives }
         requires may { IsTrue (may_arrange self.old.library drive (map (λ n. n.now) names.now)) }
+        // After `arrange` the drive's stack has the named reels, in the given order. The bin keeps
+        // its reels that were not named. Behind these, the bin has the reels of the old stack that
+        // were not named. No reel itself changes. If an allocation failed, nothing changed.
         ensures arranged { IsArranged self.old drive (map (λ n. n.now) names.now) result self.new }
+        // `arrange` arranges the stacks' library in the same order. In the library the reels are at
+        // rest.
         ensures told_order { MatchResult result
             (λ _. library_of self.new ≡ arranged (library_of self.old) drive (map (λ n. n.now) names.now))
             (λ _. library_of self.new ≡ library_of self.old) }
+        // The names on the drive's stack are those of the operator's order.
         ensures order { IfOk result (λ _. names_of (drive_at self.new.library drive).stack ≡ map (λ n. n.now) names.now) }
+        // Each reel name occurs as often as before: once.
         ensures told { IsLibrary self.new (library_of self.new) }
         ensures names { (name : List ℕ) → times name (names_in self.new.library) ≡ times name (names_in self.old.library) }
+        // Reels that are latched in other drives stay latched. `arrange` makes no device able to
+        // fail. The trouble, the count of failures and the number of drives do not change.
         ensures elsewhere { (d : ℕ) → d ≢ drive → HasLatched IsLibrary self.old d → HasLatched IsLibrary self.new d }
         ensures quiet { StacksCanFail self.new → StacksCanFail self.old }
         ensures same_trouble { self.new.trouble ≡ self.old.trouble }
@@ -160,6 +188,7 @@ impl ListStacks {
     /// Sets whether the next latch or move to the bin fails with a device failure. A latch that
     /// finds no reel, and an `unlatch`, do not call the device and leave the setting.
     pub fn trouble(&mut self, on: bool)
+        // `trouble` sets or clears the trouble of the stacks. Nothing else changes.
         ensures { self.new ≡ record self.old { trouble = on } }
     {
         self.trouble = on;
@@ -312,6 +341,26 @@ impl ListStacks {
 }
 
 impl Stacks for ListStacks {
+    // drive, below, named, found: `drive` returns the first drive with the given name.
+    //
+    // latch, made: A latch takes the first reel of the stack and rewinds it (`IsReelLatched`). The
+    // reel keeps its trouble and its count of failures. A reel that is latched already is not
+    // taken. A latch never fails with `OutOfMemory`.
+    //
+    // unlatch, made: A reel that is laid back is first on its stack again, unchanged
+    // (`IsReelLaidBack`).
+    //
+    // offline, made: A reel that is moved leaves its stack and becomes the last one in the bin
+    // (`IsReelMoved`). A move never fails with `OutOfMemory`.
+    //
+    // made: A move fails if and only if the trouble of the stacks was set. A latch that finds a
+    // reel fails under the same condition. The failed move or latch is counted, moves no reel, and
+    // clears the trouble. A latch that finds no reel leaves the trouble set.
+    //
+    // back: A move that failed hands the reel back.
+    //
+    // failures: `failures` returns the count of device failures.
+
     ghost use Rattle.std.proofs.Common.{ap, sym, ◌∙◌};
     ghost use Rattle.std.proofs.lemmas.List.{length-map};
     ghost use Rattle.drives.specs.ListLibrary.{rest_drive};

@@ -41,6 +41,7 @@ impl ListedReel {
 
     /// Returns the name of the reel.
     pub fn name(&self) -> &[u8]
+        // `name` returns the reel's name.
         ensures { result.now ≡ self.now.name }
     {
         &self.name
@@ -48,6 +49,7 @@ impl ListedReel {
 
     /// Returns the reel, or `None` while it is latched.
     pub fn reel(&self) -> Option<&TroubledReel>
+        // `reel` lends the reel. While the reel is latched, `reel` returns `None`.
         ensures { MatchOption result (self.now.reel ≡ None) (λ reel. self.now.reel ≡ Some reel.now) }
     {
         self.reel.as_ref()

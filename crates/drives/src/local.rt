@@ -58,6 +58,7 @@ impl LocalHolds {
     pub fn new(alloc: Global, drives: usize) -> Result<LocalHolds, AllocError>
         requires some { 1 ≤ drives }
         requires few { drives ≤ DRIVE_LIMIT }
+        // In the new hold record every drive is free, and no number is assigned to a seat.
         ensures { IfOk result (λ all. all ≡ holders (replicate drives 0) 0) }
     {
         let numbers = Vec::from_elem(alloc, 0u64, drives)?;
@@ -67,7 +68,11 @@ impl LocalHolds {
     /// Returns a new seat that holds no drive. Seats are numbered 1, 2, 3 and so on. Returns `None`
     /// once `u64::MAX` was assigned. It allocates nothing.
     pub fn seat(&mut self) -> Option<LocalSeat>
+        // `seat` returns a seat with the next number, beginning with 1. `seat` returns `None` if
+        // and only if the greatest `u64` was assigned already.
         ensures next { IsSeatGiven self.old result self.new }
+        // The new seat belongs to this hold record and holds no drive. The other seats still belong
+        // to the record.
         ensures own { IfSome result (λ seat. IsSeatOf self.new seat) }
         ensures idle { IfSome result (λ seat. HoldsJust seat None) }
         ensures others { (v : View) → IsSeatOf self.old v → IsSeatOf self.new v }
@@ -89,6 +94,8 @@ impl LocalHolds {
     /// count as a step of a seat.
     pub fn number_at(&self, drive: usize) -> u64
         requires { drive < length self.now.numbers }
+        // `number_at` returns the number of the drive's holder, or 0 if there is no holder. No seat
+        // makes a step.
         ensures { IsHeldBy self.now drive result }
     {
         let numbers = &self.numbers;
@@ -97,6 +104,14 @@ impl LocalHolds {
 }
 
 impl Holds for LocalHolds {
+    // take: A take of a free drive makes the seat the drive's holder. A take of a held drive finds
+    // the holder's number. A take assigns no number to a seat.
+    //
+    // give: A give frees the drive, in one step. A give assigns no number to a seat.
+    //
+    // holder: `holder` is one step of the seat, and returns the number of the drive's holder, or 0
+    // if there is no holder.
+
     ghost use Rattle.std.specs.Prelude.{length};
     ghost use Rattle.drives.specs.Local.{IsSeatOf, IsHeldBy};
     ghost use Rattle.std.proofs.Common.{arith};

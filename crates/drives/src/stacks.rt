@@ -14,6 +14,14 @@ use tape::Reel;
 /// An implementation may leave its contents unspecified, as std's readers may with their bytes.
 /// Clauses about a `TapeLibrary` apply only if the contents are specified.
 pub trait Stacks {
+    // single, sized: Stacks have at most one known library. That library has as many drives as the
+    // stacks have.
+    //
+    // once: If the library is known, each reel name occurs only once in all its stacks and its bin.
+    //
+    // can_fail: For stacks in memory, a device can fail only if a trouble is set for the stacks or
+    // for a reel that is not latched.
+
     /// A reel that is latched in a drive.
     type Reel: Reel + Drop;
 
@@ -35,7 +43,10 @@ pub trait Stacks {
 
     /// Returns the number of the first drive with that name. It allocates nothing.
     fn drive(&self, name: &[u8]) -> Option<usize>
+        // If `drive` returns a number, a drive with that number exists.
         ensures below { IfSome result (λ d. d < drives self.now) }
+        // Suppose that the stacks' library is known. Then `drive` returns the first drive with the
+        // given name. `drive` returns `None` only if no drive has the name.
         ensures named { (s : TapeLibrary) → holds self.now s → IsDriveNamed name.now s result };
 
     /// Latches the first reel of the drive's stack and returns it, at its beginning. Drives are
@@ -45,6 +56,7 @@ pub trait Stacks {
     /// `Device`, and with `OutOfMemory`. No reel is moved then.
     fn latch(&mut self, drive: usize) -> Result<Self::Reel, DriveFault>
         requires { drive < drives self.old }
+        // `latch` keeps the promises of every call of stacks (`IsStacksCall`).
         ensures { IsStacksCall (stacks_kind holds drives failures can_fail makes) Self.Reel.Reel self.old (Latch drive result) self.new };
 
     /// Lays `reel`, the drive's latched reel, back on its stack. It allocates nothing, counts no
@@ -52,6 +64,7 @@ pub trait Stacks {
     fn unlatch(&mut self, drive: usize, reel: Self::Reel)
         requires drive { drive < drives self.old }
         requires latched { HasLatched holds self.old drive }
+        // `unlatch` keeps the promises of every call of stacks (`IsStacksCall`).
         ensures { IsStacksCall (stacks_kind holds drives failures can_fail makes) Self.Reel.Reel self.old (LayBack drive reel) self.new };
 
     /// Moves `reel`, the drive's latched reel, to the end of the bin.
@@ -61,11 +74,14 @@ pub trait Stacks {
     fn offline(&mut self, drive: usize, reel: Self::Reel) -> Result<(), (Self::Reel, DriveFault)>
         requires drive { drive < drives self.old }
         requires latched { HasLatched holds self.old drive }
+        // `offline` keeps the promises of every call of stacks (`IsStacksCall`). If `offline`
+        // fails, it hands the reel back.
         ensures call { IsMoveCall (stacks_kind holds drives failures can_fail makes) Self.Reel.Reel self.old drive reel result self.new }
         ensures back { IfErr result (λ refused. refused.0 ≡ reel) };
 
     /// Returns how many times the device has failed. The count stops at the greatest `u64`.
     fn failures(&self) -> u64
+        // `failures` returns the count of device failures.
         ensures { result ≡ failures self.now };
 
     /// Adds a line to the log of these stacks, if they keep one. Its contract promises nothing.

@@ -62,6 +62,8 @@ impl<B: Blocks + Drop> Client<B> {
     /// fails.
     pub fn new(alloc: Global, run: Run, source: B) -> Result<Client<B>, AllocError>
         requires { (payload : List (List ℕ)) → B.holds source payload → IsPayload run payload }
+        // Returns a client with the given run and source. The client is ready and has counted
+        // nothing.
         ensures made { IfOk result (λ c. c.at ≡ standing run [] stages.Ready) }
         ensures given { IfOk result (λ c. c.source ≡ source) }
     {
@@ -97,10 +99,18 @@ impl<B: Blocks + Drop> Client<B> {
     pub fn resume(alloc: Global, bytes: &[u8], source: B) -> Result<Client<B>, ResumeFault>
         requires { (run : PlainRun) (counts : List VolumeCount) (payload : List (List ℕ)) → SpellsCheckpoint bytes.now run counts →
             B.holds source payload → IsPayload run payload }
+        // Returns a client with the run and the counts of the given checkpoint text, and with the
+        // given source.
         ensures spelled { IfOk result (λ c. SpellsCheckpoint bytes.now c.at.run c.at.counts) }
+        // The client is finished exactly if its counts cover the whole run. Otherwise the client is
+        // ready.
         ensures over { IfOk result (λ c. IsOver c.at.run c.at.counts c.at) }
+        // A client that is made has this source.
         ensures given { IfOk result (λ c. c.source ≡ source) }
+        // If the text is bad, the call returns the error that `Checkpoint::read` returns.
         ensures refused { IfErr result (HasResumeFault bytes.now) }
+        // If the text is the checkpoint of a run and its counts, the call returns a client with
+        // this run and these counts, or `OutOfMemory`.
         ensures resumes { (run : PlainRun) (counts : List VolumeCount) → SpellsCheckpoint bytes.now run counts →
             ResumesAs run counts result }
     {
@@ -124,7 +134,11 @@ impl<B: Blocks + Drop> Client<B> {
         source: B,
     ) -> Result<Client<B>, AllocError>
         requires { (payload : List (List ℕ)) → B.holds source payload → IsPayload checkpoint.run payload }
+        // The client is finished exactly if its counts cover the whole run. Otherwise the client is
+        // ready.
         ensures over { IfOk result (λ c. IsOver checkpoint.run checkpoint.counts c.at) }
+        // Returns a client with the run and the counts of the checkpoint, and with the given
+        // source.
         ensures resumes { IfOk result (λ c. (c.at.run ≡ checkpoint.run) × (c.at.counts ≡ checkpoint.counts)) }
         ensures given { IfOk result (λ c. c.source ≡ source) }
     {
@@ -137,8 +151,12 @@ impl<B: Blocks + Drop> Client<B> {
 impl<B: Blocks> Client<B> {
     /// Returns the state: what the client waits for.
     pub fn state(&self) -> State
+        // Returns the state of the client.
         ensures state { result ≡ state_of self.now.at.stage }
+        // Each client is *lawful*: its run is within its limits, its counts are in order, and its
+        // stage fits both.
         ensures lawful { IsLawful self.now.at }
+        // The client holds the reply bytes that arrived after its last request. There may be none.
         ensures fed { (bytes : List ℕ) × HasFed self.now bytes }
     {
         let stage = self.ledger.stage();
@@ -147,6 +165,7 @@ impl<B: Blocks> Client<B> {
 
     /// Returns the run.
     pub fn run(&self) -> &Run
+        // Returns the client's run. No other body has its type.
         ensures { result.now ≡ self.now.at.run }
     {
         self.ledger.run()
@@ -154,6 +173,7 @@ impl<B: Blocks> Client<B> {
 
     /// Returns the counted volumes, in order.
     pub fn counted(&self) -> &[VolumeCount]
+        // Returns the client's counts.
         ensures { result.now ≡ self.now.at.counts }
     {
         self.ledger.counted()
@@ -161,6 +181,8 @@ impl<B: Blocks> Client<B> {
 
     /// Returns the number of the volume that an attempt writes next, and its first block.
     pub fn checkpoint(&self) -> (u32, u32)
+        // Returns the number of the volume that the client writes next, and the first block of that
+        // volume.
         ensures { result ≡ checkpoint_of self.now.at.counts }
     {
         self.ledger.checkpoint()
@@ -171,6 +193,7 @@ impl<B: Blocks> Client<B> {
     ///
     /// Fails if an allocation fails. Nothing is appended then.
     pub fn checkpoint_text(&self, out: &mut Vec<u8>) -> Result<(), AllocError>
+        // Appends the text of the client's run and counts. If the call fails, it appends nothing.
         ensures appended { OnOk result (out.new.items ≡ out.old.items ++ texts.checkpoint_text self.now.at.run self.now.at.counts) }
         ensures unchanged { OnErr result (out.new.items ≡ out.old.items) }
     {
@@ -179,6 +202,8 @@ impl<B: Blocks> Client<B> {
 
     /// Returns the run's entry for dumpdates if the run is finished, else None.
     pub fn finished(&self) -> Option<Entry<'_>>
+        // If the run is finished, returns the run's entry for dumpdates. Otherwise the call returns
+        // none.
         ensures { TellsEntry self.now.at.stage self.now.at.run result }
     {
         match self.ledger.stage() {
@@ -195,10 +220,24 @@ impl<B: Blocks> Client<B> {
     /// Returns `WrongState` unless the client is `Ready`, and `OutOfMemory` if the allocation
     /// fails. Nothing has changed then.
     pub fn start(&mut self) -> Result<(), StartFault>
+        // Starts an attempt if the client is ready. The first request of the attempt is the open.
+        // If the client is not ready, nothing changes.
+        //
+        // When an attempt starts, the client holds no bytes of an earlier connection.
+        //
+        // If the attempt starts, the client has room to count the attempt's volume. The call
+        // returns `OutOfMemory` only if the client had no such room before.
         ensures started { StartedAt self.old.at.stage self.old.at self.old.room result self.new.at }
+        // When an attempt starts, the client holds no bytes of an earlier connection.
         ensures fed { (bytes : List ℕ) → HasFed self.old bytes → HasFed self.new bytes }
+        // If the call fails, the client's room for counts and its reply reader stay as they were.
+        // The source stays as it was, whether or not the call fails.
         ensures same_source { self.new.source ≡ self.old.source }
+        // If the attempt starts, the client has room to count the attempt's volume. The call
+        // returns `OutOfMemory` only if the client had no such room before.
         ensures room { OnOk result (0 < self.new.room) }
+        // If the call fails, the client's room for counts and its reply reader stay as they were.
+        // The source stays as it was, whether or not the call fails.
         ensures same_room { OnErr result (self.new.room ≡ self.old.room) }
         ensures same_reader { OnErr result (self.new.reader ≡ self.old.reader) }
     {
@@ -220,15 +259,36 @@ impl<B: Blocks> Client<B> {
     /// The close comes after the count, so there a failed allocation is no error. It returns false
     /// then, and the attempt is over.
     pub fn next_request(&mut self, out: &mut Vec<u8>) -> Result<bool, AttemptFault>
+        // Appends the text of the attempt's next request, if the client is to send one. The client
+        // then waits for the reply. If the client is not to send a request, the call does nothing.
+        //
+        // If the call returns an error, it appends nothing, and the attempt has failed.
+        //
+        // The call has only one other error, `OutOfMemory`. The call returns `OutOfMemory` only if
+        // the buffer's spare room is smaller than the text of the request. If memory is missing for
+        // the close, the call returns no error, and the attempt is over.
         ensures asked { NextRequestAt self.old.at.stage (B.holds self.old.source) self.old.at (vec_capacity out.old) out.old.items
             result out.new.items self.new.at }
+        // If the request writes a block, the call reads this block once from the source, by its
+        // number, and appends the bytes of the block. The call reads nothing else from the source,
+        // and the source's blocks stay as they were. If an allocation for the request fails, the
+        // call does not read the source.
+        //
+        // The call returns the source's error exactly if the read of the block failed.
         ensures read { ReadAt self.old.at.stage self.old.at.run.block_bytes B.reads self.old.source out.old.items
             result self.new.source out.new.items }
+        // The blocks of the source stay.
         ensures same_blocks { (payload : List (List ℕ)) → B.holds self.old.source payload ↔ B.holds self.new.source payload }
+        // If the read fails, the source adds 1 to its number of failures. Otherwise this number
+        // stays as it was. A read fails only if the source can fail. If a source cannot fail before
+        // a read, it cannot fail after the read.
         ensures counted { B.failures self.new.source ≡ failures_after result (B.failures self.old.source) }
         ensures able { is_source_fault result ≡ true → B.can_fail self.old.source }
         ensures quiet { B.can_fail self.new.source → B.can_fail self.old.source }
+        // Appends the text of the attempt's next request, if the client is to send one. The client
+        // then waits for the reply. If the client is not to send a request, the call does nothing.
         ensures fed { (bytes : List ℕ) → HasFed self.old bytes → HasFed self.new bytes }
+        // The total room for counts, used and free, stays the same.
         ensures slots { self.new.room + length self.new.at.counts ≡ self.old.room + length self.old.at.counts }
     {
         let Stage::ToSend(step) = self.ledger.stage() else {
@@ -257,8 +317,40 @@ impl<B: Blocks> Client<B> {
     /// no reply is awaited. After the count such bytes end the attempt, as any reply does. An empty
     /// piece changes nothing. If no attempt is under way, no piece changes anything.
     pub fn feed(&mut self, piece: &[u8]) -> Progress
+        // Takes a piece of the server's reply. The effect depends on all bytes that arrived after
+        // the last request, this piece included. If the reply is not complete, the client keeps
+        // waiting. After a wanted reply, the client is to send the next request. If no attempt is
+        // under way, the piece has no effect.
+        //
+        // When the wanted reply to MTOFFL is complete, the client counts the volume, with the
+        // number of blocks that were written. The client counts a volume at no other reply.
+        //
+        // Before the client writes the label, it rewinds the reel, reads the first record, and
+        // rewinds again. If the record is the label of a volume that this run has counted, the
+        // attempt fails, and the failure has the number of this volume. If the record is anything
+        // else, the attempt continues.
+        //
+        // If the reel becomes full after at least one block was written, the volume ends after the
+        // last written block. If the reel becomes full before a block was written, the attempt
+        // fails, because the reel is too small.
+        //
+        // Before the client has counted the volume, every reply that is not wanted fails the
+        // attempt, with the fault for this reply. Bytes that are not a reply fail the attempt, too,
+        // and so do bytes that the client is not waiting for. After the client has counted the
+        // volume, any of these replies or bytes end the attempt without a failure.
+        //
+        // If the attempt fails, the counts stay as they were, and the client then asks the operator
+        // what to do.
+        //
+        // When an attempt ends without a failure, the run is finished exactly if the counts cover
+        // all its blocks. If they do not, another attempt can start.
         ensures moved { (bytes : List ℕ) → HasFed self.old bytes → FedAt self.old.at.stage self.old.at bytes piece.now result self.new.at }
+        // Takes a piece of the server's reply. The effect depends on all bytes that arrived after
+        // the last request, this piece included. If the reply is not complete, the client keeps
+        // waiting. After a wanted reply, the client is to send the next request. If no attempt is
+        // under way, the piece has no effect.
         ensures fed { (bytes : List ℕ) → HasFed self.old bytes → HasFed self.new (unanswered self.new.at.stage (bytes ++ piece.now)) }
+        // The total room for counts, used and free, stays the same. The source stays as it was.
         ensures same_source { self.new.source ≡ self.old.source }
         ensures slots { self.new.room + length self.new.at.counts ≡ self.old.room + length self.old.at.counts }
     {
@@ -280,7 +372,17 @@ impl<B: Blocks> Client<B> {
     /// Takes the end of the connection. Before the count it fails the attempt. After the count the
     /// attempt is over.
     pub fn ended(&mut self) -> Progress
+        // Tells the client that the connection has ended. If the client has not counted the
+        // attempt's volume yet, the attempt fails. The counts then stay as they were, and the
+        // client asks the operator what to do. If the client has counted the volume, the attempt is
+        // over without a failure.
+        //
+        // When an attempt ends without a failure, the run is finished exactly if the counts cover
+        // all its blocks. If they do not, another attempt can start. If no attempt is under way,
+        // nothing changes.
         ensures moved { CutAt self.old.at.stage self.old.at result self.new.at }
+        // After the call, the client holds no reply bytes. The total room for counts, used and
+        // free, stays the same. The source stays as it was.
         ensures fed { HasFed self.new [] }
         ensures same_source { self.new.source ≡ self.old.source }
         ensures slots { self.new.room + length self.new.at.counts ≡ self.old.room + length self.old.at.counts }
@@ -295,7 +397,12 @@ impl<B: Blocks> Client<B> {
     ///
     /// Returns `WrongState` unless the client is `Asking`. Nothing has changed then.
     pub fn answer(&mut self, answer: Answer) -> Result<(), StartFault>
+        // Takes the operator's answer after a failed attempt. After the answer, another attempt can
+        // start, or the run is abandoned. The counts stay as they were. If the client does not ask
+        // for an answer, the call changes nothing.
         ensures answered { AnsweredAt self.old.at.stage self.old.at answer result self.new.at }
+        // The reply bytes that the client holds stay as they were. So do the total room for counts,
+        // used and free, and the source.
         ensures fed { (bytes : List ℕ) → HasFed self.old bytes → HasFed self.new bytes }
         ensures same_source { self.new.source ≡ self.old.source }
         ensures slots { self.new.room + length self.new.at.counts ≡ self.old.room + length self.old.at.counts }
@@ -307,7 +414,9 @@ impl<B: Blocks> Client<B> {
 impl Client<ListBlocks> {
     /// Sets whether reads of the payload fail, from now until the next call.
     pub fn source_trouble(&mut self, fails: bool)
+        // Sets whether reads of the payload in memory fail.
         ensures source { self.new.source ≡ listed self.old.source.blocks fails self.old.source.failures }
+        // Nothing else changes.
         ensures same { self.new.at ≡ self.old.at }
         ensures same_room { self.new.room ≡ self.old.room }
         ensures fed { (bytes : List ℕ) → HasFed self.old bytes → HasFed self.new bytes }

@@ -39,10 +39,17 @@ use dump_run::one_checkpoint;
 ///
 /// The function does nothing: its contract is a law of the definitions.
 pub fn wanted_replies()
+    // After each reply that a script wants, the client sends the script's next request. After the
+    // wanted reply to MTOFFL, the client also counts the volume. After the wanted reply to the
+    // close, the attempt is over.
     ensures next { (run : PlainRun) (counts : List VolumeCount) (first count : ℕ) → IsRun run → IsCount run first count →
         RepliesFollow run counts first (steps_of run first count) }
+    // Each reply that the script does not want fails the attempt.
     ensures others { (run : PlainRun) (counts : List VolumeCount) (first : ℕ) (step : Step) (reply : PlainReply) →
         IsWantedAt run counts first step reply ⊎ IsFailure (after_reply run counts first step reply) }
+    // At each step, the client waits for one kind of reply: a number, or data up to a length. A
+    // wanted reply is of this kind if its data is not longer than a label. A reply of this kind
+    // never has data longer than a label.
     ensures heard { (run : PlainRun) (counts : List VolumeCount) (first : ℕ) (step : Step) (reply : PlainReply) →
         CanBeHeard run counts first step reply }
     ensures brief { (step : Step) (reply : PlainReply) → AnswersTo reply (wanted_of step) → data_length reply ≤ label_bytes }
@@ -55,12 +62,21 @@ pub fn wanted_replies()
 ///
 /// The function does nothing: its contract is a law of the definitions.
 pub fn counted_reels()
+    // Suppose that the run is within its limits and its counts are in order, as is always true for
+    // a client. Then an attempt fails with `CountedReel` exactly if the look reads the label of a
+    // volume that this run has counted. The fault has the number of this volume. At no other step
+    // does an attempt fail with `CountedReel`.
     ensures exactly { (run : PlainRun) (counts : List VolumeCount) (first volume : ℕ) (reply : PlainReply) → IsRun run →
         AreVolumes run 1 0 counts → FailsAsCounted run counts first volume reply ↔ ShowsCounted run counts volume reply }
+    // If the look reads the label of a counted volume, the attempt does not continue, whatever
+    // other volumes are counted.
     ensures stops { (run : PlainRun) (counts : List VolumeCount) (first volume : ℕ) (reply : PlainReply) →
         ShowsCounted run counts volume reply → IsFailure (after_reply run counts first Look reply) }
+    // If the reply to the look is an error, the attempt fails with `Refused` and the number of that
+    // error.
     ensures refused { (run : PlainRun) (counts : List VolumeCount) (first n : ℕ) (text : List ℕ) →
         after_reply run counts first Look (Error n text) ≡ Fails (Refused n) }
+    // No step but the look fails so.
     ensures alone { (run : PlainRun) (counts : List VolumeCount) (first volume : ℕ) (step : Step) (heard : Received) → step ≢ Look →
         outcome run counts first step heard ≢ Fails (CountedReel volume) }
 {}
@@ -72,8 +88,14 @@ pub fn counted_reels()
 ///
 /// The function does nothing: its contract is a law of the definitions.
 pub fn granted_replies()
+    // Suppose that some replies have led the client from the open to a later step. Then these
+    // replies are the first wanted replies of some script of the volume. There is one reply for
+    // each request of the script before the step. The script's next request is the request of the
+    // step.
     ensures on_the_way { (run : PlainRun) (had : List VolumeCount) (first : ℕ) (step : Step) (replies : List PlainReply) →
         GrantedOnTheWay run had first step replies }
+    // If the replies lead the client to count the volume, the script writes exactly the counted
+    // blocks.
     ensures counted { (run : PlainRun) (had : List VolumeCount) (first next : ℕ) (replies : List PlainReply) →
         GrantedAtTheCount run had first next replies }
 {}
@@ -86,7 +108,12 @@ pub fn granted_replies()
 ///
 /// The function does nothing: its contract is a law of the definitions.
 pub fn lawful_positions()
+    // During an attempt, the state of a client determines its position in the script of its volume.
+    // The client has sent the script's requests before the current step, and has got one reply to
+    // each of them. If the client has got the reply to MTOFFL, it is at the close, and its last
+    // count is the count of the volume.
     ensures stands { (s : Standing) (payload : List (List ℕ)) → IsLawful s → StandsAt s.run payload s.counts s.stage }
+    // The request of the client's current step is the script's request at the client's position.
     ensures asked { (run : PlainRun) (payload : List (List ℕ)) (counts : List VolumeCount) → AsksAtCheckpoint run payload counts }
 {}
 
@@ -95,6 +122,8 @@ pub fn lawful_positions()
 ///
 /// The function does nothing: its contract is a law of the definitions.
 pub fn short_requests()
+    // The text of a request has at most 262,156 bytes. If the buffer has 262,156 bytes of spare
+    // room, `Client::next_request` does not return `OutOfMemory`.
     ensures { (run : PlainRun) (at : ℕ × ℕ) (step : Step) (request : PlainRequest) → IsShapedAs run at step request →
         IsTextOf (request_text request) request → length (request_text request) ≤ READER_LIMIT }
 {}
@@ -105,6 +134,8 @@ pub fn short_requests()
 ///
 /// The function does nothing: its contract is a law of the definitions.
 pub fn sent_in_order()
+    // The requests before a step are exactly the requests whose text the client has appended. At
+    // the start of an attempt there are none. Each step that the client completes adds one request.
     ensures none { (run : PlainRun) (payload : List (List ℕ)) (counts : List VolumeCount) → sent_before run payload counts Open ≡ [] }
     ensures next { (run : PlainRun) (payload : List (List ℕ)) (counts : List VolumeCount) → SendsNext run payload counts }
     ensures counted { (run : PlainRun) (payload : List (List ℕ)) (counts : List VolumeCount) → SendsLast run payload counts }
@@ -115,8 +146,11 @@ pub fn sent_in_order()
 ///
 /// The function does nothing: its contract is a law of the definitions.
 pub fn after_the_count()
+    // From the close on, nothing can fail the attempt.
     ensures close { (run : PlainRun) (counts : List VolumeCount) (first : ℕ) (heard : Received) →
         outcome run counts first Close heard ≡ Ended }
+    // At each step before the close, bytes that are not a reply fail the attempt. The end of the
+    // connection fails the attempt, too.
     ensures noise { (run : PlainRun) (counts : List VolumeCount) (first : ℕ) (step : Step) → step ≢ Close →
         outcome run counts first step Noise ≡ Fails Botched }
     ensures cut { (run : PlainRun) (counts : List VolumeCount) (first : ℕ) (step : Step) → step ≢ Close →
@@ -129,8 +163,12 @@ pub fn after_the_count()
 ///
 /// The function does nothing: its contract is a law of the definitions.
 pub fn fed_in_pieces()
+    // Feeding a client two pieces, one after the other, has the same effect as feeding both as one
+    // piece.
     ensures pieces { (old middle new : Standing) (bytes p q : List ℕ) (a b : Progress) → Feeds old bytes p a middle →
         FeedsNext middle bytes p q b new → (c : Progress) × Feeds old bytes (p ++ q) c new }
+    // If an attempt fails because of bytes that arrived or because the connection ended, the counts
+    // stay as they were.
     ensures failed { (old new : Standing) (bytes p : List ℕ) (fault : AttemptFault) →
         Feeds old bytes p (Failed fault) new → new.counts ≡ old.counts }
     ensures cut { (old new : Standing) (fault : AttemptFault) → CutAt old.stage old (Failed fault) new → new.counts ≡ old.counts }
@@ -143,17 +181,28 @@ pub fn fed_in_pieces()
 ///
 /// The function does nothing: its contract is a law of the definitions.
 pub fn same_run()
+    // Bytes that arrive do not change the client's run and do not remove a count. The end of a
+    // connection does not change the client's run, and does not add or remove a count. A finished
+    // client stays finished.
     ensures fed { (old new : Standing) (bytes piece : List ℕ) (progress : Progress) → Feeds old bytes piece progress new →
         (more : List VolumeCount) × GoesOnWith old new more }
+    // When a piece of bytes arrives, the client adds at most one count.
     ensures one_count { (old new : Standing) (bytes piece : List ℕ) (progress : Progress) → Feeds old bytes piece progress new →
         length new.counts ≤ length old.counts + 1 }
+    // The end of a connection leaves a client in its run, with what it had counted.
     ensures cut { (old new : Standing) (progress : Progress) → CutAt old.stage old progress new → GoesOnWith old new [] }
+    // A lawful client stays lawful when bytes arrive and when the connection ends.
     ensures fed_lawful { (old new : Standing) (bytes piece : List ℕ) (progress : Progress) → IsLawful old →
         Feeds old bytes piece progress new → IsLawful new }
+    // `Client::feed` and `Client::ended` return a `Progress`. This value agrees with the stage of
+    // the client after the call.
     ensures fed_stands { (old new : Standing) (bytes piece : List ℕ) (progress : Progress) → Feeds old bytes piece progress new →
         AgreesWithProgress old progress new }
     ensures cut_stands { (old new : Standing) (progress : Progress) → CutAt old.stage old progress new → AgreesWithProgress old progress new }
+    // A lawful client stays lawful at the end of a connection.
     ensures cut_lawful { (old new : Standing) (progress : Progress) → IsLawful old → CutAt old.stage old progress new → IsLawful new }
+    // Between attempts, a client is lawful if its run is within its limits and its counts are in
+    // order.
     ensures over_lawful { (run : PlainRun) (counts : List VolumeCount) (at : Standing) → IsRun run → AreVolumes run 1 0 counts →
         IsOver run counts at → IsLawful at }
 {}
@@ -164,9 +213,12 @@ pub fn same_run()
 ///
 /// The function does nothing: its contract is a law of the definitions.
 pub fn resumes()
+    // The checkpoint text of a lawful client is the checkpoint of its run and its counts. It is not
+    // the checkpoint of any other run or other counts.
     ensures spelled { (at : Standing) → IsLawful at → SpellsCheckpoint (checkpoint_text at.run at.counts) at.run at.counts }
     ensures alone { (at : Standing) (run : PlainRun) (counts : List VolumeCount) → IsLawful at →
         SpellsCheckpoint (checkpoint_text at.run at.counts) run counts → (run ≡ at.run) × (counts ≡ at.counts) }
+    // No line of the checkpoint text of a lawful client is bad.
     ensures taken { (at : Standing) (fault : ResumeFault) → IsLawful at →
         HasResumeFault (checkpoint_text at.run at.counts) fault → fault ≡ OutOfMemory }
 {

@@ -7,6 +7,13 @@
 //! It opens no connection: the caller carries the bytes. `Client::checkpoint_text` appends its run
 //! and its counts as a text, and `Client::resume` makes a client from one.
 //! `Client::from_checkpoint` makes one from a `dump_run::Checkpoint`.
+//!
+//! # Contracts
+//!
+//! Docs/DUMP.md lists the steps of an attempt. The *look* is the step that reads the first record
+//! of the reel. A *script* is the list of an attempt's requests, each with the replies that let the
+//! attempt continue: the *wanted* replies. The client *counts* a volume when the wanted reply to
+//! MTOFFL arrives.
 #![tactic(auto)]
 
 mod client;

@@ -35,6 +35,7 @@ pub trait Blocks {
     /// `first`, counted from 0. A source may show this. The default does nothing. The source does
     /// not change.
     fn begin_volume(&mut self, volume: u32, first: u32)
+        // Tells the source which volume begins. The source does not change.
         ensures { self.new ≡ self.old }
     {
         let _ = (volume, first);
@@ -46,15 +47,24 @@ pub trait Blocks {
     /// changed.
     fn read(&mut self, block: u32, into: &mut [u8]) -> Result<(), SourceFailed>
         requires { (blocks : List (List ℕ)) → holds self.old blocks → HasBlock blocks block (length into.old) }
+        // A read leaves the blocks of the source as they were.
         ensures same_blocks { (blocks : List (List ℕ)) → holds self.old blocks ↔ holds self.new blocks }
+        // If the source's contract gives the blocks, a read that succeeds returns the block with
+        // the given number.
         ensures given { (blocks : List (List ℕ)) → holds self.old blocks → GivesBlock result blocks block into.new }
+        // Each failed read adds 1 to the number that `failures` returns, and no other read changes
+        // this number. A read fails only if the source can fail. If a source cannot fail before a
+        // read, it cannot fail after the read.
         ensures counted { failures self.new ≡ counted_after result (failures self.old) }
         ensures able { IsErr result → can_fail self.old }
         ensures quiet { can_fail self.new → can_fail self.old }
+        // Each type that implements `Blocks` can promise more about its reads, with its own
+        // definition of `reads`.
         ensures read { reads self.old block into.old result self.new into.new };
 
     /// Returns the number of reads that have failed. It stays at the greatest `u64`.
     fn failures(&self) -> u64
+        // Returns how many reads of the source have failed.
         ensures { result ≡ failures self.now };
 
     /// A source has at most one list of blocks.

@@ -50,7 +50,14 @@ impl Checkpoint {
     ///   does not follow those before it.
     /// - `OutOfMemory`: an allocation for the counts fails.
     pub fn read(alloc: Global, bytes: &[u8]) -> Result<Checkpoint, ResumeFault>
+        // Returns the run and the counts of a checkpoint's text. All values are within their
+        // limits, the counts are in order, and the bytes are exactly the text of this run and these
+        // counts.
         ensures spelled { IfOk result (λ c. SpellsCheckpoint bytes.now c.run c.counts) }
+        // If a line is bad, the call returns the number of the first bad line. A line is bad if its
+        // form is wrong, if a value exceeds a limit, or if the line is missing. If no line is bad
+        // but the counts are out of order, the call returns the line number of the first count that
+        // does not follow the counts before it. The only other error is `OutOfMemory`.
         ensures refused { IfErr result (HasResumeFault bytes.now) }
     {
         let (run, rest) = read_head(bytes)?;
@@ -64,6 +71,7 @@ impl Checkpoint {
 
     /// Returns the run.
     pub fn run(&self) -> &Run
+        // Returns the run of the checkpoint. No other body has its type.
         ensures { result.now ≡ self.now.run }
     {
         &self.run
@@ -71,6 +79,7 @@ impl Checkpoint {
 
     /// Returns the counted volumes, in order from volume 1.
     pub fn counts(&self) -> &[VolumeCount]
+        // Returns the counts of the checkpoint, which are in order from volume 1.
         ensures told { result.now ≡ self.now.counts }
         ensures in_order { AreVolumes self.now.run 1 0 self.now.counts }
     {
@@ -79,6 +88,8 @@ impl Checkpoint {
 
     /// Returns the run and the counted volumes.
     pub fn into_parts(self) -> (Run, Vec<VolumeCount>)
+        // Returns the run and the counts. The run is within its limits. The counts are in order
+        // from volume 1.
         ensures run { result.0 ≡ self.run }
         ensures limits { IsRun self.run }
         ensures counts { result.1.items ≡ self.counts }
@@ -94,7 +105,11 @@ impl Run {
     /// It reads the counts too and frees them. Its errors are those of `Checkpoint::read`, under
     /// the same conditions.
     pub fn spelled(alloc: Global, bytes: &[u8]) -> Result<Run, ResumeFault>
+        // Returns the run that a checkpoint's text describes. The call also checks that the counts
+        // in the text are in order.
         ensures spelled { IfOk result (λ run. (counts : List VolumeCount) × SpellsCheckpoint bytes.now run counts) }
+        // If a line is bad or the counts are out of order, the call returns the same line number as
+        // `Checkpoint::read`. If an allocation fails, it returns `OutOfMemory`.
         ensures refused { IfErr result (HasResumeFault bytes.now) }
     {
         let checkpoint = Checkpoint::read(alloc, bytes)?;

@@ -29,6 +29,7 @@ fn lines_of(run: &Run, volume: u32, first: u32) -> TextLines
 ///
 /// `volume` is counted from 1 and `first` from 0. It allocates nothing.
 pub fn label(run: &Run, volume: u32, first: u32) -> [u8; LABEL_BYTES]
+    // Returns the label of a volume: six lines, padded with zero bytes to 1,024 bytes.
     ensures { result ≡ labels.label run.now volume first }
 {
     lines_of(run, volume, first).into_bytes()

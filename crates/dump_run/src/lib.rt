@@ -5,6 +5,12 @@
 //! `label` returns the first record of a volume, and `VolumeLabel::read` reads one. `Blocks` is the
 //! source of the blocks, and `ListBlocks` is a source in memory. `Checkpoint` is a run and its
 //! counted volumes. `push_checkpoint` writes it as a text, and `Checkpoint::read` reads it.
+//!
+//! # Contracts
+//!
+//! A *run* is one dump of a file system. A *source* has the blocks that a run dumps. Its type
+//! implements `Blocks`. A *count* is the number of a counted volume, with its first block and its
+//! number of blocks. A *checkpoint* is a run with its counts, and has a text.
 #![tactic(auto)]
 
 mod blocks;

@@ -37,6 +37,8 @@ impl ListBlocks {
     #[tactic(auto, using(crate::proofs::Cut::length_cut, crate::proofs::Cut::size_cut))]
     pub fn new(payload: Vec<u8>, block_bytes: usize, blocks: u32) -> ListBlocks
         requires { length payload.items ≡ blocks * block_bytes }
+        // Returns a source in memory that has the given payload, cut into blocks of the given size.
+        // No fault is injected, and no read has failed yet.
         ensures listed { result ≡ listed (cut_blocks blocks block_bytes payload.items) false 0 }
         ensures blocks { length result.blocks ≡ blocks }
         ensures sizes { (n : ℕ) → n < blocks → length (get_or result.blocks n []) ≡ block_bytes }
@@ -52,6 +54,7 @@ impl ListBlocks {
 
     /// Sets whether reads fail, from now until the next call.
     pub fn trouble(&mut self, fails: bool)
+        // Sets whether reads of the source fail from now on. Nothing else changes.
         ensures { self.new ≡ listed self.old.blocks fails self.old.failures }
     {
         self.troubled = fails;
@@ -69,6 +72,9 @@ impl ListBlocks {
 }
 
 impl Clone for ListBlocks {
+    // Returns a copy with the same blocks, the same injected fault, if any, and the same number of
+    // failures. The call fails only if an allocation fails.
+
     /// Returns a copy with the same payload, the same injected fault and the same number of
     /// failures.
     ///
@@ -87,6 +93,12 @@ impl Clone for ListBlocks {
 }
 
 impl Blocks for ListBlocks {
+    // read: A read fails exactly if a fault is injected. A failed read changes only the number of
+    // failures.
+    //
+    // same_blocks, failures: The blocks stay as they are. `failures` returns how many reads have
+    // failed.
+
     ghost holds = { AreBlocksOf };
 
     ghost failures = { λ s. s.failures };

@@ -40,6 +40,8 @@ impl Model for Run {
 }
 
 impl Clone for Run {
+    // clone: Returns a copy of the run, and never fails.
+
     /// Returns a copy of the run. It allocates nothing, and never fails.
     fn clone(&self) -> Result<Run, AllocError>
         ensures { result ≡ Ok self.now }
@@ -108,6 +110,8 @@ impl Run {
         block_bytes: u64,
         blocks: u64,
     ) -> Result<Run, RunFault>
+        // Returns a run with the given values if all values are within their limits. Otherwise the
+        // call returns the first limit that a value exceeds.
         ensures run { IsRunOf (plain_run device.now fs.now level date since block_bytes blocks) result }
         ensures limits { IfOk result IsRun }
     {
@@ -139,6 +143,8 @@ impl Run {
     /// Whether both runs are of one dump: same device, name, level, block size and number of
     /// blocks. The dates may differ.
     pub fn is_same_dump(&self, other: &Run) -> bool
+        // Returns whether two runs have the same device, name, level, block size and number of
+        // blocks. Their dates may differ.
         ensures { IsTrue result ↔ AreOfOneDump self.now other.now }
     {
         self.device() == other.device()
@@ -150,6 +156,7 @@ impl Run {
 
     /// Returns the device: 1 to 255 bytes without a line feed.
     pub fn device(&self) -> &[u8]
+        // Returns the device of the run: 1 to 255 bytes without a line feed.
         ensures told { result.now ≡ self.now.device }
         ensures limits { IsDevice self.now.device }
     {
@@ -158,6 +165,8 @@ impl Run {
 
     /// Returns the name of the file system: 1 to 255 bytes of printable ASCII without a space.
     pub fn name(&self) -> &str
+        // Returns the name of the run's file system: 1 to 255 bytes of printable ASCII without a
+        // space.
         ensures told { result.now ≡ self.now.name }
         ensures limits { IsName self.now.name }
     {
@@ -166,6 +175,7 @@ impl Run {
 
     /// Returns the level, 0 to 9.
     pub fn level(&self) -> u8
+        // Returns the level of the run, 9 at most.
         ensures told { result ≡ self.now.level }
         ensures limit { self.now.level ≤ 9 }
     {
@@ -174,6 +184,7 @@ impl Run {
 
     /// Returns the date of this dump, in seconds since 1970 began, UTC.
     pub fn date(&self) -> u64
+        // Returns the date of the run, 253402300799 at most.
         ensures told { result ≡ self.now.date }
         ensures limit { self.now.date ≤ last_second }
     {
@@ -183,6 +194,7 @@ impl Run {
     /// Returns the date of the dump that this one builds on, in seconds since 1970 began, UTC, or 0
     /// if there is none.
     pub fn since(&self) -> u64
+        // Returns the date of the earlier dump that the run builds on, 253402300799 at most.
         ensures told { result ≡ self.now.since }
         ensures limit { self.now.since ≤ last_second }
     {
@@ -191,6 +203,7 @@ impl Run {
 
     /// Returns the size of a block in bytes, 1 to `RECORD_LIMIT`.
     pub fn block_bytes(&self) -> usize
+        // Returns the size of a block of the run: 1 to 262,144 bytes.
         ensures told { result ≡ self.now.block_bytes }
         ensures limits { IsBlockSize self.now.block_bytes }
     {
@@ -199,6 +212,7 @@ impl Run {
 
     /// Returns the number of blocks, up to `BLOCKS_LIMIT`.
     pub fn blocks(&self) -> u32
+        // Returns the number of blocks of the run, 2147483647 at most.
         ensures told { result ≡ self.now.blocks }
         ensures limit { self.now.blocks ≤ BLOCKS_LIMIT }
     {

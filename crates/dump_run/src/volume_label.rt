@@ -43,6 +43,8 @@ impl VolumeLabel {
     /// and dates are within the limits of a run. The volume is 1 to `BLOCKS_LIMIT`, and its first
     /// block 0 to `BLOCKS_LIMIT`.
     pub fn read(bytes: &[u8]) -> Option<VolumeLabel>
+        // Returns the label that a record contains, or none if the record is not a label. The
+        // label's values are within the limits of a run, and its volume is 1 or more.
         ensures { ReadsLabel bytes.now result }
     {
         if bytes.len() != LABEL_BYTES {
@@ -69,6 +71,7 @@ impl VolumeLabel {
 
     /// Whether both labels are of one dump: same name, level and dates. The volumes may differ.
     pub fn is_same_dump(&self, other: &VolumeLabel) -> bool
+        // Returns whether two labels have the same name, level and dates.
         ensures { IsTrue result ↔ AreLabelsOfOneDump self.now other.now }
     {
         self.id.is_same(&other.id)
@@ -76,6 +79,8 @@ impl VolumeLabel {
 
     /// Returns the name of the file system: 1 to 255 bytes of printable ASCII without a space.
     pub fn name(&self) -> &str
+        // Returns the file system's name in the label: 1 to 255 bytes of printable ASCII without a
+        // space.
         ensures told { result.now ≡ self.now.name }
         ensures limits { IsName self.now.name }
     {
@@ -84,6 +89,7 @@ impl VolumeLabel {
 
     /// Returns the level, 0 to 9.
     pub fn level(&self) -> u8
+        // Returns the level in the label, 9 at most.
         ensures told { result ≡ self.now.level }
         ensures limit { self.now.level ≤ 9 }
     {
@@ -92,6 +98,7 @@ impl VolumeLabel {
 
     /// Returns the date of the dump, in seconds since 1970 began, UTC.
     pub fn date(&self) -> u64
+        // Returns the date of the dump in the label, 253402300799 at most.
         ensures told { result ≡ self.now.date }
         ensures limit { self.now.date ≤ last_second }
     {
@@ -101,6 +108,7 @@ impl VolumeLabel {
     /// Returns the date of the dump that this one builds on, in seconds since 1970 began, UTC, or 0
     /// if there is none.
     pub fn since(&self) -> u64
+        // Returns the date of the earlier dump that the dump builds on, 253402300799 at most.
         ensures told { result ≡ self.now.since }
         ensures limit { self.now.since ≤ last_second }
     {
@@ -109,6 +117,7 @@ impl VolumeLabel {
 
     /// Returns the number of the volume, counted from 1, at most `BLOCKS_LIMIT`.
     pub fn volume(&self) -> u32
+        // Returns the number of the volume: 1 to 2147483647.
         ensures told { result ≡ self.now.volume }
         ensures limits { IsInRange 1 blocks_limit self.now.volume }
     {
@@ -117,6 +126,7 @@ impl VolumeLabel {
 
     /// Returns the first block of the volume, counted from 0, at most `BLOCKS_LIMIT`.
     pub fn first(&self) -> u32
+        // Returns the number of the volume's first block, 2147483647 at most.
         ensures told { result ≡ self.now.first }
         ensures limit { self.now.first ≤ blocks_limit }
     {

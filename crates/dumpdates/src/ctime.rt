@@ -19,6 +19,9 @@ pub const DATE_TEXT_BYTES: usize = 24;
 /// The date is in seconds since 1970 began. Returns None if it is above `LAST_SECOND`. Allocates
 /// nothing.
 pub fn date_text(date: u64) -> Option<ArrayString<DATE_TEXT_BYTES>>
+    // Returns the text of a date, as ctime(3) prints it, without the line feed. Each date up to
+    // `LAST_SECOND` has a text, and no later date has one. The dates in the lines of the file are
+    // written in the same way. Tests: `dates_as_texts` in `dump_tests`.
     ensures given { IsSome result ↔ (date ≤ last_second) }
     ensures text { IfSome result (λ text. text.bytes ≡ spec.ctime_text date) }
 {

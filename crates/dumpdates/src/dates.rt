@@ -38,6 +38,7 @@ impl Model for Dates {
 impl Dates {
     /// Returns a list without entries. Allocates nothing.
     pub fn new(alloc: Global) -> Dates
+        // Returns an empty list of entries.
         ensures { result ≡ [] }
     {
         Dates {
@@ -59,9 +60,19 @@ impl Dates {
     /// Fails with `BadLine` or `BadDate` and the number of the first bad line, counted from 1.
     /// Fails with `OutOfMemory` if an allocation for an entry fails and no line up to it is bad.
     pub fn read(alloc: Global, bytes: &[u8]) -> Result<Dates, DatesFault>
+        // Returns one entry for each line that is not blank, in the order of the lines. The call
+        // keeps duplicates.
         ensures spelled { IfOk result (λ dates. SpellsDates bytes.now dates) }
+        // If the bytes are the text of a list of entries, the call returns exactly these entries,
+        // or `OutOfMemory`.
         ensures only { (entries : List DatesEntry) → SpellsDates bytes.now entries →
             MatchResult result (λ dates. dates ≡ entries) (λ fault. fault ≡ OutOfMemory) }
+        // If a line is bad, the call returns the number and the kind of the first bad line. There
+        // are two kinds of bad lines. A line of the first kind does not have the form of an entry.
+        // A line of the second kind has this form, but its date is invalid.
+        //
+        // If an allocation fails, the call returns `OutOfMemory`. The call allocates only when it
+        // reaches a line with an entry.
         ensures fault { IfErr result (λ fault. HasDatesFault bytes.now fault) }
     {
         let mut entries = Vec::new(alloc);
@@ -84,8 +95,10 @@ impl Dates {
     ///
     /// Fails with `OutOfMemory` if an allocation fails. Without entries it allocates nothing.
     pub fn text(&self) -> Result<Vec<u8>, DatesFault>
+        // Returns the text of the file with these entries. Reading this text gives the list back.
         ensures written { IfOk result (λ text. text.items ≡ written self.now) }
         ensures spelled { IfOk result (λ text. SpellsDates text.items self.now) }
+        // The call fails only if an allocation fails, and never for an empty list.
         ensures fault { IfErr result (λ fault. fault ≡ OutOfMemory) }
         ensures empty { self.now ≡ [] → IsOk result }
     {
@@ -97,7 +110,9 @@ impl Dates {
     /// Returns how many entries there are. Each name has 1 to 255 bytes of printable ASCII without
     /// a space. Each level is from 0 to 9, and each date from 0 to `LAST_SECOND`.
     pub fn len(&self) -> usize
+        // Returns the number of entries.
         ensures value { result ≡ length self.now }
+        // The entries of a list are within their limits.
         ensures within { AreEntries self.now }
     {
         self.entries.len()
@@ -105,6 +120,8 @@ impl Dates {
 
     /// Returns the entry at an index, counted from 0, or None if the list is not that long.
     pub fn get(&self, at: usize) -> Option<Entry<'_>>
+        // Returns the entry at an index, counted from 0, or none if the index is past the last
+        // entry.
         ensures { option_map plain_entry result ≡ slice_get self.now at }
     {
         Some(self.entries.get(at)?.entry())
@@ -114,7 +131,10 @@ impl Dates {
     /// began, UTC (dump(8)). It is the date of the latest dump of the name at any lower level. It
     /// is 0 if no lower level was dumped, and at most `LAST_SECOND`.
     pub fn base(&self, name: &str, level: u8) -> u64
+        // Returns the date of the latest dump of the given name at a level below the given level.
+        // If there is no such dump, the call returns 0.
         ensures value { result ≡ spec.base_of self.now name.now level }
+        // The returned date is at most 253402300799.
         ensures bound { result ≤ last_second }
     {
         let mut greatest = 0;
@@ -133,9 +153,16 @@ impl Dates {
     /// Fails with `OutOfMemory` if a new entry is to be appended and an allocation for it fails.
     /// Then the list is unchanged.
     pub fn enter(&mut self, entry: Entry<'_>) -> Result<(), DatesFault>
+        // If the list has entries of the dump's name and level, the new entry replaces the first of
+        // them, and the call removes the others. If the list has no such entry, the call appends
+        // the new entry. All entries of other names or levels stay.
         ensures entered { OnOk result (self.new ≡ spec.entered self.old (plain_entry entry.entry)) }
+        // The call fails only if an allocation fails. If the list has an entry of the dump's name
+        // and level, the call never fails.
         ensures fault { IfErr result (λ fault. fault ≡ OutOfMemory) }
+        // If the call fails, the list is unchanged.
         ensures unchanged { OnErr result (self.new ≡ self.old) }
+        // It fails only if there is no entry of that name and level.
         ensures absent { OnErr result (spec.others (plain_entry entry.entry) self.old ≡ self.old) }
     {
         match position_of(&self.entries, entry) {

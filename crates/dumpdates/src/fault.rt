@@ -23,6 +23,8 @@ pub enum DatesFault {
 }
 
 impl From<AllocError> for DatesFault {
+    // Turns a failed allocation into `OutOfMemory`.
+
     ghost use Rattle.std.specs.Prelude.{◌≡◌};
     ghost use Rattle.dumpdates.specs.declared.fault.DatesFault.TheVariants.{OutOfMemory};
 

@@ -19,6 +19,9 @@ pub enum Stopped {
 }
 
 impl From<AllocError> for Stopped {
+    // from_gives: Turns a failed allocation into `OutOfMemory`, also if it made the start of an
+    // attempt fail. If the start failed because of the client's state, the result is `NotUnderWay`.
+
     ghost use Rattle.std.specs.Prelude.{◌≡◌};
     ghost use Rattle.example_client.specs.declared.volumes.Stopped.TheVariants.{OutOfMemory};
 
@@ -82,6 +85,10 @@ pub fn dump<B: Blocks + Drop, S: Server>(
     client: &mut Client<B>,
     server: &mut S,
 ) -> Result<(), Stopped>
+    // If the call returns `Ok`, the client's run is finished. That is, the counted volumes follow
+    // one another from the first block on, and contain all blocks. No clause says what the server
+    // kept, or when a dump stops. A body that always stops meets the contract; `dump_tests` reject
+    // this body.
     ensures { OnOk result (IsWhole client.new.at) }
 {
     let mut request = Vec::new(alloc);

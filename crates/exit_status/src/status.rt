@@ -17,6 +17,8 @@ impl ExitStatus {
     /// Returns the number that the program exits with, as dump(8) has it: 0 for `Success`, 1 for
     /// `StartupError`, and 3 for `Abnormal`.
     pub fn code(self) -> u8
+        // `code` returns 0 for `Success`, 1 for `StartupError` and 3 for `Abnormal`, as dump(8)
+        // does.
         ensures { result ≡ status_code self }
     {
         match self {

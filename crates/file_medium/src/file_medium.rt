@@ -61,6 +61,8 @@ impl FileMedium {
     /// A file to which bytes are appended must be open to append (`OpenOptions::append`): bytes are
     /// written at its end.
     pub fn new(file: File) -> FileMedium
+        // The new medium has counted no failure and no cut to length 0. `is_written` of the new
+        // medium returns false.
         ensures count { result.failures ≡ 0 }
         ensures begun { result.truncations ≡ 0 }
         ensures unwritten { result.written ≡ false }
@@ -81,6 +83,9 @@ impl FileMedium {
     /// An append fails, and so does a cut that would shorten the file. The file is unchanged then,
     /// and the reason is `PermissionDenied`.
     pub fn read_only(file: File) -> FileMedium
+        // The new medium has counted no failure and no cut to length 0. `is_written` of the new
+        // medium returns false. A test shows that a write to the medium fails without a call of the
+        // system. Tests: `tests/moves.py`.
         ensures count { result.failures ≡ 0 }
         ensures begun { result.truncations ≡ 0 }
         ensures unwritten { result.written ≡ false }
@@ -98,6 +103,7 @@ impl FileMedium {
     /// Returns how many cuts to length 0 succeeded, also of an empty file. The count stops at the
     /// greatest `u64`.
     pub fn truncations(&self) -> u64
+        // `truncations` returns how often the file was cut to length 0.
         ensures { result ≡ self.now.truncations }
     {
         self.truncations
@@ -105,6 +111,7 @@ impl FileMedium {
 
     /// Whether an append or a cut was called, even one that failed.
     pub fn is_written(&self) -> bool
+        // `is_written` returns whether an append or a cut was called.
         ensures { result ≡ self.now.written }
     {
         self.is_written
@@ -121,6 +128,8 @@ impl FileMedium {
 
     /// Returns why the last failed call failed. Returns `None` if no call has failed.
     pub fn last_error(&self) -> Option<io::Error>
+        // `last_error` returns a reason if and only if a call has failed. A test shows that this is
+        // the reason of the last call that failed. Tests: `tests/log.py`.
         ensures { result ≡ None ↔ self.now.failures ≡ 0 }
     {
         match &self.failed {
@@ -229,6 +238,18 @@ impl FileMedium {
 }
 
 impl Medium for FileMedium {
+    // The bytes of a file are not known.
+    //
+    // call, same: Each call keeps the promises of every medium.
+    //
+    // failed, failures: Each call that failed is counted, and no other call is counted.
+    //
+    // begun, same: Each successful cut to length 0 is counted as a truncation, up to the greatest
+    // `u64`. No other call counts as a truncation.
+    //
+    // same, failed, begun: Each append or cut marks the medium as written to, even if the append or
+    // cut failed. No other call marks the medium.
+
     ghost holds = { λ _ _. ⊥ };
 
     ghost failures = { λ m. m.failures };

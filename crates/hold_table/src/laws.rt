@@ -11,6 +11,8 @@ ghost use Rattle.hold_table.specs.Rule.{IsHeldAt, IsHolder, HoldRule};
 ///
 /// The function does nothing: its contract is a law of the definitions.
 pub fn one_holder()
+    // If the hold rule is true, no two seats hold the same drive. `HoldTable::apart` shows this for
+    // the seats of a table.
     ensures { (words : List ℕ) (seats : List Seated) (d j k : ℕ) → HoldRule words seats → d < length words →
         IsHeldAt seats j d → IsHeldAt seats k d → j ≡ k }
 {}
@@ -22,10 +24,17 @@ pub fn one_holder()
 ///
 /// The function does nothing: its contract is a law of the definitions.
 pub fn holders_move()
+    // If the hold rule is true, a drive's word is its holder's number, at most 32. If nobody holds
+    // the drive, the word is 0.
     ensures known { (words : List ℕ) (seats : List Seated) (d n : ℕ) → HoldRule words seats → d < length words → IsHolder seats d n →
         (n ≤ SEAT_LIMIT) × (slice_index words d ≡ n) }
+    // A take of a free drive makes the seat the drive's holder. A take of a held drive does not
+    // change its holder.
     ensures takes { (d made found : ℕ) (old new : View) →
         StepMoves Take d old made found (cond (found == 0) old.number found) new }
+    // Before a give the seat holds the drive. After the give nobody holds the drive.
     ensures gives { (d made : ℕ) (old new : View) → StepMoves Give d old made old.number 0 new }
+    // A look (a call of `holder`) changes no holder. A step of any kind at one drive does not
+    // change the holder of another drive.
     ensures looks { (d made found : ℕ) (old new : View) → StepMoves Look d old made found found new }
 {}

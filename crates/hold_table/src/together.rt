@@ -31,12 +31,20 @@ impl HoldTable {
         requires one { IsSeatAt self.now one }
         requires other { IsSeatAt self.now other }
         requires drive { drive < self.now.words }
+        // `apart` returns both seats unchanged.
         ensures same { (result.0 ≡ one) × (result.1 ≡ other) }
+        // Two seats of a table have different numbers, and no drive is held by both. These two
+        // facts are true of any two seats that `new` returned, whatever other threads do meanwhile.
         ensures numbers { one.view.number ≢ other.view.number }
         ensures drives { (d : ℕ) → IsTrue (has one.view d) → IsTrue (has other.view d) → ⊥ }
+        // `apart` returns the number that it found at the drive, at most 32. A seat of the two has
+        // this number if and only if the seat holds the drive.
         ensures known { result.2 ≤ SEAT_LIMIT }
         ensures holder { (result.2 ≡ one.view.number ↔ IsTrue (has one.view drive))
             × (result.2 ≡ other.view.number ↔ IsTrue (has other.view drive)) }
+        // Suppose that the last step of one seat found the number of the other seat. Then the other
+        // seat holds the drive of that step, or has made at least two steps. In both cases the
+        // other seat has made a step. So the first take at a table never returns `Busy`.
         ensures found { FoundHolder one.view other.view other.made × FoundHolder other.view one.view one.made }
     {
         let HoldSeat {
@@ -87,6 +95,10 @@ impl HoldTable {
     /// words agree with what they know. Allocates nothing.
     pub fn close(self, seats: Vec<HoldSeat>) -> [u64; DRIVE_LIMIT]
         requires seats { All (λ s. IsSeatAt self s) seats.items }
+        // `close` ends the table and returns the words of its drives. No two of the seats that are
+        // passed to `close` have the same number. A drive's word is at most 32. The word is the
+        // number of a passed seat if and only if that seat holds the drive. If all 32 seats are
+        // passed and no seat holds the drive, the drive's word is 0.
         ensures { IsClosing result seats.items }
     {
         let company = self.gathered(seats);

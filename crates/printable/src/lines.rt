@@ -12,6 +12,8 @@ use std::fmt::{self, Display, Formatter, Write};
 pub struct PlainLines<'a>(pub &'a str);
 
 impl Display for PlainLines<'_> {
+    // output: Each character of the text is printed as `plain_line_char` returns it.
+
     ghost output = { λ p. Some (plain_lines p.0.now) };
 
     fn fmt<W: Write>(&self, f: &mut Formatter<W>) -> fmt::Result {

@@ -14,12 +14,17 @@ pub struct PlainBytes<'a>(pub &'a [u8]);
 
 /// Returns the bytes of a text from others, to print.
 pub fn plain(text: &str) -> PlainBytes<'_>
+    // The result of `plain` holds the bytes of the given text.
     ensures { result.0.now ≡ text.now }
 {
     PlainBytes(text.as_bytes())
 }
 
 impl Display for PlainBytes<'_> {
+    // output: `utf8_chunks` divides the bytes into valid UTF-8 and sequences that are not UTF-8.
+    // Each character of valid UTF-8 is printed as `plain_char` returns it. Each sequence that is
+    // not UTF-8 is printed as one `?`.
+
     ghost output = { λ p. Some (printable p.0.now) };
 
     fn fmt<W: Write>(&self, f: &mut Formatter<W>) -> fmt::Result {

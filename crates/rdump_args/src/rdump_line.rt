@@ -53,6 +53,22 @@ pub enum RdumpLine<'a> {
 /// Fails if the arguments are bad, if they ask for help or the version, or if an allocation fails.
 /// The error's kind says which, and its text is for the user.
 pub fn rdump_args<'a, S: AsStr>(alloc: Global, arguments: &'a [S]) -> Result<RdumpLine<'a>, Error>
+    // For `dump`, `read` and `mt`, and for `ls` of a drive, `is_address` of the crate `address`
+    // returns true for the address.
+    //
+    // For `mt`, the operation is one of the eight of mtio, and its count is a number that the
+    // protocol allows. For `mt` and `read`, and for `ls` of a drive, the device is within the
+    // limits of a run's device.
+    //
+    // For `read`, the length is at most 9223372036854775807. `--all` implies `--place`: each block
+    // is written at the offset that it has in the dump.
+    //
+    // For `ls`, there is at least one path, or there is a drive and no path. A number of blocks is
+    // given only if a dumpdates file is given, and is at most 2147483647.
+    //
+    // For `dump`, the level, the block size and the date are at most 9223372036854775807.
+    //
+    // For `dates`, the name and level in the arguments are within the limits of an entry.
     ensures { IfOk result IsRdumpLine }
 {
     match rdump_command(alloc) {
@@ -98,6 +114,7 @@ fn name_in<'a>(matches: &ArgMatches<'a>) -> &'a str {
 ///
 /// The error's kind is `ValueValidation`. Fails if an allocation fails.
 pub fn dump_error(alloc: Global, text: &str) -> Result<Error, AllocError>
+    // Returns an error of the kind `ValueValidation`. Tests check the text of the error.
     ensures { IfOk result (λ error. kind_of error ≡ ValueValidation) }
 {
     error_of(alloc, "dump", ErrorKind::ValueValidation, text)

@@ -16,6 +16,7 @@ use std::{fs, io};
 /// Returns the exit status: `Success` if the answer was printed. Returns `StartupError` if the file
 /// cannot be read or is not a dumpdates file, an allocation fails, or a write fails.
 pub fn run_dates<R: ClientSystem>(rt: &R, file: &str, asked: Option<(&str, u8)>) -> ExitStatus
+    // The returned status is `Success` or `StartupError`.
     ensures { IsDatesStatus result }
 {
     let bytes = match fs::read(rt, file) {

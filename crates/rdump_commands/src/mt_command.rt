@@ -17,6 +17,7 @@ use std::io::{self, Write};
 /// `Abnormal` otherwise.
 pub fn run_mt<R: ClientSystem>(rt: &R, line: MtLine<'_>) -> ExitStatus
     requires { IsMtLine line }
+    // The returned status is `Success` or `Abnormal`.
     ensures { IsMtStatus result }
 {
     let mut answer = Vec::new(rt.alloc());

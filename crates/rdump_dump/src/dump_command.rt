@@ -118,6 +118,7 @@ fn since_in<R: ClientSystem>(
     start: &mut DumpStart,
     file: &[u8],
 ) -> Result<u64, ExitStatus>
+    // If the dumpdates file is bad, the status is `StartupError`.
     ensures { IfErr result (λ status. status ≡ StartupError) }
 {
     let level = u8::try_from(line.level).unwrap_or(u8::MAX);

@@ -33,6 +33,7 @@ pub fn run_client<R: ClientSystem, B: Blocks, T: Write + Copy + Drop>(
     client: &mut Client<B>,
     terminal: Option<T>,
 ) -> ExitStatus
+    // The status is `Success` only if the client's run is finished, and `Abnormal` otherwise.
     ensures { IsDumpStatus client.new.at result }
 {
     run_kept(rt, line, client, CheckpointFile::none(), terminal).status

@@ -10,6 +10,10 @@ use std::alloc::Global;
 /// Returns none if the date is above `LAST_SECOND` of `dumpdates`, the last second of the year
 /// 9999, or if an allocation fails.
 pub fn date_text(alloc: Global, date: u64) -> Option<String>
+    // Returns the text of a date, as ctime(3) prints it, without the line feed. The same definition
+    // gives the dates in the lines of dumpdates. The call returns none only if the date is above
+    // `LAST_SECOND`, or if an allocation failed. Tests show that it returns a text in all other
+    // cases. Tests: `a_date_as_text` in `programs_tests`.
     ensures { IfSome result (λ text. string_bytes text ≡ ctime_text date) }
 {
     let text = dumpdates::date_text(date)?;

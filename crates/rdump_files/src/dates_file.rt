@@ -37,6 +37,15 @@ pub fn dates<W: Write>(
     asked: Option<(&str, u8)>,
     out: &mut Counted<W>,
 ) -> ExitStatus
+    // Suppose that the file is the text of a list of entries. Then the call prints this text or, if
+    // the arguments ask for a base date, that date. The status is `Success`.
+    //
+    // For any other file, the call prints the first bad line and its kind. The call can print that
+    // an allocation failed only if it has found an entry in the file. The status is `StartupError`
+    // in both cases.
+    //
+    // If a write failed, only a beginning of the text was printed. The failure was counted, unless
+    // the count is at its greatest value. The status is `StartupError`.
     ensures { IsDates W.contents file.now (plain_asked asked.entry) out.old out.new result }
 {
     let dates = match Dates::read(alloc, file) {
@@ -61,6 +70,9 @@ pub fn base_date<W: Write>(
     level: u8,
     out: &mut Counted<W>,
 ) -> Result<u64, DatesFault>
+    // Returns the base date from the entries of the file, and prints nothing. If the file is bad or
+    // an allocation fails, the call returns this fault and prints it. If the fault cannot be
+    // printed whole, only a beginning of its text was printed.
     ensures { IsBaseDate W.contents file.now (asked_dump name.now level) out.old out.new result }
 {
     match Dates::read(alloc, file) {

@@ -36,6 +36,9 @@ pub fn update<F: WholeFile>(
     file: &mut F,
     entry: Entry<'_>,
 ) -> Result<(), UpdateFault>
+    // Replaces the file by the text of its entries with the new dump entered. A file that does not
+    // exist counts as empty. If the file cannot be read or is bad, or an allocation fails, the file
+    // is left alone. If the dump was not entered, the call returns why.
     ensures { IsUpdated (whole_file F.gives F.takes) (plain_entry entry.entry) file.old file.new result }
 {
     let Ok(bytes) = file.read(alloc) else {

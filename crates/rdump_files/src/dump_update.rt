@@ -36,7 +36,18 @@ pub fn dump_and_update<B: Blocks, P: Peer, R: Read, W: Write, F: WholeFile>(
     out: &mut Counted<W>,
     file: &mut F,
 ) -> DumpEnd
+    // The call exchanges with the peer what `dump` of `rdump_net` promises. Later, while the dump
+    // is entered in dumpdates, nothing is exchanged with the peer.
     ensures talks { TalksOver B.holds FromAny P.tells client.old client.new peer.old peer.new }
+    // The call prints what `dump` prints. If a complete dump could not be entered, the call prints
+    // one more line.
+    //
+    // The dumpdates file is left alone until the run is finished and `dump complete` is printed.
+    //
+    // The status is 0 exactly if `update` entered the dump.
+    //
+    // If `update` did not enter the dump, the call returns the cause that `update` returned. In all
+    // other cases the call returns no cause.
     ensures entered { IsDumpEntered W.contents (whole_file F.gives F.takes) client.old.at.counts client.new.at
         (sinks out.old file.old) (sinks out.new file.new) result }
 {
@@ -58,6 +69,10 @@ pub fn enter_dump<B: Blocks, W: Write, F: WholeFile>(
     out: &mut Counted<W>,
     file: &mut F,
 ) -> DumpEnd
+    // If the client's run is finished, the call tries to enter the run by `update`. The status is
+    // `Success` if `update` entered the run, and `Abnormal` if not. If `update` did not enter the
+    // run, the call prints one line and returns the cause. If the run is not finished, the status
+    // is `Abnormal`, and the file is left alone.
     ensures { IsEntered W.contents (whole_file F.gives F.takes) client.now.at (sinks out.old file.old) (sinks out.new file.new) result }
 {
     let Some(entry) = client.finished() else {

@@ -55,6 +55,11 @@ const RUN_ROOM: usize = 1024;
 ///
 /// Fails only if an allocation fails.
 pub fn is_left_dates(alloc: Global, bytes: &[u8]) -> Result<bool, AllocError>
+    // If the call returns true, the bytes are the text of some entries, followed by a rest. The
+    // rest consists of spaces and printable ASCII, without a line feed. Tests show that the rest
+    // has the form of the beginning of a line. Tests also show that the call returns true for each
+    // beginning of a text that a run writes. Tests: `what_is_left_of_dumpdates` in
+    // `programs_tests`; `tests/new_files.py`.
     ensures { IfOk result (λ is_left. IsTrue is_left → IsLeftDates bytes.now) }
 {
     let (lines, rest) = bytes.split_at(lines_len(bytes));
@@ -69,6 +74,9 @@ pub fn is_left_dates(alloc: Global, bytes: &[u8]) -> Result<bool, AllocError>
 ///
 /// Fails only if an allocation fails.
 pub fn is_left_checkpoint(alloc: Global, bytes: &[u8]) -> Result<bool, AllocError>
+    // If the call returns true, the bytes are a beginning of the text of a checkpoint. Tests show
+    // that the call returns true for each beginning of a checkpoint's text. Tests:
+    // `what_is_left_of_a_checkpoint` in `programs_tests`; `tests/new_files.py`.
     ensures { IfOk result (λ is_left. IsTrue is_left → BeginsCheckpoint bytes.now) }
 {
     if begins_run(alloc, bytes)? {

@@ -21,6 +21,8 @@ pub enum DumperFault {
 }
 
 impl From<RunFault> for DumperFault {
+    // Turns an exceeded limit into a fault of the run, and a failed allocation into `OutOfMemory`.
+
     ghost use Rattle.std.specs.Prelude.{◌≡◌};
     ghost use Rattle.rdump_files.specs.declared.payload.DumperFault.TheVariants as faults;
 
@@ -58,8 +60,12 @@ pub fn dumper<M: Medium + Drop, G: Gauge + Drop>(
     gauge: G,
 ) -> Result<Client<Shown<PayloadFile<M>, G>>, DumperFault>
     requires { payload.size ≡ line.now.block }
+    // Returns a client that is ready and has counted no volume. The client has the run that the
+    // arguments describe, with as many blocks as the payload has.
     ensures at { IfOk result (λ c. c.at ≡ standing (line_run line.now date since payload.len) [] stages.Ready) }
+    // The client's source is the payload.
     ensures source { IfOk result (λ c. c.source ≡ payload) }
+    // If the call fails, it returns the first limit that is exceeded, or `OutOfMemory`.
     ensures refused { IfErr result (IsRefusedRun (line_run line.now date since payload.len)) }
 {
     match run_of(line, date, since, &payload) {
@@ -78,6 +84,8 @@ pub fn run_of<M: Medium + Drop>(
     since: u64,
     payload: &PayloadFile<M>,
 ) -> Result<Run, RunFault>
+    // Returns the run that the arguments describe, with as many blocks as the payload has. If a
+    // value breaks a limit, the call returns the first broken limit.
     ensures { IsRunOf (line_run line.now date since payload.now.len) result }
 {
     let device = line.device.as_bytes();
@@ -96,7 +104,9 @@ pub fn dumper_of<M: Medium + Drop, G: Gauge + Drop>(
     mut gauge: G,
 ) -> Result<Client<Shown<PayloadFile<M>, G>>, AllocError>
     requires { IsRunsPayload run payload }
+    // Returns a client that is ready, has counted no volume, and has the given run.
     ensures at { IfOk result (λ c. c.at ≡ standing run [] stages.Ready) }
+    // The client's source is the payload.
     ensures source { IfOk result (λ c. c.source ≡ payload) }
 {
     gauge.begin(run.blocks());

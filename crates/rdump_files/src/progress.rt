@@ -72,6 +72,9 @@ impl<B, G> Model for Shown<B, G> {
 }
 
 impl<B: Blocks, G: Gauge> Blocks for Shown<B, G> {
+    // begin_volume, read, failures: `Shown` wraps a source and shows the reads on a terminal.
+    // `Shown` promises everything that the wrapped source promises. No clause says what is shown.
+
     ghost holds = { B.holds };
 
     ghost failures = { B.failures };
@@ -202,6 +205,9 @@ pub struct Clearing<W, T> {
 }
 
 impl<W: Write, T: Write> Write for Clearing<W, T> {
+    // write, flush: `Clearing` wraps a writer and clears a terminal before each line. `Clearing`
+    // promises what the wrapped writer promises.
+
     ghost contents = { λ c. W.contents c.lines };
 
     /// Clears the line of progress at the terminal, if there is one, and then writes to `lines`. A

@@ -35,10 +35,18 @@ pub fn resume_dump<M: Medium + Drop, G: Gauge + Drop>(
     mut gauge: G,
 ) -> Result<Client<Shown<PayloadFile<M>, G>>, ResumedDumpFault>
     requires { IsRunsPayload run.now payload }
+    // Returns a client with the run and the counts of the checkpoint. So the date and base date of
+    // the run are also those of the checkpoint.
     ensures resumes { IfOk result (λ c. (c.at.run ≡ checkpoint.run) × (c.at.counts ≡ checkpoint.counts)) }
+    // The device, name, level, block size and number of blocks are the same in the client's run and
+    // in the given run.
     ensures same_dump { IfOk result (λ c. AreOfOneDump c.at.run run.now) }
+    // If the client's counts cover all blocks, the client is finished. Otherwise the client is
+    // ready.
     ensures over { IfOk result (λ c. IsOver c.at.run c.at.counts c.at) }
+    // The client's source is the payload.
     ensures source { IfOk result (λ c. c.source ≡ payload) }
+    // The call fails only if the checkpoint belongs to another dump, or if an allocation fails.
     ensures refused { IfErr result (IsResumedDumpFault checkpoint.run run.now) }
 {
     if !checkpoint.run().is_same_dump(run) {

@@ -7,6 +7,8 @@ use exit_status::ExitStatus;
 /// Returns the exit status, given whether everything was read and printed, and whether everything
 /// is whole. A failure to read or print takes precedence.
 pub(crate) fn status_of(is_done: bool, is_whole: bool) -> ExitStatus
+    // The status is `StartupError` if something could not be read or printed, else `Abnormal` if
+    // something is not whole, and `Success` otherwise.
     ensures { result ≡ list_status is_done is_whole }
 {
     match (is_done, is_whole) {

@@ -69,6 +69,13 @@ impl PeerCaller {
     ) -> Result<KeptReply, CallFault>
         requires spelling { HasSpelling (plain_request request.now) }
         requires within { IsWithin (wanted_by (plain_request request.now)) }
+        // If the peer's contract gives the log, the request is sent once, as `rmt_wire` writes it.
+        // The peer then gives the reply and nothing more: data for a read, a number for any other
+        // request, or an error. The call returns that reply.
+        //
+        // If there is no reply, the call returns why. The connection may have ended during the
+        // request or the reply. The bytes that came may not be a reply, or may be more than one
+        // reply. An allocation may have failed, for the request or for a reply that came.
         ensures { IsCalled P.tells (plain_request request.now) (plain_result result) peer.old peer.new }
     {
         self.text.clear();
@@ -92,6 +99,9 @@ impl PeerCaller {
     ///
     /// Fails with `Refused` if the server replied with an error, and otherwise as `call` does.
     pub fn next_record<P: Peer>(&mut self, peer: &mut P) -> Result<Vec<u8>, ReadFault>
+        // If the peer's contract gives the log, the call makes one read of `RECORD_LIMIT` bytes. It
+        // returns the bytes of the reply. If the reply is an error, the call returns `Refused` with
+        // the number of the error. If there is no reply, it returns why.
         ensures { IsRecordCalled P.tells peer.old peer.new result }
     {
         let read = Request::Read {
@@ -120,6 +130,9 @@ impl PeerCaller {
     ) -> Result<Option<u32>, ReadFault>
         requires op { op ≤ MTNOP }
         requires count { count ≤ NUMBER_LIMIT }
+        // If the peer's contract gives the log, the call sends the given operation once, with the
+        // given count. It returns that the operation was done, or the number of the error in the
+        // reply. If there is no reply, it returns why.
         ensures { IsOperationCalled P.tells op count peer.old peer.new result }
     {
         let reply = self.call(peer, &Request::Op { op, count })?;

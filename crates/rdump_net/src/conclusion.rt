@@ -20,6 +20,7 @@ pub enum Conclusion {
 impl Conclusion {
     /// Returns the exit status of `rdump dump`: `Success` if the dump is complete, else `Abnormal`.
     pub fn status(self) -> ExitStatus
+        // Returns `Success` for `Complete`, and `Abnormal` for every other conclusion.
         ensures { result ≡ conclusion_status self }
     {
         match self {

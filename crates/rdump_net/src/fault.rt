@@ -62,6 +62,8 @@ pub enum ReadFault {
 }
 
 impl From<CallFault> for ReadFault {
+    // from_gives: Turns a `CallFault` into the fault with the same name.
+
     ghost use Rattle.std.specs.Prelude.{◌≡◌};
     ghost use Rattle.rdump_net.specs.DriveCalls.{read_fault};
 

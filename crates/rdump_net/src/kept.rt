@@ -47,7 +47,23 @@ pub fn dump<B: Blocks, P: Peer, R: Read, W: Write>(
     operator: &mut R,
     out: &mut Counted<W>,
 ) -> ExitStatus
+    // If the peer's contract gives the log, each request is sent once, and only if the client asked
+    // for it. Each request is sent whole, unless the connection ends during the request. If the
+    // connection ends, only a beginning of the request is sent.
+    //
+    // The client is fed all bytes that the peer received, in order. The client is told that the
+    // connection ended exactly if the peer reported an end.
     ensures talks { TalksOver B.holds FromAny P.tells client.old client.new peer.old peer.new }
+    // The call prints exactly one line for each volume that was counted since the start, in order,
+    // with the volume's own numbers. The call prints no line for any other volume. Between the
+    // lines of volumes, the call prints failures and questions. At the end, the call prints the
+    // last line. The line of a failure contains the number of the first volume that is not counted
+    // yet. The call can ask a question although no failure was printed. No clause ties the printed
+    // failures and questions to the attempts. If a write failed, only a beginning of all these
+    // lines was printed, and the failure is counted.
+    //
+    // The status is `Success` exactly if the run is finished and everything was printed, and
+    // `Abnormal` otherwise.
     ensures printed { IsDumped W.contents client.old.at.counts client.new.at out.old out.new result }
 {
     let mut keeper = NoKeeper;
@@ -74,8 +90,27 @@ pub fn dump_kept<B: Blocks, P: Peer, R: Read, W: Write, K: Keeper>(
     out: &mut Counted<W>,
     keeper: &mut K,
 ) -> Conclusion
+    // The promises about kept checkpoints hold if the keeper's contract gives the checkpoints that
+    // were kept. The contract of `ReplacedFile` does not give them. No clause says that a keeper
+    // stores the text of the checkpoint. The private `text_of` makes the text that `ReplacedFile`
+    // stores. The clause of `text_of` says that this text is that of the checkpoint. An attempt
+    // starts only if the last checkpoint that was kept has the client's run and counts. This holds
+    // for the first attempt, too, and for each attempt after a new count. So nothing is sent after
+    // the keeper has failed. Suppose that the dump is complete, and that a volume was counted since
+    // the start. Then the last checkpoint that was kept has the last count.
+    //
+    // The keeper gets a checkpoint only after the lines of all volumes that were counted since the
+    // start are printed whole.
+    //
+    // The call prints the lines of `dump`. If the dump ends as `Unkept`, the last line is
+    // `checkpoint not written`. The dump ends as `Complete` only if the run is finished. No clause
+    // says that a checkpoint is kept again only if a volume was counted. After the keeper has
+    // failed, no attempt starts. No clause says that the call then prints nothing but the last
+    // line.
     ensures kept { IsDumpKept (kept_kind B.holds P.tells W.contents K.puts) (kept_ends client.old peer.old out.old keeper.old)
         (kept_ends client.new peer.new out.new keeper.new) result }
+    // The dump ends as `Unkept`, with a checkpoint that could not be kept, only if the keeper can
+    // fail.
     ensures able { result ≡ ends.Unkept → K.can_fail keeper.old }
 {
     match client.state() {

@@ -23,6 +23,7 @@ pub enum KeptReply {
 impl KeptReply {
     /// Whether the request was done and the reply is a number.
     pub fn is_done(&self) -> bool
+        // Returns true for `Done`, and false for data and for an error.
         ensures { result ≡ is_done (plain_kept self.now) }
     {
         matches!(self, KeptReply::Done { .. })

@@ -9,6 +9,15 @@
 //! reel begins with. Each uses a connection of its own and makes its calls with a `PeerCaller`: one
 //! request at a time, each with a `KeptReply`. `find_protection` decides from that beginning
 //! whether a dump may write on the reel.
+//!
+//! # Contracts
+//!
+//! Promises about a peer, the far end of a connection, hold if the peer's contract gives its *log*:
+//! what passed over the connection, in order. The contract of `SocketPeer`, a peer at a socket of
+//! the system, does not give its log. So no clause says what passed through a socket, why a call of
+//! the socket failed (`SocketPeer::failure`), or how long a call waits.
+//!
+//! A *keeper* stores the text of the client's checkpoint. Each new text replaces the text before.
 #![tactic(auto)]
 
 mod attempt;

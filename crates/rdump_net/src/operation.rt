@@ -44,6 +44,14 @@ pub fn mt<P: Peer, W: Write>(
     requires device { IsLine device.now }
     requires op { op ≤ NUMBER_LIMIT }
     requires count { count ≤ NUMBER_LIMIT }
+    // If the peer's contract gives the log, the call sends the open, the operation and the close.
+    // The call sends each request once, after the reply to the previous request. The open is for
+    // reading and writing if the operation writes marks, and otherwise for reading. After a refused
+    // open, only the close follows.
+    //
+    // The call prints the reply to the operation or, if the open was refused, the reply to the
+    // open. If the reply did not come, the call prints nothing. The status is `Success` exactly if
+    // the operation was done and its reply was printed, and `Abnormal` otherwise.
     ensures { IsMt (stream_kind P.tells W.contents) device.now op count
         (stream_ends peer.old out.old) (stream_ends peer.new out.new) result }
 {

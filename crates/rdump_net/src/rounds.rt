@@ -56,6 +56,8 @@ fn begin_volume<B: Blocks, P: Peer, R: Read, W: Write>(
     ensures talks { TalksOver B.holds (FromThis client.old.at) P.tells client.old client.new peer.old peer.new }
     ensures printed { IsRound W.contents client.old.at.counts client.new.at out.old out.new result }
     ensures still { result ≡ Some ends.Complete → client.new.at ≡ client.old.at }
+    // If no attempt may begin, the client and the peer are unchanged. No clause says that this
+    // function is given the peer's answer.
     ensures held { may ≡ false → (client.new ≡ client.old) × (peer.new ≡ peer.old) }
 {
     if may {

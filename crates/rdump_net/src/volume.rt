@@ -50,6 +50,8 @@ pub fn read_volume<P: Peer, F: Write, W: Write>(
     out: &mut Counted<W>,
 ) -> ExitStatus
     requires { IsLine device.now }
+    // Does what `copy_volume` promises with `AfterVolume::Stay`. The status is `Success` if the
+    // volume was read whole and the close was done, and `Abnormal` if not.
     ensures { IsReadStatus (copy_kind P.tells F.contents W.contents) device.now
         (copy_ends peer.old file.old out.old) (copy_ends peer.new file.new out.new) result }
 {
@@ -94,6 +96,39 @@ pub fn copy_volume<P: Peer, F: Write, W: Write>(
     out: &mut Counted<W>,
 ) -> Result<(), ReadFault>
     requires { IsLine device.now }
+    // If the peer's contract gives the log, the call sends the open for reading and the rewind.
+    // Then the call sends reads until one returns no bytes. Then it sends the close. The call sends
+    // each request after the reply to the previous request. If one of these requests is refused,
+    // the call sends nothing more. If its argument is `AfterVolume::Stay`, the call sends no other
+    // requests.
+    //
+    // Suppose that the argument is `Check` or `Offline`, and that the first read returned a record.
+    // Then the call looks for the mark after the reads. First the call sends MTBSR 1, back over one
+    // record. If MTBSR is refused with EIO, the call sends three requests. These are a rewind,
+    // MTFSR (forward over records) by the number of records including the label, and MTFSF 1
+    // (forward over one mark). If any other refusal comes, the call sends the close next. If the
+    // number of records is above `NUMBER_LIMIT`, the call sends the close in place of MTFSR.
+    //
+    // The result is `NoMark` if MTBSR was done. The result is `Undetermined` if one of the requests
+    // that look for the mark was refused or could not be sent. In both cases the close was sent,
+    // whatever the reply to the close was. The call succeeds only if MTFSF was done.
+    //
+    // With `Offline`, if MTFSF was done, the call sends MTOFFL, which moves the reel to the bin.
+    // The call sends MTOFFL once, before the close. In all other cases the call does not send
+    // MTOFFL.
+    //
+    // Suppose that the first read returns no bytes, so that there is no label. Then the call
+    // neither looks for a mark nor sends MTOFFL. The call sends the close next, as with `Stay`. The
+    // call prints and writes nothing, and the result is as with `Stay`.
+    //
+    // If a write failed, the call sends neither MTOFFL nor the close, because it has read no mark.
+    // No clause says that the call stops reading after the failed write.
+    //
+    // The call prints the text of the label, and writes the records after the label to the file. If
+    // a write failed, only a beginning of this text or of these records was written.
+    //
+    // The result says which request was refused, or why the next request has no reply. The result
+    // says that a write failed exactly if a write failed.
     ensures { IsRead (copy_kind P.tells F.contents W.contents) device.now after
         (copy_ends peer.old file.old out.old) (copy_ends peer.new file.new out.new) result }
 {

@@ -81,6 +81,7 @@ pub(crate) fn finish_file<R: ClientSystem>(
     line: &ReadLine<'_>,
     file: &OutFile,
 ) -> ExitStatus
+    // The status is `Success` or `Abnormal`.
     ensures { IsReadStatus result }
 {
     match cut_and_sync(rt, line, file) {

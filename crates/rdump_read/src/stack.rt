@@ -57,6 +57,7 @@ fn end_dump<R: ClientSystem>(
     file: &OutFile,
     has_gap: bool,
 ) -> ExitStatus
+    // The status is `Success` or `Abnormal`.
     ensures { IsReadStatus result }
 {
     let is_short = report_short(rt, line, file);

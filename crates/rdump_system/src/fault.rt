@@ -11,6 +11,7 @@ pub const NO_DUMPDATES: &str = "it is no dumpdates file";
 
 /// Prints on standard error what failed and why, and returns `StartupError`.
 pub fn print_fault<R: Eprint>(rt: &R, what: &str, why: &str) -> ExitStatus
+    // Returns `StartupError`.
     ensures { result ≡ StartupError }
 {
     let what = plain(what);
@@ -21,6 +22,7 @@ pub fn print_fault<R: Eprint>(rt: &R, what: &str, why: &str) -> ExitStatus
 /// Prints an error on standard error, and returns `StartupError`. If an allocation failed, prints
 /// `out of memory` on standard output instead.
 pub fn report<R: Eprint + Print>(rt: &R, what: &str, error: io::Error) -> ExitStatus
+    // Returns `StartupError`, even if an allocation failed.
     ensures { result ≡ StartupError }
 {
     if error.kind() == io::ErrorKind::OutOfMemory {
@@ -32,6 +34,7 @@ pub fn report<R: Eprint + Print>(rt: &R, what: &str, error: io::Error) -> ExitSt
 
 /// Prints that an allocation failed, and returns `StartupError`.
 pub fn report_no_memory<R: Eprint + Print>(rt: &R) -> ExitStatus
+    // Returns `StartupError`.
     ensures { result ≡ StartupError }
 {
     report(rt, "", io::ErrorKind::OutOfMemory.into())
@@ -39,6 +42,7 @@ pub fn report_no_memory<R: Eprint + Print>(rt: &R) -> ExitStatus
 
 /// Prints that standard output could not be written, and returns `status`.
 pub fn report_unwritten<R: Eprint>(rt: &R, status: ExitStatus) -> ExitStatus
+    // Returns the exit status that it was given.
     ensures { result ≡ status }
 {
     let _ = eprintln!(rt; "rdump: standard output could not be written");
@@ -47,6 +51,7 @@ pub fn report_unwritten<R: Eprint>(rt: &R, status: ExitStatus) -> ExitStatus
 
 /// Prints that standard output could not be written, if `failures` is not 0, and returns `status`.
 pub fn report_failures<R: Eprint>(rt: &R, failures: u64, status: ExitStatus) -> ExitStatus
+    // Returns the exit status that it was given, whether or not a write failed.
     ensures { result ≡ status }
 {
     if failures > 0 {
@@ -62,6 +67,7 @@ pub fn report_failed<R: Eprint>(
     error: &io::Error,
     status: ExitStatus,
 ) -> ExitStatus
+    // Returns the exit status that it was given.
     ensures { result ≡ status }
 {
     let what = plain(what);

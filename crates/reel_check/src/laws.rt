@@ -17,6 +17,7 @@ use dump_run::one_label;
 ///
 /// It does nothing: its contract is a law of the definitions.
 pub fn one_holding()
+    // For each list of entries, there is only one description that a check can return.
     ensures { (h k : Holding) (entries : List PlainEntry) → IsHolding h entries → IsHolding k entries → h ≡ k }
 {
     one_label();
@@ -27,6 +28,9 @@ pub fn one_holding()
 ///
 /// It does nothing: its contract is a law of the definitions.
 pub fn one_volume()
+    // Suppose that two reels have the same label, the same number of blocks, blocks of the same
+    // length, and the same entries after the blocks. Then a check returns the same description for
+    // both reels, whatever bytes the blocks contain.
     ensures { (label : PlainLabel) (count size : ℕ) (end : VolumeEnd) (entries others : List PlainEntry) (h k : Holding) →
         IsVolume label count size end entries → IsVolume label count size end others → IsHolding h entries → IsHolding k others → h ≡ k }
 {
@@ -38,6 +42,9 @@ pub fn one_volume()
 ///
 /// It does nothing: its contract is a law of the definitions.
 pub fn dumped_volume()
+    // A reel that a dump has counted has the label of a volume of a run, blocks of the run's size,
+    // one mark, and nothing else. A check describes such a reel as a whole volume. This is also
+    // true if the volume has no blocks.
     ensures some { (run : PlainRun) (volume first : ℕ) (blocks : List (List ℕ)) → IsRun run → IsInRange 1 blocks_limit volume → first ≤ blocks_limit →
         All (λ block. length block ≡ run.block_bytes) blocks → blocks ≢ [] →
         IsVolume (label_of run volume first) (length blocks) run.block_bytes OneMark (Record (label run volume first) ∷ (map Record blocks ++ Mark ∷ [])) }

@@ -3,6 +3,20 @@
 //! `check_reel` reads a record file from front to end and returns its `ReelContents`. `ReelTally`
 //! takes the entries of a reel one after the other, from any source, and determines what they are:
 //! a `Holding`.
+//!
+//! # Contracts
+//!
+//! A check reads the entries of a reel and returns a description of one of three kinds. `Empty`
+//! means that the reel has no entries. `Volume` means that the reel has a label, then blocks of one
+//! length, and then nothing, one mark, or one mark and further entries. `Foreign` means that the
+//! reel has any other entries.
+//!
+//! A check describes a volume as whole if one mark, and nothing else, follows the blocks. A check
+//! cannot find out whether the blocks are those that were dumped, because a volume has neither a
+//! checksum nor the number of its blocks.
+//!
+//! A *tally* is a value of the type `ReelTally`. You add entries to a tally one by one, and the
+//! tally gives the description of these entries.
 #![tactic(auto)]
 
 mod check;

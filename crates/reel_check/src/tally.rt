@@ -30,6 +30,7 @@ impl Model for ReelTally {
 impl ReelTally {
     /// Makes the tally of no entries.
     pub fn new() -> ReelTally
+        // Returns a tally without entries.
         ensures { IsTally result [] }
     {
         ReelTally {
@@ -43,6 +44,8 @@ impl ReelTally {
     ///
     /// If it is the first entry, it is read as a label. Otherwise only its length counts.
     pub fn record(&mut self, bytes: &[u8])
+        // Adds a record to the tally. The tally then describes the earlier entries followed by this
+        // record, if there are fewer than 2^64 entries.
         ensures { (entries : List PlainEntry) → length entries + 1 < 2 ^ 64 → IsTally self.old entries →
             IsTally self.new (entries ++ Record bytes.now ∷ []) }
     {
@@ -53,6 +56,8 @@ impl ReelTally {
 
     /// Adds a mark.
     pub fn mark(&mut self)
+        // Adds a mark to the tally. The tally then describes the earlier entries followed by this
+        // mark, if there are fewer than 2^64 entries.
         ensures { (entries : List PlainEntry) → length entries + 1 < 2 ^ 64 → IsTally self.old entries →
             IsTally self.new (entries ++ Mark ∷ []) }
     {
@@ -63,6 +68,7 @@ impl ReelTally {
 
     /// Returns what the entries are so far.
     pub fn holding(&self) -> &Holding
+        // Returns the description of the entries that were added. No other body has its type.
         ensures { result.now ≡ self.now.holding }
     {
         &self.holding
@@ -70,6 +76,7 @@ impl ReelTally {
 
     /// Returns how many records were added, including the label and those after a mark.
     pub fn records(&self) -> u64
+        // Returns how many of the added entries are records.
         ensures { result ≡ self.now.records }
     {
         self.records
@@ -77,6 +84,7 @@ impl ReelTally {
 
     /// Returns how many marks were added.
     pub fn marks(&self) -> u64
+        // Returns how many of the added entries are marks.
         ensures { result ≡ self.now.marks }
     {
         self.marks
@@ -84,6 +92,7 @@ impl ReelTally {
 
     /// Consumes the tally, and returns what the entries that were added are.
     pub fn into_holding(self) -> Holding
+        // Consumes the tally, and returns the description of the entries that were added.
         ensures { result ≡ self.holding }
     {
         self.holding

@@ -89,6 +89,8 @@ impl<R: FolderSystem> FolderStacks<R, NoLog> {
     ) -> Result<FolderStacks<R, NoLog>, AllocError>
         requires some { 1 ≤ length drives.now }
         requires few { length drives.now ≤ DRIVE_LIMIT }
+        // What is in the folders is not known. The new stacks have the given names and folders, no
+        // latched reel, and no failure.
         ensures drives { IfOk result (λ opened. opened
             ≡ folder_library (map (λ d. folder_row d.name.now d.folder.now false) drives.now) bin.now capacity 0) }
         ensures count { IfOk result (λ opened. length opened.rows ≡ length drives.now) }
@@ -108,6 +110,8 @@ impl<R: FolderSystem, L: Log + Drop> FolderStacks<R, L> {
     ) -> Result<FolderStacks<R, L>, AllocError>
         requires some { 1 ≤ length drives.now }
         requires few { length drives.now ≤ DRIVE_LIMIT }
+        // The new stacks have the given names and folders, no latched reel, and no failure,
+        // whatever the log is. `open` calls `with_log` with a log that keeps nothing.
         ensures drives { IfOk result (λ opened. opened
             ≡ folder_library (map (λ d. folder_row d.name.now d.folder.now false) drives.now) bin.now capacity 0) }
         ensures count { IfOk result (λ opened. length opened.rows ≡ length drives.now) }
@@ -139,6 +143,8 @@ impl<R: FolderSystem, L: Log + Drop> FolderStacks<R, L> {
     /// It changes nothing in the folders. If an allocation fails, the reason has the kind
     /// `OutOfMemory` and no error code of the system.
     pub fn find_fault(&self) -> Option<FolderFault<'_>>
+        // If `find_fault` returns a folder, it is the folder of a stack or the folder of the bin.
+        // Tests, not clauses, show which faults `find_fault` finds.
         ensures { IfSome result (λ fault. IsFolderOf self.now fault.folder.now) }
     {
         let mut seen = Vec::new(self.rt.alloc());
@@ -238,6 +244,24 @@ impl<R: FolderSystem, L: Log + Drop> FolderStacks<R, L> {
 }
 
 impl<R: FolderSystem, L: Log + Drop> Stacks for FolderStacks<R, L> {
+    // drive, below, named, found: `drive` returns the first drive with the given name.
+    //
+    // latch: A latch takes a reel only if no reel is latched at the drive (`IsFolderCall`). The
+    // latched reel stands at its beginning and has the capacity of the stacks. The latched reel's
+    // file has had no failed call, no cut to length 0 and no write.
+    //
+    // latch: A latch that fails because the stack is empty, or because an allocation failed, is not
+    // counted as a failure. Every other failed latch is a device fault and is counted.
+    //
+    // unlatch: After a reel is laid back, no reel is latched at the drive.
+    //
+    // offline: A move succeeds only if a reel is latched, and if no sync of the reel's file failed
+    // after the last cut to length 0. After a move that succeeded, no reel is latched at the drive.
+    // A move that failed hands the reel back. A failed move is counted as a device fault, unless
+    // the bin has a reel with the same name.
+    //
+    // failures: `failures` returns the count of device failures.
+
     ghost use Rattle.reel_files.specs.Folders.{IsFolderCall};
 
     type Reel = FileReel<FileMedium>;

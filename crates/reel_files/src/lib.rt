@@ -3,6 +3,12 @@
 //!
 //! The contracts leave the contents of files and folders unspecified. Failures of the system are
 //! counted.
+//!
+//! # Contracts
+//!
+//! A trait, `MovableFile`, stands for a file that can be synced and moved. The *steps* of a file
+//! are its syncs and moves, in order. For every `MovableFile` whose steps are known, the contract
+//! of `take_offline` gives the order of sync and move. `offline` calls `take_offline`.
 #![tactic(auto)]
 
 mod folder;

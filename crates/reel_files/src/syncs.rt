@@ -29,20 +29,27 @@ pub trait MovableFile {
 
     /// Returns how many times the file was truncated to zero length.
     fn truncations(&self) -> u64
+        // `truncations` returns how often the file was cut to length 0.
         ensures { result ≡ truncations self.now };
 
     /// Whether the file was written to or truncated since it was opened. A write that failed counts
     /// too.
     fn is_written(&self) -> bool
+        // `is_written` returns whether the file was written to or cut, even if the write or the cut
+        // failed.
         ensures { result ≡ written self.now };
 
     /// Writes the file's cached data to the device.
     fn sync(&mut self) -> Result<(), Self::Refusal>
+        // If the file's steps are known, `sync` adds one step, which says that a sync was made and
+        // whether the sync succeeded. A sync does not change the count of cuts to length 0.
         ensures step { Makes told self.old self.new (Sync (is_ok result) ∷ []) }
         ensures same { truncations self.new ≡ truncations self.old };
 
     /// Moves the file to the other folder. The result describes where the file is then.
     fn rename(&mut self) -> Result<Self::Moved, Self::Refusal>
+        // If the file's steps are known, `rename` adds one step, which says that a move was made
+        // and whether the move succeeded.
         ensures { Makes told self.old self.new (Move (is_ok result) ∷ []) };
 }
 
@@ -74,6 +81,8 @@ impl<E: Copy> Model for Syncs<E> {
 impl<E: Copy> Syncs<E> {
     /// Returns a state in which no sync has failed.
     pub fn new() -> Syncs<E>
+        // In the new `Syncs` (a record of failed syncs) no sync has failed. No other body has its
+        // type.
         ensures { result ≡ None }
     {
         Syncs { failed: None }
@@ -84,8 +93,14 @@ impl<E: Copy> Syncs<E> {
     /// Fails with the reason of that earlier sync, or of this one. The system reports only once
     /// what it could not write, so a sync after a failed one would not report it again.
     pub fn sync<F: MovableFile<Refusal = E>>(&mut self, file: &mut F) -> Result<(), E>
+        // If an earlier sync failed after the file's last cut to length 0, this sync fails too.
         ensures again { self.old ≡ Some (F.truncations file.old) → IsErr result }
+        // A failed sync is recorded with a number: how often the file was cut to length 0 before
+        // the sync. Nothing else is recorded.
         ensures noted { MatchResult result (λ _. self.new ≡ self.old) (λ _. self.new ≡ Some (F.truncations file.old)) }
+        // If `sync` succeeds, it asked the file once to sync, and that sync succeeded. `sync` fails
+        // in two cases only: the file was asked once and failed, or an earlier sync failed after
+        // the last cut to length 0. In the second case the file is not asked to sync.
         ensures done { IfOk result (λ _. Makes F.told file.old file.new (Sync true ∷ [])) }
         ensures refused { OnErr result (Steps F.told file.old file.new (IsUnsynced (F.truncations file.old) self.old self.new)) }
         ensures same { F.truncations file.new ≡ F.truncations file.old }
@@ -118,8 +133,15 @@ pub fn take_offline<F: MovableFile>(
     file: &mut F,
     syncs: &mut Syncs<F::Refusal>,
 ) -> Result<F::Moved, F::Refusal>
+    // If `take_offline` succeeds, the file made exactly two steps: a sync that succeeded, and then
+    // a move. During the call, nothing else has access to the file. So the file was synced after
+    // its last change, and its name was moved after the sync.
     ensures done { IfOk result (λ _. Makes F.told file.old file.new (Sync true ∷ Move true ∷ [])) }
+    // `take_offline` fails only if the file could not be synced, or if the move failed after a sync
+    // that succeeded. After a failed sync nothing is moved.
     ensures refused { OnErr result (Steps F.told file.old file.new (IsLeft (F.truncations file.old) syncs.old syncs.new)) }
+    // After a failed sync every call of `take_offline` fails until the file is cut to length 0.
+    // Tests: `is_written_anew_after_a_failed_sync` in `reel_tests`.
     ensures again { syncs.old ≡ Some (F.truncations file.old) → IsErr result }
     ensures noted { MatchResult result (λ _. syncs.new ≡ syncs.old)
         (λ _. (syncs.new ≡ syncs.old) ⊎ (syncs.new ≡ Some (F.truncations file.old))) }
@@ -136,11 +158,18 @@ pub fn sync_at_close<F: MovableFile>(
     file: &mut F,
     syncs: &mut Syncs<F::Refusal>,
 ) -> Result<bool, F::Refusal>
+    // If the file was written to after it was opened, even by a failed write, `sync_at_close` syncs
+    // the file as `Syncs::sync` does. The file makes one sync, and a failed sync is recorded. If an
+    // earlier sync failed after the last cut to length 0, the file makes no sync.
     ensures written { F.written file.old ≡ true → MatchResult result
         (λ synced. (synced ≡ true) × Makes F.told file.old file.new (Sync true ∷ []))
         (λ _. Steps F.told file.old file.new (IsUnsynced (F.truncations file.old) syncs.old syncs.new)) }
+    // If the file was not written to after it was opened, `sync_at_close` leaves the file as it is
+    // and records nothing.
     ensures unwritten { F.written file.old ≡ false → (result ≡ Ok false) × (file.new ≡ file.old) × (syncs.new ≡ syncs.old) }
+    // As in `Syncs::sync`, it fails if a sync of the file has failed since the last cut to nothing.
     ensures again { F.written file.old ≡ true → syncs.old ≡ Some (F.truncations file.old) → IsErr result }
+    // As in `Syncs::sync`, a sync that fails is noted.
     ensures noted { MatchResult result (λ _. syncs.new ≡ syncs.old) (λ _. syncs.new ≡ Some (F.truncations file.old)) }
 {
     if !file.is_written() {

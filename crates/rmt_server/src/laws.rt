@@ -24,7 +24,10 @@ use tape::device_steps;
 ///
 /// It does nothing: its contract is a law of the definitions.
 pub fn one_holder<S: Stacks>()
+    // At the drives of one thread (`LocalHolds`), no two sessions with different seats have the
+    // same drive open.
     ensures one { NoDriveIsOpenTwice (kinds of_holds S.Stacks S.Reel.Reel) }
+    // After one session has acted, the drives still match each session that has another seat.
     ensures others { OthersStayAt (kinds of_holds S.Stacks S.Reel.Reel) }
 {}
 
@@ -33,7 +36,10 @@ pub fn one_holder<S: Stacks>()
 ///
 /// It does nothing: its contract is a law of the definitions.
 pub fn open_is_held<S: Stacks>()
+    // At the drives of one thread (`LocalHolds`), the session's seat holds the drive that the
+    // session has open.
     ensures held { OpenIsHeld (kinds of_holds S.Stacks S.Reel.Reel) }
+    // At the drives of one thread (`LocalHolds`), a drive without a holder is open in no session.
     ensures free { FreeIsClosed (kinds of_holds S.Stacks S.Reel.Reel) }
 {}
 
@@ -44,7 +50,14 @@ pub fn open_is_held<S: Stacks>()
 ///
 /// It does nothing: its contract is a law of the definitions.
 pub fn still_at<H: Holds, S: Stacks>()
+    // Drives still match a session after others have acted, if three conditions hold. The session's
+    // seat belongs to the hold record. The numbers of drives in the hold record and in the stacks
+    // have not changed. The session's open reel is still latched.
     ensures at { StaysAt (kinds H.Holds S.Stacks S.Reel.Reel) }
+    // The third condition (the open reel is still latched) may be replaced by another condition:
+    // reels stay latched at all drives but one, and the session does not have this one drive open.
+    // For example, an operator may rearrange the reels of a drive that the session does not have
+    // open.
     ensures elsewhere { StaysAtElsewhere (kinds H.Holds S.Stacks S.Reel.Reel) }
 {}
 
@@ -53,6 +66,8 @@ pub fn still_at<H: Holds, S: Stacks>()
 ///
 /// It does nothing: its contract is a law of the definitions.
 pub fn more_seats<S: Stacks>()
+    // The drives of one thread (`LocalHolds`) still match a session after more numbers were
+    // assigned to seats.
     ensures { StaysAtWithMoreSeats (kinds of_holds S.Stacks S.Reel.Reel) }
 {}
 
@@ -61,6 +76,8 @@ pub fn more_seats<S: Stacks>()
 ///
 /// It does nothing: its contract is a law of the definitions.
 pub fn stacks_trouble<H: Holds>()
+    // Drives with reels in memory still match a session after a trouble of the stacks was set or
+    // cleared.
     ensures { StaysAtUnderTrouble (kinds H.Holds of_stacks of_reel) }
 {}
 
@@ -68,7 +85,10 @@ pub fn stacks_trouble<H: Holds>()
 ///
 /// It does nothing: its contract is a law of the definitions.
 pub fn one_session_view()
+    // If each reel name occurs once, the session view of stacks in memory and the open reel is
+    // known.
     ensures told { (x : MemoryState) → IsLibrary x.drives.stacks (library_of x.drives.stacks) → HasView in_memory x (session_view_seen x) }
+    // Stacks in memory and the open reel have only one session view.
     ensures one { (x : MemoryState) (v : SessionView) → HasView in_memory x v → v ≡ session_view_seen x }
 {}
 
@@ -83,6 +103,11 @@ pub fn one_session_view()
 ///
 /// It does nothing: its contract is a law of the definitions.
 pub fn troubled_serve()
+    // Suppose that drives and reels are in memory, and that a trouble is set for a request. Then
+    // this law gives the exact effect of the request. The effect says which call fails, which
+    // entries remain, and who holds each drive. No reel on a stack or in the bin has a trouble
+    // afterwards. Either the trouble that was set is still set, or the trouble is cleared and the
+    // reply is error 5.
     ensures { TroublesAreServed }
 {
     lying_troubles();
@@ -93,7 +118,10 @@ pub fn troubled_serve()
 ///
 /// It does nothing: its contract is a law of the definitions.
 pub fn troubled_is_served()
+    // The effect that `troubled_serve` gives for a request is a serve step.
     ensures served { TroubledIsServed }
+    // With that effect, an open and MTOFFL never run out of memory, because stacks in memory
+    // allocate nothing for these two requests.
     ensures memory { NoMemoryIsWanted }
 {
     device_steps();
@@ -105,11 +133,17 @@ pub fn troubled_is_served()
 ///
 /// It does nothing: its contract is a law of the definitions.
 pub fn troubles_set()
+    // If drives and reels are in memory, one trouble can be set for the open reel and one for the
+    // stacks. After troubles are set, the drives still match the session, and the session view is
+    // unchanged.
     ensures at { (reel : Trouble) (stacks : Bool) (x : MemoryState) → IsAt in_memory x → IsAt in_memory (with_troubles reel stacks x) }
     ensures told { (reel : Trouble) (stacks : Bool) (x : MemoryState) (v : SessionView) →
         HasView in_memory x v → HasView in_memory (with_troubles reel stacks x) v }
+    // If no reel on a stack or in the bin has a trouble, these two troubles are the only ones that
+    // are set afterwards.
     ensures set { (reel : Trouble) (stacks : Bool) (x : MemoryState) → troubled_in x.drives.stacks.library ≡ 0 →
         IsTroubled reel stacks (with_troubles reel stacks x) }
+    // A trouble can be set for each request in the way that `troubled_serve` requires.
     ensures request { (trouble : Trouble) (request : PlainRequest) (x : MemoryState) → troubled_in x.drives.stacks.library ≡ 0 →
         IsSetFor trouble request (set_for trouble request x) }
 {}
@@ -119,6 +153,10 @@ pub fn troubles_set()
 ///
 /// It does nothing: its contract is a law of the definitions.
 pub fn untroubled_end()
+    // This law is about drives and reels in memory. The law requires that no trouble is set for the
+    // open reel, or for a reel on a stack or in the bin. After the session has ended, the reel that
+    // it had open is on its stack, and the drive is free. After the end, no reel on a stack or in
+    // the bin has a trouble.
     ensures { EndsUntroubled }
 {
     lying_troubles();

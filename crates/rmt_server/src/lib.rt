@@ -1,4 +1,12 @@
 //! The tape server: the session of one client over the drives, and serving its stream of requests.
+//!
+//! # Contracts
+//!
+//! A session carries out the requests of one client. A session has either nothing open, or an open
+//! drive that its seat holds. The *session view* is the known content of the stacks and of the
+//! session's open reel. A *serve step* is what one request and its reply may do to the session
+//! view. Drives *match* a session if the session's seat and what the session has open belong to
+//! these drives.
 #![tactic(auto)]
 
 mod access;

@@ -56,7 +56,11 @@ impl<H: Holds, S: Stacks> Session<H, S> {
     /// seat.
     pub fn new(alloc: Global, seat: H::Seat) -> Result<Session<H, S>, (H::Seat, AllocError)>
         requires { HoldsJust (H.shows seat) None }
+        // The new session has the given seat and nothing open. If an allocation fails, `new` hands
+        // the seat back.
         ensures made { MatchResult result (λ s. s ≡ record { seat = seat; opened = None }) (λ refused. refused.0 ≡ seat) }
+        // Suppose that the seat belongs to some drives, and that their stacks have no more drives
+        // than their hold record. Then these drives match the new session.
         ensures at { IfOk result (FitsItsDrives (kinds H.Holds S.Stacks S.Reel.Reel) seat) }
     {
         match Vec::from_elem(alloc, 0u8, RECORD_LIMIT) {
@@ -104,9 +108,57 @@ impl<H: Holds, S: Stacks> Session<H, S> {
     /// open is theirs. Its stacks must not have more drives than its holds.
     pub fn carry_out(&mut self, drives: &mut DriveTable<H, S>, request: Request<'_>) -> Reply<'_>
         requires { IsAt (kinds H.Holds S.Stacks S.Reel.Reel) (state drives.old self.old) }
+        // The session makes several checks of a request, and the first check that fails refuses the
+        // request. If no check fails, the request has its effect (field `effect`). If the content
+        // of stacks and reel is known, the request and its reply are one serve step (field `step`).
+        //
+        // The reply says what was done, with the numbers and texts of the protocol.
+        //
+        // A write accepts 1 to 262,144 bytes, as a reel does for a record (`tape::is_record`; field
+        // `effect`).
+        //
+        // The reply reports a device fault only if a device could fail before the request, and a
+        // failure was counted in the request (field `step`: `trouble`, `able`). A count that is
+        // already the greatest `u64` does not change. No request makes a device able to fail (field
+        // `quiet`).
+        //
+        // If a call of the reel, a latch or a move fails, the reply reports the failure, and the
+        // call is not repeated (field `effect`). A close counts no failure of the stacks.
+        //
+        // Operation 6 (MTOFFL) rewinds the reel and moves it to the bin (fields `effect` and
+        // `step`). The drive stays open and held. If the move is refused, the reel stays open, at
+        // its beginning.
+        //
+        // A session holds the drive that it has open, and no other (fields `at` and `steps`). After
+        // an open that succeeded, the seat's last step is a take of the opened drive, and this take
+        // found 0. After an open that found the drive busy, the seat's last step is a take that
+        // found a number above 0. An open makes one step, or two steps if the open first gave a
+        // drive back. A close of a drive makes one step, a give. Other requests make no step.
+        //
+        // If an open found a number above 0 at a drive, the last step of the session's seat is the
+        // take that found this number (field `step`: `taken`).
+        //
+        // Each seat with another number still belongs to the hold record (field `kept`). The
+        // numbers of drives in the hold record and in the stacks do not change. The count of the
+        // stacks' failures never falls. Suppose that a drive is open in the session neither before
+        // nor after the request. Then a reel that is latched at this drive stays latched.
+        //
+        // No request assigns a number to a seat (field `same_seats`), and the seat keeps its number
+        // (field `kept`: `number`). A session calls only `take`, `give` and `holder` of its hold
+        // record. So the edits refused here are in `LocalHolds`: its wrong bodies assign a number.
+        //
+        // Each kind of reel or stacks can make further promises for its calls (`makes`). A request
+        // keeps these promises in each of its calls of the reel or the stacks (field `effect`:
+        // `made`). For example, if stacks are in memory and a trouble is set, the next latch or
+        // move fails and clears the trouble.
+        //
+        // A close rewinds the open reel once, makes no other call of it, and lays it back (field
+        // `effect`: `IsClosed`, `laid`). If no reel is online, a close leaves the stacks unchanged.
         ensures* rests { sem 𝓛 (LendsReply H.row S.row H.Seat.row S.Reel.row H.Holds S.Stacks S.Reel.Reel self.entry
             drives.old drives.new request.entry result) }
+        // If the request has a spelling, the reply has a spelling.
         ensures spelling { IsSayable (plain_request request.entry) → ReplyHasSpelling (plain_reply result) }
+        // If the request has a spelling, its reply fits into a `ReplyReader`.
         ensures short { IsSayable (plain_request request.entry) → length (reply_text (plain_reply result)) ≤ READER_LIMIT }
     {
         let outcome = dispatch(
@@ -129,6 +181,8 @@ impl<H: Holds, S: Stacks> Session<H, S> {
     /// `drives` must match this session, as for `carry_out`.
     pub fn end(&mut self, drives: &mut DriveTable<H, S>)
         requires { IsAt (kinds H.Holds S.Stacks S.Reel.Reel) (state drives.old self.old) }
+        // `end` closes what is open and frees the drive, as a close does. `end` assigns no number
+        // to a seat (field `same_seats`), and the seat keeps its number (field `number`).
         ensures { IsClosed (kinds H.Holds S.Stacks S.Reel.Reel) (state drives.old self.old) (state drives.new self.new) }
     {
         opening::close(drives, &mut self.session_state);
@@ -138,6 +192,8 @@ impl<H: Holds, S: Stacks> Session<H, S> {
     /// it.
     pub fn into_seat(self) -> H::Seat
         requires { self.opened ≡ None }
+        // `into_seat` returns the seat of a session that has nothing open. `into_seat` does not
+        // change the seat. You cannot call `into_seat` for a session that may have something open.
         ensures { result ≡ self.seat }
     {
         self.session_state.seat
@@ -146,6 +202,8 @@ impl<H: Holds, S: Stacks> Session<H, S> {
     /// Returns the drive's number and the reel of the open device, or `None` if nothing is open or
     /// the reel is in the bin.
     pub fn reel(&self) -> Option<(usize, &S::Reel)>
+        // `reel` lends the open reel, and returns the number of its drive. If nothing is open or
+        // the reel is in the bin, `reel` returns `None`.
         ensures { MatchOption result (online_drive self.now.opened ≡ None) (λ told. IsOnline self.now.opened told.0 told.1.now) }
     {
         let device = self.session_state.opened.as_ref()?;

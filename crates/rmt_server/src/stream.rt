@@ -34,6 +34,8 @@ pub enum ServeFault {
 }
 
 impl From<OutputFault> for ServeFault {
+    // from_gives: A failed output becomes `Output`.
+
     ghost use Rattle.std.specs.Prelude.{◌≡◌};
     ghost use Rattle.rmt_server.specs.declared.stream.ServeFault.TheVariants.{Output};
 
@@ -122,10 +124,29 @@ pub fn serve<R: Read, W: Write, H: Holds, S: Stacks>(
     requires at { IsAt (kinds H.Holds S.Stacks S.Reel.Reel) (state drives.old session.old) }
     // the reader holds no unread bytes
     requires empty { Unread wire.old [] }
+    // The output consists of the replies to the requests that were read, joined in order, and
+    // nothing else. The requests were carried out one after the other. Each reply has a spelling.
+    //
+    // If a write failed, a beginning of the last reply was written, and no further request was
+    // carried out.
+    //
+    // `serve` ends if the input ends, between two requests or inside a request. `serve` also ends
+    // at bytes that are no request, and at a failed read or write. The result of `serve` says in
+    // which of these ways it ended.
+    //
+    // If the content of stacks and reel is known, the requests and replies are a run of serve steps
+    // (field `steps`). In this run a device fails only if a device could fail at the start. In this
+    // run a drive is busy only if another seat may hold a drive.
+    //
+    // `serve` assigns no number to a seat (field `same_seats`), and the session's seat keeps its
+    // number (field `number`).
+    //
+    // However the stream ends, `serve` closes what was open.
     ensures served { ServesAs (kinds H.Holds S.Stacks S.Reel.Reel) R.Read W.Write result
         (serving input.old output.old drives.old session.old) (serving input.new output.new drives.new session.new) }
-    // if it returns `Ok`, no read and no write failed
+    // If `serve` reports no failure, no read and no write failed.
     ensures steady { OnOk result (NoneFailed (streams input.old output.old) (streams input.new output.new)) }
+    // However the stream ends, `serve` closes what was open.
     ensures nothing { session.new.opened ≡ None }
 {
     let ending = converse(input, output, wire, session, drives);

@@ -1,6 +1,11 @@
 //! Most of the public items of the crates below, under one name: the parts of `rmtd`, `rdump` and
 //! `rsim`. Its `dump`, `read_volume`, `mt`, `dates` and `schedule` return the number of their exit
 //! status. It adds a peer in memory, which tests use in place of a connection.
+//!
+//! # Contracts
+//!
+//! This crate exports the names that other crates define for the programs. `MemoryPeer` is a peer
+//! whose server and drives are in memory.
 #![tactic(auto)]
 
 mod exit_codes;

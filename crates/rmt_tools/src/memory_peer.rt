@@ -52,7 +52,10 @@ impl MemoryPeer {
     /// Returns None if an allocation fails, or if no number is left for a session.
     pub fn new(alloc: Global, drives: DriveTable<LocalHolds, ListStacks>) -> Option<MemoryPeer>
         requires { length drives.stacks.library.drives ≤ length drives.holds.numbers }
+        // The log of a new peer is empty.
         ensures tells { IfSome result (λ p. IsLogOf p.log []) }
+        // Returns a peer with the given reels and holders, and with a session that has nothing
+        // open.
         ensures made { IfSome result (λ p. IsMadeOf drives p) }
     {
         let far = FarEnd::new(alloc, drives)?;
@@ -66,6 +69,7 @@ impl MemoryPeer {
 
     /// Returns the reels. For a reel that a session has open, only its name is there.
     pub fn stacks(&self) -> &ListStacks
+        // Returns the reels of the peer. No other body has its type.
         ensures { result.now ≡ self.now.drives.stacks }
     {
         &self.far.drives.stacks
@@ -73,6 +77,8 @@ impl MemoryPeer {
 
     /// Ends the session and returns the drives. Another peer can be made with them.
     pub fn into_drives(self) -> DriveTable<LocalHolds, ListStacks>
+        // Closes what the session had open, and returns the drives of the peer. There are at most
+        // as many drives as the table of holders has entries.
         ensures apart { IsTakenApart self result }
         ensures enough { length result.stacks.library.drives ≤ length result.holds.numbers }
     {
@@ -123,6 +129,15 @@ fn take_front(bytes: &mut Vec<u8>, into: &mut [u8]) -> usize
 }
 
 impl Peer for MemoryPeer {
+    // connect, told, send, receive, hang_up, log: The log has each connection that was made, the
+    // bytes that were sent, and the bytes that were received. The log also has each end of a
+    // connection that a call noticed. No clause says which call notices an end.
+    //
+    // connect, fresh, cleared: After a connect, the session has nothing open. What the earlier
+    // session had open is closed.
+    //
+    // hang_up, closed: Closes what the session has open.
+
     ghost use Rattle.rmt_tools.specs.Telling.{IsLogOf};
 
     ghost tells = { λ p. IsLogOf p.log };

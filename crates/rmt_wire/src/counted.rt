@@ -36,6 +36,8 @@ impl<T> Model for Counted<T> {
 impl<T> Counted<T> {
     /// Wraps `inner`, with a count of 0 failures and `u64::MAX` reads left.
     pub fn new(inner: T) -> Self
+        // The new `Counted` wraps the given stream and has counted no failure. Its number of reads
+        // left is the greatest `u64`.
         ensures inner { result.inner ≡ inner }
         ensures failures { result.failures ≡ 0 }
         ensures left { result.left ≡ u64.MAX }
@@ -50,6 +52,7 @@ impl<T> Counted<T> {
     /// Returns how many reads and writes failed, or accepted none of some bytes. The count stays at
     /// `u64::MAX`.
     pub fn failures(&self) -> u64
+        // `failures` returns the count of failures.
         ensures { result ≡ self.now.failures }
     {
         self.failures
@@ -57,6 +60,7 @@ impl<T> Counted<T> {
 
     /// The reader or writer itself.
     pub fn into_inner(self) -> T
+        // `into_inner` returns the wrapped stream. No other body has its type.
         ensures { result ≡ self.inner }
     {
         self.inner
@@ -64,6 +68,23 @@ impl<T> Counted<T> {
 }
 
 impl<R: Read> Read for Counted<R> {
+    // bound, bytes: A read returns the next bytes of the stream, and no more than fit into the
+    // buffer. If at least one byte fits, a read returns 0 bytes only at the end of the stream. A
+    // failed read takes no bytes from the stream.
+    //
+    // failures: A read counts a failure if and only if it failed.
+    //
+    // lowered: Each read lowers the number of reads left by one, but not below 0.
+    //
+    // left, spent: If no reads are left, a read fails and leaves the stream untouched.
+    //
+    // While reads are left, each read calls the wrapped stream once, asks the stream for as many
+    // bytes as fit, and returns the result of that call. No clause says this, because the contracts
+    // of the standard library's streams do not say how often a stream was called. The test
+    // `failed_reads_are_counted` of `rmt_wire_tests` wraps a stream that counts its calls. The test
+    // refuses a body that reports a failure without a call, makes a second call, or reads one byte
+    // where more fit.
+
     ghost remaining = { λ c. R.remaining c.inner };
 
     fn read(&mut self, buf: &mut [u8]) -> io::Result<usize>
@@ -89,6 +110,25 @@ impl<R: Read> Read for Counted<R> {
 }
 
 impl<W: Write> Write for Counted<W> {
+    // bound, bytes: A write appends the first bytes of those given, and returns how many it
+    // appended. A failed write appends nothing.
+    //
+    // failed, took_none, took_some: A write counts a failure if it failed, or if it was given bytes
+    // and accepted none. A write that accepted at least one byte counts no failure.
+    //
+    // nothing_to_take: A write that was given no bytes and succeeded counts no failure.
+    //
+    // left: A write and a flush do not change the number of reads left.
+    //
+    // bytes, failures: A flush appends no bytes and counts no failure.
+    //
+    // A write or a flush is passed on to the wrapped stream once, and a write is passed on whole.
+    // No clause says this, because no contract says how often a stream was called. Three tests of
+    // `rmt_wire_tests` wrap a stream that counts its calls. These tests are `numbers`,
+    // `data_of_few_bytes` and `nothing_is_written_after_a_failed_write`. The tests refuse a body
+    // that reports a failure without a call, writes one byte of many, or makes a call after a
+    // failed call. The tests also refuse a body that does not pass a flush on.
+
     ghost contents = { λ c. W.contents c.inner };
 
     fn write(&mut self, buf: &[u8]) -> io::Result<usize>

@@ -4,6 +4,8 @@ ghost use Rattle.std.specs.Prelude.{◌≡◌, ◌==◌, ◌<◌, length, positi
 /// Returns the index of the first byte in a slice that equals `byte`. Returns None if there is
 /// none.
 pub fn find_byte(bytes: &[u8], byte: u8) -> Option<usize>
+    // `find_byte` returns the index of the first byte in the slice that equals `byte`. If no byte
+    // equals it, `find_byte` returns `None`.
     ensures place { result ≡ position (λ b. b == byte) bytes.now }
     ensures within { IfSome result (λ at. at < length bytes.now) }
 {

@@ -18,10 +18,13 @@ use crate::limits::{READER_LIMIT, RECORD_LIMIT};
 ///
 /// The function does nothing: its contract is a law of the definitions.
 pub fn one_reading()
+    // A stream of bytes divides into requests and a rest in exactly one way. The rest either is a
+    // beginning of a request or has a fault: a byte that rules out every request.
     ensures parts { (bytes rest other : List ℕ) (requests others : List PlainRequest) →
         Parts bytes requests rest → Parts bytes others other → (requests ≡ others) × (rest ≡ other) }
     ensures some_parts { (bytes : List ℕ) → (requests : List PlainRequest) × (rest : List ℕ) × Parts bytes requests rest
         × (IsRequestPrefix rest ⊎ ((fault : WireFault) × HasFault rest fault)) }
+    // The bytes alone decide which requests a reader returns and which bytes the reader leaves.
     ensures answers { (bytes rest other : List ℕ) (answer another : Result (Option PlainRequest) WireFault) →
         ParsesAs bytes answer rest → ParsesAs bytes another other → (answer ≡ another) × (rest ≡ other) }
 {}
@@ -32,6 +35,9 @@ pub fn one_reading()
 ///
 /// The function does nothing: its contract is a law of the definitions.
 pub fn dropped_writes()
+    // A write is too long to keep if and only if its bytes begin with `W`, a number above 262,144
+    // and a line feed. The function `dropped_line` finds exactly these writes. `dropped_line`
+    // returns the length of the line that begins the write, and the number in that line.
     ensures { (bytes : List ℕ) (len count : ℕ) → (dropped_line bytes ≡ Some (len, count)) ↔ IsDroppedLine bytes len count }
 {}
 
@@ -40,6 +46,9 @@ pub fn dropped_writes()
 ///
 /// The function does nothing: its contract is a law of the definitions.
 pub fn one_reply()
+    // A client waits for one kind of reply, and this law is about the replies of one kind. No
+    // spelling of one of these replies is the beginning of a longer spelling. Each spelling spells
+    // only one of these replies.
     ensures { (wanted : Wanted) (text more : List ℕ) (reply other : PlainReply) →
         SpellsReply text reply wanted → SpellsReply (text ++ more) other wanted → (more ≡ []) × (reply ≡ other) }
 {}
@@ -49,6 +58,8 @@ pub fn one_reply()
 ///
 /// The function does nothing: its contract is a law of the definitions.
 pub fn one_reply_reading()
+    // The bytes that come after a reader began to wait for a reply decide the reader's result.
+    // Exactly one result is possible.
     ensures answers { (wanted : Option Wanted) (bytes : List ℕ) → ReplyIsDecided wanted bytes }
     ensures some_answer { (wanted : Option Wanted) (bytes : List ℕ) →
         (answer : Result (Option PlainReply) WireFault) × (rest : List ℕ) × ReplyParsesAs wanted bytes answer rest }
@@ -59,8 +70,11 @@ pub fn one_reply_reading()
 ///
 /// The function does nothing: its contract is a law of the definitions.
 pub fn short_replies()
+    // If a reply has a spelling and at most 262,144 bytes of data, the reply takes at most 262,156
+    // bytes. So the reply fits into a reader.
     ensures short { (reply : PlainReply) →
         ReplyHasSpelling reply → data_length reply ≤ RECORD_LIMIT → length (reply_text reply) ≤ READER_LIMIT }
+    // A reply to a client that waits for at most 262,144 bytes has at most 262,144 bytes of data.
     ensures answers { (reply : PlainReply) (wanted : Wanted) →
         AnswersTo reply wanted → IsWithin wanted → data_length reply ≤ RECORD_LIMIT }
 {}
@@ -70,10 +84,13 @@ pub fn short_replies()
 ///
 /// The function does nothing: its contract is a law of the definitions.
 pub fn long_texts()
+    // An error reply has a text. A reader drops the bytes of this text after the first 255, and
+    // keeps every other byte of the reply.
     ensures begun { (bytes number line : List ℕ) → IsErrorText bytes number line → HasNoLineFeed line →
         kept_of bytes ≡ error_bytes number (take 255 line) }
     ensures whole { (bytes number line rest : List ℕ) → IsErrorText bytes number (line ++ line_feed ∷ rest) → HasNoLineFeed line →
         kept_of bytes ≡ error_bytes number (take 255 line ++ line_feed ∷ rest) }
+    // If the bytes do not begin an error reply, a reader keeps all of them.
     ensures others { (bytes : List ℕ) → ((number text : List ℕ) → IsErrorText bytes number text → ⊥) →
         kept_of bytes ≡ bytes }
 {}

@@ -11,6 +11,13 @@
 //!
 //! Numbers that more than one crate uses are defined here: the limits, and the modules `mtio`,
 //! `fcntl` and `errno`.
+//!
+//! # Contracts
+//!
+//! Docs/PROTOCOL.md says which bytes stand for a request or a reply. These bytes *spell* the
+//! request or reply. A reader keeps bytes that came from a stream. A kept byte is *unread* until
+//! `next` has returned the request or reply that contains the byte. A `Counted` is a stream that
+//! counts its failures and limits the number of its reads.
 #![tactic(auto)]
 
 mod append;

@@ -8,6 +8,8 @@ use std::io::Write;
 /// accepts no byte, it returns false: a beginning of the text was printed, and the failure is
 /// counted.
 pub fn print_text<W: Write>(out: &mut Counted<W>, text: &[u8]) -> bool
+    // If `print_text` returns true, it printed the whole text and no write failed. If `print_text`
+    // returns false, it printed a beginning of the text and counted the failure.
     ensures { IsPrinted W.contents text.now out.old out.new result }
 {
     let mut at = 0;

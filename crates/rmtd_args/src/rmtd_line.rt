@@ -60,7 +60,19 @@ pub fn server_words<'a>(
     alloc: Global,
     arguments: &'a [&'a str],
 ) -> Result<ServerLine<'a>, LineFault>
+    // If the call returns a line of arguments, clap (the parser of arguments) accepts the
+    // arguments, and the line has the values that clap matched. The flag and the texts are as
+    // given. The numbers are the values of their digits, at most 9223372036854775807. If no
+    // capacity is given, the capacity is 1,048,576. Exactly one of `--stdio` and `--listen` was
+    // given.
+    //
+    // The drives of the line are the arguments that are not options, in order, each split at its
+    // first `=`. Each drive has a device of 1 to 255 bytes without a line feed, and a folder that
+    // is not empty (`KeepsDriveRules`). No two drives have the same device. There are at most 64
+    // drives. If there is a drive, `--bin` was given.
     ensures line { IfOk result (IsLineOf (map (λ s. s.now) arguments.entry.now)) }
+    // The call returns that the arguments are bad in two cases only. Either clap refuses them, or
+    // the values that clap matched break a rule of the clause `line`.
     ensures refused { IsErrOf result LineFault.BadWords → AreBadArguments (map (λ s. s.now) arguments.entry.now) }
 {
     match server_line(alloc, arguments) {
@@ -76,9 +88,17 @@ pub fn server_words<'a>(
 /// The error's kind is `OutOfMemory` if an allocation failed. If clap refuses the arguments, the
 /// kind is one with which clap refuses them.
 pub fn server_line<'a>(alloc: Global, arguments: &'a [&'a str]) -> Result<ServerLine<'a>, Error>
+    // Returns the line that `server_words` promises.
     ensures line { IfOk result (IsLineOf (map (λ s. s.now) arguments.entry.now)) }
+    // The call returns an error other than out of memory in two cases only. Either clap refuses the
+    // arguments, or the values that clap matched break a rule of `server_words`. No clause says
+    // what an error prints.
     ensures refused { IfErr result (λ e. ¬ (kind_of e ≡ ErrorKind.OutOfMemory) → AreBadArguments (map (λ s. s.now) arguments.entry.now)) }
+    // The call returns clap's help or version as an error only if clap answers these arguments with
+    // it.
     ensures shown { IfErr result (λ e. IsShown (kind_of e) → AskToBeShown (map (λ s. s.now) arguments.entry.now)) }
+    // Suppose that clap refuses the arguments, or answers them with its help or version. Then the
+    // error has a kind that clap gives for these arguments, or is out of memory.
     ensures kinds { IfErr result (λ e. ¬ (faults_in (map (λ s. s.now) arguments.entry.now) ≡ [])
         → HasKind (faults_in (map (λ s. s.now) arguments.entry.now)) e) }
 {

@@ -13,6 +13,9 @@ use hold_table::{HoldSeat, HoldTable, SEAT_LIMIT};
 /// back.
 pub fn close_table(table: HoldTable, seats: Vec<HoldSeat>) -> [u64; DRIVE_LIMIT]
     requires seats { All (λ s. IsSeatAt table s × HoldsJust s.view None) seats.items }
+    // If all 32 seats are passed to `close_table`, every word of the table is 0. If only some seats
+    // are passed, no word is the number of a passed seat. `main` of `rmtd` calls `close_table` with
+    // the seats that `serve_many` returned.
     ensures free { length seats.items ≡ SEAT_LIMIT → (drive : ℕ) → slice_index result drive ≡ 0 }
     ensures back { All (λ s. (drive : ℕ) → slice_index result drive ≢ s.view.number) seats.items }
 {

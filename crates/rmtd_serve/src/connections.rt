@@ -71,7 +71,10 @@ impl<'a, C: Clock, L: Log + Drop> Connections<'a, C, L> {
     /// `clock` measures the pause after a failed accept. At most `left` connections come. `log`
     /// gets the log lines.
     pub fn new(clock: &'a C, listener: &'a TcpListener, left: u64, log: L) -> Self
+        // The number of connections that may still come is the number given to `new`.
         ensures left { result.left ≡ left }
+        // The number of accepts that may fail is the greatest `u64`. The listener is not marked as
+        // broken.
         ensures tries { result.tries ≡ 18446744073709551615 }
         ensures whole { result.broken ≡ None }
     {
@@ -90,6 +93,7 @@ impl<'a, C: Clock, L: Log + Drop> Connections<'a, C, L> {
     /// Returns the exit status of a server that served them: `Ended` if as many came as `new` was
     /// given, else `Failed`.
     pub fn status(&self) -> ExitStatus
+        // `status` returns `Ended` if all connections have come, and otherwise `Failed`.
         ensures { result ≡ if self.now.left == 0 then Ended else Failed }
     {
         if self.left == 0 {
@@ -193,6 +197,12 @@ impl<'a, C: Clock, L: Log + Drop> Connections<'a, C, L> {
 }
 
 impl<C: Clock, L: Log + Drop> Incoming for Connections<'_, C, L> {
+    // is_over: The connections of a listener are over if all have come, or if the listener can
+    // never accept again. The connections are also over if the number of failed accepts has reached
+    // the greatest `u64`. A listener can never accept again after one of five errors of accept(2):
+    // EBADF, EFAULT, EINVAL, ENOTSOCK and EOPNOTSUPP. An accept that failed with another error does
+    // not count as a connection.
+
     type In = TcpStream;
 
     type Out = TcpStream;

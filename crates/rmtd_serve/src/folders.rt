@@ -25,6 +25,8 @@ pub fn folder_stacks<R: FolderSystem>(
 ) -> Result<FolderStacks<R, NoLog>, AllocError>
     requires some { 1 ≤ length arguments.now }
     requires few { length arguments.now ≤ DRIVE_LIMIT }
+    // The stacks in folders have the drives that the arguments name, in order. The stacks have the
+    // folders of the arguments, the bin's folder and the given capacity.
     ensures named { IfOk result (λ s. s ≡ stacks_of arguments.now bin.now capacity) }
     ensures count { IfOk result (λ s. length s.rows ≡ length arguments.now) }
 {
@@ -81,8 +83,12 @@ pub fn seat_stacks<R: FolderSystem + Eprint>(
 ) -> Result<Vec<FolderStacks<R, ErrorLog<R>>>, AllocError>
     requires some { 1 ≤ length arguments.now }
     requires few { length arguments.now ≤ DRIVE_LIMIT }
+    // `seat_stacks` returns 32 stacks, one for each seat of a table.
     ensures count { IfOk result (λ all. length all.items ≡ SEAT_LIMIT) }
+    // Each of the stacks has as many drives as the arguments name.
     ensures drives { IfOk result (λ all. All (λ s. length s.rows ≡ length arguments.now) all.items) }
+    // Each of the stacks is as `folder_stacks` makes it, so a drive has the same number and the
+    // same folder at every seat.
     ensures named { IfOk result (λ all. All (λ s. s ≡ stacks_of arguments.now bin.now capacity) all.items) }
 {
     let mut all = Vec::with_capacity(rt.alloc(), SEAT_LIMIT)?;

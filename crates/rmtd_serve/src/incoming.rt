@@ -28,6 +28,7 @@ pub trait Incoming {
 
     /// Returns the next pair, or None after the last one. It may wait for one, as a read may.
     fn next(&mut self) -> Option<(Self::In, Self::Out)>
+        // `next` returns `None` only if the last pair of streams was returned.
         ensures { result ≡ None → is_over self.new };
 
     /// Returns the number that a log has for the last pair returned. No contract speaks of it.

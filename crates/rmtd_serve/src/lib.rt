@@ -1,6 +1,15 @@
 //! The server `rmtd`: it reads its arguments, and serves streams with a drive in memory or with
 //! drives in folders. It serves one stream after the other, or up to 32 in parallel, each in a
 //! thread of its own.
+//!
+//! # Contracts
+//!
+//! The server has one drive in memory, or drives in folders. The server serves one stream after the
+//! other, or up to 32 streams in parallel. `rmt_tools` exports the names of this crate too.
+//!
+//! A worker has a seat and stacks. The invariant of `Worker` says that the seat holds no drive and
+//! belongs to a table, and that the stacks have no more drives than this table. The invariant holds
+//! when a thread takes a worker, and when the thread puts the worker back.
 #![tactic(auto)]
 
 mod at;

@@ -21,7 +21,14 @@ pub fn serve_connections<'a, C: Clock, L: Log + Drop>(
     server: &mut MemoryServer,
     connections: Connections<'a, C, L>,
 ) -> Connections<'a, C, L>
+    // Each served connection finds the reels as the previous connection left them. The requests of
+    // each connection and their replies are a run of serve steps. No clause is about the bytes of a
+    // connection.
     ensures turns { ServedInTurn server.old server.new }
+    // `serve_connections` ends in three cases: all connections have come (`left`), the listener can
+    // never accept again (`broken`), or no more accepts may fail (`tries`). Only an accept changes
+    // `left`, `broken` and `tries`, and a failed accept lowers `tries` by one. Private clauses say
+    // this about accepts, and `thread_tests` tests it.
     ensures over { AreOver result.left result.tries result.broken }
 {
     let mut connections = connections;

@@ -45,6 +45,7 @@ impl MemoryServer {
     /// Makes the drive, with one empty reel `reel` of `capacity` bytes. Fails only if an allocation
     /// fails.
     pub fn new(alloc: Global, capacity: u64) -> Result<MemoryServer, AllocError>
+        // The new server has one drive with one empty reel of the given capacity, and an empty bin.
         ensures { IfOk result (λ s. s ≡ (blank_session_view capacity).library) }
     {
         let stacks = one_reel(alloc, capacity)?;
@@ -63,6 +64,14 @@ impl MemoryServer {
         input: &mut Counted<R>,
         output: &mut Counted<W>,
     ) -> Result<Served, SessionFault>
+        // Each stream finds the reels as the previous stream left them. The requests read and their
+        // replies are a run of serve steps (what the protocol allows a request to do). In this run
+        // no device fails, and no drive is held by another seat. At the end of the stream, the
+        // server closes what is open.
+        //
+        // If `serve` returns `Ok`, no read or write failed. If `serve` returns `Stream`, the error
+        // names a stream, and that stream failed. If `serve` returns `OutOfMemory` or `NoSeat`,
+        // neither stream was touched.
         ensures { IsServedNext (streams_kind R.remaining W.contents) self.old self.new
             (streams input.old output.old) (streams input.new output.new) result }
     {

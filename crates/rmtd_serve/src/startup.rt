@@ -76,8 +76,11 @@ pub fn start<R: ServerSystem, I: Read, O: Write>(
     input: &mut Counted<I>,
     output: &mut Counted<O>,
 ) -> io::Result<Begun<R>>
+    // `start` does for some arguments what `begin` promises, or `start` returns `Failed` and
+    // touches neither stream. No clause says that these are the arguments of the program.
     ensures started { IfOk result (IsStarted (streams_kind I.remaining O.contents)
         (streams input.old output.old) (streams input.new output.new)) }
+    // If `start` returns an error, neither stream was touched.
     ensures failed { OnErr result (AreUntouched (streams input.old output.old) (streams input.new output.new)) }
 {
     match run_process(rt, input, output) {
@@ -162,9 +165,28 @@ pub fn begin<R: ServerSystem, I: Read, O: Write>(
     input: &mut Counted<I>,
     output: &mut Counted<O>,
 ) -> io::Result<Begun<R>>
+    // If the arguments ask for standard input and output with a drive in memory, `begin` serves
+    // these streams as `run_stdio` promises. `begin` returns the status that `run_stdio` promises.
+    //
+    // If the arguments ask for standard input and output with drives in folders, `begin` serves
+    // these streams. `begin` answers each request that it read, once and in order, up to the end.
+    // `begin` returns the status of that end (`ExitStatus::of`). No clause says which replies
+    // `begin` writes.
+    //
+    // If the arguments ask for `--listen` with a drive in memory, `begin` returns `Ended` or
+    // `Failed`, and neither stream is touched. No clause says that connections were served.
+    //
+    // If the arguments ask for `--listen` with drives in folders, `begin` returns the setup of the
+    // listener. The setup has the drives and the number of connections that the arguments name.
+    // Neither stream is touched.
+    //
+    // If the server cannot start, or the arguments are wrong, `begin` returns `Failed`. If the
+    // argument parser (clap) prints the help or the version, `begin` returns `Ended`. In each of
+    // these three cases neither stream is touched.
     ensures begun { IfOk result
         (IsBegun (streams_kind I.remaining O.contents) (map (λ s. s.now) arguments.now)
         (streams input.old output.old) (streams input.new output.new)) }
+    // If `begin` returns an error, neither stream was touched.
     ensures failed { OnErr result (AreUntouched (streams input.old output.old) (streams input.new output.new)) }
 {
     reserve_std_fds(rt);

@@ -22,6 +22,9 @@ pub enum ExitStatus {
 impl ExitStatus {
     /// Returns the exit status of `rmtd --stdio` for this ending of the stream.
     pub fn of(ending: Result<Served, SessionFault>) -> ExitStatus
+        // The exit status is `Ended` if the stream ended between two requests, and `CutOff` if the
+        // stream ended inside a request. The exit status is `Malformed` if the bytes are no
+        // request, and `Failed` if a stream or the start failed.
         ensures { result ≡ exit_status ending }
     {
         match ending {
@@ -34,6 +37,7 @@ impl ExitStatus {
 
     /// Returns the number with which the program ends.
     pub fn code(self) -> u8
+        // `code` returns 0 for `Ended`, 1 for `Failed`, 2 for `CutOff` and 3 for `Malformed`.
         ensures { result ≡ exit_code self }
     {
         match self {

@@ -44,6 +44,8 @@ impl<S: Stacks + Drop> TapeServer<S> {
         requires some { 1 ≤ drives }
         requires few { drives ≤ DRIVE_LIMIT }
         requires enough { S.drives stacks ≤ drives }
+        // The new server has the given stacks, unchanged. The invariant of `TapeServer` says that
+        // at the start, and between two streams, no session holds a drive of the server.
         ensures { IfOk result (λ s. s ≡ stacks) }
     {
         let holds = LocalHolds::new(alloc, drives)?;
@@ -62,6 +64,15 @@ impl<S: Stacks + Drop> TapeServer<S> {
         input: &mut Counted<R>,
         output: &mut Counted<W>,
     ) -> Result<Served, SessionFault>
+        // Each stream has a session of its own, which has nothing open before and after. Every
+        // drive is free when the session begins. So if the stacks' content is known, no open finds
+        // a drive busy. `TapeServer::serve` keeps the promises of `rmt_server`'s `serve` for the
+        // stream. If the input or the output failed, `TapeServer::serve` returns `Stream` with the
+        // fault that `serve` returned.
+        //
+        // `TapeServer::serve` returns `OutOfMemory` if an allocation failed before the first
+        // request was read. `TapeServer::serve` returns `NoSeat` if no number was left for a
+        // session. In both cases nothing is touched.
         ensures { IsServedAt (kinds of_holds S.Stacks S.Reel.Reel) (streams_kind R.remaining W.contents) self.old self.new
             (streams input.old output.old) (streams input.new output.new) result }
     {

@@ -27,7 +27,12 @@ pub fn rsim<R: Files + Print + Eprint + AllocGlobal, W: Write>(
     arguments: &[String],
     out: &mut Counted<W>,
 ) -> io::Result<ExitStatus>
+    // No clause says which argument names the schedule's file, or what the file contains. If the
+    // call runs a schedule, it returns the status that `schedule` returns, and keeps the promises
+    // of `schedule`. If the call runs no schedule, it prints nothing on `out`, and the status is
+    // `Success` or `StartupError`.
     ensures ended { IfOk result (λ status. IsRsim W.contents out.old status out.new) }
+    // If the call fails, it prints nothing on `out`.
     ensures failed { OnErr result (out.new ≡ out.old) }
 {
     let mut lent = Vec::new(rt.alloc());

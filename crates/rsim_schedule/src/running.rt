@@ -28,6 +28,23 @@ use tape_world::World;
 /// Returns the exit status of `rsim`: `Success` if all lines were run, `StartupError` if a line is
 /// faulty, and `Abnormal` if an allocation or a write failed.
 pub fn schedule<W: Write>(alloc: Global, text: &[u8], out: &mut Counted<W>) -> ExitStatus
+    // The call has three outcomes. In the first outcome, all events are made. The call prints one
+    // line for each attempt that failed, then the report of the resulting world, and returns
+    // `Success`. Some list of events, in a world of good drives, leads to exactly these lines and
+    // this report. The report lists the reels with the lengths of their entries, the stacks, the
+    // bin, the counts, and dumpdates.
+    //
+    // In the second outcome, the schedule ends early. The call first prints one line for each
+    // attempt that failed. Some list of events leads to exactly these lines. The call then prints
+    // the number of the line at which the schedule ended, and the reason. The status is
+    // `StartupError` for a bad line or an event that is not possible. The status is `Abnormal` if
+    // an allocation fails.
+    //
+    // The private call that prints why a schedule ended prints different words for each reason.
+    //
+    // In the third outcome, a write of the output fails. The call then prints nothing more. What it
+    // has printed so far is a beginning of what it would print in the first or the second outcome.
+    // The status is `Abnormal`.
     ensures { IsScheduled W.contents out.old result out.new }
 {
     let mut lines = ScheduleLines::new(text);

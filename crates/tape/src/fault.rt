@@ -37,6 +37,8 @@ pub enum TapeFault {
 }
 
 impl From<AllocError> for TapeFault {
+    // from_gives: A failed allocation becomes `OutOfMemory`. A failed medium becomes `Device`.
+
     ghost use Rattle.std.specs.Prelude.{◌≡◌};
     ghost use Rattle.tape.specs.declared.fault.TapeFault.TheVariants.{OutOfMemory};
 

@@ -44,6 +44,7 @@ impl<M: Medium> Model for FileReel<M> {
 impl<M: Medium> FileReel<M> {
     /// Returns the medium that the reel is on.
     pub fn medium(&self) -> &M
+        // `medium` lends the reel's medium. No other body has its type.
         ensures { result.now ≡ self.now.medium }
     {
         &self.medium
@@ -51,6 +52,7 @@ impl<M: Medium> FileReel<M> {
 
     /// Returns the medium as it is, so that it can be opened again. Makes no call of the medium.
     pub fn into_medium(self) -> M
+        // `into_medium` returns the medium unchanged, so that it can be opened again.
         ensures { result ≡ self.medium }
     {
         let FileReel { medium, .. } = self;
@@ -63,6 +65,8 @@ impl<M: Medium> FileReel<M> {
     /// Ignores bytes after the last whole entry; the next write cuts them off. Entries beyond the
     /// capacity can be read like others.
     pub fn open(medium: M, capacity: u64) -> FileReel<M>
+        // The opened reel has the entries that the medium's bytes spell, and stands at their
+        // beginning. The reel has the given medium and capacity.
         ensures told { (bytes : List ℕ) (entries : List PlainEntry) →
             M.holds medium bytes → SpellsReel bytes entries → HoldsTape M.holds result (tape [] entries) }
         ensures medium { result.medium ≡ medium }
@@ -190,6 +194,16 @@ impl FileReel<MemoryMedium> {
 }
 
 impl<M: Medium> Reel for FileReel<M> {
+    // write, read, op, rewind: If the medium's bytes are known, each call is a step of the tape
+    // that these bytes spell. No call allocates.
+    //
+    // failures: Each call keeps the promises of every reel, even if the medium's bytes are not
+    // known. The reel's count of failures is that of its medium.
+    //
+    // makes: A call fails with `Device` only if the medium can fail, or has too little room for the
+    // bytes to be written (`IsFileCall`). No call makes the medium able to fail. Only written bytes
+    // use up room.
+
     ghost holds = { HoldsTape M.holds };
 
     ghost capacity = { λ r. r.capacity };

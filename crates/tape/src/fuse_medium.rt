@@ -46,6 +46,9 @@ impl<M: Medium> FuseMedium<M> {
     /// If `once`, no later call is made to fail; else each later call fails too. An append that is
     /// due to fail adds its first `left` bytes.
     pub fn new(inner: M, at: u64, left: usize, once: bool) -> FuseMedium<M>
+        // The new medium wraps another medium. The arguments of `new` say which call is to fail
+        // (its number), and whether the calls after it succeed. Another argument says how many of
+        // its bytes an append leaves in the inner medium when `new` makes it fail.
         ensures { result ≡ record { inner = inner; to_go = Some at; left = left; once = once; failures = 0 } }
     {
         FuseMedium {
@@ -59,6 +62,7 @@ impl<M: Medium> FuseMedium<M> {
 
     /// Returns the inner medium as it is, so that it can be opened again. Makes no call of it.
     pub fn into_inner(self) -> M
+        // `into_inner` returns the inner medium unchanged, so that it can be opened again.
         ensures { result ≡ self.inner }
     {
         let FuseMedium { inner, .. } = self;
@@ -101,6 +105,35 @@ impl<M: Medium> FuseMedium<M> {
 }
 
 impl<M: Medium> Medium for FuseMedium<M> {
+    // counted: The medium counts its calls, and an append with a frame is one call. The call whose
+    // number was given to `new` is *due to fail*. An argument of `new` says whether all later calls
+    // are due to fail too, or none of them.
+    //
+    // stopped: A call that is due to fail does fail.
+    //
+    // passed: A call that is not due to fail can still fail. It fails only if the inner medium can
+    // fail or has less room than the call adds.
+    //
+    // append, append_framed, left: An append that is due to fail, with a frame or without, adds
+    // only its first bytes. The number of bytes that `new` was given is the most that the append
+    // adds. If the inner medium cannot fail and has room, the append adds exactly this number of
+    // bytes, or all of its bytes if it has fewer.
+    //
+    // cut, kept, made: If a cut is due to fail, the number of bytes that `new` was given decides
+    // what the cut does. If the number is 0, the cut changes nothing. If the number is at least 1
+    // and the inner medium cannot fail, the cut is made in the inner medium.
+    //
+    // len, read_at, kept, buffer: If `len` or `read_at` is due to fail, it makes no call of the
+    // inner medium and leaves the buffer unchanged.
+    //
+    // failures: Each call that fails is counted once, and no other call is counted.
+    //
+    // unfailed: A call that is not due to fail makes calls of the inner medium. It succeeds only if
+    // none of these inner calls failed. So a failed inner call is not repeated.
+    //
+    // call, same: Each call keeps the promises of every medium. The bytes of a `FuseMedium` are
+    // those of the inner medium, if they are known.
+
     ghost holds = { λ f bytes. M.holds f.inner bytes };
 
     ghost failures = { λ f. f.failures };

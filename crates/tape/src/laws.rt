@@ -19,9 +19,12 @@ use rmt_wire::RECORD_LIMIT;
 ///
 /// It does nothing: its contract is a law of the definitions.
 pub fn device_steps()
+    // Whatever trouble is set for a device, every step of the device is a step of its tape.
     ensures step { (capacity : ℕ) (trouble : Trouble) → AreTapeSteps capacity (DeviceStep capacity trouble) }
+    // If no trouble is set, no step fails with `Device`.
     ensures untroubled { (capacity : ℕ) (t : Tape) (request : TapeRequest) (answer : TapeAnswer) (u : Tape) →
         DeviceStep capacity None t request answer u → answer ≢ Fault Device }
+    // Each call of a `TroubledReel` keeps the promises of every reel.
     ensures call { (old new : TroubledTape) (request : TapeRequest) (answer : TapeAnswer) →
         TroubledStep old new request answer → IsTroubledCall old new request answer }
 {}
@@ -30,7 +33,11 @@ pub fn device_steps()
 ///
 /// It does nothing: its contract is a law of the definitions.
 pub fn one_spelling()
+    // The *image* of an entry is its bytes in a record file. Each list of bytes spells exactly one
+    // list of entries. The bytes consist of the images of these entries, one after the other, and a
+    // tail that does not begin with an image.
     ensures entries { (bytes : List ℕ) (entries : List PlainEntry) → SpellsReel bytes entries ↔ (entries ≡ entries_in bytes) }
+    // At a given offset, the bytes spell at most one tape.
     ensures tape { (bytes : List ℕ) (offset : ℕ) (t : Tape) → IsFile bytes offset t → t ≡ tape_in offset bytes }
 {}
 
@@ -47,6 +54,9 @@ pub const OLDER_RECORD_LIMIT: usize = 65536;
 ///
 /// It does nothing: its contract is a law of the definitions.
 pub fn older_reels()
+    // Suppose that a record file was written with records of at most 65,536 bytes
+    // (`OLDER_RECORD_LIMIT`). The file's bytes spell the same entries under that limit and under
+    // `RECORD_LIMIT`, even if the last write stopped halfway.
     ensures { (bytes : List ℕ) (entries : List PlainEntry) →
         IsWrittenUpTo OLDER_RECORD_LIMIT bytes → SpellsReelUpTo OLDER_RECORD_LIMIT bytes entries ↔ SpellsReel bytes entries }
 {

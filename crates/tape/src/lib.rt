@@ -7,6 +7,13 @@
 //!
 //! `FuseMedium` is a medium that fails at a chosen call. `write_and_reopen` and `mark_and_reopen`
 //! show what remains of a write that stopped there.
+//!
+//! # Contracts
+//!
+//! A tape is a list of entries and a place in the list, where the next call acts. An entry is a
+//! record of 1 to 262,144 bytes, or a mark. A reel stores a tape, for example on a medium. A medium
+//! holds bytes. You can read them, append bytes at the end, and cut bytes off the end.
+//! docs/REELS.md describes reels and their record files.
 #![tactic(auto)]
 
 mod entry;

@@ -42,6 +42,7 @@ impl Model for ListReel {
 impl ListReel {
     /// Makes an empty reel with this capacity, in bytes. Allocates nothing yet.
     pub fn new(alloc: Global, capacity: u64) -> ListReel
+        // The new reel is empty, stands at its beginning, and has the given capacity.
         ensures blank { result.tape ≡ tape [] [] }
         ensures capacity { result.capacity ≡ capacity }
     {
@@ -56,9 +57,13 @@ impl ListReel {
     /// Copies the first bytes of the record to the front of `into`, as many as fit. The rest of
     /// `into` is unchanged.
     pub fn entry(&self, i: usize, into: &mut [u8]) -> Option<usize>
+        // `entry` takes the number of an entry. `entry` returns the entry's length and copies the
+        // entry's first bytes to the buffer. A mark has length 0. The rest of the buffer is
+        // unchanged.
         ensures told { result ≡ entry_length (entry_at i self.now.tape) }
         ensures copied { into.new ≡ with_front (entry_bytes (entry_at i self.now.tape)) into.old }
         ensures mark { (result ≡ Some 0) ↔ (entry_at i self.now.tape ≡ Some Mark) }
+        // A record has 1 to 262,144 bytes.
         ensures records { All IsTapeEntry (entries_of self.now.tape) }
     {
         let bytes = nth_entry(self.reel.medium().bytes(), i)?;
@@ -105,6 +110,26 @@ impl ListReel {
 }
 
 impl Reel for ListReel {
+    // write, step: A write puts one record at the place and removes all entries that stood after
+    // the place. A write fails with `Full` if and only if the record and a mark after it do not
+    // fit. A write fails with `OutOfMemory` only if the record and the mark fit.
+    //
+    // read, step, bound: A read returns the beginning of the record at the place and moves past the
+    // record. At a mark, a read returns no bytes and moves past the mark. At the end, a read
+    // returns no bytes and the place does not change.
+    //
+    // op, rewind, step: `op` writes marks, rewinds, or does nothing (`MTNOP`), as mtio says. `op`
+    // refuses a number that is not an operation of a reel.
+    //
+    // op, step: Spacing moves over `count` marks or records, in either direction. If there are
+    // fewer than `count`, spacing stops where it met a mark, the end or the beginning, and fails
+    // with `EndOrMark`. Spacing does not change the entries.
+    //
+    // device, failures, GROWS: The device of a reel in memory never fails, and its count of
+    // failures is 0. The reel may allocate.
+    //
+    // call: Each call keeps the promises of every reel.
+
     ghost holds = { IsTape };
 
     ghost capacity = { λ r. r.capacity };

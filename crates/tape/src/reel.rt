@@ -46,6 +46,7 @@ pub trait Reel {
     /// are unchanged then. From the place on remain the old entries, none, or the record.
     fn write(&mut self, bytes: &[u8]) -> Result<(), TapeFault>
         requires { IsRecord bytes.now }
+        // `write` keeps the promises that every call of a reel keeps (`IsTapeCall`).
         ensures { IsTapeCall (reel_kind holds capacity failures can_fail makes GROWS) self.old self.new
             (Write bytes.now) (done_answer result) };
 
@@ -57,6 +58,8 @@ pub trait Reel {
     ///
     /// Fails with `Device` if the medium failed. The place is unchanged then.
     fn read(&mut self, into: &mut [u8]) -> Result<usize, TapeFault>
+        // `read` keeps the promises that every call of a reel keeps (`IsTapeCall`). `read` returns
+        // at most as many bytes as fit into the buffer.
         ensures bound { IfOk result (λ n. n ≤ length into.new) }
         ensures call { IsTapeCall (reel_kind holds capacity failures can_fail makes GROWS) self.old self.new
             (Read (length into.old)) (given_answer result into.new) };
@@ -88,14 +91,18 @@ pub trait Reel {
     /// medium failed. The place and the entries before it are unchanged then. From the place on
     /// remain the old entries, none, or some or all of the marks.
     fn op(&mut self, op: u32, count: u32) -> Result<(), TapeFault>
+        // `op` keeps the promises that every call of a reel keeps (`IsTapeCall`).
         ensures { IsTapeCall (reel_kind holds capacity failures can_fail makes GROWS) self.old self.new
             (op_request op count) (done_answer result) };
 
     /// Moves to the beginning. The entries are unchanged. Never fails.
     fn rewind(&mut self)
+        // `rewind` keeps the promises that every call of a reel keeps (`IsTapeCall`), and never
+        // fails.
         ensures { IsTapeCall (reel_kind holds capacity failures can_fail makes GROWS) self.old self.new Rewind Done };
 
     /// Returns how often the device has failed. The count stops at the greatest `u64`.
     fn failures(&self) -> u64
+        // `failures` returns the count of failures.
         ensures { result ≡ failures self.now };
 }

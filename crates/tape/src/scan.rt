@@ -15,6 +15,8 @@ use std::alloc::{AllocError, Global};
 ///
 /// Ignores the bytes after that one. Fails with `AllocError` if an allocation fails.
 pub fn read_entries(alloc: Global, file: &[u8]) -> Result<Vec<Entry>, AllocError>
+    // `read_entries` returns the list of entries that the bytes of a record file spell. The private
+    // function `nth_entry` returns one entry, given by its number.
     ensures { IfOk result (λ entries. SpellsReel file.now (plain_entries entries.items)) }
 {
     let mut entries = Vec::new(alloc);

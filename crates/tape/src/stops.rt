@@ -13,6 +13,8 @@ use rmt_wire::mtio::MTWEOF;
 
 /// Opens the reel again on the inner medium of its `FuseMedium`, with a capacity in bytes.
 pub fn reopened<M: Medium>(reel: FileReel<FuseMedium<M>>, capacity: u64) -> FileReel<M>
+    // `reopened` takes a reel on a `FuseMedium` and opens the inner medium with the given capacity.
+    // The resulting reel has the same entries and stands at its beginning.
     ensures stood { Reopens M.holds reel result (λ t u. u ≡ entries_of t) }
     ensures medium { result.medium ≡ reel.medium.inner }
     ensures capacity { result.capacity ≡ capacity }
@@ -32,11 +34,22 @@ pub fn write_and_reopen<M: Medium>(
     capacity: u64,
 ) -> (Result<(), TapeFault>, FileReel<M>)
     requires { IsRecord bytes.now }
+    // `write_and_reopen` writes a record to a reel on a `FuseMedium`, and then opens the reel
+    // again. The entries before the place do not change, whichever calls are due to fail and
+    // however many bytes they leave. If the write succeeded, the record follows the entries before
+    // the place. If the device failed, the old entries, no entries, or the record follow. If the
+    // write was refused for another reason, the old entries follow.
     ensures stood { Reopens M.holds reel result.1 (λ t u. StandsAfterWrite t (Record bytes.now ∷ []) (done_answer result.0) u) }
+    // The result of the write, and the entries afterwards, are those that one step of the tape
+    // gives.
     ensures step { Reopens M.holds reel result.1 (λ t u. StandsAfterStep reel.capacity t (Write bytes.now) (done_answer result.0) u) }
+    // The write fails with `Device` only if a call is due to fail, or if the inner medium can fail
+    // or has too little room.
     ensures cause { result.0 ≡ Err Device →
         (M.can_fail reel.medium.inner ⊎ CanStop reel.medium.to_go) ⊎ (M.spare reel.medium.inner < length bytes.now + 8) }
+    // The write never fails with `OutOfMemory`.
     ensures memory { result.0 ≢ Err OutOfMemory }
+    // The reel that is opened again has the given capacity.
     ensures capacity { result.1.capacity ≡ capacity }
 {
     let mut reel = reel;
@@ -55,7 +68,17 @@ pub fn mark_and_reopen<M: Medium>(
     count: u32,
     capacity: u64,
 ) -> (Result<(), TapeFault>, FileReel<M>)
+    // `mark_and_reopen` writes marks to a reel on a `FuseMedium`, and then opens the reel again.
+    // The entries before the place do not change, whichever calls are due to fail and however many
+    // bytes they leave. If the count is 0, no entry changes. If a write of at least 1 mark
+    // succeeded, all of the marks follow the entries before the place. If the device failed, the
+    // old entries or any number of the marks follow. If the write was refused for another reason,
+    // the old entries follow.
     ensures stood { Reopens M.holds reel result.1 (λ t u. StandsAfterMarks t count (done_answer result.0) u) }
+    // The result, and the entries afterwards, are those that one step of the tape gives. The write
+    // fails with `Device` only if a call is due to fail, or if the inner medium can fail or has too
+    // little room. The write never fails with `OutOfMemory`. The reel that is opened again has the
+    // given capacity.
     ensures step { Reopens M.holds reel result.1 (λ t u. StandsAfterStep reel.capacity t (WriteMarks count) (done_answer result.0) u) }
     ensures cause { result.0 ≡ Err Device →
         (M.can_fail reel.medium.inner ⊎ CanStop reel.medium.to_go) ⊎ (M.spare reel.medium.inner < 4 * count) }

@@ -41,6 +41,8 @@ impl Model for TroubledReel {
 impl TroubledReel {
     /// Makes a reel of `reel`, with no trouble set and no failed device call.
     pub fn new(reel: ListReel) -> TroubledReel
+        // The new reel has the tape and the capacity of the given reel. No trouble (an injected
+        // fault) is set, and no failure was counted.
         ensures tape { result.tape ≡ reel.tape }
         ensures capacity { result.capacity ≡ reel.capacity }
         ensures trouble { result.trouble ≡ None }
@@ -55,6 +57,7 @@ impl TroubledReel {
 
     /// Sets how the next device call fails, and replaces what was set before.
     pub fn set(&mut self, trouble: Trouble)
+        // `set` replaces the reel's trouble by the given one. Nothing else changes.
         ensures { self.new ≡ record self.old { trouble = trouble } }
     {
         self.trouble = trouble;
@@ -62,6 +65,7 @@ impl TroubledReel {
 
     /// Returns how the next device call fails. After a failure it is `Trouble::None`.
     pub fn next_trouble(&self) -> Trouble
+        // `next_trouble` returns the trouble that is set.
         ensures { result ≡ self.now.trouble }
     {
         self.trouble
@@ -73,6 +77,9 @@ impl TroubledReel {
     /// Copies the first bytes of the record to the front of `into`, as many as fit. The rest of
     /// `into` is unchanged. It makes no device call and never fails.
     pub fn entry(&self, i: usize, into: &mut [u8]) -> Option<usize>
+        // `entry` takes the number of an entry. `entry` returns the entry's length and copies the
+        // entry's first bytes to the buffer. The length is 0 for a mark, and from 1 to 262,144 for
+        // a record. The rest of the buffer is unchanged.
         ensures told { result ≡ entry_length (entry_at i self.now.tape) }
         ensures copied { into.new ≡ with_front (entry_bytes (entry_at i self.now.tape)) into.old }
         ensures mark { (result ≡ Some 0) ↔ (entry_at i self.now.tape ≡ Some Mark) }
@@ -111,6 +118,25 @@ impl TroubledReel {
 }
 
 impl Reel for TroubledReel {
+    // step: A call fails with `Device` if and only if a trouble is set and the call reaches the
+    // device. Every read reaches the device. Spacing reaches the device if its count is at least 1.
+    // A write reaches the device if there is room for it and no allocation fails. A write of marks
+    // reaches the device under the same conditions, if the count of marks is at least 1.
+    //
+    // step: A call that fails with `Device` leaves the place and the entries before it unchanged.
+    // The trouble decides what a failed write leaves after the place: the old entries, no entries,
+    // or the first of the new entries. Any other failed call leaves the old entries after the
+    // place.
+    //
+    // step, failures: A failure with `Device` is counted, up to the greatest `u64`, and clears the
+    // trouble. Any other call changes neither the count nor the trouble, even if an allocation
+    // failed in that call.
+    //
+    // step: A call that does not fail with `Device` makes the same step as on a tape whose device
+    // never fails.
+    //
+    // call, bound: Each call keeps the promises of every reel.
+
     ghost holds = { IsTapeOf };
 
     ghost capacity = { λ r. r.capacity };

@@ -65,6 +65,8 @@ impl Host {
         requires told { IsLibrary stacks (library_of stacks) }
         requires quiet { StacksCanFail stacks → ⊥ }
         requires rested { AreAllInSlots (library_of stacks) }
+        // Returns a server with the given drives. No drive has a holder yet, and the server has no
+        // connection.
         ensures server { IfOk result (λ h. h ≡ hosted (server (library_of stacks) (replicate drives 0) []) false) }
     {
         let holds = LocalHolds::new(alloc, drives)?;
@@ -83,6 +85,8 @@ impl Host {
     /// Fails if an allocation fails, or if no number is left for its seat. Nothing that contracts
     /// see has changed then.
     pub fn prepare(&mut self) -> Result<(), AllocError>
+        // Prepares the server's side of the next connection, and allocates all the memory that this
+        // side needs. If the call fails, nothing changes.
         ensures { MatchResult result (λ _. self.new ≡ hosted self.old.server true) (λ _. self.new ≡ self.old) }
     {
         self.reserve_seat();
@@ -115,6 +119,8 @@ impl Host {
     /// Admits the next connection: the server's side of it, which `prepare` made, is now live.
     pub fn admit(&mut self)
         requires { self.old.ready ≡ true }
+        // Admits the next connection: its server's side becomes live. The new session has nothing
+        // open, and no bytes wait to be read.
         ensures { self.new ≡ hosted (joined self.old.server) false }
     {
         if let Next::Whole(side) = mem::replace(&mut self.next, Next::Nothing) {
@@ -126,6 +132,9 @@ impl Host {
     /// numbered from 0.
     pub fn holder(&self, drive: usize) -> u64
         requires { drive < length self.now.server.holders }
+        // Returns the number of the connection whose session has the drive open, with or without
+        // its reel. If no session has the drive open, the call returns 0. No two sessions have the
+        // same drive open.
         ensures holder { IsHolder self.now.server drive result }
         ensures once { IsHeldOnce self.now.server }
     {
@@ -135,6 +144,8 @@ impl Host {
     /// Returns how many bytes `push` can now take for this connection, or none if the server's side
     /// is not live.
     pub fn room(&self, connection: usize) -> Option<usize>
+        // Returns how many more bytes a connection's reader has room for, or none if the server's
+        // side is not live.
         ensures { HasRoom (side_at self.now.server.sides connection) result }
     {
         let side = find_side(&self.sides, connection)?;
@@ -144,6 +155,8 @@ impl Host {
     /// Takes bytes that a connection sent, as many as its reader has room for, and returns how
     /// many. Returns 0 if the server's side is not live.
     pub fn push(&mut self, connection: usize, bytes: &[u8]) -> usize
+        // Gives bytes to a connection's reader, as many as the reader has room for. If the server's
+        // side is not live, the call gives no bytes.
         ensures { IsPiecePushed self.old connection bytes.now (side_at self.old.server.sides connection) result self.new }
     {
         let Some(mut side) = take_side(&mut self.sides, connection) else {
@@ -172,6 +185,24 @@ impl Host {
         lost: bool,
     ) -> Turn
         requires room { vec_len back.old + READER_LIMIT ≤ vec_capacity back.old }
+        // Carries out one request. The request comes from the bytes that `Host::push` gave to the
+        // reader. If the request makes a device call, the caller of `serve` decides whether and how
+        // that device call fails. The definition `troubled_serve` gives the reply. It also gives
+        // the drives, the session and the holders after the call.
+        //
+        // Appends the reply to the buffer `back`, which must have spare room for 262,156 bytes. If
+        // the caller asks that the reply be lost, the call appends nothing.
+        //
+        // After each call of `Host`, no injected fault (`Trouble`) is set. `Host` has this as its
+        // invariant.
+        //
+        // Returns the kind of the request, the kind of the reply, and the number in the reply. If
+        // the request is an open, the call also returns whether the mode of the open is for
+        // writing.
+        //
+        // Ends the server's side if the pushed bytes are not a request. If the pushed bytes are
+        // only the beginning of a request, the call does nothing. It also does nothing if the
+        // server's side is not live.
         ensures { ServesAt trouble lost self.old connection back.old.items result self.new back.new.items }
     {
         let turn = self.turn(connection, trouble, back, lost);
@@ -206,6 +237,8 @@ impl Host {
     /// Ends the server's side of a connection: closes what it has open, and the side is no longer
     /// live. Does nothing if it is not live. Connections are numbered from 1.
     pub fn end(&mut self, connection: usize)
+        // Ends the server's side of a connection. If the side is live, its session closes what it
+        // has open, the session's drive becomes free, and the side is no longer live.
         ensures { self.new ≡ hosted (ended self.old.server connection) self.old.ready }
     {
         one_holder::<ListStacks>();
@@ -218,6 +251,7 @@ impl Host {
 
     /// Ends the server's side of every connection, as with `end`.
     pub fn restart(&mut self)
+        // Ends the server's side of every connection, as `Host::end` does.
         ensures { self.new ≡ hosted (all_ended self.old.server (length self.old.server.sides)) self.old.ready }
     {
         for place in 0..self.sides.len() {
@@ -228,6 +262,7 @@ impl Host {
     /// Returns the number of the first drive of that name, from 0, or none if there is no such
     /// drive.
     pub fn drive(&self, name: &[u8]) -> Option<usize>
+        // Returns the first drive with the given name, or none if there is no such drive.
         ensures { IsDriveNamed name.now self.now.server.library result }
     {
         self.drives.stacks.drive(name)
@@ -236,6 +271,8 @@ impl Host {
     /// Returns the session of a connection, while the server's side is live. The number of its seat
     /// is that of the connection.
     pub fn session(&self, connection: usize) -> Option<&Session<LocalHolds, ListStacks>>
+        // Returns the session of a connection whose server's side is live. The session's seat has
+        // the number of the connection.
         ensures seen { option_map (λ s. session_seen s.opened) (option_copied result)
             ≡ option_map (λ s. s.session) (side_at self.now.server.sides connection) }
         ensures number { IfSome (option_copied result) (λ s. s.seat.number ≡ connection) }
@@ -248,6 +285,7 @@ impl Host {
     /// Drives are numbered from 0.
     pub fn stack(&self, drive: usize) -> &[ListedReel]
         requires { drive < length self.now.server.library.drives }
+        // Returns the reels of a drive's stack.
         ensures { map rest_slot result.now ≡ (drive_at self.now.server.library drive).stack }
     {
         self.drives.stacks.stack(drive)
@@ -255,6 +293,7 @@ impl Host {
 
     /// Returns the reels of the bin, in the order in which they were moved there.
     pub fn bin(&self) -> &[ListedReel]
+        // Returns the reels of the bin.
         ensures { map rest_slot result.now ≡ self.now.server.library.bin }
     {
         self.drives.stacks.bin()
@@ -263,6 +302,8 @@ impl Host {
     /// Returns the reel of that name, on a stack or in the bin, or none if it is latched or there
     /// is no such reel.
     pub fn reel(&self, name: &[u8]) -> Option<&TroubledReel>
+        // Returns the reel with the given name, or none if that reel is latched or there is no such
+        // reel.
         ensures { option_map at_rest (option_copied result) ≡ reel_named name.now (slots_in self.now.server.library) }
     {
         self.drives.stacks.reel(name)
@@ -273,6 +314,8 @@ impl Host {
     /// bin, and none may occur twice. Drives are numbered from 0.
     pub fn can_arrange(&self, drive: usize, names: &[&[u8]]) -> bool
         requires { drive < length self.now.server.library.drives }
+        // Returns whether the named reels can become the drive's stack. If a drive has no holder,
+        // none of its reels is latched.
         ensures may { result ≡ may_arrange self.now.server.library drive (map (λ n. n.now) names.now) }
         ensures free { IsHolder self.now.server drive 0 → latched_at self.now.server.library drive ≡ None }
     {
@@ -289,6 +332,8 @@ impl Host {
         requires free { IsHolder self.old.server drive 0 }
         requires drive { drive < length self.old.server.library.drives }
         requires may { IsTrue (may_arrange self.old.server.library drive (map (λ n. n.now) names.now)) }
+        // Puts the named reels, and no others, on the stack of a drive that has no holder, as an
+        // operator does. The call fails only if an allocation fails.
         ensures arranged { MatchResult result
             (λ _. self.new ≡ hosted (restacked self.old.server drive (map (λ n. n.now) names.now)) self.old.ready)
             (λ _. self.new ≡ self.old) }

@@ -4,6 +4,12 @@
 //! connection. Connections are numbered from 1 in the order in which they are admitted, and a
 //! session's seat has the number of its connection. A turn carries out one request of one
 //! connection.
+//!
+//! # Contracts
+//!
+//! `tape_world` and `rsim` use this crate. `rmtd` does not. Each connection has a server's half,
+//! the *server's side*. The server's side is *live* while the connection's session lasts. A reel is
+//! *latched* while a session has it open.
 #![tactic(auto)]
 
 mod host;

@@ -44,6 +44,7 @@ impl<'a> Model for Counts<'a> {
 impl<'a> Counts<'a> {
     /// Returns how many counted volumes there are.
     pub fn len(&self) -> usize
+        // Returns the number of counted volumes.
         ensures { result ≡ length self.now }
     {
         self.counts.len()
@@ -51,6 +52,7 @@ impl<'a> Counts<'a> {
 
     /// Whether there are no counted volumes.
     pub fn is_empty(&self) -> bool
+        // Returns whether there are no counted volumes.
         ensures { (result ≡ true) ↔ (self.now ≡ []) }
     {
         self.counts.is_empty()
@@ -58,6 +60,7 @@ impl<'a> Counts<'a> {
 
     /// Returns the counted volume at index `i`, from 0, or None past the last.
     pub fn get(&self, i: usize) -> Option<CountedVolume<'a>>
+        // Returns the counted volume at the given index.
         ensures { option_map plain_count result ≡ slice_get self.now i }
     {
         let count = self.counts.get(i)?;

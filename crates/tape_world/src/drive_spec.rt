@@ -22,6 +22,8 @@ pub struct DriveSpec<'a> {
 /// Whether a world can have these drives. There must be 1 to `drives::DRIVE_LIMIT`, no two with the
 /// same name. No two of all their reels can have the same name.
 pub fn good_drives(drives: &[DriveSpec<'_>]) -> bool
+    // Returns whether a world can have these drives. There must be 1 to 64 drives, no two with the
+    // same name, and no two reels with the same name.
     ensures { (result ≡ true) ↔ AreGoodDrives (map plain_drive_spec drives.now) }
 {
     if drives.is_empty() || DRIVE_LIMIT < drives.len() {

@@ -24,9 +24,17 @@ use world_model::faultless;
 ///   its volume.
 /// - Between attempts, the bin has these reels, in order.
 pub fn run(world: &mut World, events: &[Event<'_>]) -> Result<(), WorldFault>
+    // Makes the events of a list one after the other. If the call returns `Ok`, each event was
+    // possible and was made.
     ensures made { OnOk result (Runs world.old (map plain_event events.now) world.new) }
+    // If the call fails, it returns the index of the first event that was not made. All events
+    // before that index were made, and no others.
     ensures stopped { IfErr result (λ fault. IsStopped world.old (map plain_event events.now) (fault_place fault) world.new) }
+    // The call returns `NotPossible` only if the event at that index is not possible in the world
+    // before it.
     ensures impossible { IfErr result (λ fault. IsEventRefused (map plain_event events.now) world.new fault) }
+    // Suppose that the call starts with a new world of one drive, and that all events are without
+    // faults. Then the law `faultless` of `world_model` holds for the resulting world.
     ensures in_order { LeavesInOrder world.old (map plain_event events.now) world.new }
 {
     faultless();

@@ -49,6 +49,8 @@ impl World {
     /// Fails only if an allocation fails.
     pub fn new(alloc: Global, drives: &[DriveSpec<'_>]) -> Result<World, AllocError>
         requires { AreGoodDrives (map plain_drive_spec drives.now) }
+        // Returns a world with the given drives and nothing else. All reels are empty. The call
+        // fails only if an allocation fails.
         ensures { IfOk result (λ w. w ≡ first_world (map plain_drive_spec drives.now)) }
     {
         let world_state = WorldState::new(alloc, drives)?;
@@ -88,19 +90,52 @@ impl World {
     ///
     /// Does nothing: its contract is what holds of the world.
     pub fn kept(&self)
+        // This law states the headline for each world. The section `world_model` explains *count*,
+        // *the count's own session* and *foreign*. The three statements of the headline hold, as
+        // one record: `counted_reels`, `no_two_holders` and `dumpdates_gained`.
         ensures headline { Headline self.now }
+        // Some list of events led to this world from the first world of some drives. So each law
+        // about lists of events applies to this world.
         ensures reached { IsReached self.now }
+        // Each world meets `IsWorldKept`. The other clauses of this law are proved from
+        // `IsWorldKept`.
         ensures kept { IsWorldKept self.now }
+        // The holder of a drive is the connection whose session has the drive open. No two sessions
+        // have the same drive open.
         ensures holders { AreHeld self.now.server }
         ensures no_two_holders { NoTwoHolders self.now }
+        // A counted reel holds its volume and nothing else, unless a foreign session opened the
+        // reel for writing after the count's own session did.
         ensures counted_reels { CountedReels self.now }
+        // Suppose that no foreign session opened a counted reel for writing after the count's own
+        // session did. Then `World::entry` returns the entries of the counted volume.
         ensures volumes_told { TellsVolumes self.now }
+        // Take the runs that were entered in dumpdates, in their order. Entering them one by one in
+        // an empty list gives dumpdates. No run was entered twice. When a run was entered, the
+        // counts in the client's list covered all blocks of the run, in order. Each volume in that
+        // list was counted.
         ensures dumpdates_gained { DumpdatesGained self.now }
+        // On each connection of the client, the server has carried out as many requests as the
+        // client sent, or one fewer.
         ensures sent_requests { SentRequests self.now }
+        // Suppose that no foreign session opened a counted reel for writing after the count's own
+        // session did. Then only the count's own session has written on the reel after that
+        // session's open.
         ensures reels_not_reopened { ReelsNotReopened self.now }
+        // When the client opens a reel for writing in an attempt, the open is not foreign to the
+        // counts in the client's list.
         ensures own_opens { OwnOpens self.now }
+        // A latched reel belongs to one session. The reel is first on the stack of the drive that
+        // this session holds.
         ensures latched_reels { LatchedReels self.now }
+        // Once the server has accepted the label of an attempt, the attempt's reel holds exactly
+        // what the attempt's accepted writes wrote. The clause promises this only until a write of
+        // the attempt meets a device fault, or another session writes on the reel. Up to that
+        // moment, the session's position is also the reel's end, while the session has the reel in
+        // its drive and the server has not carried out the session's MTOFFL.
         ensures labelled_reels { LabelledReels self.now }
+        // Each volume in the client's list was counted under the number of the client's run. A run
+        // that has not begun has no counts.
         ensures clients_counts { ClientsCounts self.now }
     {
         let _ = &self.world_state;

@@ -33,6 +33,8 @@ impl Connection {
     /// Makes a new connection, on which nothing was sent. `dump` is the attempt that made it, or
     /// None if a stranger made it.
     pub fn new(alloc: Global, dump: Option<AttemptState>) -> Connection
+        // Returns a connection with no bytes in transit. The connection is not cut, and the peer is
+        // present.
         ensures { plain_connection result ≡ new_connection dump }
     {
         Connection {
@@ -54,6 +56,7 @@ impl Connection {
 
     /// Removes the peer: the connection is cut, and what is in transit to the peer is lost.
     pub fn end_there(&mut self)
+        // Removes the peer: the connection is cut, and the bytes in transit to the peer are lost.
         ensures { plain_connection self.new ≡ without_peer (plain_connection self.old) }
     {
         self.back.clear();
@@ -81,7 +84,10 @@ impl Connection {
     ///
     /// Fails if an allocation fails. Nothing has changed then.
     pub fn reserve_request(&mut self) -> Result<(), AllocError>
+        // The connection stays as it is.
         ensures same { plain_connection self.new ≡ plain_connection self.old }
+        // If the call succeeds and the connection was not cut, there is room for a request of
+        // 262,156 bytes.
         ensures room { OnOk result (self.new.cut ≡ false → READER_LIMIT ≤ self.new.toward.spare) }
     {
         if !self.cut {
@@ -94,6 +100,9 @@ impl Connection {
     /// lost.
     pub fn send_request(&mut self, bytes: &[u8])
         requires { self.old.cut ≡ false → length bytes.now ≤ self.old.toward.spare }
+        // Sends a request of the client, and adds 1 to the attempt's number of sent requests. The
+        // bytes of the request are then in transit to the server. If the connection was cut, the
+        // bytes are lost.
         ensures { plain_connection self.new ≡ sent_connection bytes.now (plain_connection self.old) }
     {
         if let Some(dump) = &mut self.dump {
@@ -106,6 +115,9 @@ impl Connection {
 
     /// Notes a turn of the server's side. A fault ends the server's side.
     pub fn note_turn(&mut self, turn: Turn)
+        // Records one turn of the server's side. If the server carried out a request, the call adds
+        // 1 to the attempt's number of carried-out requests. If the request was a write, the call
+        // also records the reply. If the server found a fault in the bytes, the server's side ends.
         ensures { plain_connection self.new ≡ noted_turn turn (plain_connection self.old) }
     {
         match turn {
@@ -122,6 +134,8 @@ impl Connection {
 
 /// Returns the connection with this number, if there is one.
 pub fn find(connections: &[Connection], connection: usize) -> Option<&Connection>
+    // Returns the connection with the given number, counted from 1, or none if there is no such
+    // connection.
     ensures { option_map plain_connection (option_copied result) ≡ numbered (map plain_connection connections.now) connection }
 {
     let place = connection.checked_sub(1)?;
@@ -139,6 +153,7 @@ fn at(connections: &[Connection], place: usize) -> Option<&Connection>
 pub fn cut(connections: &mut [Connection], connection: usize)
     requires first { 1 ≤ connection }
     requires last { connection ≤ length connections.old }
+    // Cuts the connection with the given number. The bytes in transit stay in transit.
     ensures { map plain_connection connections.new ≡ changed severed (map plain_connection connections.old) connection }
 {
     connections[connection - 1].cut = true;
@@ -148,6 +163,8 @@ pub fn cut(connections: &mut [Connection], connection: usize)
 pub fn end_here(connections: &mut [Connection], connection: usize)
     requires first { 1 ≤ connection }
     requires last { connection ≤ length connections.old }
+    // Ends the server's side of a connection. The connection is cut, and the bytes in transit to
+    // the server are lost.
     ensures { map plain_connection connections.new ≡ changed without_server (map plain_connection connections.old) connection }
 {
     connections[connection - 1].end_here();
@@ -157,6 +174,7 @@ pub fn end_here(connections: &mut [Connection], connection: usize)
 pub fn end_there(connections: &mut [Connection], connection: usize)
     requires first { 1 ≤ connection }
     requires last { connection ≤ length connections.old }
+    // Removes the peer from a connection, as `Connection::end_there` does.
     ensures { map plain_connection connections.new ≡ changed without_peer (map plain_connection connections.old) connection }
 {
     connections[connection - 1].end_there();
@@ -164,6 +182,7 @@ pub fn end_there(connections: &mut [Connection], connection: usize)
 
 /// Ends the server's sides of all connections.
 pub fn end_all_here(connections: &mut [Connection])
+    // Ends the server's side of every connection.
     ensures { map plain_connection connections.new ≡ map without_server (map plain_connection connections.old) }
 {
     for conn in connections.iter_mut() {
@@ -182,7 +201,10 @@ pub fn send(
 ) -> Result<(), AllocError>
     requires first { 1 ≤ connection }
     requires last { connection ≤ length connections.old }
+    // Sends the given bytes to the server, after the bytes that are in transit already. If the
+    // connection was cut, the given bytes are lost.
     ensures sent { OnOk result (map plain_connection connections.new ≡ changed (said bytes.now) (map plain_connection connections.old) connection) }
+    // If an allocation fails, nothing changes.
     ensures refused { OnErr result (map plain_connection connections.new ≡ map plain_connection connections.old) }
 {
     connections[connection - 1].send(bytes)
@@ -193,6 +215,7 @@ pub fn send(
 pub fn arrive(connections: &mut [Connection], connection: usize, count: usize)
     requires first { 1 ≤ connection }
     requires last { connection ≤ length connections.old }
+    // Removes the given number of bytes that are in transit to the server, from the front.
     ensures { map plain_connection connections.new ≡ changed (arrived count) (map plain_connection connections.old) connection }
 {
     connections[connection - 1].toward.pass(count);
@@ -203,6 +226,7 @@ pub fn arrive(connections: &mut [Connection], connection: usize, count: usize)
 pub fn deliver_back(connections: &mut [Connection], connection: usize, count: usize)
     requires first { 1 ≤ connection }
     requires last { connection ≤ length connections.old }
+    // Removes the given number of bytes that are in transit to the peer, from the front.
     ensures { map plain_connection connections.new ≡ changed (deliver_back count) (map plain_connection connections.old) connection }
 {
     connections[connection - 1].back.pass(count);

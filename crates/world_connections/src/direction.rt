@@ -47,6 +47,7 @@ impl Direction {
 
     /// Returns the bytes in transit.
     pub fn bytes(&self) -> &[u8]
+        // Returns the bytes in transit, in order.
         ensures { result.now ≡ self.now.way }
     {
         &self.bytes[self.start..]
@@ -55,7 +56,9 @@ impl Direction {
     /// Reserves room for `count` more bytes. Fails if an allocation fails. The bytes in transit
     /// stay.
     pub fn reserve(&mut self, count: usize) -> Result<(), AllocError>
+        // The bytes in transit stay as they are.
         ensures same { self.new.way ≡ self.old.way }
+        // If the call succeeds, the buffer has room for the requested number of further bytes.
         ensures room { OnOk result (count ≤ self.new.spare) }
     {
         if self.start > self.bytes.len() / 2 {
@@ -99,6 +102,7 @@ impl Direction {
 
     /// Frees the memory if no bytes are in transit.
     pub fn trim(&mut self)
+        // Frees the buffer if no bytes are in transit. The bytes in transit stay as they are.
         ensures { self.new.way ≡ self.old.way }
     {
         if self.bytes().is_empty() {
@@ -116,6 +120,8 @@ impl Direction {
         lost: bool,
     ) -> Turn
         requires { READER_LIMIT ≤ self.old.spare }
+        // Takes one turn of the server's side, with the promises of `Host::serve`. The call appends
+        // the reply to the bytes in transit, unless the caller asks that the reply be lost.
         ensures { ServesAt trouble lost host.old connection self.old.way result host.new self.new.way }
     {
         host.serve(connection, trouble, &mut self.bytes, lost)

@@ -3,6 +3,13 @@
 //! A `Connection` has a `Direction` each way, whether it was cut, and whether its peer is still
 //! there. If the peer is the client, it also has the progress of an attempt (`AttemptState`). The
 //! other functions find or change one of many connections, by its number, which is counted from 1.
+//!
+//! # Contracts
+//!
+//! The crate models a connection between the server and a *peer*, which is the client or a
+//! stranger. Bytes that were sent and have not arrived are *in transit*. A `Direction` has the
+//! bytes in transit in one direction of a connection. `rsim` uses this crate through `tape_world`.
+//! `rmtd` and `rdump` do not use it.
 #![tactic(auto)]
 
 mod connection;

@@ -23,10 +23,24 @@ use rmt_wire::{dropped_writes, one_reading, one_reply};
 ///
 /// Does nothing: its contract is a law of the definitions.
 pub fn faultless()
+    // Without faults, the volumes of a dump are in order. The law is about a server of one drive,
+    // and about events of five kinds. A run begins. An attempt starts. The client sends a request,
+    // and no read of its payload fails. Bytes reach the server or the client. The server carries
+    // out a request, and no device call fails. The first world meets `IsFaultlessWorld`. In a world
+    // that meets `IsFaultlessWorld` and `IsWorldKept`, each event of these kinds preserves
+    // `IsFaultlessWorld`.
     ensures first { (drive : PlainDriveSpec) → IsFaultlessWorld drive (first_world (drive ∷ [])) }
     ensures after { (drive : PlainDriveSpec) (w u : World) (event : PlainEvent) → IsWorldKept w → IsFaultlessWorld drive w →
         IsFaultless event → Happens w event u → IsFaultlessWorld drive u }
+    // This clause is about a world that meets `IsFaultlessWorld` and `IsWorldKept`. An attempt
+    // fails only if the server has no such drive, no reel or no memory, or if the label and one
+    // block do not fit on the reel. The first counted volume is on the reel that was first on the
+    // drive's stack in the first world. The second volume is on the reel that was second there, and
+    // so on. Each counted reel holds its volume and nothing else. Between attempts the bin has
+    // exactly the counted reels, in order.
     ensures in_order { (drive : PlainDriveSpec) (w : World) → IsWorldKept w → IsFaultlessWorld drive w → VolumesInOrder drive w }
+    // Every list of events of these kinds, from the first world of one good drive, leads to a world
+    // for which this whole law holds.
     ensures runs { (drive : PlainDriveSpec) (events : List PlainEvent) (w : World) → AreGoodDrives (drive ∷ []) →
         AreFaultless events → Runs (first_world (drive ∷ [])) events w → VolumesInOrder drive w }
 {

@@ -72,6 +72,7 @@ impl ReplyReader {
     /// Returns a reader that holds no bytes and waits for nothing. It reserves `READER_LIMIT` bytes
     /// (262,156) once. Fails only if this allocation fails.
     pub fn new(alloc: Global) -> Result<ReplyReader, AllocError>
+        // The new reader waits for no reply, holds no bytes, and has room for 262,156 bytes.
         ensures { IfOk result (λ r. ReplyUnread r None []) }
     {
         Ok(ReplyReader {
@@ -83,6 +84,7 @@ impl ReplyReader {
 
     /// Whether `next` has returned every byte that was pushed.
     pub fn is_empty(&self) -> bool
+        // `is_empty` returns true if and only if no byte is unread.
         ensures value { (wanted : Option kinds.Wanted) (bytes : List ℕ) →
             ReplyUnread self.now wanted bytes → (IsTrue result ↔ (bytes ≡ [])) }
         ensures seen { IsTrue result → ReplyUnread self.now self.now.wanted [] }
@@ -93,6 +95,8 @@ impl ReplyReader {
     /// Returns how many bytes `push` takes now. The text of an error that is waited for takes no
     /// room after its first 255 bytes.
     pub fn room(&self) -> usize
+        // `room` returns how many bytes `push` takes now. While the reader waits for a reply, the
+        // bytes of an error's text after the first 255 take no room.
         ensures { (wanted : Option kinds.Wanted) (bytes : List ℕ) →
             ReplyUnread self.now wanted bytes → result + reply_taken_of wanted bytes ≡ READER_LIMIT }
     {
@@ -109,7 +113,10 @@ impl ReplyReader {
     pub fn expect(&mut self, wanted: Wanted)
         requires given { self.old.wanted ≡ None }
         requires within { IsWithin (plain_wanted wanted) }
+        // After `expect` the reader waits for a reply of the given kind.
         ensures waits { ReplyUnread self.old None [] → ReplyUnread self.new (Some (plain_wanted wanted)) [] }
+        // `expect` clears no fault. Suppose that bytes came while the reader waited for no reply.
+        // Then the reader still waits for no reply after `expect`.
         ensures for_good { (bytes : List ℕ) → bytes ≢ [] → ReplyUnread self.old None bytes → ReplyUnread self.new None bytes }
     {
         if self.is_empty() {
@@ -120,6 +127,7 @@ impl ReplyReader {
     /// Forgets every byte that `next` has not returned, and what is waited for, as a new connection
     /// requires. It keeps its buffer and allocates nothing.
     pub fn clear(&mut self)
+        // After `clear` the reader waits for no reply, and no byte is unread.
         ensures { ReplyUnread self.new None [] }
     {
         self.buffer.clear();
@@ -130,6 +138,9 @@ impl ReplyReader {
     /// Takes as many bytes of `piece` as there is room for, and returns how many. If an error is
     /// waited for and comes, only the first 255 bytes of its text are kept.
     pub fn push(&mut self, piece: &[u8]) -> usize
+        // `push` is given a piece of the stream. `push` takes the whole piece if there is room for
+        // it, and otherwise as many bytes as there is room for. The bytes that `push` took are
+        // unread afterwards. The reader keeps at most 262,156 bytes.
         ensures count { (wanted : Option kinds.Wanted) (bytes : List ℕ) →
             ReplyUnread self.old wanted bytes → result ≡ min (length piece.now) (READER_LIMIT - reply_taken_of wanted bytes) }
         ensures unread { (wanted : Option kinds.Wanted) (bytes : List ℕ) →
@@ -158,7 +169,16 @@ impl ReplyReader {
     /// more than was wanted. If nothing is waited for, any byte is `TooMuchData`. If no reply is
     /// returned, the reader is unchanged.
     pub fn next(&mut self) -> Result<Option<Reply<'_>>, WireFault>
+        // `next` returns the reply that the reader waits for. If the unread bytes are only a
+        // beginning of a reply, `next` returns `None`, and there is room for more bytes. If the
+        // unread bytes cannot begin a reply, `next` returns the fault of the first byte that rules
+        // out every reply. If the reader waits for no reply, the fault of any byte is
+        // `TooMuchData`.
+        //
+        // If `next` returns no reply, the reader is unchanged (field `unchanged`).
         ensures* rests { sem 𝓛 (Rests the_row self.entry (λ new. ReplyIsNext self.old (plain_reply_result result) new)) }
+        // Once `next` has returned a fault, it returns that fault until `clear` is called, whatever
+        // is pushed.
         ensures for_good { ReplyStaysFaulty self.old (plain_reply_result result) }
     {
         let start = self.start;

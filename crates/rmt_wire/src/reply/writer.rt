@@ -28,13 +28,20 @@ pub struct OutputFault;
 /// Then `out` counts the failure.
 pub fn write_reply<W: Write>(out: &mut Counted<W>, reply: &Reply<'_>) -> Result<(), OutputFault>
     requires { ReplyHasSpelling (plain_reply reply.now) }
+    // If `write_reply` succeeds, it has written the bytes that spell the reply.
     ensures written { OnOk result (Appends (W.contents out.old.inner) (W.contents out.new.inner) (reply_text (plain_reply reply.now))) }
+    // If `write_reply` fails, it has written a beginning of the reply and counted a failure. A
+    // count that is already the greatest `u64` does not change.
     ensures beginning { OnErr result
         (AppendsBeginning (W.contents out.old.inner) (W.contents out.new.inner) (reply_text (plain_reply reply.now))) }
     ensures fault { OnErr result (HasRisen out.old.failures out.new.failures) }
+    // The count of failures never falls. The number of reads left does not change.
     ensures counted { out.old.failures ≤ out.new.failures }
+    // If `write_reply` succeeds, it has counted no failure.
     ensures steady { OnOk result (out.new.failures ≡ out.old.failures) }
+    // The number of reads left stays.
     ensures left { out.new.left ≡ out.old.left }
+    // What is written spells the reply.
     ensures spelled { (wanted : Wanted) → AnswersTo (plain_reply reply.now) wanted
         → SpellsReply (reply_text (plain_reply reply.now)) (plain_reply reply.now) wanted }
 {

@@ -22,9 +22,14 @@ use std::alloc::AllocError;
 /// `out` and its capacity are unchanged.
 pub fn push_request(out: &mut Vec<u8>, request: &Request<'_>) -> Result<(), AllocError>
     requires { HasSpelling (plain_request request.now) }
+    // `push_request` appends the request as it is sent. The appended bytes spell the request. For a
+    // write of more than 262,144 bytes, `push_request` appends only the line that begins the write.
     ensures appended { OnOk result (out.new.items ≡ out.old.items ++ request_text (plain_request request.now)) }
+    // If `push_request` fails, the buffer and its capacity are unchanged.
     ensures unchanged { OnErr result ((out.new.items ≡ out.old.items) × (vec_capacity out.new ≡ vec_capacity out.old)) }
+    // `push_request` fails only if the buffer has less spare capacity than the request takes.
     ensures full { OnErr result (vec_capacity out.old < vec_len out.old + length (request_text (plain_request request.now))) }
+    // What is appended spells the request.
     ensures spelled { IsTextOf (request_text (plain_request request.now)) (plain_request request.now) }
 {
     let (lines, data) = parts(request);
@@ -38,12 +43,18 @@ pub fn push_request(out: &mut Vec<u8>, request: &Request<'_>) -> Result<(), Allo
 /// fails. Then `out` and its capacity are unchanged.
 pub fn push_write_line(out: &mut Vec<u8>, count: usize) -> Result<(), AllocError>
     requires { count ≤ RECORD_LIMIT }
+    // `push_write_line` appends the line that begins a write of `count` bytes. This line, followed
+    // by any `count` bytes, spells a write of those bytes, as it is sent.
     ensures begun { OnOk result ((bytes : List ℕ) → length bytes ≡ count →
         out.new.items ++ bytes ≡ out.old.items ++ request_text (PlainRequest.Write bytes)) }
+    // If `push_write_line` succeeds, the buffer has spare capacity for `count` bytes.
     ensures room { OnOk result (vec_len out.new + count ≤ vec_capacity out.new) }
+    // `push_write_line` fails only if the buffer has less spare capacity than the line and `count`
+    // bytes take. If `push_write_line` fails, the buffer and its capacity are unchanged.
     ensures unchanged { OnErr result ((out.new.items ≡ out.old.items) × (vec_capacity out.new ≡ vec_capacity out.old)) }
     ensures full { OnErr result ((bytes : List ℕ) → length bytes ≡ count →
         vec_capacity out.old < vec_len out.old + length (request_text (PlainRequest.Write bytes))) }
+    // With that many bytes after it, what is appended spells the write.
     ensures spelled { (bytes : List ℕ) → length bytes ≡ count →
         IsTextOf (request_text (PlainRequest.Write bytes)) (PlainRequest.Write bytes) }
 {

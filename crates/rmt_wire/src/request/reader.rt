@@ -130,6 +130,7 @@ impl RequestReader {
     /// Returns a reader that holds no bytes. It reserves `READER_LIMIT` bytes (262,156) once. Fails
     /// only if this allocation fails.
     pub fn new(alloc: Global) -> Result<RequestReader, AllocError>
+        // The new reader holds no bytes and has room for 262,156 bytes.
         ensures { IfOk result (λ r. Unread r []) }
     {
         Ok(RequestReader {
@@ -143,6 +144,7 @@ impl RequestReader {
     /// Whether `next` has returned every byte that was pushed. If so, the reader is in the state of
     /// a new one.
     pub fn is_empty(&self) -> bool
+        // `is_empty` returns true if and only if no byte is unread.
         ensures value { (bytes : List ℕ) → Unread self.now bytes → (IsTrue result ↔ (bytes ≡ [])) }
         ensures seen { IsTrue result → Unread self.now [] }
     {
@@ -152,6 +154,8 @@ impl RequestReader {
     /// Returns how many bytes `push` takes now. The data of a dropped write take no room once
     /// `next` has returned every request before it.
     pub fn room(&self) -> usize
+        // `room` returns how many bytes `push` takes now. A write can be too long to keep. The data
+        // of such a write take no room once `next` has returned every request before the write.
         ensures { (bytes : List ℕ) → Unread self.now bytes → result + taken_of bytes ≡ READER_LIMIT }
     {
         let unread = &self.buffer.as_slice()[self.start..];
@@ -161,8 +165,15 @@ impl RequestReader {
 
     /// Takes as many bytes of `piece` as there is room for, and returns how many.
     pub fn push(&mut self, piece: &[u8]) -> usize
+        // `push` is given a piece of the stream. `push` takes the whole piece if there is room for
+        // it, and otherwise as many bytes as there is room for. `push` returns how many bytes it
+        // took.
         ensures count { (bytes : List ℕ) → Unread self.old bytes → result ≡ min (length piece.now) (READER_LIMIT - taken_of bytes) }
+        // The bytes that `push` took are unread afterwards.
         ensures unread { (bytes : List ℕ) → Unread self.old bytes → Unread self.new (bytes ++ take result piece.now) }
+        // Each push adds bytes to those pushed before. The requests that `next` returned before the
+        // push are also the first requests that the longer list of bytes spells. The reader keeps
+        // at most 262,156 bytes.
         ensures given { (pushed : List ℕ) (requests : List PlainRequest) →
             IsGiven self.old pushed requests → IsGiven self.new (pushed ++ take result piece.now) requests }
         ensures limit { length self.new.kept ≤ READER_LIMIT }
@@ -192,7 +203,18 @@ impl RequestReader {
     /// Fails at the first byte that rules out every request, and returns the same fault at each
     /// later call. If no request is returned, the reader is unchanged.
     pub fn next(&mut self) -> Result<Option<Request<'_>>, WireFault>
+        // `next` returns the first request that the unread bytes spell. If these bytes are only a
+        // beginning of a request, `next` returns `None`, and there is room for more bytes. If the
+        // unread bytes cannot begin a request, `next` returns the fault of the first byte that
+        // rules out every request.
+        //
+        // If `next` returns no request, the reader is unchanged (field `unchanged`).
+        //
+        // All pushed bytes spell a list of requests. Successive calls of `next` return these
+        // requests in order (field `gives_on`).
         ensures* rests { sem 𝓛 (Rests the_row self.entry (λ new. IsNext self.old (plain_next_result result) new)) }
+        // Once `next` has returned a fault, it returns that fault at every later call, whatever is
+        // pushed.
         ensures for_good { StaysFaulty self.old (plain_next_result result) }
     {
         let start = self.start;

@@ -24,6 +24,8 @@ const ROW: usize = 4096;
 
 /// Returns how many bytes an entry of this length takes in a record file. A mark has the length 0.
 pub fn entry_size(length: u32) -> u64
+    // For a mark, which has length 0, `entry_size` returns 4. For a record, `entry_size` returns
+    // the length plus 8.
     ensures { result ≡ size_by_length length }
 {
     if length == 0 {
@@ -60,8 +62,14 @@ fn length_at<M: Medium>(medium: &mut M, at: u64) -> Result<Option<u32>, MediumFa
 ///
 /// Fails with `MediumFailed` if a call of the medium failed.
 pub fn next_length<M: Medium>(medium: &mut M, at: u64) -> Result<Option<u32>, MediumFailed>
+    // Suppose that the medium's bytes are known. If an entry begins at the offset, `next_length`
+    // returns the entry's length, or 0 for a mark. If the entries end at the offset, `next_length`
+    // returns `None`. The bytes are unchanged. `next_length` fails if and only if one of its calls
+    // of the medium failed.
     ensures run { LooksAlong (medium_kind_of M.Medium) at result
         (λ bytes t length. length ≡ first_length t.after) medium.old medium.new }
+    // If `next_length` returns a length, the length is at most `RECORD_LIMIT` and the offset is
+    // below 2^63.
     ensures limit { IfOk result (λ length. IfSome length (λ n. (n ≤ RECORD_LIMIT) × (at < 2 ^ 63))) }
 {
     if at >= OFFSET_LIMIT {

@@ -61,6 +61,8 @@ impl World {
     /// Copies the first bytes of the record, as many as fit, to the front of `into`, and changes no
     /// more of it.
     pub fn entry(&self, reel: &[u8], i: usize, into: &mut [u8]) -> Option<usize>
+        // Returns an entry of a reel by its index, whether the reel is on a stack, in the bin, or
+        // open in a drive.
         ensures told { result ≡ entry_length (entry_on self.now reel.now i) }
         ensures copied { into.new ≡ with_front (entry_bytes (entry_on self.now reel.now i)) into.old }
     {

@@ -17,6 +17,7 @@ use world_connections::find;
 impl World {
     /// Returns all volumes that were counted, in order.
     pub fn counts(&self) -> Counts<'_>
+        // Returns the counted volumes.
         ensures { result ≡ self.now.counts }
     {
         Counts {
@@ -27,6 +28,7 @@ impl World {
 
     /// Returns the entries of dumpdates.
     pub fn dates(&self) -> &Dates
+        // Returns the entries of dumpdates. No other body has its type.
         ensures { result.now ≡ self.now.dates }
     {
         &self.world_state.dates
@@ -34,6 +36,8 @@ impl World {
 
     /// Returns the volume and the cause, if the last event made an attempt fail.
     pub fn failure(&self) -> Option<(u32, AttemptFault)>
+        // If the last event made an attempt fail, returns the attempt's volume and the reason.
+        // Otherwise the call returns none.
         ensures { result ≡ self.now.failure }
     {
         self.world_state.history.failure
@@ -41,6 +45,8 @@ impl World {
 
     /// Returns the number of the connection of the client's attempt, while one is under way.
     pub fn own(&self) -> Option<usize>
+        // Returns the number of the connection of the client's attempt, or none if no attempt is
+        // under way.
         ensures { result ≡ self.now.own }
     {
         self.world_state.own
@@ -48,6 +54,7 @@ impl World {
 
     /// Returns the client, while there is one.
     pub fn client(&self) -> Option<&Client<ListBlocks>>
+        // Returns the real client. The client's source has the payload of its run.
         ensures told { option_map client_told (option_copied result) ≡ option_map caller_told self.now.caller }
         ensures payload { IfSome (option_copied result) (λ client. IsPayloadOf self.now client.source) }
     {
@@ -59,6 +66,7 @@ impl World {
     /// Returns the session of a connection, while the server's side is live. The number of its seat
     /// is that of the connection.
     pub fn session(&self, connection: usize) -> Option<&Session<LocalHolds, ListStacks>>
+        // Returns the real session of a connection whose server's side is live.
         ensures seen { option_map (λ s. session_seen s.opened) (option_copied result)
             ≡ option_map (λ s. s.session) (side_of self.now.server connection) }
         ensures number { IfSome (option_copied result) (λ s. s.seat.number ≡ connection) }
@@ -70,6 +78,8 @@ impl World {
     /// which is the client or a stranger. The server's reader can have room for fewer than are in
     /// transit. Returns none if there is no such connection.
     pub fn on_way(&self, connection: usize) -> Option<(usize, usize)>
+        // Returns how many bytes in transit can reach the server's side of a connection now, and
+        // how many can reach the peer.
         ensures { IsOnWay self.now connection result }
     {
         self.kept();
@@ -85,6 +95,8 @@ impl World {
     /// Returns the reels of the first drive of that name, in the order of its stack. The first is
     /// latched, or is the next to be. Returns none if there is no such drive.
     pub fn stack(&self, drive: &[u8]) -> Option<&[ListedReel]>
+        // Returns the stack of the first drive with the given name, or none if there is no such
+        // drive.
         ensures { IsStackOf drive.now self.now.server.library (option_map (map rest_slot) (option_copied result)) }
     {
         let drive = self.world_state.host.drive(drive)?;
@@ -93,6 +105,7 @@ impl World {
 
     /// Returns the reels of the bin, in the order in which they were moved there.
     pub fn bin(&self) -> &[ListedReel]
+        // Returns the reels of the bin.
         ensures { map rest_slot result.now ≡ self.now.server.library.bin }
     {
         self.world_state.host.bin()

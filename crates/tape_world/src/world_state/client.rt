@@ -167,6 +167,8 @@ impl WorldState {
     /// Not possible while the client's run is neither finished nor abandoned, or if the payload
     /// does not have the bytes of the run's blocks.
     pub(crate) fn start_run(&mut self, run: &Run, payload: &[u8]) -> Result<(), EventStop>
+        // Begins a run and makes a client for it. Runs are numbered 1, 2, 3 and so on. The saved
+        // run is dropped.
         ensures { IsEvent self.old (StartRun run.now payload.now) result self.new }
     {
         let bytes = run.blocks() as usize * run.block_bytes();
@@ -187,6 +189,7 @@ impl WorldState {
     /// Starts an attempt of the client, on a new connection. Not possible unless the client is
     /// ready.
     pub(crate) fn connect(&mut self) -> Result<(), EventStop>
+        // Starts an attempt of the client, on a new connection of its own.
         ensures { IsEvent self.old Connect result self.new }
     {
         if !self.is_client_in(State::Ready) {
@@ -206,6 +209,8 @@ impl WorldState {
     /// Gives the operator's answer to the client. Not possible unless the client asks, as it does
     /// after an attempt failed.
     pub(crate) fn respond(&mut self, answer: Answer) -> Result<(), EventStop>
+        // The client asks the operator after a failed attempt, and the operator answers. If the
+        // answer is to abandon the run, the saved run is dropped.
         ensures { IsEvent self.old (Respond answer) result self.new }
     {
         if !self.is_client_in(State::Asking) {
@@ -221,6 +226,8 @@ impl WorldState {
     /// connection was cut and the peer is still there.
     pub(crate) fn end_at_client(&mut self, connection: usize) -> Result<(), EventStop>
         requires { IsWorldKept self.old }
+        // The peer notices that a connection ended. The world records how the client's attempt
+        // ended.
         ensures { IsEvent self.old (EndAtClient connection) result self.new }
     {
         let Some(conn) = find(&self.connections, connection) else {

@@ -10,6 +10,7 @@ impl WorldState {
     /// Cuts the connection: from now on, what is sent on it is lost. Not possible if it was cut
     /// already.
     pub(crate) fn cut(&mut self, connection: usize) -> Result<(), EventStop>
+        // Cuts a connection.
         ensures { IsEvent self.old (Cut connection) result self.new }
     {
         let Some(conn) = find(&self.connections, connection) else {
@@ -25,6 +26,7 @@ impl WorldState {
 
     /// Makes a new connection of a stranger.
     pub(crate) fn stranger(&mut self) -> Result<(), EventStop>
+        // Makes a new connection of a stranger.
         ensures { IsEvent self.old Stranger result self.new }
     {
         self.connections.reserve(1)?;
@@ -39,6 +41,7 @@ impl WorldState {
     /// Sends these bytes from a stranger. Not possible unless the connection is a stranger's that
     /// is still there.
     pub(crate) fn says(&mut self, connection: usize, bytes: &[u8]) -> Result<(), EventStop>
+        // A stranger sends bytes to the server. If the connection was cut, the bytes are lost.
         ensures { IsEvent self.old (Says connection bytes.now) result self.new }
     {
         let Some(conn) = find(&self.connections, connection) else {

@@ -35,6 +35,9 @@ impl WorldState {
     /// Enters the client's run in dumpdates, and drops the saved run. Not possible unless the run
     /// is finished and was not entered yet.
     pub(crate) fn enter(&mut self) -> Result<(), EventStop>
+        // Enters the client's run in dumpdates, if the run is finished and was not entered before.
+        // The history lists the entered run with the client's list of counts. The saved run is
+        // dropped.
         ensures { IsEvent self.old Enter result self.new }
     {
         let Some(caller) = &self.caller else {

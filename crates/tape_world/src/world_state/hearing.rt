@@ -138,6 +138,14 @@ impl WorldState {
     /// `count` is 0, or fewer bytes are in transit.
     pub(crate) fn to_client(&mut self, connection: usize, count: usize) -> Result<(), EventStop>
         requires { IsWorldKept self.old }
+        // Delivers bytes to the peer of a connection. The client reads the bytes. A stranger drops
+        // them.
+        //
+        // If the client counts a volume, the history lists the count with its run, its connection
+        // and the reel that this connection opened.
+        //
+        // If these bytes make the attempt fail or finish, the client leaves the attempt's
+        // connection.
         ensures { IsEvent self.old (ToClient connection count) result self.new }
     {
         let Some(conn) = find(&self.connections, connection) else {

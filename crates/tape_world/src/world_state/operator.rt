@@ -14,6 +14,8 @@ impl WorldState {
     /// twice.
     pub(crate) fn arrange(&mut self, drive: &[u8], reels: &[&[u8]]) -> Result<(), EventStop>
         requires { IsWorldKept self.old }
+        // The operator chooses which reels are on the stack of a drive that nobody has open, and
+        // their order.
         ensures { IsEvent self.old (Arrange drive.now (map (λ n. n.now) reels.now)) result self.new }
     {
         let Some(place) = self.host.drive(drive) else {

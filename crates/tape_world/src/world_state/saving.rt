@@ -106,6 +106,8 @@ impl WorldState {
     /// client, or its run is abandoned, or both finished and entered.
     pub(crate) fn save(&mut self) -> Result<(), EventStop>
         requires { IsWorldKept self.old }
+        // Saves the client's run and its list of counts, so that both outlive a restart of the
+        // client. The call does not save an abandoned run, or a finished run that was entered.
         ensures { IsEvent self.old Save result self.new }
     {
         let Some(caller) = &self.caller else {
@@ -124,6 +126,9 @@ impl WorldState {
     /// client leaves its own connection, if it has one. Not possible if there is no client.
     pub(crate) fn client_restart(&mut self) -> Result<(), EventStop>
         requires { IsWorldKept self.old }
+        // Restarts the client. The client resumes from the checkpoint text of the saved run with
+        // its saved list. If no run is saved, there is no client after the restart. If the client
+        // has a connection of its own, it leaves this connection.
         ensures { IsEvent self.old ClientRestart result self.new }
     {
         if self.caller.is_none() {

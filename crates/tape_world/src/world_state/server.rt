@@ -13,6 +13,7 @@ impl WorldState {
     /// is not live, `count` is 0, fewer bytes are in transit, or the reader has less room.
     pub(crate) fn to_server(&mut self, connection: usize, count: usize) -> Result<(), EventStop>
         requires { IsWorldKept self.old }
+        // Delivers bytes to the server.
         ensures { IsEvent self.old (ToServer connection count) result self.new }
     {
         let Some(room) = self.host.room(connection) else {
@@ -35,6 +36,8 @@ impl WorldState {
     /// the connection was cut and the server's side is live.
     pub(crate) fn end_at_server(&mut self, connection: usize) -> Result<(), EventStop>
         requires { IsWorldKept self.old }
+        // The server notices that a connection ended, and ends the server's side. The bytes in
+        // transit to the server are lost.
         ensures { IsEvent self.old (EndAtServer connection) result self.new }
     {
         let Some(conn) = find(&self.connections, connection) else {
@@ -53,6 +56,7 @@ impl WorldState {
     /// Restarts the server, which ends the server's side of every connection.
     pub(crate) fn server_restart(&mut self) -> Result<(), EventStop>
         requires { IsWorldKept self.old }
+        // Restarts the server, which ends the server's side of every connection.
         ensures { IsEvent self.old ServerRestart result self.new }
     {
         kept();

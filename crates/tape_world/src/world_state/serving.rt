@@ -261,6 +261,21 @@ impl WorldState {
     /// its server's side is not live, or no whole request has reached it.
     pub(crate) fn serve(&mut self, connection: usize, trouble: Trouble) -> Result<(), EventStop>
         requires { IsWorldKept self.old }
+        // The server carries out one request that has reached it. If the request makes a device
+        // call, the event says whether and how this device call fails. If the bytes that reached
+        // the server are not a request, the server's side ends.
+        //
+        // The bytes that are already in transit to the peer stay there. The reply is appended to
+        // them.
+        //
+        // If the request was a write of an attempt, the history records its outcome. If the request
+        // was an open for writing and was accepted, the history lists the open with its reel.
+        //
+        // For each open for writing, the history also has the list of counts that the client had at
+        // that moment. If there was no client, the list is empty.
+        //
+        // If the request writes a record or marks, and the session has a reel open for writing, the
+        // history lists the write with its connection and its reel.
         ensures { IsEvent self.old (Serve connection trouble) result self.new }
     {
         if find(&self.connections, connection).is_none() {

@@ -96,6 +96,9 @@ impl WorldState {
     /// one.
     pub(crate) fn send(&mut self, fails: bool) -> Result<(), EventStop>
         requires { IsWorldKept self.old }
+        // The client sends its next request. If the connection was cut, the request is lost. If a
+        // read of the payload fails, the attempt fails, and the client leaves the attempt's
+        // connection.
         ensures { IsEvent self.old (Send fails) result self.new }
     {
         if !self.is_client_in(State::ToSend) {

@@ -25,13 +25,21 @@ impl RequestReader {
     /// reader is unchanged.
     pub fn fill<R: Read>(&mut self, stream: &mut Counted<R>) -> io::Result<usize>
         requires { (bytes : List ℕ) × Unread self.old bytes × (taken_of bytes < READER_LIMIT) }
+        // `fill` takes bytes from the front of the stream, as if they were pushed. These bytes are
+        // unread afterwards, and follow the bytes that were unread before. The reader keeps at most
+        // 262,156 bytes.
         ensures came { IfOk result (IsFilled (R.remaining stream.old.inner) (R.remaining stream.new.inner) self.old self.new) }
+        // If `fill` returns 0, the stream is at its end and the reader is unchanged.
         ensures ended { IfOk result (λ n. n ≡ 0 → IsAtEnd (R.remaining stream.new.inner)
             × IsNotFilled (R.remaining stream.old.inner) (R.remaining stream.new.inner) self.old self.new) }
+        // If the read failed, no byte came and the reader is unchanged.
         ensures failed { OnErr result (IsNotFilled (R.remaining stream.old.inner) (R.remaining stream.new.inner) self.old self.new) }
+        // `fill` counts a failure in its stream, which is a `Counted`, if and only if the read
+        // failed. A read that succeeded lowers the `Counted`'s number of reads left by one.
         ensures counted { OnErr result (stream.new.failures ≡ raised stream.old.failures) }
         ensures steady { OnOk result (stream.new.failures ≡ stream.old.failures) }
         ensures left { OnOk result (stream.new.left + 1 ≡ stream.old.left) }
+        // At most 262,156 bytes are kept.
         ensures limit { IfOk result (λ n. 0 < n → length self.new.kept ≤ READER_LIMIT) }
     {
         remove(&mut self.buffer, 0, self.start);

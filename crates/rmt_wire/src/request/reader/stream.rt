@@ -64,9 +64,25 @@ impl RequestReader {
         stream: &mut Counted<R>,
     ) -> Result<Option<Request<'_>>, StreamFault>
         requires { (bytes : List ℕ) × Unread self.old bytes }
+        // All bytes that were pushed or read spell a list of requests. Successive calls of
+        // `read_next` return these requests in order (field `gives_on`). `read_next` returns `None`
+        // if the stream ended with no byte unread. The call fails with `Truncated` if the stream
+        // ended inside a request. The call fails with `Broken` if the bytes that follow are not a
+        // request. The call fails with `Input` if a read failed, inside a request or between two
+        // requests.
+        //
+        // Suppose that a caller writes one reply for each request that `read_next` returns. Then
+        // the caller has written the replies to exactly the requests of the bytes read, in order
+        // (field `answers`). A loop over `read_next` can rely on this promise, and keeps no lists
+        // of requests and replies of its own.
+        //
+        // The returned request has a spelling (field `spelled`). `read_next` can be called again
+        // (field `unread`). Each returned request lowers a number that cannot fall forever, so a
+        // loop of calls ends (field `falls`).
         ensures* rests { sem 𝓛 (Rests the_row self.entry (λ new. IsReadNext
             (R.remaining stream.old.inner) (R.remaining stream.new.inner) stream.old.left stream.new.left
             self.old (plain_read_next_result result) new)) }
+        // `read_next` counts a failure if and only if it returns `Input`.
         ensures counted { CountsNext (plain_read_next_result result) stream.old.failures stream.new.failures }
     {
         while self.is_waiting() {
