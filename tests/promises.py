@@ -34,7 +34,7 @@ EDIT = re.compile(r"^\|[^|]*\| `(\w+/\w+)` \|", re.M)
 LINES = re.compile(r"(?:file|old|new|# breaks|# limit):|$")
 LONGEST = 100
 NO_CONTRACT = "It has no contract of its own."
-NO_OTHER = "No other body has its type."
+NO_OTHER = "The types allow only this body, so there is no edit."
 # How many edits `rt ci` tries at most.
 MOST_ALONE = 25
 UNCONTROLLED = "Edits without a control"
@@ -45,20 +45,21 @@ HEAD = """\
 What each public call promises, clause by clause, and the wrong bodies that the prover refuses. Do not edit this page: `python3 tests/promises.py
 --write` makes it from the sources.
 
-- A name in bold is a call, a law, a trait, a type with a trait that it implements, or a record of `specs/`. The first sentence of its documentation
+- A name in bold is a call, a law, a trait, a type and a trait that it implements, or a record of `specs/`. The first sentence of its documentation
   follows.
-- Below it is what its contract promises, with the names of the clauses; a contract of one clause has no name for it. A call without a contract is
-  only safe. Some private calls are listed, because a clause of theirs is what an edit breaks.
-- `refused` lists edits that break the promise: `crate/name` is `name.edit` in `crates/crate/must-fail/` or in `crates/crate/further/`. `make test`
-  tries all of them. `name.control.md` beside it is a right body in the same place that is proved, so the refusal shows the promise.
+- Below the name is what the contract promises, with the names of the clauses. If a contract has only one clause, the clause has no name. If a call has no
+  contract, only its safety is proved. Some private calls are listed too, because an edit breaks one of their clauses.
+- `refused` lists edits of the code that break the promise. The edit `crate/name` is the file `name.edit` in `crates/crate/must-fail/` or in
+  `crates/crate/further/`. `make test` tries all of these edits. `name.control.md` beside an edit has a right body for the same place. The prover
+  accepts that body. So it is the promise that makes the prover refuse the edit.
 
-A stream, reel, source or other thing *tells* its content if its contract gives that content, which is *known* then. The system's streams, files,
-folders and sockets tell nothing. [TRUSTED.md](TRUSTED.md#to-what-the-promises-apply) says what is promised of these, what is proved of every function,
-and what is trusted. [TESTED.md](TESTED.md) says what is only tested, and what a body can still get away with.
+The content of a stream, a reel, a source or another thing is *known* if a contract gives this content. The contents of the system's streams, files,
+folders and sockets are not known. [TRUSTED.md](TRUSTED.md#to-what-the-promises-apply) says what is promised of these contents, what is proved of every
+function, and what is trusted. [TESTED.md](TESTED.md) says what is only tested, and which wrong bodies meet every clause.
 """
 ABOUT_LIMITS = """\
-For these edits the prover stops at a limit of a tactic, and not because nothing is left to try: such a refusal says less. Each is refused for the
-goal of a clause, which is named, and its control is proved by the same tactics.
+The prover refuses these edits because it reaches a limit of a tactic before it has tried everything. So the refusal alone does not show that the
+edit breaks a promise. For each edit, the list names what is not proved. The control of each edit is proved by the same tactics.
 """
 ABOUT_UNCONTROLLED = """\
 An edit in this list has no right body beside it that is proved, so it may be refused only because its text changed.

@@ -196,7 +196,7 @@ def check_faults(room: Path) -> None:
     for name in EDITS:
         (room / "crates" / "words" / "further" / f"{name}.edit").unlink()
     check("a call without an edit", "is_long of words has no edit" in ran(room)[1], ran(room)[1])
-    marked = with_change(room, "crates/words/src/word.rt", "The limit stays.", "The limit stays. No other body has its type.")
+    marked = with_change(room, "crates/words/src/word.rt", "The limit stays.", "The limit stays. The types allow only this body, so there is no edit.")
     check("a call of whose type no other body is", "is_long of words has no edit" not in marked, marked)
 
 

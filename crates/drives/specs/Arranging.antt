@@ -1,4 +1,6 @@
--- Finding reels by name, and rearranging a stack as an operator does. Public contracts cite it.
+-- Finding reels by name, and rearranging a stack as an operator does. A drive's latched reel is the
+-- first of its stack: it is in the drive until it is laid back or moved to the bin. Public
+-- contracts cite it.
 use Rattle.std.specs.Prelude.{◌≡◌, ℕ, Bool, true, false, not, ◌&&◌, ◌||◌, List, [], ◌∷◌, ◌++◌, slice_set, is_some, Option, Result, Ok, Err}
 use Rattle.std.specs.List.{list_any, list_all, find, cons_option}
 use Rattle.std.specs.Option.{option_and_then}

@@ -1,4 +1,6 @@
--- The calls of stacks: their arguments and results. Public contracts cite it.
+-- The calls of stacks: their arguments and results. A drive's latched reel is the first of its
+-- stack: it is in the drive until it is laid back or moved to the bin. A kind of stacks is a type
+-- that implements `Stacks`, with what it promises. Public contracts cite it.
 use Rattle.std.specs.Prelude.{ℕ, Option, Some, None, Result, Ok, Err}
 use Rattle.drives.specs.TapeLibrary.{TapeLibrary}
 use Rattle.drives.specs.declared.fault.DriveFault.{DriveFault}

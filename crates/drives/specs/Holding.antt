@@ -1,4 +1,5 @@
--- What a seat at the drives knows, and what each of its steps does. Public contracts cite it.
+-- What a seat at the drives knows, and what each of its steps does. A step is a take, a give, or a
+-- look, which only reads who holds the drive. Public contracts cite it.
 use Rattle.std.specs.Prelude.{◌≡◌, ℕ, ◌<◌, ◌↔◌, Bool, IsTrue, true, false, cond, ◌==◌, List, replicate, slice_set, slice_index_or, Option, Some, None}
 use Rattle.tape.specs.Failures.{counted}
 use Rattle.drives.specs.declared.holds.TheConstants.{DRIVE_LIMIT}

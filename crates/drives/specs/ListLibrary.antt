@@ -1,4 +1,5 @@
--- Drives, stacks and bin in memory. Public contracts cite it.
+-- Drives, stacks and bin in memory. A drive's latched reel is the first of its stack: it is in the
+-- drive until it is laid back or moved to the bin. Public contracts cite it.
 use Rattle.std.specs.Prelude.{◌≡◌, ◌⊎◌, ℕ, ◌+◌, ◌<◌, ◌≤◌, Bool, true, false, cond, List, [], ◌∷◌, ◌++◌, length, map, Option, Some, None, Result, Ok, Err, MatchResult, IsSome}
 use Rattle.std.specs.List.{count_by}
 use Rattle.std.specs.Option.{option_map}

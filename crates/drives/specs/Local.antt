@@ -17,7 +17,8 @@ holders numbers last = record { numbers = numbers; last = last }
 abbrev pub AreHolders : List ℕ → ℕ → Type 0
 AreHolders numbers last = (1 ≤ length numbers) × (length numbers ≤ DRIVE_LIMIT) × ((d : ℕ) → d < length numbers → slice_index numbers d ≤ last)
 
--- The seat's number was assigned. The seat holds exactly the drives whose holder has that number.
+-- The seat with the view `v` is one of those at the drives with the holders `all`. Its number was
+-- assigned. It holds exactly the drives whose holder has that number.
 pub record IsSeatOf (all : Holders) (v : View) : Type 0 where
   pub numbered : 1 ≤ v.number
   pub made : v.number ≤ all.last

@@ -1,4 +1,7 @@
--- What an open of a drive promises. Public contracts cite it.
+-- What an open of a drive promises. A drive's latched reel is the first of its stack: it is in the
+-- drive until it is laid back or moved to the bin. A kind of holds, stacks or reels is a type that
+-- implements that trait, with what it promises. `k` has the promises of the kinds of holds, stacks
+-- and reels. Public contracts cite it.
 use Rattle.std.specs.Prelude.{◌≡◌, ◌≢◌, ℕ, ◌<◌, List, Option, Some, None, Result, Ok, Err, true, false}
 use Rattle.tape.specs.Tape.{Tape}
 use Rattle.tape.specs.Failures.{Steps}

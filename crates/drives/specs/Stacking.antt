@@ -1,4 +1,7 @@
--- The effect of a call of stacks, and what it promises. Public contracts cite it.
+-- The effect of a call of stacks, and what it promises. A drive's latched reel is the first of its
+-- stack: it is in the drive until it is laid back or moved to the bin. A kind of stacks is a type
+-- that implements `Stacks`, with what it promises. `s` and `r` have the promises of the kinds of
+-- the stacks and of their reels. Public contracts cite it.
 use Rattle.std.specs.Prelude.{◌≡◌, ◌≢◌, ◌⊎◌, ℕ, ◌≤◌, [], Option, Some, None, Result, Ok, Err, IsSome}
 use Rattle.tape.specs.Failures.{HasRisen, Steps}
 use Rattle.tape.specs.Tape.{Tape, tape, entries_of}
@@ -58,27 +61,30 @@ ReelCanFail r (Some reel) = r.can_fail reel
 
 -- what every call of stacks promises
 pub record IsStacksCall {S R : Type 0} (s : StacksKind S R) (r : ReelPromise R) (old : S) (call : StacksCall R) (new : S) : Type 0 where
-  -- the effect on the library, if the contents are specified
+  -- If the contents of the stacks and of the reel are known, `LibraryStep` says how the call
+  -- changes the library.
   pub step : LibraryStep s r old call new
-  -- the result is one that the call can return, even if the contents are unspecified
+  -- Even if the contents are unknown, the call fails only with a fault that a call of this kind can
+  -- return.
   pub can : CanStacksAnswer call
-  -- A reel is latched at the drive where the call latched one. Reels that were latched stay
-  -- latched, except one that the call laid back or moved.
+  -- If the call latched a reel at a drive, that drive has a latched reel afterwards. A reel that
+  -- was latched before stays latched, unless the call laid it back or moved it.
   pub latched : (d : ℕ) → drive_latched call ≡ Some d → HasLatched s.holds new d
   pub elsewhere : (d : ℕ) → drive_left call ≢ Some d → HasLatched s.holds old d → HasLatched s.holds new d
-  -- the call returns Device only if the device failed during the call
+  -- The call returns `Device` only if the device failed during the call.
   pub device : fault_of call ≡ Some Device → HasRisen (s.failures old) (s.failures new)
-  -- if the device failed during the call, the call returns Device
+  -- If the device failed during the call, the call returns `Device`.
   pub failed : (s.failures new ≡ s.failures old) ⊎ (fault_of call ≡ Some Device)
-  -- The call returns Device, or takes a reel whose device can fail, only if a device could fail
-  -- before it. A call makes a device able to fail only by adding such a reel.
+  -- Suppose that no device could fail before the call. Then the call does not return `Device`, and
+  -- takes no reel whose device can fail. After the call no device can fail, unless the call added a
+  -- reel whose device can fail.
   pub able : fault_of call ≡ Some Device → s.can_fail old
   pub quiet : s.can_fail new → s.can_fail old ⊎ ReelCanFail r (reel_brought call)
   pub quiet_reel : ReelCanFail r (reel_taken call) → s.can_fail old
-  -- the count of failures does not fall, and the number of drives is unchanged
+  -- The count of failures does not fall, and the number of drives does not change.
   pub counted : s.failures old ≤ s.failures new
   pub same_drives : s.drives new ≡ s.drives old
-  -- what this kind of stacks promises in addition
+  -- The call also keeps the further promises that this kind of stacks makes.
   pub made : s.makes old new call
 
 -- one call of stacks, which is a move with this result

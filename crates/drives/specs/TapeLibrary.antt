@@ -1,4 +1,5 @@
--- Drives with their stacks of reels, and the bin. Public contracts cite it.
+-- Drives with their stacks of reels, and the bin. A drive's latched reel is the first of its stack:
+-- it is in the drive until it is laid back or moved to the bin. Public contracts cite it.
 use Rattle.std.specs.Prelude.{◌≡◌, ◌≢◌, ℕ, ◌<◌, ◌≤◌, List, [], ◌∷◌, ◌++◌, length, map, flat_map, take, drop, slice_set, slice_index_or, Option, Some, None}
 use Rattle.std.specs.List.{count_by}
 use Rattle.std.specs.Str.{bytes_eq}

@@ -1,4 +1,7 @@
 //! The errors of opening or adding a drive, and of moving or adding a reel.
+//!
+//! A drive's latched reel is the first of its stack: it is in the drive until it is laid back or
+//! moved to the bin.
 
 use std::alloc::AllocError;
 use thiserror::Error;

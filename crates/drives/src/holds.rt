@@ -9,7 +9,7 @@ use crate::Taken;
 /// The greatest number of drives.
 pub const DRIVE_LIMIT: usize = 64;
 
-/// Drives that seats hold. At most one seat holds a drive.
+/// Which seat holds which drive. At most one seat holds a drive.
 ///
 /// Contracts see a seat as its `View`. Each call is one step of the seat and does not change what
 /// other seats hold.
@@ -20,8 +20,8 @@ pub trait Holds {
     // numbered: The hold record assigned each seat its number. The number is at least 1 and at most
     // the last number assigned.
     //
-    // agrees: Suppose that the holder of a drive is known. Then a seat is this holder if and only
-    // if the seat holds the drive.
+    // agrees: If a seat is known to be a drive's holder, this seat holds the drive, and no other
+    // seat does. If a drive is known to have no holder, no seat holds the drive.
 
     /// A seat at these drives.
     type Seat: Drop;
@@ -60,8 +60,8 @@ pub trait Holds {
         // no holder.
         ensures found { (n : ℕ) → tells self.old drive n → found_by result ≡ n }
         // If the holder of a drive was known before the take, the holder is known afterwards. If
-        // the taken drive was free, its known holder is now the seat. Every other known holder is
-        // as before.
+        // the drive that is taken was known to be free, the seat is now its known holder. Every
+        // other known holder is as before.
         ensures told { (d n : ℕ) → tells self.old d n → tells self.new d (holder_after_take (shows seat.old).number drive d n) }
         // The seat still belongs to the hold record, and so does each seat with another number. The
         // number of drives does not change.
@@ -96,8 +96,8 @@ pub trait Holds {
     fn holder(&self, seat: &mut Self::Seat, drive: usize) -> u64
         requires seat { belongs self.now seat.old }
         requires drive { drive < drives self.now }
-        // `holder` is one step of the seat, which only looks at the drive. `holder` returns the
-        // number that it found at the drive. The seat holds what it held before.
+        // `holder` is one step of the seat. In this step the seat only looks at the drive. `holder`
+        // returns the number that it found at the drive. The seat holds what it held before.
         ensures step { shows seat.new ≡ looked (shows seat.old) drive result }
         // The number that `holder` returns is 0 or was assigned to a seat.
         ensures known { result ≤ seated self.now }

@@ -1,4 +1,7 @@
 //! Laws of stacks in memory. Each law is the contract of a function that does nothing.
+//!
+//! A drive's latched reel is the first of its stack: it is in the drive until it is laid back or
+//! moved to the bin.
 
 ghost use Rattle.std.specs.Prelude.{◌≡◌, ℕ, ◌<◌, List, length, Result};
 ghost use Rattle.tape.specs.Trouble.{TroubledTape};
@@ -8,10 +11,10 @@ ghost use Rattle.drives.specs.Arranging.{may_arrange};
 ghost use Rattle.drives.specs.Calls.{StacksCall};
 ghost use Rattle.drives.specs.Calls.StacksCall.{Latch, LayBack, Move};
 
-/// The law of how a call of stacks in memory changes the number of reels with a trouble set. It
-/// counts the reels on the stacks and in the bin. A latch removes its reel along with the reel's
-/// trouble. Laying a reel back, or moving it to the bin, adds the trouble of that reel. A call that
-/// fails changes nothing here. No call changes the number of drives.
+/// Law: how each call of stacks in memory changes the number of reels that have a trouble (an
+/// injected fault). It counts the reels on the stacks and in the bin. A latch removes its reel
+/// along with the reel's trouble. Laying a reel back, or moving it to the bin, adds the trouble of
+/// that reel. A call that fails changes nothing here. No call changes the number of drives.
 ///
 /// It does nothing: its contract is a law of the definitions.
 pub fn lying_troubles()
@@ -30,11 +33,11 @@ pub fn lying_troubles()
         IsListStacksCall old new call → length new.library.drives ≡ length old.library.drives }
 {}
 
-/// The law that `may_arrange` gives the same result for stacks in memory as for their library, in
-/// which the reels are at rest.
+/// Law: `may_arrange` gives the same result for stacks in memory as for their library, in which the
+/// reels are at rest.
 ///
 /// It does nothing: its contract is a law of the definitions.
 pub fn arranged_at_rest()
-    // Stacks in memory allow an arrangement of a stack if and only if their library allows it.
+    // An arrangement of a stack in memory is allowed if and only if the library allows it.
     ensures { (s : ListLibrary) (d : ℕ) (names : List (List ℕ)) → may_arrange s.library d names ≡ may_arrange (library_of s) d names }
 {}

@@ -1,4 +1,4 @@
-//! Drives: which seat holds which drive, and the reels on their stacks and in the bin.
+//! Drives: which seat holds which drive, and which reels are on the stacks and in the bin.
 //!
 //! `DriveTable` combines `Holds` (a drive has at most one holder) with `Stacks` (a reel is in
 //! exactly one place). `LocalHolds` and `ListStacks` are their implementations for one thread, in
@@ -8,12 +8,14 @@
 //!
 //! A drive has a stack of reels, and all drives of a server share one bin. Each session has a
 //! *seat*, which has a number. The *hold record* (a `Holds`) says which seat holds which drive, by
-//! the seat's number. To open a drive, a session takes the drive for its seat and *latches* (takes
+//! the seat's number. A seat makes one *step* when it takes a drive, gives it back, or looks at the
+//! drive's holder. To open a drive, a session takes the drive for its seat and *latches* (takes
 //! into the drive) the first reel of the drive's stack. To close the drive, the session lays the
 //! reel back on the stack and gives the drive back (`give`). To take the reel offline, the session
-//! moves the reel to the bin. The *library* of the stacks describes the drives, the reels and the
-//! bin as plain data. In the library each reel is *at rest*: it has entries and a capacity, but no
-//! position and no trouble (an injected fault).
+//! moves the reel to the bin. `Stacks` stands for all of a server's drives with their stacks, and
+//! for the bin. The *library* of the stacks describes the drives, the reels and the bin as plain
+//! data. In the library each reel is *at rest*: it has entries and a capacity, but no position and
+//! no trouble (an injected fault).
 #![tactic(auto)]
 
 mod fault;

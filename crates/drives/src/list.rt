@@ -1,4 +1,7 @@
 //! Drives, their stacks and the bin, all in memory.
+//!
+//! A drive's latched reel is the first of its stack: it is in the drive until it is laid back or
+//! moved to the bin.
 
 ghost use Rattle.std.specs.Prelude.{◌≡◌, ◌≢◌, ℕ, ◌<◌, List, IfErr, IfOk, IfSome, IsTrue, None, MatchBool, MatchResult, map, length};
 ghost use Rattle.std.specs.Option.{option_copied, option_map};
@@ -69,7 +72,8 @@ impl ListStacks {
         // The new drive has an empty stack and the next number. `add_drive` fails only if an older
         // drive has the same name or an allocation fails. If `add_drive` fails, nothing changed.
         ensures added { IsDriveAdded self.old name.now result self.new }
-        // Each reel name still occurs only once. `add_drive` makes no device able to fail.
+        // Each reel name still occurs only once. If no device could fail before `add_drive`, none
+        // can fail after it.
         ensures told { IsLibrary self.new (library_of self.new) }
         ensures quiet { StacksCanFail self.new → StacksCanFail self.old }
     {
@@ -90,7 +94,8 @@ impl ListStacks {
         // `add_reel` fails only if an older reel (latched, on a stack or in the bin) has the same
         // name or an allocation fails. If `add_reel` fails, nothing changed.
         ensures added { IsReelAdded self.old drive name.now capacity result self.new }
-        // Each reel name still occurs only once. `add_reel` makes no device able to fail.
+        // Each reel name still occurs only once. If no device could fail before `add_reel`, none
+        // can fail after it.
         ensures told { IsLibrary self.new (library_of self.new) }
         ensures quiet { StacksCanFail self.new → StacksCanFail self.old }
     {
@@ -104,8 +109,8 @@ impl ListStacks {
     /// latched next. `drive` is a number that `add_drive` returned.
     pub fn stack(&self, drive: usize) -> &[ListedReel]
         requires { drive < length self.now.library.drives }
-        // `stack` returns the entries of the drive's stack, in the order of the stacks' library.
-        // The entry of a latched reel does not contain the reel.
+        // `stack` returns one item for each reel of the drive's stack, in the order of the stacks'
+        // library. The item of a latched reel does not contain the reel.
         ensures lying { result.now ≡ (drive_at self.now.library drive).stack }
         ensures told { map rest_slot result.now ≡ (drive_at (library_of self.now) drive).stack }
     {
@@ -143,18 +148,19 @@ impl ListStacks {
     pub fn can_arrange(&self, drive: usize, names: &[&[u8]]) -> bool
         requires { drive < length self.now.library.drives }
         // `can_arrange` returns true if and only if three conditions hold. The names are distinct.
-        // Each name is that of a reel on that stack or in the bin. No reel of the drive is latched.
-        // `can_arrange` returns the same result as a check of the three conditions in the stacks'
-        // library.
+        // Each name is that of a reel on the drive's stack or in the bin. No reel of the drive is
+        // latched. `can_arrange` returns the same result as a check of the three conditions in the
+        // stacks' library.
         ensures may { result ≡ may_arrange self.now.library drive (map (λ n. n.now) names.now) }
         ensures told { result ≡ may_arrange (library_of self.now) drive (map (λ n. n.now) names.now) }
     {
         self.can_put_stack(drive, names)
     }
 
-    /// Rearranges the drive's stack, as an operator does: it becomes the reels with these names, in
-    /// that order. Reels named from the bin leave it. The stack's other reels go to the end of the
-    /// bin, in their order. No reel itself changes. Call it only if `can_arrange` returns true.
+    /// Rearranges the drive's stack, as an operator does: the stack then has the reels with these
+    /// names, in that order. Reels named from the bin leave it. The stack's other reels go to the
+    /// end of the bin, in their order. No reel itself changes. Call it only if `can_arrange`
+    /// returns true.
     ///
     /// Fails with `OutOfMemory`. Nothing is changed then.
     pub fn arrange(&mut self, drive: usize, names: &[&[u8]]) -> Result<(), DriveFault>
@@ -169,13 +175,14 @@ impl ListStacks {
         ensures told_order { MatchResult result
             (λ _. library_of self.new ≡ arranged (library_of self.old) drive (map (λ n. n.now) names.now))
             (λ _. library_of self.new ≡ library_of self.old) }
-        // The names on the drive's stack are those of the operator's order.
+        // After `arrange` the names on the drive's stack are the given names, in the given order.
         ensures order { IfOk result (λ _. names_of (drive_at self.new.library drive).stack ≡ map (λ n. n.now) names.now) }
         // Each reel name occurs as often as before: once.
         ensures told { IsLibrary self.new (library_of self.new) }
         ensures names { (name : List ℕ) → times name (names_in self.new.library) ≡ times name (names_in self.old.library) }
-        // Reels that are latched in other drives stay latched. `arrange` makes no device able to
-        // fail. The trouble, the count of failures and the number of drives do not change.
+        // Reels that are latched in other drives stay latched. If no device could fail before
+        // `arrange`, none can fail after it. The trouble, the count of failures and the number of
+        // drives do not change.
         ensures elsewhere { (d : ℕ) → d ≢ drive → HasLatched IsLibrary self.old d → HasLatched IsLibrary self.new d }
         ensures quiet { StacksCanFail self.new → StacksCanFail self.old }
         ensures same_trouble { self.new.trouble ≡ self.old.trouble }
@@ -248,7 +255,9 @@ impl ListStacks {
         find_named(&self.bin, name)
     }
 
-    /// Whether the drive's stack may be arranged like this, as for `can_arrange`.
+    /// Whether the drive's stack may be rearranged to the reels with these names. None of the
+    /// drive's reels may be latched, and the names must be distinct. Each must be the name of a
+    /// reel on that stack or in the bin.
     fn can_put_stack(&self, drive: usize, names: &[&[u8]]) -> bool
         requires { drive < length self.now.library.drives }
         ensures { result ≡ may_arrange self.now.library drive (map (λ n. n.now) names.now) }
@@ -260,7 +269,9 @@ impl ListStacks {
         all_differ(names) && all_there(names, &self.bin, chosen.stack())
     }
 
-    /// Arranges the drive's stack, as `arrange` does.
+    /// Rearranges the drive's stack: it then has the reels with these names, in that order, and its
+    /// other reels go to the end of the bin. Fails with `OutOfMemory` if an allocation fails, and
+    /// changes nothing then.
     fn put_stack(&mut self, drive: usize, names: &[&[u8]]) -> Result<(), DriveFault>
         requires { drive < length self.old.library.drives }
         ensures arranged { IsArranged self.old drive (map (λ n. n.now) names.now) result self.new }
@@ -274,7 +285,9 @@ impl ListStacks {
         Ok(())
     }
 
-    /// Latches the first reel of the drive's stack, as `Stacks::latch` does.
+    /// Latches the first reel of the drive's stack and returns it, at its beginning. Fails with
+    /// `NoReel` if the stack has no reel or its first reel is already latched. Otherwise fails with
+    /// `Device` if a trouble is set for the stacks.
     fn take_first(&mut self, drive: usize) -> Result<TroubledReel, DriveFault>
         requires { drive < length self.old.library.drives }
         ensures latched { IsReelLatched self.old drive result self.new }
@@ -294,7 +307,7 @@ impl ListStacks {
         Ok(reel)
     }
 
-    /// Lays the latched reel back on its stack, as `Stacks::unlatch` does.
+    /// Puts `reel`, the drive's latched reel, back in its place on the stack. It cannot fail.
     fn lay_first(&mut self, drive: usize, reel: TroubledReel)
         requires drive { drive < length self.old.library.drives }
         requires latched { HasLatched IsLibrary self.old drive }
@@ -306,7 +319,8 @@ impl ListStacks {
         chosen.unlatch(reel);
     }
 
-    /// Moves the latched reel to the end of the bin, as `Stacks::offline` does.
+    /// Moves `reel`, the drive's latched reel, to the end of the bin. Fails with `Device`, and
+    /// returns the reel, if a trouble is set for the stacks.
     fn move_first(
         &mut self,
         drive: usize,

@@ -1,4 +1,7 @@
 //! A reel in memory, with its name.
+//!
+//! A drive's latched reel is the first of its stack: it is in the drive until it is laid back or
+//! moved to the bin.
 
 ghost use Rattle.std.specs.Prelude.{◌≡◌, Some, None, IfOk, MatchOption};
 ghost use Rattle.std.specs.Str.{bytes_eq};

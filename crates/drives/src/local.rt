@@ -53,8 +53,8 @@ impl Model for LocalHolds {
 }
 
 impl LocalHolds {
-    /// Returns `drives` drives, from 1 to `DRIVE_LIMIT`, that no seat holds. Fails only if an
-    /// allocation fails.
+    /// Returns the hold record of new drives that no seat holds. `drives` is the number of drives,
+    /// from 1 to `DRIVE_LIMIT`. Fails only if an allocation fails.
     pub fn new(alloc: Global, drives: usize) -> Result<LocalHolds, AllocError>
         requires some { 1 ≤ drives }
         requires few { drives ≤ DRIVE_LIMIT }

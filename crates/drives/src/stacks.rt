@@ -1,4 +1,7 @@
 //! The contract that every implementation of `Stacks` keeps for its reels.
+//!
+//! A drive's latched reel is the first of its stack: it is in the drive until it is laid back or
+//! moved to the bin.
 
 ghost use Rattle.std.specs.Prelude.{◌≡◌, ℕ, ◌<◌, IfSome, IfErr, length};
 ghost use Rattle.drives.specs.TapeLibrary.{TapeLibrary, IsDriveNamed, EachReelOnce};
@@ -14,10 +17,11 @@ use tape::Reel;
 /// An implementation may leave its contents unspecified, as std's readers may with their bytes.
 /// Clauses about a `TapeLibrary` apply only if the contents are specified.
 pub trait Stacks {
-    // single, sized: Stacks have at most one known library. That library has as many drives as the
-    // stacks have.
+    // single, sized: If the library of the stacks is known, the stacks have only this library. It
+    // has as many drives as the stacks.
     //
-    // once: If the library is known, each reel name occurs only once in all its stacks and its bin.
+    // once: If the library is known, each reel name occurs only once in the library's stacks and
+    // bin.
     //
     // can_fail: For stacks in memory, a device can fail only if a trouble is set for the stacks or
     // for a reel that is not latched.
@@ -49,14 +53,18 @@ pub trait Stacks {
         // given name. `drive` returns `None` only if no drive has the name.
         ensures named { (s : TapeLibrary) → holds self.now s → IsDriveNamed name.now s result };
 
-    /// Latches the first reel of the drive's stack and returns it, at its beginning. Drives are
-    /// numbered from 0.
+    /// Mounts, or latches, the first reel of the drive's stack and returns it, at its beginning.
+    /// Drives are numbered from 0.
+    ///
+    /// Until `unlatch` or `offline` gets the reel back, it keeps its place in the stack and cannot
+    /// be latched again.
     ///
     /// Fails with `NoReel` if the stack has no reel or its first reel is already latched, with
-    /// `Device`, and with `OutOfMemory`. No reel is moved then.
+    /// `Device` if the device that stores the reels fails, and with `OutOfMemory` if an allocation
+    /// fails. No reel is moved then.
     fn latch(&mut self, drive: usize) -> Result<Self::Reel, DriveFault>
         requires { drive < drives self.old }
-        // `latch` keeps the promises of every call of stacks (`IsStacksCall`).
+        // `latch` keeps the promises that every call of stacks keeps (`IsStacksCall`).
         ensures { IsStacksCall (stacks_kind holds drives failures can_fail makes) Self.Reel.Reel self.old (Latch drive result) self.new };
 
     /// Lays `reel`, the drive's latched reel, back on its stack. It allocates nothing, counts no
@@ -64,7 +72,7 @@ pub trait Stacks {
     fn unlatch(&mut self, drive: usize, reel: Self::Reel)
         requires drive { drive < drives self.old }
         requires latched { HasLatched holds self.old drive }
-        // `unlatch` keeps the promises of every call of stacks (`IsStacksCall`).
+        // `unlatch` keeps the promises that every call of stacks keeps (`IsStacksCall`).
         ensures { IsStacksCall (stacks_kind holds drives failures can_fail makes) Self.Reel.Reel self.old (LayBack drive reel) self.new };
 
     /// Moves `reel`, the drive's latched reel, to the end of the bin.
@@ -74,8 +82,8 @@ pub trait Stacks {
     fn offline(&mut self, drive: usize, reel: Self::Reel) -> Result<(), (Self::Reel, DriveFault)>
         requires drive { drive < drives self.old }
         requires latched { HasLatched holds self.old drive }
-        // `offline` keeps the promises of every call of stacks (`IsStacksCall`). If `offline`
-        // fails, it hands the reel back.
+        // `offline` keeps the promises that every call of stacks keeps (`IsStacksCall`). If
+        // `offline` fails, it hands the reel back.
         ensures call { IsMoveCall (stacks_kind holds drives failures can_fail makes) Self.Reel.Reel self.old drive reel result self.new }
         ensures back { IfErr result (λ refused. refused.0 ≡ reel) };
 

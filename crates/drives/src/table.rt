@@ -1,4 +1,7 @@
 //! The table of drives: which seats hold them, and their reels.
+//!
+//! A drive's latched reel is the first of its stack: it is in the drive until it is laid back or
+//! moved to the bin.
 
 ghost use Rattle.std.specs.Prelude.{◌≡◌, ◌<◌, ◌≤◌, IfOk, OnErr};
 ghost use Rattle.drives.specs.Opening.{kinds, IsOpening};
@@ -15,8 +18,8 @@ pub struct DriveTable<H: Holds, S: Stacks> {
 }
 
 impl<H: Holds, S: Stacks> DriveTable<H, S> {
-    /// Takes the drive with that name for the seat and latches its first reel. Returns the drive's
-    /// number and the reel, which is at its beginning.
+    /// Takes the drive with that name for the seat and latches the first reel of the drive's stack.
+    /// Returns the drive's number and the reel, which is at its beginning.
     ///
     /// The seat must belong to `holds`, and `stacks` must not have more drives than `holds`.
     ///
@@ -40,8 +43,8 @@ impl<H: Holds, S: Stacks> DriveTable<H, S> {
         // makes a take and a give.
         //
         // If the holder of the drive is known, the take finds the holder's number, or 0 for no
-        // holder (field `found`). After an open that succeeded, the known holder of the drive is
-        // the seat. A failed open does not change the known holders (field `told`).
+        // holder (field `found`). After an open that succeeded, the seat is the known holder of the
+        // drive. A failed open does not change the known holders (field `told`).
         //
         // The seat and each seat with another number still belong to the hold record (fields `own`
         // and `others`). An open assigns no number to a seat (field `same_seats`).
@@ -49,10 +52,10 @@ impl<H: Holds, S: Stacks> DriveTable<H, S> {
         // If the named drive does not exist or is busy, an open makes no call of the stacks.
         // Otherwise an open makes one latch (field `call`).
         //
-        // An open fails with `Device` only if a device could fail before the open, and a failure
-        // was counted in the open (field `call`). A count that is already the greatest `u64` does
-        // not change. If a failure is counted, the open fails with `Device`. No open makes a device
-        // able to fail.
+        // Suppose that an open fails with `Device`. Then a device could fail before the open, and
+        // the open counted a failure (field `call`). A count that is already the greatest `u64`
+        // does not change. If a failure is counted, the open fails with `Device`. If no device
+        // could fail before an open, none can fail after it.
         //
         // Reels that are latched in other drives stay latched (field `call`).
         ensures opens { IsOpening (kinds H.Holds S.Stacks S.Reel.Reel) self.old seat.old name.now result self.new seat.new }

@@ -1,4 +1,6 @@
--- The parts of a client, and the effect of `next_request`. Public contracts cite it.
+-- The parts of a client, and the effect of `next_request`. A count is the record of a volume that
+-- was written whole: its number, its first block and its number of blocks. `told` holds for the
+-- payloads that the client's source can have. Public contracts cite it.
 use Rattle.std.specs.Prelude.{◌≡◌, ◌≢◌, ◌⊎◌, ℕ, ◌+◌, ◌<◌, Bool, true, false, List, [], ◌++◌, length, get_or, Option, Some, None, Result, Ok, Err}
 use Rattle.rmt_wire.specs.Counted.{raised}
 use Rattle.rmt_wire.specs.Request.{PlainRequest, IsTextOf, request_text}
@@ -149,14 +151,16 @@ IsBlockRead {B} {T} number size reads old before result new now =
     (into : List ℕ) × (given : List ℕ) × (read : Result Unit SourceFailed) × (length into ≡ size) × reads old number into read new given
     × (is_source_fault result ≡ has_failed read) × IsRequestGiven before result now given
 
--- if the step is a block, `IsBlockRead`; any other request leaves the source unchanged
+-- If the step is a block, the source is read once, for that block: its bytes are appended, or its
+-- failure is the fault. If an allocation for the write failed, the source was not read. Any other
+-- request leaves the source unchanged.
 abbrev pub ReadBy : {B T : Type 0} → Step → ℕ → (B → ℕ → List ℕ → Result Unit SourceFailed → B → List ℕ → Type 0)
     → B → List ℕ → Result T AttemptFault → B → List ℕ → Type 0
 ReadBy {B} {T} (Block number) size reads old before result new now = IsBlockRead number size reads old before result new now
 ReadBy {B} {T} step size reads old before result new now = new ≡ old
 
--- If the stage is to send the request of a step, the source is read as `ReadBy` says. In any other
--- stage it is unchanged.
+-- If the stage is to send a block, the source is read once, for that block, unless an allocation
+-- failed before. At any other step and in any other stage the source is unchanged.
 abbrev pub ReadAt : {B : Type 0} → Stage → ℕ → (B → ℕ → List ℕ → Result Unit SourceFailed → B → List ℕ → Type 0)
     → B → List ℕ → Result Bool AttemptFault → B → List ℕ → Type 0
 ReadAt {B} (ToSend step) size reads old before result new now = ReadBy step size reads old before result new now

@@ -1,4 +1,5 @@
--- How a client continues in its run. Public contracts cite it.
+-- How a client continues in its run. A count is the record of a volume that was written whole: its
+-- number, its first block and its number of blocks. Public contracts cite it.
 use Rattle.std.specs.Prelude.{◌≡◌, ◌≢◌, ◌⊎◌, List, [], ◌++◌}
 use Rattle.dump_client.specs.Standing.{Standing}
 use Rattle.dump_run.specs.declared.count.VolumeCount.{VolumeCount}

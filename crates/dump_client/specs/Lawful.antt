@@ -1,4 +1,6 @@
--- The properties of every client, and its position in an attempt. Public contracts cite it.
+-- The properties of every client, and its position in an attempt. A count is the record of a volume
+-- that was written whole: its number, its first block and its number of blocks. The look is the
+-- read of the reel's first record, before anything is written. Public contracts cite it.
 use Rattle.std.specs.Prelude.{◌≡◌, ◌⊎◌, ℕ, zero, suc, ◌-◌, ◌<◌, ◌≤◌, if◌then◌else◌, nat_lt, List, [], ◌∷◌, ◌++◌, length, map, take, Contains}
 use Rattle.rmt_wire.specs.Request.{PlainRequest}
 use Rattle.rmt_wire.specs.Request.PlainRequest.{Op}
@@ -124,7 +126,8 @@ attempt_request run payload counts step = request_of run payload (attempt_at ste
 abbrev pub sent_with : PlainRun → List (List ℕ) → List VolumeCount → Step → List PlainRequest
 sent_with run payload counts step = sent_before run payload counts step ++ attempt_request run payload counts step ∷ []
 
--- The request of a step is the same at the present checkpoint as at the attempt's.
+-- Each step has the same request, whether the volume and its first block are those after all of
+-- `counts` or those at which the attempt began.
 abbrev pub AsksAtCheckpoint : PlainRun → List (List ℕ) → List VolumeCount → Type 0
 AsksAtCheckpoint run payload counts =
     (step : Step) → request_of run payload (checkpoint_of counts).0 (checkpoint_of counts).1 step ≡ attempt_request run payload counts step

@@ -1,5 +1,5 @@
--- The bytes that come to a client that waits for a reply. Public contracts use it (through
--- Standing).
+-- The bytes that come to a client that waits for a reply. The kind of a reply is a number or data.
+-- Public contracts use it (through Standing).
 use Rattle.std.specs.Prelude.{◌≡◌, ℕ, ◌<◌, Bool, true, false, List, [], ◌∷◌, ◌++◌, length, Option, Some, None, Result, Ok, Err}
 use Rattle.rmt_wire.specs.Reply.{PlainReply, Wanted}
 use Rattle.rmt_wire.specs.Reply.PlainReply.{Done, Data, Error}

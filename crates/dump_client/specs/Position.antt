@@ -1,5 +1,7 @@
--- The position of an attempt: what was sent, the replies that came, and what comes next. Public
--- contracts cite it.
+-- The position of an attempt: what was sent, the replies that came, and what comes next. A count is
+-- the record of a volume that was written whole: its number, its first block and its number of
+-- blocks. The look is the read of the reel's first record, before anything is written. The kind of
+-- a reply is a number or data. Public contracts cite it.
 use Rattle.std.specs.Prelude.{◌≡◌, ◌⊎◌, ℕ, ◌+◌, ◌<◌, ◌≤◌, ◌==◌, if◌then◌else◌, nat_lt, List, [], ◌∷◌, ◌++◌, length, map, take, Contains, Option, Some, None}
 use Rattle.rmt_wire.specs.Request.{PlainRequest}
 use Rattle.rmt_wire.specs.Request.PlainRequest.{Op}

@@ -1,4 +1,6 @@
--- The outcome of a list of replies, which are those that a script wants. Public contracts cite it.
+-- The outcome of a list of replies, which are those that a script wants. A count is the record of a
+-- volume that was written whole: its number, its first block and its number of blocks. Public
+-- contracts cite it.
 use Rattle.std.specs.Prelude.{◌≡◌, ◌⊎◌, ℕ, ◌+◌, ◌-◌, ◌<◌, ◌≤◌, List, [], ◌∷◌, ◌++◌, length, map}
 use Rattle.rmt_wire.specs.Reply.{PlainReply}
 use Rattle.dump_run.specs.Run.{PlainRun}

@@ -1,5 +1,6 @@
--- The requests of one attempt, which writes one volume, and the replies that it wants. Public
--- contracts cite it.
+-- The requests of one attempt, which writes one volume, and the replies that it wants. The look is
+-- the read of the reel's first record, before anything is written. The kind of a reply is a number
+-- or data. Public contracts cite it.
 use Rattle.std.specs.Prelude.{◌≡◌, ℕ, zero, suc, ◌+◌, if◌then◌else◌, nat_lt, List, [], ◌∷◌, ◌++◌, map, get_or, Option, Some, None}
 use Rattle.std.specs.Str.{bytes_eq}
 use Rattle.rmt_wire.specs.Request.{PlainRequest}

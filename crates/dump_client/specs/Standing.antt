@@ -1,5 +1,6 @@
--- The state of a client as values, and how bytes and the end of a connection change it. Public
--- contracts cite it.
+-- The state of a client as values, and how bytes and the end of a connection change it. A count is
+-- the record of a volume that was written whole: its number, its first block and its number of
+-- blocks. Public contracts cite it.
 use Rattle.std.specs.Prelude.{◌≡◌, ◌≢◌, ◌⊎◌, ℕ, ◌-◌, Bool, true, false, List, [], ◌∷◌, ◌++◌, Option, Some, None, Result, Ok, Err}
 use Rattle.rmt_wire.specs.Reply.{PlainReply}
 use Rattle.rmt_wire.specs.ReplyParts.{ReplyParsesAs}

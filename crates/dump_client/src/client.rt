@@ -88,7 +88,8 @@ impl<B: Blocks + Drop> Client<B> {
 }
 
 impl<B: Blocks + Drop> Client<B> {
-    /// Makes a client from the text of a checkpoint, with its run and its counts.
+    /// Makes a client from the text of a checkpoint, with the run and the counts of that
+    /// checkpoint.
     ///
     /// The client is `Finished` if the counts are the whole run, and `Ready` otherwise. If the
     /// source's blocks are known, they must be as many as the run has, each of its size.
@@ -105,7 +106,7 @@ impl<B: Blocks + Drop> Client<B> {
         // The client is finished exactly if its counts cover the whole run. Otherwise the client is
         // ready.
         ensures over { IfOk result (λ c. IsOver c.at.run c.at.counts c.at) }
-        // A client that is made has this source.
+        // If the call returns a client, this client has the given source.
         ensures given { IfOk result (λ c. c.source ≡ source) }
         // If the text is bad, the call returns the error that `Checkpoint::read` returns.
         ensures refused { IfErr result (HasResumeFault bytes.now) }
@@ -122,7 +123,7 @@ impl<B: Blocks + Drop> Client<B> {
         }
     }
 
-    /// Makes a client from a checkpoint, with its run and its counts.
+    /// Makes a client from a checkpoint, with the run and the counts of that checkpoint.
     ///
     /// The client is `Finished` if the counts are the whole run, and `Ready` otherwise. If the
     /// source's blocks are known, they must be as many as the run has, each of its size. It
@@ -153,8 +154,8 @@ impl<B: Blocks> Client<B> {
     pub fn state(&self) -> State
         // Returns the state of the client.
         ensures state { result ≡ state_of self.now.at.stage }
-        // Each client is *lawful*: its run is within its limits, its counts are in order, and its
-        // stage fits both.
+        // Each client is *lawful*: its run is within the limits of a run, its counts are in order,
+        // and its stage fits the run and the counts.
         ensures lawful { IsLawful self.now.at }
         // The client holds the reply bytes that arrived after its last request. There may be none.
         ensures fed { (bytes : List ℕ) × HasFed self.now bytes }
@@ -165,7 +166,7 @@ impl<B: Blocks> Client<B> {
 
     /// Returns the run.
     pub fn run(&self) -> &Run
-        // Returns the client's run. No other body has its type.
+        // Returns the client's run. The types allow only this body, so there is no edit.
         ensures { result.now ≡ self.now.at.run }
     {
         self.ledger.run()
@@ -179,10 +180,9 @@ impl<B: Blocks> Client<B> {
         self.ledger.counted()
     }
 
-    /// Returns the number of the volume that an attempt writes next, and its first block.
+    /// Returns the number and the first block of the volume that the client writes next.
     pub fn checkpoint(&self) -> (u32, u32)
-        // Returns the number of the volume that the client writes next, and the first block of that
-        // volume.
+        // Returns the number and the first block of the volume that the client writes next.
         ensures { result ≡ checkpoint_of self.now.at.counts }
     {
         self.ledger.checkpoint()
@@ -215,7 +215,8 @@ impl<B: Blocks> Client<B> {
         }
     }
 
-    /// Starts an attempt, on a new connection, and reserves the room for the count of its volume.
+    /// Starts an attempt on a new connection, and reserves room for the count of the attempt's
+    /// volume.
     ///
     /// Returns `WrongState` unless the client is `Ready`, and `OutOfMemory` if the allocation
     /// fails. Nothing has changed then.
@@ -225,16 +226,16 @@ impl<B: Blocks> Client<B> {
         //
         // When an attempt starts, the client holds no bytes of an earlier connection.
         //
-        // If the attempt starts, the client has room to count the attempt's volume. The call
-        // returns `OutOfMemory` only if the client had no such room before.
+        // If the attempt starts, the client has room to count the attempt's volume. If the client
+        // had this room before, the call does not return `OutOfMemory`.
         ensures started { StartedAt self.old.at.stage self.old.at self.old.room result self.new.at }
         // When an attempt starts, the client holds no bytes of an earlier connection.
         ensures fed { (bytes : List ℕ) → HasFed self.old bytes → HasFed self.new bytes }
         // If the call fails, the client's room for counts and its reply reader stay as they were.
         // The source stays as it was, whether or not the call fails.
         ensures same_source { self.new.source ≡ self.old.source }
-        // If the attempt starts, the client has room to count the attempt's volume. The call
-        // returns `OutOfMemory` only if the client had no such room before.
+        // If the attempt starts, the client has room to count the attempt's volume. If the client
+        // had this room before, the call does not return `OutOfMemory`.
         ensures room { OnOk result (0 < self.new.room) }
         // If the call fails, the client's room for counts and its reply reader stay as they were.
         // The source stays as it was, whether or not the call fails.
@@ -264,9 +265,10 @@ impl<B: Blocks> Client<B> {
         //
         // If the call returns an error, it appends nothing, and the attempt has failed.
         //
-        // The call has only one other error, `OutOfMemory`. The call returns `OutOfMemory` only if
-        // the buffer's spare room is smaller than the text of the request. If memory is missing for
-        // the close, the call returns no error, and the attempt is over.
+        // The only errors of the call are the source's error and `OutOfMemory`. The call returns
+        // `OutOfMemory` only if the buffer's spare room is smaller than the text of the request. If
+        // the request is the close, and an allocation for it fails, the call returns no error, and
+        // the attempt is over.
         ensures asked { NextRequestAt self.old.at.stage (B.holds self.old.source) self.old.at (vec_capacity out.old) out.old.items
             result out.new.items self.new.at }
         // If the request writes a block, the call reads this block once from the source, by its
@@ -277,7 +279,7 @@ impl<B: Blocks> Client<B> {
         // The call returns the source's error exactly if the read of the block failed.
         ensures read { ReadAt self.old.at.stage self.old.at.run.block_bytes B.reads self.old.source out.old.items
             result self.new.source out.new.items }
-        // The blocks of the source stay.
+        // The blocks of the source stay as they were.
         ensures same_blocks { (payload : List (List ℕ)) → B.holds self.old.source payload ↔ B.holds self.new.source payload }
         // If the read fails, the source adds 1 to its number of failures. Otherwise this number
         // stays as it was. A read fails only if the source can fail. If a source cannot fail before
@@ -334,16 +336,16 @@ impl<B: Blocks> Client<B> {
         // last written block. If the reel becomes full before a block was written, the attempt
         // fails, because the reel is too small.
         //
-        // Before the client has counted the volume, every reply that is not wanted fails the
-        // attempt, with the fault for this reply. Bytes that are not a reply fail the attempt, too,
-        // and so do bytes that the client is not waiting for. After the client has counted the
-        // volume, any of these replies or bytes end the attempt without a failure.
+        // Before the client has counted the volume, every reply that is not wanted makes the
+        // attempt fail, with the fault for this reply. The attempt also fails if bytes arrive that
+        // are not a reply, or that the client is not waiting for. After the client has counted the
+        // volume, any of these ends the attempt without a failure.
         //
         // If the attempt fails, the counts stay as they were, and the client then asks the operator
         // what to do.
         //
         // When an attempt ends without a failure, the run is finished exactly if the counts cover
-        // all its blocks. If they do not, another attempt can start.
+        // all its blocks. Otherwise another attempt can start.
         ensures moved { (bytes : List ℕ) → HasFed self.old bytes → FedAt self.old.at.stage self.old.at bytes piece.now result self.new.at }
         // Takes a piece of the server's reply. The effect depends on all bytes that arrived after
         // the last request, this piece included. If the reply is not complete, the client keeps
@@ -369,8 +371,8 @@ impl<B: Blocks> Client<B> {
         }
     }
 
-    /// Takes the end of the connection. Before the count it fails the attempt. After the count the
-    /// attempt is over.
+    /// Tells the client that the connection has ended. Before the count this fails the attempt.
+    /// After the count the attempt is over.
     pub fn ended(&mut self) -> Progress
         // Tells the client that the connection has ended. If the client has not counted the
         // attempt's volume yet, the attempt fails. The counts then stay as they were, and the
@@ -378,8 +380,8 @@ impl<B: Blocks> Client<B> {
         // over without a failure.
         //
         // When an attempt ends without a failure, the run is finished exactly if the counts cover
-        // all its blocks. If they do not, another attempt can start. If no attempt is under way,
-        // nothing changes.
+        // all its blocks. Otherwise another attempt can start. If no attempt is under way, nothing
+        // changes.
         ensures moved { CutAt self.old.at.stage self.old.at result self.new.at }
         // After the call, the client holds no reply bytes. The total room for counts, used and
         // free, stays the same. The source stays as it was.
@@ -401,8 +403,8 @@ impl<B: Blocks> Client<B> {
         // start, or the run is abandoned. The counts stay as they were. If the client does not ask
         // for an answer, the call changes nothing.
         ensures answered { AnsweredAt self.old.at.stage self.old.at answer result self.new.at }
-        // The reply bytes that the client holds stay as they were. So do the total room for counts,
-        // used and free, and the source.
+        // The reply bytes that the client holds stay as they were. The total room for counts, used
+        // and free, stays the same. The source stays as it was.
         ensures fed { (bytes : List ℕ) → HasFed self.old bytes → HasFed self.new bytes }
         ensures same_source { self.new.source ≡ self.old.source }
         ensures slots { self.new.room + length self.new.at.counts ≡ self.old.room + length self.old.at.counts }
@@ -412,7 +414,7 @@ impl<B: Blocks> Client<B> {
 }
 
 impl Client<ListBlocks> {
-    /// Sets whether reads of the payload fail, from now until the next call.
+    /// Sets whether reads of the payload fail from now until the next call of `source_trouble`.
     pub fn source_trouble(&mut self, fails: bool)
         // Sets whether reads of the payload in memory fail.
         ensures source { self.new.source ≡ listed self.old.source.blocks fails self.old.source.failures }

@@ -1,4 +1,9 @@
 //! Laws of an attempt and its counts. Each is the contract of a function that does nothing.
+//!
+//! The look is the read of the reel's first record, before anything is written.
+//!
+//! A count is the record of a volume that was written whole: its number, its first block and its
+//! number of blocks.
 
 ghost use Rattle.std.specs.Prelude.{◌≡◌, ◌≢◌, ◌⊎◌, ◌↔◌, ℕ, ◌+◌, ◌≤◌, List, [], ◌++◌, length};
 ghost use Rattle.rmt_wire.specs.Reply.{PlainReply, AnswersTo, data_length};
@@ -30,9 +35,9 @@ ghost use Rattle.dump_client.specs.declared.fault.AttemptFault.TheVariants.{Refu
 
 use dump_run::one_checkpoint;
 
-/// An attempt follows its script. Each reply that the script wants leads to the next request. The
-/// reply to MTOFFL leads to the count, and the reply to the close to the attempt's end. Any other
-/// reply fails the attempt.
+/// The law that an attempt follows its script. Each reply that the script wants leads to the next
+/// request. The reply to MTOFFL leads to the count, and the reply to the close to the attempt's
+/// end. Any other reply fails the attempt.
 ///
 /// A wanted reply with no more bytes than a label is of the kind that is awaited. No reply of that
 /// kind has more bytes.
@@ -44,28 +49,28 @@ pub fn wanted_replies()
     // close, the attempt is over.
     ensures next { (run : PlainRun) (counts : List VolumeCount) (first count : ℕ) → IsRun run → IsCount run first count →
         RepliesFollow run counts first (steps_of run first count) }
-    // Each reply that the script does not want fails the attempt.
+    // Each reply that the script does not want makes the attempt fail.
     ensures others { (run : PlainRun) (counts : List VolumeCount) (first : ℕ) (step : Step) (reply : PlainReply) →
         IsWantedAt run counts first step reply ⊎ IsFailure (after_reply run counts first step reply) }
-    // At each step, the client waits for one kind of reply: a number, or data up to a length. A
-    // wanted reply is of this kind if its data is not longer than a label. A reply of this kind
-    // never has data longer than a label.
+    // At each step, the client waits for one kind of reply: a number, or data up to a certain
+    // length. A wanted reply is of this kind if its data is no longer than a label. A reply whose
+    // data is longer than a label is never of this kind.
     ensures heard { (run : PlainRun) (counts : List VolumeCount) (first : ℕ) (step : Step) (reply : PlainReply) →
         CanBeHeard run counts first step reply }
     ensures brief { (step : Step) (reply : PlainReply) → AnswersTo reply (wanted_of step) → data_length reply ≤ label_bytes }
 {}
 
-/// An attempt fails with `CountedReel` of a volume exactly if the look reads the label of that
-/// volume and this run has counted it. After the label of a counted volume an attempt never
-/// continues, whatever else is counted. An error in reply to the look fails the attempt with
-/// `Refused`. No other step fails with `CountedReel`.
+/// The law that an attempt fails with `CountedReel` exactly if the look reads the label of a volume
+/// that this run has counted. After the label of a counted volume an attempt never continues,
+/// whatever else is counted. An error in reply to the look fails the attempt with `Refused`. No
+/// other step fails with `CountedReel`.
 ///
 /// The function does nothing: its contract is a law of the definitions.
 pub fn counted_reels()
     // Suppose that the run is within its limits and its counts are in order, as is always true for
     // a client. Then an attempt fails with `CountedReel` exactly if the look reads the label of a
-    // volume that this run has counted. The fault has the number of this volume. At no other step
-    // does an attempt fail with `CountedReel`.
+    // volume that this run has counted. The fault has the number of this volume. An attempt fails
+    // with `CountedReel` at no other step than the look.
     ensures exactly { (run : PlainRun) (counts : List VolumeCount) (first volume : ℕ) (reply : PlainReply) → IsRun run →
         AreVolumes run 1 0 counts → FailsAsCounted run counts first volume reply ↔ ShowsCounted run counts volume reply }
     // If the look reads the label of a counted volume, the attempt does not continue, whatever
@@ -76,22 +81,22 @@ pub fn counted_reels()
     // error.
     ensures refused { (run : PlainRun) (counts : List VolumeCount) (first n : ℕ) (text : List ℕ) →
         after_reply run counts first Look (Error n text) ≡ Fails (Refused n) }
-    // No step but the look fails so.
+    // An attempt fails with `CountedReel` at no other step than the look.
     ensures alone { (run : PlainRun) (counts : List VolumeCount) (first volume : ℕ) (step : Step) (heard : Received) → step ≢ Look →
         outcome run counts first step heard ≢ Fails (CountedReel volume) }
 {}
 
-/// If replies led from the open to a step, they are those that a script wants: one to each step
-/// before this one. The script is that of a volume with some number of blocks, and the step is its
-/// next. From the mark on the volume has the blocks from `first` up to, but not including, the
-/// block that the mark carries. These are counted at the reply to MTOFFL.
+/// The law that some script of a volume wants all replies that led an attempt from the open to a
+/// later step. There is one reply to each step before that step. The script is that of a volume
+/// with some number of blocks, and the step is its next. From the mark on the volume has the blocks
+/// from `first` up to, but not including, the block that the mark carries. These are counted at the
+/// reply to MTOFFL.
 ///
 /// The function does nothing: its contract is a law of the definitions.
 pub fn granted_replies()
-    // Suppose that some replies have led the client from the open to a later step. Then these
-    // replies are the first wanted replies of some script of the volume. There is one reply for
-    // each request of the script before the step. The script's next request is the request of the
-    // step.
+    // Suppose that some replies have led the client from the open to a later step. Then some script
+    // of the volume wants these replies. There is one reply to each of the script's requests before
+    // that step, and the script's next request is the request of that step.
     ensures on_the_way { (run : PlainRun) (had : List VolumeCount) (first : ℕ) (step : Step) (replies : List PlainReply) →
         GrantedOnTheWay run had first step replies }
     // If the replies lead the client to count the volume, the script writes exactly the counted
@@ -100,11 +105,11 @@ pub fn granted_replies()
         GrantedAtTheCount run had first next replies }
 {}
 
-/// Two laws of a client. First: during an attempt, its state determines its position in its volume,
-/// that is, which first part of the volume's request script was sent, and how many replies came.
-/// The reply to MTOFFL is among them only at the close, when the last count is that volume's.
-/// Second: the request of a step is the same whether it is taken from the checkpoint now or from
-/// the one at the attempt's start.
+/// The law that a client's state determines its position in the script of its volume, and the
+/// request at this position. First: the position is which first part of the volume's request script
+/// was sent, and how many replies came. The reply to MTOFFL is among them only at the close, when
+/// the last count is that volume's. Second: the request of a step is the same whether it is taken
+/// from the checkpoint now or from the one at the attempt's start.
 ///
 /// The function does nothing: its contract is a law of the definitions.
 pub fn lawful_positions()
@@ -128,29 +133,32 @@ pub fn short_requests()
         IsTextOf (request_text request) request → length (request_text request) ≤ READER_LIMIT }
 {}
 
-/// The requests that were sent are those that were appended, in order. At the start of an attempt
-/// there are none. When a reply continues the attempt, one more was sent: the request that the
-/// reply answers. The same holds if the reply counts the volume.
+/// The law that the requests that a client has appended before a step are the script's requests
+/// before this step, in the same order. At the start of an attempt there are none. When a reply
+/// continues the attempt, one more was sent: the request that the reply answers. The same holds if
+/// the reply counts the volume.
 ///
 /// The function does nothing: its contract is a law of the definitions.
 pub fn sent_in_order()
-    // The requests before a step are exactly the requests whose text the client has appended. At
-    // the start of an attempt there are none. Each step that the client completes adds one request.
+    // The script's requests before a step are exactly the requests whose text the client has
+    // appended before that step. At the start of an attempt, there are no such requests. Each step
+    // that the client completes adds one request.
     ensures none { (run : PlainRun) (payload : List (List ℕ)) (counts : List VolumeCount) → sent_before run payload counts Open ≡ [] }
     ensures next { (run : PlainRun) (payload : List (List ℕ)) (counts : List VolumeCount) → SendsNext run payload counts }
     ensures counted { (run : PlainRun) (payload : List (List ℕ)) (counts : List VolumeCount) → SendsLast run payload counts }
 {}
 
-/// From the close on nothing fails: anything that the client receives then ends the attempt. Before
-/// the close, bytes that are no reply fail the attempt, and so does the end of the connection.
+/// The law that an attempt cannot fail from the close on, because anything that the client receives
+/// then ends the attempt without a failure. Before the close, bytes that are no reply fail the
+/// attempt, and so does the end of the connection.
 ///
 /// The function does nothing: its contract is a law of the definitions.
 pub fn after_the_count()
-    // From the close on, nothing can fail the attempt.
+    // From the close on, the attempt cannot fail.
     ensures close { (run : PlainRun) (counts : List VolumeCount) (first : ℕ) (heard : Received) →
         outcome run counts first Close heard ≡ Ended }
-    // At each step before the close, bytes that are not a reply fail the attempt. The end of the
-    // connection fails the attempt, too.
+    // At each step before the close, the attempt fails if bytes arrive that are not a reply. The
+    // attempt also fails if the connection ends.
     ensures noise { (run : PlainRun) (counts : List VolumeCount) (first : ℕ) (step : Step) → step ≢ Close →
         outcome run counts first step Noise ≡ Fails Botched }
     ensures cut { (run : PlainRun) (counts : List VolumeCount) (first : ℕ) (step : Step) → step ≢ Close →
@@ -174,10 +182,11 @@ pub fn fed_in_pieces()
     ensures cut { (old new : Standing) (fault : AttemptFault) → CutAt old.stage old (Failed fault) new → new.counts ≡ old.counts }
 {}
 
-/// Feeding bytes, or the end of a connection, keeps the client's run and its counts. Bytes add at
-/// most one count, and the end adds none. A finished client stays finished, and a lawful one stays
-/// lawful. The progress that is returned agrees with the stage that the client is then in. Between
-/// attempts a client is lawful if its run is within its limits and its counts are in order.
+/// The law that a client keeps its run, and loses no count, when bytes arrive or the connection
+/// ends. Bytes add at most one count, and the end adds none. A finished client stays finished, and
+/// a lawful one stays lawful. The progress that is returned agrees with the stage that the client
+/// is then in. Between attempts a client is lawful if its run is within its limits and its counts
+/// are in order.
 ///
 /// The function does nothing: its contract is a law of the definitions.
 pub fn same_run()
@@ -189,7 +198,7 @@ pub fn same_run()
     // When a piece of bytes arrives, the client adds at most one count.
     ensures one_count { (old new : Standing) (bytes piece : List ℕ) (progress : Progress) → Feeds old bytes piece progress new →
         length new.counts ≤ length old.counts + 1 }
-    // The end of a connection leaves a client in its run, with what it had counted.
+    // The end of a connection changes neither the client's run nor its counts.
     ensures cut { (old new : Standing) (progress : Progress) → CutAt old.stage old progress new → GoesOnWith old new [] }
     // A lawful client stays lawful when bytes arrive and when the connection ends.
     ensures fed_lawful { (old new : Standing) (bytes piece : List ℕ) (progress : Progress) → IsLawful old →
@@ -207,7 +216,8 @@ pub fn same_run()
         IsOver run counts at → IsLawful at }
 {}
 
-/// The checkpoint text of a lawful client is the text of its run and its counts, and of no others.
+/// The checkpoint text of a lawful client describes its run and its counts, and no other run or
+/// counts.
 /// No line of it is bad. A client that is resumed from it has that run and those counts, and
 /// resuming fails only if out of memory.
 ///

@@ -1,4 +1,7 @@
 //! The run, its counts and the stage, on which a client's requests and counts depend.
+//!
+//! A count is the record of a volume that was written whole: its number, its first block and its
+//! number of blocks.
 ghost use Rattle.std.specs.Prelude.{◌≡◌, ℕ, ◌+◌, ◌<◌, false, List, [], length, OnErr, OnOk, None};
 ghost use Rattle.rmt_wire.specs.Reply.{PlainReply};
 ghost use Rattle.rmt_wire.specs.ReplyReader as readers;

@@ -10,10 +10,10 @@
 //!
 //! # Contracts
 //!
-//! Docs/DUMP.md lists the steps of an attempt. The *look* is the step that reads the first record
-//! of the reel. A *script* is the list of an attempt's requests, each with the replies that let the
-//! attempt continue: the *wanted* replies. The client *counts* a volume when the wanted reply to
-//! MTOFFL arrives.
+//! For the steps of an attempt, see docs/DUMP.md. The *look* is the step that reads the first
+//! record of the reel. A *script* is the list of an attempt's requests, each with the replies that
+//! let the attempt continue: the *wanted* replies. The client *counts* a volume when the wanted
+//! reply to MTOFFL arrives.
 #![tactic(auto)]
 
 mod client;

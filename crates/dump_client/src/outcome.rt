@@ -1,4 +1,12 @@
 //! Decides what comes next in an attempt.
+//!
+//! In these functions `first` is the first block of the attempt's volume, and `n` is the number in
+//! the server's reply.
+//!
+//! The look is the read of the reel's first record, before anything is written.
+//!
+//! A count is the record of a volume that was written whole: its number, its first block and its
+//! number of blocks.
 ghost use Rattle.std.specs.Prelude.{◌≡◌, ◌<◌, ℕ, List};
 ghost use Rattle.rmt_wire.specs.Reply.{PlainReply};
 ghost use Rattle.dump_client.specs.Listening.{IsSummary};
@@ -91,7 +99,7 @@ fn after_write(run: &Run, first: u32, step: Step, size: usize, n: u32) -> Outcom
     }
 }
 
-/// Returns what follows if the server replies with a number.
+/// Returns what follows if the server replies with the number `n`.
 fn after_number(run: &Run, first: u32, step: Step, n: u32) -> Outcome
     requires run { IsRun run.now }
     requires block { spec.IsBelow run.now step }
@@ -118,7 +126,7 @@ fn after_error(first: u32, step: Step, n: u32) -> Outcome
 }
 
 /// Returns what follows the bytes of a record. At the look the attempt continues if they are not
-/// the label of a counted volume.
+/// the label of a counted volume. If they are, `counted` is that volume's number.
 fn after_data(run: &Run, first: u32, step: Step, counted: Option<u32>) -> Outcome
     requires run { IsRun run.now }
     ensures { (counts : List VolumeCount) (bytes : List ℕ) → counted ≡ counted_label run.now counts bytes →

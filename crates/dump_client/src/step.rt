@@ -1,4 +1,8 @@
 //! The steps of an attempt. Each is one request.
+//!
+//! The kind of a reply is a number or data.
+//!
+//! The look is the read of the reel's first record, before anything is written.
 ghost use Rattle.std.specs.Prelude.{◌≡◌};
 ghost use Rattle.rmt_wire.specs.Lent.{plain_wanted};
 ghost use Rattle.dump_client.specs.Script.{number_of, wanted_of};

@@ -1,5 +1,6 @@
 -- The text of a checkpoint file: the lines of the run, then a line for each counted volume. The
--- format is this project's own. Public contracts cite it.
+-- format is this project's own. A count is the record of a volume that was written whole: its
+-- number, its first block and its number of blocks. Public contracts cite it.
 use Rattle.std.specs.Prelude.{◌≡◌, ◌≢◌, ℕ, ◌+◌, ◌≤◌, List, [], ◌∷◌, ◌++◌, All, codes, length, map, flat_map, decimal}
 use Rattle.std.specs.Int.{IsInRange}
 use Rattle.rmt_wire.specs.Number.{line_feed, space}

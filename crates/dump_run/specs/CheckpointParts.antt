@@ -1,4 +1,5 @@
--- The results of the functions that read a checkpoint. No public contract needs it.
+-- The results of the functions that read a checkpoint. A count is the record of a volume that was
+-- written whole: its number, its first block and its number of blocks. No public contract needs it.
 use Rattle.std.specs.Prelude.{◌≡◌, ◌≢◌, ◌⊎◌, ℕ, ◌<◌, ◌≤◌, ◌+◌, take, List, ◌∷◌, ◌++◌, map, All, codes, length, get_or, decimal, Option, Some, None, Result, Ok, Err, Vec}
 use Rattle.std.specs.Global.{Global}
 use Rattle.std.specs.Int.{IsInRange}

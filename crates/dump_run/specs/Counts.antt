@@ -1,4 +1,6 @@
--- The counted volumes of a run, in order, and where the next one begins. Public contracts cite it.
+-- The counted volumes of a run, in order, and where the next one begins. A count is the record of a
+-- volume that was written whole: its number, its first block and its number of blocks. Public
+-- contracts cite it.
 use Rattle.std.specs.Prelude.{◌≡◌, ◌⊎◌, ℕ, ◌+◌, ◌<◌, ◌≤◌, List, [], ◌∷◌, length}
 use Rattle.dump_run.specs.Run.{PlainRun}
 use Rattle.dump_run.specs.declared.count.VolumeCount.{VolumeCount}

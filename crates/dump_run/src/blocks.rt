@@ -31,9 +31,9 @@ pub trait Blocks {
     /// the source and the bytes of `into`.
     ghost reads: { Self → ℕ → List ℕ → Result Unit SourceFailed → Self → List ℕ → Type 0 };
 
-    /// Called when an attempt begins volume `volume`, counted from 1. The volume's first block is
-    /// `first`, counted from 0. A source may show this. The default does nothing. The source does
-    /// not change.
+    /// Tells the source that an attempt begins volume `volume`, counted from 1. The volume's first
+    /// block is `first`, counted from 0. A source may show this. The default does nothing. The
+    /// source does not change.
     fn begin_volume(&mut self, volume: u32, first: u32)
         // Tells the source which volume begins. The source does not change.
         ensures { self.new ≡ self.old }

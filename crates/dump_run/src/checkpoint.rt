@@ -55,9 +55,9 @@ impl Checkpoint {
         // counts.
         ensures spelled { IfOk result (λ c. SpellsCheckpoint bytes.now c.run c.counts) }
         // If a line is bad, the call returns the number of the first bad line. A line is bad if its
-        // form is wrong, if a value exceeds a limit, or if the line is missing. If no line is bad
-        // but the counts are out of order, the call returns the line number of the first count that
-        // does not follow the counts before it. The only other error is `OutOfMemory`.
+        // form is wrong, if a value exceeds a limit, or if the line is missing. If no line is bad,
+        // but the counts are not in order, the call returns the line number of the first count that
+        // breaks the order. The only other error is `OutOfMemory`.
         ensures refused { IfErr result (HasResumeFault bytes.now) }
     {
         let (run, rest) = read_head(bytes)?;
@@ -71,7 +71,7 @@ impl Checkpoint {
 
     /// Returns the run.
     pub fn run(&self) -> &Run
-        // Returns the run of the checkpoint. No other body has its type.
+        // Returns the run of the checkpoint. The types allow only this body, so there is no edit.
         ensures { result.now ≡ self.now.run }
     {
         &self.run

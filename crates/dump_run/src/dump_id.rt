@@ -85,7 +85,7 @@ impl DumpId {
         self.date
     }
 
-    /// Returns the date of the dump that this one builds on, or 0 if there is none.
+    /// Returns the date of the dump that this dump builds on, or 0 if there is none.
     pub(crate) fn since(&self) -> u64
         ensures { result ≡ self.now.since }
     {

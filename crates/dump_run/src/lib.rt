@@ -9,8 +9,9 @@
 //! # Contracts
 //!
 //! A *run* is one dump of a file system. A *source* has the blocks that a run dumps. Its type
-//! implements `Blocks`. A *count* is the number of a counted volume, with its first block and its
-//! number of blocks. A *checkpoint* is a run with its counts, and has a text.
+//! implements `Blocks`. A *count* consists of the number of a counted volume, the first block of
+//! this volume, and how many blocks the volume has. A *checkpoint* is a run with its counts, and
+//! can be written as a text.
 #![tactic(auto)]
 
 mod blocks;

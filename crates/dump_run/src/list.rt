@@ -32,8 +32,9 @@ impl Model for ListBlocks {
 }
 
 impl ListBlocks {
-    /// Takes `payload` as `blocks` blocks of `block_bytes` bytes. The payload must have exactly
-    /// `blocks * block_bytes` bytes. No read fails until `trouble` is called.
+    /// Makes a source in memory from `payload`, cut into `blocks` blocks of `block_bytes` bytes
+    /// each. The payload must have exactly `blocks * block_bytes` bytes. No read fails until
+    /// `trouble` is called.
     #[tactic(auto, using(crate::proofs::Cut::length_cut, crate::proofs::Cut::size_cut))]
     pub fn new(payload: Vec<u8>, block_bytes: usize, blocks: u32) -> ListBlocks
         requires { length payload.items ≡ blocks * block_bytes }
@@ -52,7 +53,7 @@ impl ListBlocks {
         }
     }
 
-    /// Sets whether reads fail, from now until the next call.
+    /// Sets whether reads of the source fail from now until the next call of `trouble`.
     pub fn trouble(&mut self, fails: bool)
         // Sets whether reads of the source fail from now on. Nothing else changes.
         ensures { self.new ≡ listed self.old.blocks fails self.old.failures }

@@ -111,7 +111,7 @@ impl Run {
         blocks: u64,
     ) -> Result<Run, RunFault>
         // Returns a run with the given values if all values are within their limits. Otherwise the
-        // call returns the first limit that a value exceeds.
+        // call returns the fault of the first broken limit, in the order of `RunFault`.
         ensures run { IsRunOf (plain_run device.now fs.now level date since block_bytes blocks) result }
         ensures limits { IfOk result IsRun }
     {
@@ -140,8 +140,8 @@ impl Run {
         }
     }
 
-    /// Whether both runs are of one dump: same device, name, level, block size and number of
-    /// blocks. The dates may differ.
+    /// Whether both runs are of the same dump: they have the same device, name, level, block size
+    /// and number of blocks. The dates may differ.
     pub fn is_same_dump(&self, other: &Run) -> bool
         // Returns whether two runs have the same device, name, level, block size and number of
         // blocks. Their dates may differ.
@@ -191,8 +191,8 @@ impl Run {
         self.id.date()
     }
 
-    /// Returns the date of the dump that this one builds on, in seconds since 1970 began, UTC, or 0
-    /// if there is none.
+    /// Returns the date of the dump that this dump builds on, in seconds since 1970 began, UTC, or
+    /// 0 if there is none.
     pub fn since(&self) -> u64
         // Returns the date of the earlier dump that the run builds on, 253402300799 at most.
         ensures told { result ≡ self.now.since }

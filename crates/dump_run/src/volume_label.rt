@@ -69,7 +69,8 @@ impl VolumeLabel {
         }
     }
 
-    /// Whether both labels are of one dump: same name, level and dates. The volumes may differ.
+    /// Whether both labels are of the same dump: they have the same name, level and dates. The
+    /// volumes may differ.
     pub fn is_same_dump(&self, other: &VolumeLabel) -> bool
         // Returns whether two labels have the same name, level and dates.
         ensures { IsTrue result ↔ AreLabelsOfOneDump self.now other.now }
@@ -105,8 +106,8 @@ impl VolumeLabel {
         self.id.date()
     }
 
-    /// Returns the date of the dump that this one builds on, in seconds since 1970 began, UTC, or 0
-    /// if there is none.
+    /// Returns the date of the dump that this dump builds on, in seconds since 1970 began, UTC, or
+    /// 0 if there is none.
     pub fn since(&self) -> u64
         // Returns the date of the earlier dump that the dump builds on, 253402300799 at most.
         ensures told { result ≡ self.now.since }

@@ -1,4 +1,5 @@
--- The plain value of a moment in memory. No public contract needs it.
+-- The plain value of a moment in memory. A plain value is what contracts use for a value that the
+-- code has in memory. No public contract needs it.
 use Rattle.dumpdates.specs.Moment.{PlainMoment}
 use Rattle.dumpdates.specs.declared.moment.Moment.{Moment}
 

@@ -1,4 +1,5 @@
--- The contents of a line, as plain values. No public contract needs it.
+-- The contents of a line, as plain values: the values that contracts use for the types of the code.
+-- A word of a line is a row of bytes without spaces and tabs. No public contract needs it.
 use Rattle.std.specs.Prelude.{◌≡◌, ◌⊎◌, ◌++◌, [], ◌∷◌, List, ℕ, Option, Some, None, Result, Ok, Err}
 use Rattle.dumpdates.specs.Entry.{DatesEntry}
 use Rattle.dumpdates.specs.Clock.{plain_moment}
@@ -26,7 +27,7 @@ plain_words w = record {
   year = w.year.now;
 }
 
--- the plain value of what a line's words spell
+-- The name, the level and the time that the words of a line spell, as a plain value.
 abbrev pub plain_fields : LineFields → PlainFields
 plain_fields f = record { name = f.name.now; level = f.level; moment = plain_moment f.moment }
 

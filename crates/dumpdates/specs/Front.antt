@@ -1,5 +1,6 @@
--- The words of a line, computed from its front. `Line` defines the same by whole lines. No public
--- contract needs it.
+-- The words of a line, computed byte by byte from its beginning. `Line` defines the same words by
+-- whole lines. A word of a line is a row of bytes without spaces and tabs. No public contract needs
+-- it.
 use Rattle.std.specs.Prelude.{ℕ, if◌then◌else◌, List, take, drop, Option, Some, None}
 use Rattle.std.specs.List.{prefix_len, position_or_len, list_all}
 use Rattle.dumpdates.specs.Line.{PlainWords, is_space}

@@ -1,5 +1,6 @@
 -- A line of dumpdates: blank, an entry, or bad. An entry is seven words: the name, the level, and
--- the five of a date as ctime(3) prints it. Public contracts depend on it through Lines.
+-- the five of a date as ctime(3) prints it. A word of a line is a row of bytes without spaces and
+-- tabs. Public contracts depend on it through Lines.
 use Rattle.std.specs.Prelude.{◌≡◌, ℕ, ◌<◌, Bool, true, ◌==◌, ◌||◌, List, [], ◌∷◌, ◌++◌, length, get_or}
 use Rattle.std.specs.Int.{IsInRange}
 use Rattle.std.specs.List.{AllByRecursion}

@@ -1,4 +1,5 @@
--- The plain values of entries in memory. Public contracts cite it.
+-- The plain values of entries in memory. A plain value is what contracts use for a value that the
+-- code has in memory. Public contracts cite it.
 use Rattle.std.specs.Prelude.{Bool, not, List, map, string_bytes}
 use Rattle.dumpdates.specs.Entry.{DatesEntry}
 use Rattle.dumpdates.specs.Dates.{is_same}

@@ -118,7 +118,7 @@ impl Dates {
         self.entries.len()
     }
 
-    /// Returns the entry at an index, counted from 0, or None if the list is not that long.
+    /// Returns the entry at an index, counted from 0, or None if the index is past the last entry.
     pub fn get(&self, at: usize) -> Option<Entry<'_>>
         // Returns the entry at an index, counted from 0, or none if the index is past the last
         // entry.
@@ -127,9 +127,9 @@ impl Dates {
         Some(self.entries.get(at)?.entry())
     }
 
-    /// Returns the date that a dump of this name and level is based on, in seconds since 1970
-    /// began, UTC (dump(8)). It is the date of the latest dump of the name at any lower level. It
-    /// is 0 if no lower level was dumped, and at most `LAST_SECOND`.
+    /// Returns the base date of a dump of this name and level, in seconds since 1970 began, UTC
+    /// (dump(8)). It is the date of the latest dump of the name at any lower level. It is 0 if no
+    /// lower level was dumped, and at most `LAST_SECOND`.
     pub fn base(&self, name: &str, level: u8) -> u64
         // Returns the date of the latest dump of the given name at a level below the given level.
         // If there is no such dump, the call returns 0.
@@ -146,23 +146,24 @@ impl Dates {
         greatest
     }
 
-    /// Enters a dump (dump(8)). It replaces the first entry with its name and level, even if that
-    /// one has a later date, and any further ones are removed. Entries of other names and levels
-    /// are unchanged. If there is no entry with its name and level, it is appended.
+    /// Enters a dump in the list (dump(8)). The new entry replaces the first entry with its name
+    /// and level, even if that one has a later date, and any further ones are removed. Entries of
+    /// other names and levels are unchanged. If there is no entry with its name and level, it is
+    /// appended.
     ///
     /// Fails with `OutOfMemory` if a new entry is to be appended and an allocation for it fails.
     /// Then the list is unchanged.
     pub fn enter(&mut self, entry: Entry<'_>) -> Result<(), DatesFault>
-        // If the list has entries of the dump's name and level, the new entry replaces the first of
-        // them, and the call removes the others. If the list has no such entry, the call appends
-        // the new entry. All entries of other names or levels stay.
+        // Suppose that the list has entries with the dump's name and level. Then the new entry
+        // replaces the first of them, and the call removes the others. If the list has none, the
+        // call appends the new entry. All entries of other names or levels stay.
         ensures entered { OnOk result (self.new ≡ spec.entered self.old (plain_entry entry.entry)) }
-        // The call fails only if an allocation fails. If the list has an entry of the dump's name
+        // The call fails only if an allocation fails. If the list has an entry with the dump's name
         // and level, the call never fails.
         ensures fault { IfErr result (λ fault. fault ≡ OutOfMemory) }
         // If the call fails, the list is unchanged.
         ensures unchanged { OnErr result (self.new ≡ self.old) }
-        // It fails only if there is no entry of that name and level.
+        // The call fails only if the list has no entry with the dump's name and level.
         ensures absent { OnErr result (spec.others (plain_entry entry.entry) self.old ≡ self.old) }
     {
         match position_of(&self.entries, entry) {

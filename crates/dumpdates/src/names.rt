@@ -1,4 +1,6 @@
 //! The English names of ctime(3).
+//!
+//! A word of a line is a row of bytes without spaces and tabs.
 
 ghost use Rattle.std.specs.Prelude.{◌≡◌, ℕ, ◌<◌, MatchOption, IfSome, length, position, bytes_eq};
 ghost use Rattle.std.specs.Int.{IsInRange};

@@ -1,4 +1,6 @@
 //! Splits a line into its words.
+//!
+//! A word of a line is a row of bytes without spaces and tabs.
 
 ghost use Rattle.std.specs.Prelude.{◌≡◌, ◌≤◌, length, option_map};
 ghost use Rattle.std.specs.List.{prefix_len, position_or_len, list_all};

@@ -1,5 +1,5 @@
-//! A dump client of a server in memory, as an example to copy. It writes a run's volumes, one after
-//! the other.
+//! An example to copy: a dump client with a server in memory. The client writes a run's volumes,
+//! one after the other.
 //!
 //! A `Server` answers one request at a time. `dump` is the loop around a `dump_client::Client`. The
 //! client makes the requests, reads the replies, and counts a volume once its reel was taken away.

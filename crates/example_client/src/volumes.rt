@@ -19,8 +19,9 @@ pub enum Stopped {
 }
 
 impl From<AllocError> for Stopped {
-    // from_gives: Turns a failed allocation into `OutOfMemory`, also if it made the start of an
-    // attempt fail. If the start failed because of the client's state, the result is `NotUnderWay`.
+    // from_gives: Turns a failed allocation into `OutOfMemory`, even if the allocation failed at
+    // the start of an attempt. If an attempt could not start because of the client's state, the
+    // result is `NotUnderWay`.
 
     ghost use Rattle.std.specs.Prelude.{◌≡◌};
     ghost use Rattle.example_client.specs.declared.volumes.Stopped.TheVariants.{OutOfMemory};
@@ -76,7 +77,7 @@ fn end<B: Blocks + Drop>(client: &mut Client<B>) -> Result<(), Stopped> {
     }
 }
 
-/// Makes a client write all volumes that are left of its run, each in one attempt.
+/// Makes a client write all volumes of its run that are not counted yet, each in one attempt.
 ///
 /// Returns `Ok` if the run is finished: the counted volumes are whole and are all its blocks, in
 /// order. Stops at the first attempt that fails. The errors are those of `Stopped`.
@@ -85,10 +86,10 @@ pub fn dump<B: Blocks + Drop, S: Server>(
     client: &mut Client<B>,
     server: &mut S,
 ) -> Result<(), Stopped>
-    // If the call returns `Ok`, the client's run is finished. That is, the counted volumes follow
-    // one another from the first block on, and contain all blocks. No clause says what the server
-    // kept, or when a dump stops. A body that always stops meets the contract; `dump_tests` reject
-    // this body.
+    // If the call returns `Ok`, the client's run is finished: the counted volumes follow one
+    // another from the first block on, and contain all blocks. No clause says what the server kept,
+    // or when the call returns an error. A body that always returns an error meets the contract,
+    // but the tests in `dump_tests` reject it.
     ensures { OnOk result (IsWhole client.new.at) }
 {
     let mut request = Vec::new(alloc);

@@ -1,5 +1,5 @@
-//! A server of a tape that keeps nothing, as an example to copy. It reads requests from any stream
-//! and replies to each.
+//! An example to copy: a tape server that keeps nothing of what is written to its tape. The server
+//! reads requests from any stream and replies to each.
 //!
 //! `answer` returns the reply of such a tape to a request. `serve` is the loop around it. It needs
 //! only `rmt_wire`: a reader that splits the bytes into requests, and a writer of replies.

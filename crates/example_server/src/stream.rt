@@ -41,7 +41,7 @@ impl From<OutputFault> for Stop {
     }
 }
 
-/// Replies to the requests of a stream, one reply to each, until its end.
+/// Replies to each request of a stream, until the stream ends.
 ///
 /// Stops with `Stop::Requests` at the first bytes that are not a request, at a stream that ends
 /// inside one, and if a read fails. Stops with `Stop::Replies` if a write fails. The reader must be
@@ -54,10 +54,10 @@ pub fn serve<R: Read, W: Write>(
 ) -> Result<(), Stop>
     requires { Unread requests.old [] }
     // The bytes that the call read are a sequence of requests, perhaps with a rest after them. The
-    // call wrote exactly the replies to these requests, in order. If the output failed, a beginning
-    // of the replies was written. The call returns `Ok` if the stream ends without a rest. The call
-    // returns `Truncated` if the stream ends inside a request, and `Broken` if the rest is not a
-    // request.
+    // call wrote exactly the replies to these requests, in order. If the output failed, only a
+    // beginning of the replies was written. The call returns `Ok` if the stream ends without a
+    // rest. The call returns `Truncated` if the stream ends inside a request, and `Broken` if the
+    // rest is not a request.
     ensures served { IsServed result (R.remaining input.old.inner) (R.remaining input.new.inner) requests.new
         (W.contents output.old.inner) (W.contents output.new.inner) }
     // The stream of requests failed exactly if the call returns `Input`. The stream of replies

@@ -1,4 +1,4 @@
-//! How a program ended, and the exit status that says so.
+//! The ways in which a program ends, and the exit status for each.
 #![tactic(auto)]
 
 mod status;

@@ -1,4 +1,6 @@
 //! A medium that is a file of the operating system.
+//!
+//! `at` is an offset in bytes.
 
 ghost use Rattle.std.specs.Prelude.{◌≡◌, ◌≢◌, ◌++◌, ◌≤◌, ◌↔◌, false, true, IfOk, None, Ok, OnErr, OnOk, length};
 ghost use Rattle.tape.specs.Failures.{raised};
@@ -78,7 +80,7 @@ impl FileMedium {
         }
     }
 
-    /// Makes a medium of this file that may only be read. Makes no call of the system.
+    /// Makes a read-only medium of this file. Makes no call of the system.
     ///
     /// An append fails, and so does a cut that would shorten the file. The file is unchanged then,
     /// and the reason is `PermissionDenied`.
@@ -95,13 +97,14 @@ impl FileMedium {
         medium
     }
 
-    /// Returns the file, for calls that a medium does not have: its metadata, and a lock on it.
+    /// Returns the file, so that the caller can do what no call of a medium does: lock the file or
+    /// read its metadata.
     pub fn file(&self) -> &File {
         &self.file
     }
 
-    /// Returns how many cuts to length 0 succeeded, also of an empty file. The count stops at the
-    /// greatest `u64`.
+    /// Returns how many cuts to length 0 succeeded, including cuts of an empty file. The count
+    /// stops at the greatest `u64`.
     pub fn truncations(&self) -> u64
         // `truncations` returns how often the file was cut to length 0.
         ensures { result ≡ self.now.truncations }
@@ -109,7 +112,7 @@ impl FileMedium {
         self.truncations
     }
 
-    /// Whether an append or a cut was called, even one that failed.
+    /// Returns whether an append or a cut was called, even if that call failed.
     pub fn is_written(&self) -> bool
         // `is_written` returns whether an append or a cut was called.
         ensures { result ≡ self.now.written }
@@ -117,7 +120,7 @@ impl FileMedium {
         self.is_written
     }
 
-    /// Makes the system write its buffered data of the file to the device. A failure is not counted
+    /// Makes the system write the file's buffered data to the device. A failure is not counted
     /// here.
     ///
     /// Fails with the system's error. The system reports only once what it could not write. So a
@@ -126,7 +129,7 @@ impl FileMedium {
         self.file.sync_all()
     }
 
-    /// Returns why the last failed call failed. Returns `None` if no call has failed.
+    /// Returns the reason of the last call that failed. Returns `None` if no call has failed.
     pub fn last_error(&self) -> Option<io::Error>
         // `last_error` returns a reason if and only if a call has failed. A test shows that this is
         // the reason of the last call that failed. Tests: `tests/log.py`.
@@ -240,7 +243,7 @@ impl FileMedium {
 impl Medium for FileMedium {
     // The bytes of a file are not known.
     //
-    // call, same: Each call keeps the promises of every medium.
+    // call, same: Each call keeps the promises that the trait `Medium` makes for it.
     //
     // failed, failures: Each call that failed is counted, and no other call is counted.
     //

@@ -7,7 +7,7 @@ use std::rt::Files;
 /// How many standard streams there are.
 const PLACES: i32 = 3;
 
-/// Reserves the descriptor of each standard stream that the program was started without.
+/// Reserves the descriptor of each standard stream that was closed when the program started.
 ///
 /// Call it before the program opens anything. Otherwise the first file or connection would get such
 /// a descriptor, and what is written to the stream would be written into it.

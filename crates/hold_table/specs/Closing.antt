@@ -1,5 +1,5 @@
--- What the words of a closed table say about the seats that were given back. Public contracts cite
--- it.
+-- What the words of a closed table say about the seats that were given back. The word of a drive is
+-- the number of the seat that holds it, or 0 if none does. Public contracts cite it.
 use Rattle.std.specs.Prelude.{◌≡◌, ℕ, ◌≤◌, ◌↔◌, false, IsTrue, List, length, slice_index}
 use mathlib.Core.Option.{some}
 use lib.ListN.{get_elem?}

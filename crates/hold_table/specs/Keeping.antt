@@ -1,5 +1,6 @@
--- Why each step keeps the hold rule, and what a seat learns from each step. No public contract
--- needs it.
+-- Why each step keeps the hold rule, and what a seat learns from each step. The word of a drive is
+-- the number of the seat that holds it, or 0 if none does. A step is a take, a give, or a look,
+-- which only reads who holds the drive. No public contract needs it.
 use Rattle.std.specs.Prelude.{◌≡◌, ◌≢◌, ◌⊎◌, ◌↔◌, ℕ, ◌+◌, ◌-◌, ◌^◌, ◌<◌, ◌≤◌, min, IsTrue, true, false, ◌==◌, cond, List, [], ◌∷◌, map, length, slice_index, slice_index_or, Some}
 use mathlib.Core.Option.{some}
 use lib.ListN.{get_elem?}

@@ -1,4 +1,5 @@
--- Who holds a drive before and after one atomic step.
+-- Who holds a drive before and after one atomic step. The word of a drive is the number of the seat
+-- that holds it, or 0 if none does.
 use Rattle.std.specs.Prelude.{◌≡◌, ◌≢◌, ◌⊎◌, ℕ, ◌+◌, ◌<◌, length, slice_set}
 use Rattle.drives.specs.declared.view.StepKind.{StepKind}
 use Rattle.drives.specs.declared.view.StepKind.TheVariants.{Take, Give, Look}
@@ -18,8 +19,8 @@ Moves Look number n m = m ≡ n
 abbrev pub MovesAt : StepKind → ℕ → ℕ → ℕ → ℕ → ℕ → Type 0
 MovesAt kind number d e n m = (e ≡ d → Moves kind number n m) × (e ≢ d → m ≡ n)
 
--- each step that finds `found` in the word of drive d and leaves `left` there changes the holders
--- of the drives as `MovesAt` says
+-- Each step that finds `found` in the word of drive d and leaves `left` there changes the holder of
+-- drive d as a step of this kind does. Any other drive keeps its holder.
 abbrev pub StepMoves : StepKind → ℕ → View → ℕ → ℕ → ℕ → View → Type 0
 StepMoves kind d old made found left new = (step : IsRuledStep d old made found left new) (e n m : ℕ) → e < length step.words
     → IsHolder step.seats e n → IsHolder (slice_set step.seats step.place (seated new (made + 1) step.spare)) e m

@@ -1,5 +1,5 @@
--- The rule that holds between any two atomic steps on the table, and one step under it. Public
--- contracts cite it.
+-- The rule that holds between any two atomic steps on the table, and one step under it. The word of
+-- a drive is the number of the seat that holds it, or 0 if none does. Public contracts cite it.
 use Rattle.std.specs.Prelude.{◌≡◌, ◌⊎◌, ℕ, ◌+◌, ◌-◌, ◌^◌, ◌<◌, ◌≤◌, min, true, false, IsTrue, List, length, slice_index, slice_set}
 use mathlib.Core.Option.{some}
 use lib.ListN.{get_elem?}

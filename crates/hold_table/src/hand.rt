@@ -14,20 +14,20 @@ pub struct TableHand<'a> {
 }
 
 impl<'a> Holds for TableHand<'a> {
-    // A `TableHand` is a shared reference to a table, and implements `Holds` of `drives`. The
-    // holder of a drive is not known from the hand, because other threads may make steps at any
-    // time. After each call the seat still belongs to the table, and the hand still refers to the
-    // table.
+    // A `TableHand` is a shared reference to a table, and implements the trait `Holds` of the crate
+    // `drives`. The holder of a drive is not known from the hand, because other threads may make
+    // steps at any time. After each call the seat still belongs to the table, and the hand still
+    // refers to the table.
     //
-    // take, step, answer, known, own, same, rule: A take of the hand is a take of the table. The
+    // take, step, answer, known, own, same, rule: The hand's `take` calls the table's `take`. The
     // hold rule is true before and after the step, and the number found is at most 32.
     //
-    // give, step, own, same, rule: A give of the hand is a give of the table. The hold rule is true
-    // before and after the step.
+    // give, step, own, same, rule: The hand's `give` calls the table's `give`. The hold rule is
+    // true before and after the step.
     //
-    // holder, step, known, mine, own, rule: A call of the hand's `holder` is a call of the table's
-    // `holder`. The hold rule is true before and after the step. The number returned is the seat's
-    // own if and only if the seat holds the drive.
+    // holder, step, known, mine, own, rule: The hand's `holder` calls the table's `holder`. The
+    // hold rule is true before and after the step. The number returned is the seat's own if and
+    // only if the seat holds the drive.
 
     ghost use Rattle.std.specs.Prelude.{◌≡◌, ◌<◌, ◌≤◌, ◌↔◌, ◌==◌, cond, IsTrue};
     ghost use Rattle.drives.specs.Holding.{has, taken, given, looked, found_by, TakeAnswers};

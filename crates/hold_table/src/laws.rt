@@ -1,4 +1,6 @@
 //! Laws of the definitions. Each is the contract of a function that does nothing.
+//!
+//! The word of a drive is the number of the seat that holds it, or 0 if none does.
 ghost use Rattle.std.specs.Prelude.{◌≡◌, ℕ, ◌<◌, ◌≤◌, ◌==◌, cond, List, length, slice_index};
 ghost use Rattle.drives.specs.declared.view.StepKind.TheVariants.{Take, Give, Look};
 ghost use Rattle.drives.specs.declared.view.View.{View};
@@ -7,7 +9,7 @@ ghost use Rattle.hold_table.specs.declared.table.TheConstants.{SEAT_LIMIT};
 ghost use Rattle.hold_table.specs.Moves.{StepMoves};
 ghost use Rattle.hold_table.specs.Rule.{IsHeldAt, IsHolder, HoldRule};
 
-/// If the hold rule holds, no drive is held by two seats.
+/// If the hold rule is true, no two seats hold the same drive.
 ///
 /// The function does nothing: its contract is a law of the definitions.
 pub fn one_holder()
@@ -17,15 +19,16 @@ pub fn one_holder()
         IsHeldAt seats j d → IsHeldAt seats k d → j ≡ k }
 {}
 
-/// Each atomic step moves drives between seats as its kind says. A take moves its drive from nobody
-/// to the seat, a give moves it from the seat to nobody, and a look leaves it. A take leaves a
-/// drive that is held, and each step leaves all other drives. If the hold rule holds, a drive's
-/// word is the number of its holder, which is at most `SEAT_LIMIT`, or 0 if nobody holds it.
+/// The law of how each kind of atomic step (a take, a give or a look) changes the holder of a
+/// drive. A take moves its drive from nobody to the seat, a give moves it from the seat to nobody,
+/// and a look leaves it. A take leaves a drive that is held, and each step leaves all other drives.
+/// If the hold rule is true, a drive's word is the number of its holder, which is at most
+/// `SEAT_LIMIT`, or 0 if nobody holds it.
 ///
 /// The function does nothing: its contract is a law of the definitions.
 pub fn holders_move()
-    // If the hold rule is true, a drive's word is its holder's number, at most 32. If nobody holds
-    // the drive, the word is 0.
+    // If the hold rule is true, the word of a held drive is its holder's number, at most 32, and
+    // the word of a free drive is 0.
     ensures known { (words : List ℕ) (seats : List Seated) (d n : ℕ) → HoldRule words seats → d < length words → IsHolder seats d n →
         (n ≤ SEAT_LIMIT) × (slice_index words d ≡ n) }
     // A take of a free drive makes the seat the drive's holder. A take of a held drive does not

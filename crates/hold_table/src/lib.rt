@@ -1,9 +1,8 @@
-//! Records which seat holds which drive, for several threads: a table with one word for each drive,
-//! and `SEAT_LIMIT` seats.
+//! A table, shared by several threads, that records which seat holds which drive.
 //!
-//! A word is 0, or the number of the seat that holds the drive. A take, a give and a look are each
-//! one atomic step on one drive's word, and do not wait. `TableHand` is a shared reference to the
-//! table that implements `Holds`.
+//! The table has `SEAT_LIMIT` seats, and one word for each drive. A word is 0, or the number of the
+//! seat that holds the drive. A take, a give and a look are each one atomic step on one drive's
+//! word, and do not wait. `TableHand` is a shared reference to the table that implements `Holds`.
 //!
 //! # Contracts
 //!
@@ -14,16 +13,17 @@
 //! - A drive's word is 0 while no seat holds the drive.
 //! - A drive's word is n while the seat with number n, and no other seat, holds the drive.
 //!
-//! Each call is one atomic step, and no call waits. A call gets a shared reference to the table, a
-//! seat, and a drive. To take a lock, a call would also need the handle for waiting. No call gets
-//! this handle, so a lock around the table does not compile. docs/THREADS.md says what a table
-//! without locks means for a server.
+//! Each call of `take`, `give` or `holder` is one atomic step. It gets a shared reference to the
+//! table, a seat, and a drive. No call of the table waits. A call can take a lock only if it gets
+//! the Rattle kit's handle for waiting. No call gets this handle, so code that locks the table does
+//! not compile. docs/THREADS.md says what a table without locks means for a server.
 //!
-//! A call gets only one seat, so its clause `rule` cannot name the table's words and other seats.
-//! The clause only says that some words and some other seats exist, and that the step keeps the
-//! hold rule with them. A wrong body could make up words and seats for this clause. The calls
-//! `apart` and `close` get several seats of one table at once, so their clauses are about the table
-//! itself. A body that makes up words would make the clauses of `apart` and `close` false.
+//! Each of `take`, `give` and `holder` gets only one seat, so its clause `rule` cannot name the
+//! table's words or the other seats. The clause only says that there are some words and some other
+//! seats with which the hold rule is true before and after the step. A wrong body could meet this
+//! clause with words and seats that it made up. But `apart` and `close` get several seats of one
+//! table at once, so their clauses are about the table itself. If a body of `take`, `give` or
+//! `holder` made up words, the clauses of `apart` and `close` would be false.
 #![tactic(auto)]
 
 mod hand;

@@ -1,5 +1,7 @@
 //! The rule that holds between any two atomic steps on the table, and what a seat learns from each
 //! kind of step.
+//!
+//! A step is a take, a give, or a look, which only reads who holds the drive.
 use atomic_table::{Join, Play, Split, TableRule};
 use drives::View;
 use std::collections::LinkedList;

@@ -1,5 +1,7 @@
 //! The atomic steps on a table. Each is on the word of one drive, and changes what the seat that
 //! makes it knows.
+//!
+//! The word of a drive is the number of the seat that holds it, or 0 if none does.
 ghost use Rattle.std.specs.Prelude.{◌≡◌, ◌<◌, ◌≤◌, ◌↔◌, ◌==◌, true, false, cond, IsTrue};
 ghost use Rattle.drives.specs.Holding.{has, taken, given, looked};
 ghost use Rattle.hold_table.specs.Rule.{IsRuledStep};

@@ -1,4 +1,6 @@
 //! The table, and its atomic steps.
+//!
+//! The word of a drive is the number of the seat that holds it, or 0 if none does.
 ghost use Rattle.std.specs.Prelude.{◌≡◌, ◌-◌, ◌<◌, ◌≤◌, ◌↔◌, ◌==◌, None, cond, [], ◌∷◌, length, All, IsTrue, IfOk};
 ghost use Rattle.drives.specs.declared.holds.TheConstants.{DRIVE_LIMIT};
 ghost use Rattle.drives.specs.Holding.{has, newcomer, taken, given, looked, found_by, TakeAnswers, HoldsJust};
@@ -40,14 +42,14 @@ impl Model for HoldTable {
 }
 
 impl HoldTable {
-    /// Makes a table of that many drives, from 1 to `DRIVE_LIMIT`, none of them held. Returns it
-    /// with its `SEAT_LIMIT` seats in the order of their numbers, from 1. Fails only if an
-    /// allocation fails.
+    /// Makes a table of the given number of drives (1 to `DRIVE_LIMIT`), none of which is held.
+    /// Returns the table with its `SEAT_LIMIT` seats in the order of their numbers, from 1. Fails
+    /// only if an allocation fails.
     pub fn new(alloc: Global, drives: usize) -> Result<(HoldTable, Vec<HoldSeat>), AllocError>
         requires some { 1 ≤ drives }
         requires few { drives ≤ DRIVE_LIMIT }
-        // The new table has the given number of drives, which no seat holds. The new table has 32
-        // seats in the order of their numbers. `new` fails only if an allocation fails.
+        // The new table has the given number of drives, which no seat holds. `new` also returns the
+        // table's 32 seats, in the order of their numbers. `new` fails only if an allocation fails.
         ensures drives { IfOk result (λ made. made.0.words ≡ drives) }
         ensures seats { IfOk result (λ made. made.1.items ≡ dealt made.0 SEAT_LIMIT) }
         ensures count { IfOk result (λ made. length made.1.items ≡ SEAT_LIMIT) }
@@ -99,10 +101,10 @@ impl HoldTable {
         Ok(seats)
     }
 
-    /// Takes drive `drive`, counted from 0, if no seat holds it. This is one atomic step: if the
-    /// drive's word is 0, it becomes the seat's number. The seat must be one of this table. Returns
-    /// `Held`, or `Busy` with the number of the seat that holds the drive, which may be this one.
-    /// It does not wait.
+    /// Takes drive `drive`, counted from 0, for the given seat, if no seat holds the drive. This is
+    /// one atomic step: if the drive's word is 0, it becomes the seat's number. The seat must be
+    /// one of this table. Returns `Held`, or `Busy` with the number of the seat that holds the
+    /// drive, which may be this one. It does not wait.
     pub fn take(&self, seat: &mut HoldSeat, drive: usize) -> Taken
         requires seat { IsSeatAt self.now seat.old }
         requires drive { drive < self.now.words }
@@ -150,7 +152,7 @@ impl HoldTable {
         ensures known { result ≤ SEAT_LIMIT }
         // `holder` returns the seat's own number if and only if the seat holds the drive.
         ensures mine { result ≡ seat.old.view.number ↔ IsTrue (has seat.old.view drive) }
-        // The hold rule holds before and after.
+        // The hold rule is true before and after the step.
         ensures rule { IsRuledStep drive seat.old.view seat.old.made result result seat.new.view }
     {
         self.read(seat, drive)

@@ -1,4 +1,6 @@
 //! Calls with several seats at once, which show that the table keeps the seats apart.
+//!
+//! The word of a drive is the number of the seat that holds it, or 0 if none does.
 ghost use Rattle.std.specs.Prelude.{◌≡◌, ◌≢◌, ℕ, ◌<◌, ◌≤◌, ◌↔◌, ◌∷◌, All, IsTrue, false, slice_index, slice_index_or};
 ghost use Rattle.drives.specs.Holding.{has};
 ghost use Rattle.hold_table.specs.Closing.{IsClosing};
@@ -14,8 +16,8 @@ use drives::DRIVE_LIMIT;
 use std::alloc::Global;
 
 impl HoldTable {
-    /// Shows that two seats of this table are apart. Their numbers differ, and no drive is held by
-    /// both, whatever other threads do meanwhile.
+    /// Shows that two seats of this table have different numbers, and that no drive is held by
+    /// both. This is true whatever other threads do meanwhile.
     ///
     /// Returns both seats unchanged, with the number of the seat that holds drive `drive`, or 0 if
     /// none does. Drives are counted from 0. The number is that of one of the two if and only if
@@ -37,14 +39,15 @@ impl HoldTable {
         // facts are true of any two seats that `new` returned, whatever other threads do meanwhile.
         ensures numbers { one.view.number ≢ other.view.number }
         ensures drives { (d : ℕ) → IsTrue (has one.view d) → IsTrue (has other.view d) → ⊥ }
-        // `apart` returns the number that it found at the drive, at most 32. A seat of the two has
-        // this number if and only if the seat holds the drive.
+        // `apart` returns the number that it found at the given drive. This number is at most 32.
+        // One of the two seats has this number if and only if that seat holds the drive.
         ensures known { result.2 ≤ SEAT_LIMIT }
         ensures holder { (result.2 ≡ one.view.number ↔ IsTrue (has one.view drive))
             × (result.2 ≡ other.view.number ↔ IsTrue (has other.view drive)) }
         // Suppose that the last step of one seat found the number of the other seat. Then the other
-        // seat holds the drive of that step, or has made at least two steps. In both cases the
-        // other seat has made a step. So the first take at a table never returns `Busy`.
+        // seat holds the drive at which that step was made, or has made at least two steps. In both
+        // cases the other seat has made a step. Therefore the first take at a table never returns
+        // `Busy`.
         ensures found { FoundHolder one.view other.view other.made × FoundHolder other.view one.view one.made }
     {
         let HoldSeat {

@@ -12,7 +12,7 @@ use std::fmt::{self, Display, Formatter, Write};
 #[derive(Clone, Copy)]
 pub struct PlainBytes<'a>(pub &'a [u8]);
 
-/// Returns the bytes of a text from others, to print.
+/// Wraps the bytes of a text from outside the program, so that the text can be printed safely.
 pub fn plain(text: &str) -> PlainBytes<'_>
     // The result of `plain` holds the bytes of the given text.
     ensures { result.0.now ≡ text.now }

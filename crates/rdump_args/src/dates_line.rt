@@ -19,7 +19,8 @@ const BAD_LEVEL: &str = "invalid value for '--level <LEVEL>': a level is one dig
 /// The message for a name without a level, or a level without a name.
 const ONE_ALONE: &str = "--name and --level are given together or not at all";
 
-/// Returns the line of `rdump dates` in clap's matches.
+/// Returns the command line of `rdump dates` in clap's matches. Fails if only one of the name and
+/// the level is given, or if no entry can have it.
 pub(crate) fn dates_in<'a>(matches: &ArgMatches<'a>) -> Result<RdumpLine<'a>, ArgumentFault>
     ensures { IfOk result IsRdumpLine }
 {

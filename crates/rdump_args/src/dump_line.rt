@@ -49,8 +49,8 @@ const BAD_BLOCK: &str =
 const BAD_DATE: &str =
     "invalid value for '--date <SECONDS>': a date is 0 to 253402300799, in digits";
 
-/// Returns the line of `rdump dump` in clap's matches. Fails if the address is not valid or a
-/// number is not one.
+/// Returns the command line of `rdump dump` in clap's matches. Fails if the address is not valid,
+/// or if an argument that must be a number is not one.
 pub(crate) fn dump_in<'a>(matches: &ArgMatches<'a>) -> Result<DumpLine<'a>, ArgumentFault>
     ensures { IfOk result (λ line. IsDumpLine line × HasPort line.to.now) }
 {

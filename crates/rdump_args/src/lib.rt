@@ -1,5 +1,5 @@
-//! The arguments of `rdump`, parsed by clap (`rdump_args`), and the error for a value that exceeds
-//! a limit (`dump_error`).
+//! Parses the arguments of `rdump` with clap (`rdump_args`), and makes the error for a value that
+//! exceeds a limit (`dump_error`).
 #![tactic(auto)]
 
 mod argument;

@@ -53,8 +53,8 @@ const BLOCKS_ALONE: &str = "--blocks is given with --dumpdates only";
 const BAD_BLOCKS: &str =
     "invalid value for '--blocks <N>': a dump has 0 to 2147483647 blocks, in digits";
 
-/// Returns the line of `rdump ls` in clap's matches. It allocates for the paths. Fails if that
-/// allocation fails or a rule is broken.
+/// Returns the command line of `rdump ls` in clap's matches. It allocates for the paths. Fails if
+/// that allocation fails or a rule of the arguments is broken.
 pub(crate) fn list_in<'a>(
     alloc: Global,
     matches: &ArgMatches<'a>,

@@ -31,7 +31,7 @@ const BAD_OP: &str =
 /// The message for a count that is not valid.
 const BAD_COUNT: &str = "invalid value for '<COUNT>': a count is 0 to 2147483647 in digits";
 
-/// Returns the line of `rdump mt` in clap's matches. Fails if the address, the device, the
+/// Returns the command line of `rdump mt` in clap's matches. Fails if the address, the device, the
 /// operation or the count is not valid.
 pub(crate) fn mt_in<'a>(matches: &ArgMatches<'a>) -> Result<MtLine<'a>, ArgumentFault>
     ensures { IfOk result (λ line. IsMtLine line × HasPort line.to.now) }

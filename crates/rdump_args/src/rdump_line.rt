@@ -39,8 +39,8 @@ pub enum RdumpLine<'a> {
     },
 }
 
-/// Parses the arguments of `rdump`; the first is the name of the program itself. They are those of
-/// one of its commands:
+/// Parses the arguments of `rdump`, which begin with the name of the program. They are those of one
+/// of its commands:
 ///
 /// - `dump --to ADDRESS --device D --fs NAME --level L --payload FILE --block BYTES --dumpdates
 ///   FILE [--date SECONDS] [--checkpoint FILE] [--update] [--protect]`
@@ -53,22 +53,24 @@ pub enum RdumpLine<'a> {
 /// Fails if the arguments are bad, if they ask for help or the version, or if an allocation fails.
 /// The error's kind says which, and its text is for the user.
 pub fn rdump_args<'a, S: AsStr>(alloc: Global, arguments: &'a [S]) -> Result<RdumpLine<'a>, Error>
-    // For `dump`, `read` and `mt`, and for `ls` of a drive, `is_address` of the crate `address`
-    // returns true for the address.
+    // The arguments of `dump`, `read` and `mt` contain an address. The arguments of `ls` contain an
+    // address if it lists a drive. `is_address` of the crate `address` returns true for this
+    // address.
     //
-    // For `mt`, the operation is one of the eight of mtio, and its count is a number that the
-    // protocol allows. For `mt` and `read`, and for `ls` of a drive, the device is within the
-    // limits of a run's device.
+    // For `mt`, the operation is one of the eight operations of mtio, and its count is a number
+    // that the protocol allows. For `mt` and `read`, and for `ls` if it lists a drive, the device
+    // is one that a run can have.
     //
     // For `read`, the length is at most 9223372036854775807. `--all` implies `--place`: each block
     // is written at the offset that it has in the dump.
     //
-    // For `ls`, there is at least one path, or there is a drive and no path. A number of blocks is
-    // given only if a dumpdates file is given, and is at most 2147483647.
+    // For `ls`, the arguments name either at least one path and no drive, or a drive and no path.
+    // If a number of blocks is given, it is at most 2147483647, and a dumpdates file is given too.
     //
     // For `dump`, the level, the block size and the date are at most 9223372036854775807.
     //
-    // For `dates`, the name and level in the arguments are within the limits of an entry.
+    // For `dates`, if the arguments contain a name and a level, an entry of dumpdates can have this
+    // name and level.
     ensures { IfOk result IsRdumpLine }
 {
     match rdump_command(alloc) {
@@ -91,7 +93,8 @@ fn line_of<'a, S: AsStr>(
     }
 }
 
-/// Returns the line in clap's matches. If they break a rule, fails with the error for the user.
+/// Returns the command line in clap's matches. If they break a rule, fails with the error for the
+/// user.
 fn matched<'a>(alloc: Global, matches: &ArgMatches<'a>) -> Result<RdumpLine<'a>, Error>
     ensures { IfOk result IsRdumpLine }
 {
@@ -109,8 +112,8 @@ fn name_in<'a>(matches: &ArgMatches<'a>) -> &'a str {
     }
 }
 
-/// Returns the error for a value of `rdump dump` that exceeds a limit that parsing does not check.
-/// It shows this text and the usage of the command.
+/// Returns the error for a value of `rdump dump` that parsing accepts but that exceeds a limit. It
+/// shows this text and the usage of the command.
 ///
 /// The error's kind is `ValueValidation`. Fails if an allocation fails.
 pub fn dump_error(alloc: Global, text: &str) -> Result<Error, AllocError>
@@ -142,7 +145,8 @@ fn whole_name(name: &str) -> &'static str {
     }
 }
 
-/// Returns the line in clap's matches. Fails if a required argument is missing or a rule is broken.
+/// Returns the command line in clap's matches. Fails if a required argument is missing or a rule is
+/// broken.
 fn line_in<'a>(alloc: Global, matches: &ArgMatches<'a>) -> Result<RdumpLine<'a>, ArgumentFault>
     ensures { IfOk result IsRdumpLine }
 {
@@ -155,7 +159,8 @@ fn line_in<'a>(alloc: Global, matches: &ArgMatches<'a>) -> Result<RdumpLine<'a>,
     }
 }
 
-/// Returns the line in clap's matches of this command's arguments. The required ones are given.
+/// Returns the command line of the command `name`, whose arguments are in clap's matches. The
+/// required ones are given. Fails if a rule is broken or no command has that name.
 fn named_in<'a>(
     alloc: Global,
     name: &str,

@@ -34,8 +34,8 @@ pub struct ReadLine<'a> {
 const BAD_LENGTH: &str =
     "invalid value for '--length <BYTES>': a length is 0 to 9223372036854775807, in digits";
 
-/// Returns the line of `rdump read` in clap's matches. Fails if the address or the device is not
-/// valid, or the length is not a number.
+/// Returns the command line of `rdump read` in clap's matches. Fails if the address or the device
+/// is not valid, or the length is not a number.
 pub(crate) fn read_in<'a>(matches: &ArgMatches<'a>) -> Result<ReadLine<'a>, ArgumentFault>
     ensures { IfOk result (λ line. IsReadLine line × HasPort line.to.now) }
 {

@@ -1,4 +1,6 @@
 //! `rdump mt`.
+//!
+//! `to` is the address of the server.
 ghost use Rattle.rdump_commands.specs.Status.{IsMtStatus};
 ghost use Rattle.rdump_args.specs.Rdump.{IsMtLine};
 

@@ -62,10 +62,10 @@ pub fn run_arguments<R: ClientSystem, S: AsStr, T: Write + Copy + Drop>(
     }
 }
 
-/// Prints why the arguments name no command, and returns the exit status. Help and the version are
-/// printed on standard output.
+/// Prints why the arguments do not name a command, and returns the exit status. Help and the
+/// version are printed on standard output.
 fn refuse<R: ClientSystem>(rt: &R, error: clap::Error) -> ExitStatus
-    // If the arguments name no command, the status is `Success` or `StartupError`.
+    // If the arguments do not name a command, the status is `Success` or `StartupError`.
     ensures { IsHelpStatus result }
 {
     if error.kind() == ErrorKind::OutOfMemory {

@@ -1,4 +1,7 @@
 //! Starts or resumes a dump with a checkpoint file, up to its client.
+//!
+//! `start` has what is known before the first attempt. `terminal` is standard error, if that is a
+//! terminal.
 ghost use Rattle.std.specs.Prelude.{◌≡◌};
 ghost use Rattle.exit_status.specs.declared.status.ExitStatus.TheVariants.{StartupError};
 ghost use Rattle.rdump_files.specs.Payload.{IsRunsPayload};

@@ -29,7 +29,8 @@ impl<'a, R: ClientSystem> CheckpointFile<'a, R> {
         self.file.as_ref()?.failure()
     }
 
-    /// Removes the file, as `ReplacedFile::remove` does.
+    /// Removes the checkpoint file that is held, and releases its lock. Does nothing if none is
+    /// held. Returns `FileFailed` if it cannot be removed, or if another file has its name by now.
     pub(crate) fn remove(&mut self) -> Result<(), FileFailed> {
         match &mut self.file {
             Some(file) => file.remove(),

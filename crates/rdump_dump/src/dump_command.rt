@@ -1,4 +1,7 @@
 //! `rdump dump`, up to the client of the dump.
+//!
+//! `start` has what is known before the first attempt. `terminal` is standard error, if that is a
+//! terminal.
 ghost use Rattle.std.specs.Prelude.{◌≡◌, IfErr, IfSome};
 ghost use Rattle.exit_status.specs.declared.status.ExitStatus.TheVariants.{StartupError};
 
@@ -110,7 +113,7 @@ fn since_of<R: ClientSystem>(
     }
 }
 
-/// Returns the date on which the dump builds, from the bytes `file` of the dumpdates file. If that
+/// Returns the base date of the dump, taken from the bytes `file` of the dumpdates file. If that
 /// file is at fault or could not be replaced, prints why and returns the exit status.
 fn since_in<R: ClientSystem>(
     rt: &R,
@@ -265,8 +268,8 @@ fn report_first<R: ClientSystem>(
     Ok(())
 }
 
-/// Prints that the dump is to replace an entry of this date, which is later than its own. Fails
-/// only if an allocation fails.
+/// Prints that the dump is to replace an entry of the date `replaced`, which is later than its own.
+/// Fails only if an allocation fails.
 fn report_replaced<R: ClientSystem>(rt: &R, line: &DumpLine<'_>, replaced: u64) -> io::Result<()> {
     let date = text_of(rt, replaced)?;
     let (path, name, level) = (plain(line.dumpdates), plain(line.fs), line.level);
@@ -276,7 +279,7 @@ fn report_replaced<R: ClientSystem>(rt: &R, line: &DumpLine<'_>, replaced: u64) 
     Ok(())
 }
 
-/// Prints the date after which a block counts as new. Fails only if an allocation fails.
+/// Prints the date `since`, after which a block counts as new. Fails only if an allocation fails.
 fn report_since<R: ClientSystem>(rt: &R, since: u64) -> io::Result<()> {
     if since == 0 {
         let _ = eprintln!(rt; "since the epoch: every block counts as new");
@@ -287,7 +290,8 @@ fn report_since<R: ClientSystem>(rt: &R, since: u64) -> io::Result<()> {
     Ok(())
 }
 
-/// Prints that the base date is after the date of the dump. Fails only if an allocation fails.
+/// Prints that the base date, `since`, is after the date of the dump. Fails only if an allocation
+/// fails.
 fn report_late<R: ClientSystem>(rt: &R, since: u64) -> io::Result<()> {
     let date = text_of(rt, since)?;
     let _ = eprintln!(rt; "rdump: the base date, {date}, is after the date of this dump");

@@ -1,4 +1,6 @@
 //! Prints what a restore needs, and whether the payload changed during the dump.
+//!
+//! `start` has what is known before the first attempt.
 
 use crate::dump_start::DumpStart;
 use crate::shell_word::ShellWord;

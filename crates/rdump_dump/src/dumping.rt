@@ -1,4 +1,6 @@
 //! Has a client dump to a server.
+//!
+//! In comments, `line` is the parsed command line.
 ghost use Rattle.std.specs.Prelude.{◌≡◌, ◌⊎◌};
 ghost use Rattle.exit_status.specs.declared.status.ExitStatus.TheVariants.{Abnormal};
 ghost use Rattle.dump_client.specs.declared.stage.Stage.TheVariants.{Finished};
@@ -19,11 +21,11 @@ use rdump_system::{ClientSystem, NO_DUMPDATES, report_failed, report_failures};
 use rmt_wire::Counted;
 use std::io::{self, Write};
 
-/// Has a client dump to the server of `line`, as `rdump dump` does, and prints its lines on
-/// standard output. `terminal` is standard error, if that is a terminal. The line of progress on it
-/// is cleared before each printed line, and the possible answers are shown there after each
-/// question. Standard error reports why attempts failed. If `line` asks for `protect`, it must have
-/// the date of the dump.
+/// Makes a client write its run to the server that `line` names, as `rdump dump` does, and prints
+/// the lines of the dump on standard output. `terminal` is standard error, if that is a terminal.
+/// The line of progress on it is cleared before each printed line, and the possible answers are
+/// shown there after each question. Standard error reports why attempts failed. If `line` asks for
+/// `protect`, it must have the date of the dump.
 ///
 /// Returns the exit status: `Success` if the run is finished, everything was printed, and the dump
 /// is entered if `line` asks for that. Returns `Abnormal` otherwise.
@@ -33,7 +35,7 @@ pub fn run_client<R: ClientSystem, B: Blocks, T: Write + Copy + Drop>(
     client: &mut Client<B>,
     terminal: Option<T>,
 ) -> ExitStatus
-    // The status is `Success` only if the client's run is finished, and `Abnormal` otherwise.
+    // The status is `Success` or `Abnormal`. If it is `Success`, the client's run is finished.
     ensures { IsDumpStatus client.new.at result }
 {
     run_kept(rt, line, client, CheckpointFile::none(), terminal).status
@@ -48,9 +50,10 @@ pub(crate) struct Dumped {
     pub is_complete: bool,
 }
 
-/// Has a client dump as `run_client` does, and keeps its checkpoint in `file`. The file is removed
-/// once the dump is complete and, if `line` asks for that, entered. It is also removed if the dump
-/// is abandoned. Standard error reports why a checkpoint could not be written or removed.
+/// Has a client dump to the server that `line` names, and keeps its checkpoint in `file`. The file
+/// is removed once the dump is complete and, if `line` asks for that, entered. It is also removed
+/// if the dump is abandoned. Standard error reports why a checkpoint could not be written or
+/// removed. `terminal` is standard error, if that is a terminal.
 ///
 /// The exit status is `Success` if the run is finished, everything was printed, the dump is entered
 /// if `line` asks for that, and `file` is removed. It is `Abnormal` otherwise.

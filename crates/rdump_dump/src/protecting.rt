@@ -1,4 +1,6 @@
 //! Looks at a reel before each attempt of `rdump dump --protect`.
+//!
+//! In comments, `line` is the parsed command line.
 
 use dump_run::VolumeLabel;
 use printable::plain;

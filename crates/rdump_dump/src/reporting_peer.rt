@@ -1,4 +1,6 @@
 //! The connection to the server of a dump, which reports failed attempts.
+//!
+//! In comments, `line` is the parsed command line.
 ghost use Rattle.std.specs.Prelude.{◌≤◌, length};
 
 use crate::last_reply::LastReply;

@@ -1,4 +1,5 @@
--- The queries of `rdump dates`, their output, and the exit status. Public contracts cite it.
+-- The queries of `rdump dates`, their output, and the exit status. A plain value is what contracts
+-- use for a value that the code has in memory. Public contracts cite it.
 use Rattle.std.specs.Prelude.{◌≡◌, ◌⊎◌, ℕ, true, false, List, [], ◌∷◌, ◌++◌, Option, Some, None, Result, Ok, Err, codes, decimal, option_map}
 use Rattle.std.specs.Borrow.{Bor}
 use Rattle.dumpdates.specs.Dates.{base_of}

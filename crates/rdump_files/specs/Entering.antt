@@ -1,4 +1,5 @@
--- Entering a complete dump in a dumpdates file. Public contracts cite it.
+-- Entering a complete dump in a dumpdates file. `contents` gives what was written to a stream, if
+-- that is known. Public contracts cite it.
 use Rattle.std.specs.Prelude.{◌≡◌, ◌≢◌, ℕ, Bool, List, Option, None, Some, Result, Ok, Err, codes}
 use Rattle.rmt_wire.specs.Counted.{Counting}
 use Rattle.rmt_wire.specs.Print.{IsPrinted}

@@ -1,4 +1,5 @@
--- A file that is read as a whole and replaced as a whole. Public contracts cite it.
+-- A file that is read as a whole and replaced as a whole. A plain value is what contracts use for a
+-- value that the code has in memory. Public contracts cite it.
 use Rattle.std.specs.Prelude.{ℕ, List, Option, option_map, Result, Ok, Err, Vec}
 use Rattle.std.specs.Global.{Global}
 use Rattle.rdump_files.specs.declared.whole_file.FileFailed.{FileFailed}

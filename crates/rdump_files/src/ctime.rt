@@ -4,16 +4,16 @@ ghost use Rattle.dumpdates.specs.Text.{ctime_text};
 
 use std::alloc::Global;
 
-/// Formats a date, in seconds since 1970, as ctime(3) does, in UTC and without the line feed:
-/// `Tue Feb 29 00:00:00 2000`.
+/// Formats a date as ctime(3) does, in UTC and without the line feed: `Tue Feb 29 00:00:00 2000`.
+/// The date is given in seconds since 1970.
 ///
 /// Returns none if the date is above `LAST_SECOND` of `dumpdates`, the last second of the year
 /// 9999, or if an allocation fails.
 pub fn date_text(alloc: Global, date: u64) -> Option<String>
-    // Returns the text of a date, as ctime(3) prints it, without the line feed. The same definition
-    // gives the dates in the lines of dumpdates. The call returns none only if the date is above
-    // `LAST_SECOND`, or if an allocation failed. Tests show that it returns a text in all other
-    // cases. Tests: `a_date_as_text` in `programs_tests`.
+    // Returns the text of a date, as ctime(3) prints it, without the line feed. The clauses about
+    // lines of dumpdates use the same definition of a date's text. The call can return none. Tests
+    // show that it returns none only if the date is above `LAST_SECOND`, or if an allocation
+    // failed. Tests: `a_date_as_text` in `programs_tests`.
     ensures { IfSome result (λ text. string_bytes text ≡ ctime_text date) }
 {
     let text = dumpdates::date_text(date)?;

@@ -17,7 +17,7 @@ use std::io::Write;
 /// Room for a line with a number, in bytes.
 const LINE_ROOM: usize = 64;
 
-/// Prints on `out` the answer of `rdump dates` for the bytes `file` of a dumpdates file (dump(8)).
+/// Prints on `out` what `rdump dates` prints for a dumpdates file (dump(8)) with the bytes `file`.
 ///
 /// Without `asked`, it prints the text of the file again, each entry as `Dates::text` writes it.
 /// For a name and a level in `asked`, it prints the base date of that dump, as a decimal number and
@@ -40,9 +40,10 @@ pub fn dates<W: Write>(
     // Suppose that the file is the text of a list of entries. Then the call prints this text or, if
     // the arguments ask for a base date, that date. The status is `Success`.
     //
-    // For any other file, the call prints the first bad line and its kind. The call can print that
-    // an allocation failed only if it has found an entry in the file. The status is `StartupError`
-    // in both cases.
+    // For any other file, the call prints the number of the first bad line, and whether the line or
+    // its date is bad. If an allocation fails, the call prints this failure instead. This can
+    // happen only after the call has found an entry in the file. After a bad line and after a
+    // failed allocation, the status is `StartupError`.
     //
     // If a write failed, only a beginning of the text was printed. The failure was counted, unless
     // the count is at its greatest value. The status is `StartupError`.
@@ -71,8 +72,8 @@ pub fn base_date<W: Write>(
     out: &mut Counted<W>,
 ) -> Result<u64, DatesFault>
     // Returns the base date from the entries of the file, and prints nothing. If the file is bad or
-    // an allocation fails, the call returns this fault and prints it. If the fault cannot be
-    // printed whole, only a beginning of its text was printed.
+    // an allocation fails, the call prints this fault and returns it. If a write failed, only a
+    // beginning of the fault's text was printed.
     ensures { IsBaseDate W.contents file.now (asked_dump name.now level) out.old out.new result }
 {
     match Dates::read(alloc, file) {

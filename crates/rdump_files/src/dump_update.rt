@@ -21,9 +21,9 @@ pub struct DumpEnd {
     pub fault: Option<UpdateFault>,
 }
 
-/// Has a client write its run over a peer, as `dump` does. If the dump is complete and
-/// `dump complete` is printed, enters it in a dumpdates file. If that fails, it prints
-/// `dumpdates not updated`.
+/// Makes a client write its run to a tape server, as `dump` does, and enters a complete dump in a
+/// dumpdates file. It enters the dump only once `dump complete` is printed. If the dump cannot be
+/// entered, it prints `dumpdates not updated`.
 ///
 /// Returns the exit status, and why a complete dump was not entered. The status is `Success` if the
 /// run is finished, everything was printed and the run is entered, and `Abnormal` otherwise. The
@@ -36,17 +36,17 @@ pub fn dump_and_update<B: Blocks, P: Peer, R: Read, W: Write, F: WholeFile>(
     out: &mut Counted<W>,
     file: &mut F,
 ) -> DumpEnd
-    // The call exchanges with the peer what `dump` of `rdump_net` promises. Later, while the dump
-    // is entered in dumpdates, nothing is exchanged with the peer.
+    // While it dumps, the call exchanges with the peer what `dump` of `rdump_net` promises. Later,
+    // while it enters the dump in dumpdates, it exchanges nothing with the peer.
     ensures talks { TalksOver B.holds FromAny P.tells client.old client.new peer.old peer.new }
-    // The call prints what `dump` prints. If a complete dump could not be entered, the call prints
-    // one more line.
+    // The call prints what `dump` prints. If the dump is complete but could not be entered, the
+    // call prints one more line.
     //
     // The dumpdates file is left alone until the run is finished and `dump complete` is printed.
     //
     // The status is 0 exactly if `update` entered the dump.
     //
-    // If `update` did not enter the dump, the call returns the cause that `update` returned. In all
+    // If `update` was called and failed, the call returns the cause that `update` returned. In all
     // other cases the call returns no cause.
     ensures entered { IsDumpEntered W.contents (whole_file F.gives F.takes) client.old.at.counts client.new.at
         (sinks out.old file.old) (sinks out.new file.new) result }
@@ -69,10 +69,10 @@ pub fn enter_dump<B: Blocks, W: Write, F: WholeFile>(
     out: &mut Counted<W>,
     file: &mut F,
 ) -> DumpEnd
-    // If the client's run is finished, the call tries to enter the run by `update`. The status is
-    // `Success` if `update` entered the run, and `Abnormal` if not. If `update` did not enter the
-    // run, the call prints one line and returns the cause. If the run is not finished, the status
-    // is `Abnormal`, and the file is left alone.
+    // If the client's run is finished, the call tries to enter the run, with `update`. The status
+    // is `Success` if `update` entered the run, and `Abnormal` if not. If `update` did not enter
+    // the run, the call prints one line and returns the cause. If the run is not finished, the
+    // status is `Abnormal`, and the file is left alone.
     ensures { IsEntered W.contents (whole_file F.gives F.takes) client.now.at (sinks out.old file.old) (sinks out.new file.new) result }
 {
     let Some(entry) = client.finished() else {

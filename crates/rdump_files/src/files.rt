@@ -70,7 +70,7 @@ pub(crate) fn exchanged() -> io::Error {
     io::Error::new(ErrorKind::InvalidInput, error)
 }
 
-/// Reads a whole file. A file that does not exist is empty.
+/// Reads a whole file, or returns no bytes if the file does not exist.
 ///
 /// Fails with the system's error if the file cannot be opened or read. Fails with `InvalidInput` if
 /// it is a pipe, which is not opened, or if a regular file was exchanged before it was opened.

@@ -50,16 +50,17 @@ const LEAST_RUN: &[u8] = b"rdump 1\ndevice d\nfs f\nlevel 0\ndate 0\nsince 0\nbl
 /// More bytes than the eight lines of a run can have.
 const RUN_ROOM: usize = 1024;
 
-/// Whether an interrupted run may have left these bytes of a dumpdates file. The bytes may be
-/// empty, or whole lines as `Dates::text` writes them, and perhaps a beginning of one more.
+/// Whether an interrupted run can have left these bytes in place of a whole dumpdates file. The
+/// bytes may be empty, or whole lines as `Dates::text` writes them, and perhaps a beginning of one
+/// more.
 ///
 /// Fails only if an allocation fails.
 pub fn is_left_dates(alloc: Global, bytes: &[u8]) -> Result<bool, AllocError>
     // If the call returns true, the bytes are the text of some entries, followed by a rest. The
-    // rest consists of spaces and printable ASCII, without a line feed. Tests show that the rest
-    // has the form of the beginning of a line. Tests also show that the call returns true for each
-    // beginning of a text that a run writes. Tests: `what_is_left_of_dumpdates` in
-    // `programs_tests`; `tests/new_files.py`.
+    // rest can be empty. The rest consists of spaces and printable ASCII, without a line feed.
+    // Tests show that the rest has the form of the beginning of a line. Tests also show that the
+    // call returns true for each beginning of a text that a run writes. Tests:
+    // `what_is_left_of_dumpdates` in `programs_tests`; `tests/new_files.py`.
     ensures { IfOk result (λ is_left. IsTrue is_left → IsLeftDates bytes.now) }
 {
     let (lines, rest) = bytes.split_at(lines_len(bytes));
@@ -69,8 +70,8 @@ pub fn is_left_dates(alloc: Global, bytes: &[u8]) -> Result<bool, AllocError>
     are_written(alloc, lines)
 }
 
-/// Whether an interrupted run may have left these bytes of a checkpoint. The bytes may be empty, or
-/// a beginning of a text of `push_checkpoint`, cut off anywhere.
+/// Whether an interrupted run can have left these bytes in place of a whole checkpoint. The bytes
+/// may be empty, or a beginning of a text of `push_checkpoint`, cut off anywhere.
 ///
 /// Fails only if an allocation fails.
 pub fn is_left_checkpoint(alloc: Global, bytes: &[u8]) -> Result<bool, AllocError>

@@ -1,4 +1,4 @@
-//! The files that a dump reads and writes besides its connection, and the progress line.
+//! The files that a dump reads and writes, and the line that shows its progress.
 //!
 //! `dumper` makes the client of a dump from its arguments and a payload. `resume_dump` makes one
 //! that continues from a checkpoint. Both read blocks through `Shown`, which reports each block to

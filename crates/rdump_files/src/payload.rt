@@ -93,8 +93,8 @@ pub fn run_of<M: Medium + Drop>(
     Run::new(device, line.fs, line.level, date, since, line.block, blocks)
 }
 
-/// Makes the client of a run, with no volume counted, that dumps the payload of the run, as
-/// `dumper` does.
+/// Makes the client of a given run, as `dumper` makes the client of the run in the arguments. The
+/// client dumps the payload of the run, and has counted no volume.
 ///
 /// Fails if an allocation fails.
 pub fn dumper_of<M: Medium + Drop, G: Gauge + Drop>(

@@ -31,9 +31,9 @@ impl<M: Medium> Model for PayloadFile<M> {
 }
 
 impl<M: Medium + Drop> PayloadFile<M> {
-    /// Opens the payload that consists of the bytes of this medium, in blocks of `block_bytes`
-    /// bytes. It reads the length of the medium, and makes no other call of it. If `block_bytes` is
-    /// 0, the payload has no blocks.
+    /// Opens the payload in this medium, and divides it into blocks of `block_bytes` bytes. It
+    /// reads the length of the medium, and makes no other call of it. If `block_bytes` is 0, the
+    /// payload has no blocks.
     ///
     /// Returns `MediumFailed` if the medium fails.
     pub fn open(mut medium: M, block_bytes: u64) -> Result<PayloadFile<M>, MediumFailed>
@@ -73,8 +73,8 @@ impl<M: Medium> Blocks for PayloadFile<M> {
     // bytes. The clause holds even if the medium's contract does not give the medium's bytes.
     //
     // read, able, quiet: A read fails exactly if the medium failed, or returned fewer bytes than
-    // were asked for. Suppose that the medium cannot fail, and that its contract gives as many
-    // bytes as when the payload was opened. Then no read fails.
+    // were asked for. Suppose that the medium cannot fail. Suppose also that its contract gives its
+    // bytes, and that there are as many of them as when the payload was opened. Then no read fails.
     //
     // counted, failures: `failures` returns the number of failed reads. Each failed read adds 1 to
     // this number, and no other read changes it.

@@ -23,7 +23,8 @@ pub fn open_payload<R: Files<File = File>>(rt: &R, path: &str) -> io::Result<(Fi
     Ok((file, found))
 }
 
-/// Whether both metadata are of the same file.
+/// Whether `one` and `other` are metadata of the same file: the device and the inode number are
+/// the same.
 pub(crate) fn is_one(one: &Metadata, other: &Metadata) -> bool {
     one.dev() == other.dev() && one.ino() == other.ino()
 }
@@ -46,8 +47,8 @@ pub struct PayloadLook {
 }
 
 impl PayloadLook {
-    /// Records the length and time of this open payload, given its metadata. Returns none if it is
-    /// not a regular file.
+    /// Records the length and the modification time of an open payload from its metadata. Returns
+    /// none if it is not a regular file.
     ///
     /// Fails if the system cannot duplicate the file handle.
     pub fn new(file: &File, found: &Metadata) -> io::Result<Option<PayloadLook>> {
@@ -61,14 +62,15 @@ impl PayloadLook {
         }))
     }
 
-    /// Returns when the payload was last written to before its dump began. Returns none if that was
-    /// before 1970.
+    /// Returns the time of the last write to the payload before its dump began. Returns none if
+    /// that was before 1970.
     pub fn modified(&self) -> Option<SystemTime> {
         self.modified
     }
 
-    /// Returns what changed since the dump began, the length first. Returns none if the length and
-    /// the modification time are the same.
+    /// Returns the change of the payload since the dump began: a new length or, if the length is
+    /// the same, a new modification time. Returns none if the length and the modification time are
+    /// the same.
     ///
     /// Fails if the system does not report them.
     pub fn change(&self) -> io::Result<Option<PayloadChange>> {

@@ -21,14 +21,15 @@ const MIB: u64 = 1024 * KIB;
 
 /// Shows how far a dump is. Its calls have no contract.
 pub trait Gauge {
-    /// The dump has `blocks` blocks.
+    /// Reports to the gauge that the dump has `blocks` blocks.
     fn begin(&mut self, blocks: u32);
 
-    /// An attempt begins volume `volume`, counted from 1. Its first block is `first`, counted from
-    /// 0.
+    /// Reports to the gauge that an attempt begins volume `volume`, counted from 1. The first block
+    /// of the volume is `first`, counted from 0.
     fn begin_volume(&mut self, volume: u32, first: u32);
 
-    /// Block `block`, counted from 0, of `bytes` bytes is about to be read.
+    /// Reports to the gauge that block `block` is read next. Blocks are counted from 0, and this
+    /// one has `bytes` bytes.
     fn show(&mut self, block: u32, bytes: usize);
 }
 
@@ -117,7 +118,7 @@ pub struct ProgressLine<'a, R: Clock, W: Write> {
 }
 
 impl<'a, R: Clock, W: Write> ProgressLine<'a, R, W> {
-    /// Makes the line at this terminal, with nothing shown.
+    /// Makes a progress line at this terminal, with nothing shown yet.
     pub fn new(clock: &'a R, terminal: W) -> Self {
         ProgressLine {
             clock,

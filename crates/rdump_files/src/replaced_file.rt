@@ -43,14 +43,15 @@ pub struct ReplacedFile<'a, R: Files<File = File> + Clock> {
 }
 
 impl<'a, R: Files<File = File> + Clock> ReplacedFile<'a, R> {
-    /// Makes the dumpdates file at this path, which need not exist. It is locked from a read until
-    /// it is replaced.
+    /// Makes a `ReplacedFile` for the dumpdates file at this path, which need not exist. The file
+    /// is locked from a read until it is replaced.
     pub fn new(rt: &'a R, alloc: Global, path: &'a str) -> Self {
         ReplacedFile::with_form(rt, alloc, path, Form::Dates)
     }
 
-    /// Makes the checkpoint file at this path, which need not exist. It is locked from the read on,
-    /// for as long as this value lives. Each file put in place has the mode 0600.
+    /// Makes a `ReplacedFile` for the checkpoint file at this path, which need not exist. The file
+    /// is locked from the read on, for as long as this value lives. Each file put in place has the
+    /// mode 0600.
     pub fn held(rt: &'a R, alloc: Global, path: &'a str) -> Self {
         ReplacedFile::with_form(rt, alloc, path, Form::Checkpoint)
     }
@@ -68,12 +69,12 @@ impl<'a, R: Files<File = File> + Clock> ReplacedFile<'a, R> {
         }
     }
 
-    /// Returns the error of the last call that failed, if one has.
+    /// Returns the error of the last call that failed, or none if no call failed.
     pub fn failure(&self) -> Option<&io::Error> {
         self.failure.as_ref()
     }
 
-    /// Returns why the new file could not be created now, or none if no reason was found. It
+    /// Returns why the new file cannot be created now, or none if the call found no reason. It
     /// removes the file that it creates, and leaves a file that already has the name.
     pub fn find_fault(&self) -> Option<io::Error> {
         match NewFile::try_make(self.rt, self.alloc, self.path, self.form) {
@@ -82,10 +83,10 @@ impl<'a, R: Files<File = File> + Clock> ReplacedFile<'a, R> {
         }
     }
 
-    /// Returns the path of the new file if a regular file that no run left is there, so that none
-    /// can be created. Returns none if another run has locked that file, which is then not read.
-    /// Also returns none if the system reports an error, which then appears when the new file is
-    /// created.
+    /// Returns the path of the new file if this file cannot be created because another regular file
+    /// has its name and was not left by a run. Returns none if another run has locked that file,
+    /// which is then not read. Also returns none if the system reports an error, which then appears
+    /// when the new file is created.
     ///
     /// Fails only if an allocation fails.
     pub fn find_unknown_new(&self) -> io::Result<Option<String>> {
@@ -95,14 +96,15 @@ impl<'a, R: Files<File = File> + Clock> ReplacedFile<'a, R> {
         }
     }
 
-    /// Returns when a file that is held was last written to. Returns none if no file is held, if
-    /// that was before 1970, or if the system does not report it.
+    /// Returns the time of the last write to the checkpoint file that this value has locked.
+    /// Returns none if no file is locked, if that was before 1970, or if the system does not report
+    /// it.
     pub fn modified(&self) -> Option<SystemTime> {
         self.placed.as_ref()?.modified()
     }
 
-    /// Removes a file that is held, and releases its lock. Does nothing if no file is held, or if
-    /// it is gone.
+    /// Removes the checkpoint file that this value has locked, and releases its lock. Does nothing
+    /// if no file is locked, or if it is gone.
     ///
     /// Returns `FileFailed` if it cannot be removed, or if another file has its name by now.
     pub fn remove(&mut self) -> Result<(), FileFailed> {

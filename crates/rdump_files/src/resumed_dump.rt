@@ -1,4 +1,7 @@
 //! Makes the client of a dump that is resumed from its checkpoint.
+//!
+//! A count is the record of a volume that was written whole: its number, its first block and its
+//! number of blocks.
 ghost use Rattle.std.specs.Prelude.{IfErr, IfOk, ◌≡◌};
 ghost use Rattle.dump_client.specs.Standing.{IsOver};
 ghost use Rattle.dump_run.specs.Run.{AreOfOneDump};

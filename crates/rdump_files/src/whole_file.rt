@@ -41,8 +41,8 @@ pub trait WholeFile {
         // Each type with the trait `WholeFile` states for itself whether the text was put in place.
         // `ReplacedFile` states nothing. Tests show that `ReplacedFile` syncs the new file before
         // the rename, and the folder after the rename. Tests also show that a failed replacement
-        // leaves no new file. If another program has put a file of its own at the name of the new
-        // file, that file stays. Tests: `what_takes_the_name_of_a_new_file` in `programs_tests`;
+        // leaves no new file. If another program has created a file under the name of the new file,
+        // that file stays. Tests: `what_takes_the_name_of_a_new_file` in `programs_tests`;
         // `tests/updates.py`.
         ensures { takes self.old text.now result self.new };
 }

@@ -52,7 +52,8 @@ fn reel_of<R: ListSystem>(
     })
 }
 
-/// Prints why there is no session, with the system's reason if there is one.
+/// Prints why there is no session with the server at the address `to`, with the system's reason if
+/// there is one.
 fn report_fault<R: ListSystem>(rt: &R, to: &str, fault: ReadFault, peer: &SocketPeer<'_, R>) {
     let to = plain(to);
     let _ = match (fault, peer.failure()) {

@@ -1,5 +1,7 @@
 //! Reading the first reel of a drive's stack over a connection. Nothing is written.
 //!
+//! `tally` collects what was read of the reel.
+//!
 //! Only operations that were done decide: a refusal may be a fault of the device, and a read that
 //! returns nothing met a mark or the end.
 ghost use Rattle.rmt_wire.specs.Number.{IsLine};

@@ -98,7 +98,8 @@ fn read_paths<R: ListSystem>(
     Ok(lister.into_reels())
 }
 
-/// Returns the first reel on the stack of a drive, and whether there was a session.
+/// Returns the first reel on the stack of a drive, and whether there was a session with the server
+/// at the address `to`.
 fn read_first<R: ListSystem>(
     rt: &R,
     to: &str,

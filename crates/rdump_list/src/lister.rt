@@ -1,4 +1,6 @@
 //! Record files, read in place.
+//!
+//! A plain file is a regular file.
 use crate::ListSystem;
 use crate::fault::{print_fault, report};
 use crate::folder::names_in;

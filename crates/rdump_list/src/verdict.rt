@@ -7,8 +7,8 @@ use itoa::Buffer;
 use reel_check::{Holding, ReelContents, Volume, VolumeEnd};
 use std::alloc::AllocError;
 
-/// Whether a reel is whole: a volume with one mark after its blocks, and nothing after that, not
-/// even a byte. The verdict on these reels, and on no others, is `whole`.
+/// Whether a reel is whole: a volume with one mark after its blocks, and no byte after the mark.
+/// The verdict on these reels, and on no others, is `whole`.
 pub fn is_whole(contents: &ReelContents) -> bool
     // Returns true exactly if the reel is a volume with one mark after its blocks, and no byte
     // follows the mark.
@@ -29,9 +29,9 @@ pub fn is_whole(contents: &ReelContents) -> bool
 /// Fails if an allocation fails.
 pub fn push_verdict(text: &mut Vec<u8>, contents: &ReelContents) -> Result<(), AllocError>
     // Appends the verdict on a reel: `whole`, `empty`, `no mark: N whole blocks`, `more after the
-    // mark` or `not a volume of rdump`. If bytes follow the last readable entry, the call appends
-    // `tail of N bytes` after the verdict, or in place of `whole` or `empty`. The call leaves an
-    // incomplete text only if an allocation fails.
+    // mark` or `not a volume of rdump`. If bytes follow the last readable entry, the call also
+    // appends `tail of N bytes`. In that case it leaves out the verdicts `whole` and `empty`. The
+    // call leaves an incomplete text only if an allocation fails.
     ensures { OnOk result (text.new.items ≡ text.old.items ++ verdict_of contents.now) }
 {
     if contents.tail == 0 {

@@ -1,4 +1,6 @@
--- A request to a peer, and its reply. Public contracts rely on it (through Calls).
+-- A request to a peer, and its reply. A peer is the far end of a connection: what is sent over it
+-- goes through that connection. `p` and `p'` are the peer before and after, and `tells` relates a
+-- peer to what passed so far. Public contracts rely on it (through Calls).
 use Rattle.std.specs.Prelude.{◌≡◌, ◌≢◌, ◌⊎◌, ◌≤◌, ◌<◌, ◌-◌, ◌^◌, ℕ, false, List, [], ◌∷◌, ◌++◌, map, length, Option, Some, None, Result, Ok, Err}
 use Rattle.rmt_wire.specs.declared.limits.TheConstants.{READER_LIMIT}
 use Rattle.rmt_wire.specs.Reply.{PlainReply, Wanted, SpellsReply}

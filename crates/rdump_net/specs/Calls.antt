@@ -1,5 +1,7 @@
--- Calls over a peer, each after the reply to the one before. Public contracts rely on it (through
--- Reading).
+-- Calls over a peer, each after the reply to the one before. A peer is the far end of a connection:
+-- what is sent over it goes through that connection. `p` and `p'` are the peer before and after,
+-- and `tells` relates a peer to what passed so far. `next` gives the request that follows some
+-- replies. Public contracts rely on it (through Reading).
 use Rattle.std.specs.Prelude.{◌≡◌, ◌⊎◌, Bool, true, false, List, [], ◌∷◌, ◌++◌, Option, Some, None, Ok, Err}
 use Rattle.rmt_wire.specs.Reply.{PlainReply}
 use Rattle.rmt_wire.specs.Reply.PlainReply.{Done, Data, Error}

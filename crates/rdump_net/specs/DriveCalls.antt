@@ -1,4 +1,6 @@
--- Calls that read from a drive: an operation, and the read of a record. Public contracts cite it.
+-- Calls that read from a drive: an operation, and the read of a record. A peer is the far end of a
+-- connection: what is sent over it goes through that connection. `p` and `p'` are the peer before
+-- and after, and `tells` relates a peer to what passed so far. Public contracts cite it.
 use Rattle.std.specs.Prelude.{◌≡◌, ℕ, List, Option, Some, None, Result, Ok, Err, Vec}
 use Rattle.std.specs.Global.{Global}
 use Rattle.rmt_wire.specs.declared.limits.TheConstants.{RECORD_LIMIT}

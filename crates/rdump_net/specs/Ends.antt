@@ -1,5 +1,5 @@
--- A peer with the streams that are written to, at one time, and their logs. Public contracts cite
--- it.
+-- A peer with the streams that are written to, at one time, and their logs. A peer is the far end
+-- of a connection: what is sent over it goes through that connection. Public contracts cite it.
 use Rattle.std.specs.Prelude.{ℕ, List, Option}
 use Rattle.rmt_wire.specs.Counted.{Counting}
 use Rattle.rdump_net.specs.declared.peer.Passed.{Passed}

@@ -1,4 +1,6 @@
--- A dump that keeps its checkpoint. Public contracts cite it.
+-- A dump that keeps its checkpoint. A count is the record of a volume that was written whole: its
+-- number, its first block and its number of blocks. `told` holds for the payloads that the client's
+-- source can have. Public contracts cite it.
 use Rattle.std.specs.Prelude.{◌≡◌, ◌⊎◌, ℕ, Bool, true, false, List, [], ◌∷◌, ◌++◌, length, Option, Some, codes}
 use Rattle.rmt_wire.specs.Counted.{Counting}
 use Rattle.rmt_wire.specs.Print.{IsPrinted}

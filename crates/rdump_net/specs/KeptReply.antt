@@ -1,4 +1,5 @@
--- A kept reply as a plain value. Public contracts rely on it (through Operation).
+-- A kept reply as a plain value. A plain value is what contracts use for a value that the code has
+-- in memory. Public contracts rely on it (through Operation).
 use Rattle.std.specs.Prelude.{Result, Ok, Err}
 use Rattle.rmt_wire.specs.Reply.{PlainReply}
 use Rattle.rmt_wire.specs.Reply.PlainReply.{Done, Data, Error}

@@ -1,4 +1,6 @@
--- The lines that a dump prints. Public contracts cite it.
+-- The lines that a dump prints. A count is the record of a volume that was written whole: its
+-- number, its first block and its number of blocks. `contents` gives what was written to a stream,
+-- if that is known. Public contracts cite it.
 use Rattle.std.specs.Prelude.{◌≡◌, ◌≢◌, ◌⊎◌, ⊤, ℕ, Bool, true, false, List, [], ◌++◌, length, codes, decimal, Option, Some, None}
 use Rattle.std.specs.List.{flat_map}
 use Rattle.rmt_wire.specs.Counted.{Counting}
@@ -98,7 +100,9 @@ IsConclusion true at last Abandoned = (at.stage ≢ Finished) × (last ≡ aband
 IsConclusion false at last PrintFailed = ⊤
 IsConclusion whole at last end = ⊥
 
--- what a dump prints, from the counts `first` up to the client's state `at`, and how it ends
+-- What a dump prints, from the counts `first` up to the client's state `at`, and how it ends.
+-- `text` has the lines of the volumes counted since `first`, and `last` is the last line. `whole`
+-- is true if both were printed without an error.
 pub record IsConcluded {W : Type 0} (contents : W → Option (List ℕ)) (first : List VolumeCount) (at : Standing)
     (out out' : Counting W) (end : Conclusion) : Type 0 where
   pub text : List ℕ

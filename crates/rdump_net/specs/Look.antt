@@ -1,5 +1,7 @@
--- A look at the beginning of a drive's first reel: its requests, and what it finds. Public
--- contracts cite it.
+-- A look at the beginning of a drive's first reel: its requests, and what it finds. A plain value
+-- is what contracts use for a value that the code has in memory. A peer is the far end of a
+-- connection: what is sent over it goes through that connection. `p` and `p'` are the peer before
+-- and after, and `tells` relates a peer to what passed so far. Public contracts cite it.
 use Rattle.std.specs.Prelude.{◌≡◌, ℕ, List, [], ◌∷◌, Option, Some, None, Result, Ok, Err, if◌then◌else◌, nat_eq, Vec}
 use Rattle.std.specs.Global.{Global}
 use Rattle.dump_run.specs.Label.{label_bytes}
@@ -150,18 +152,21 @@ IsAnsweredAt tells device from named p p' (Err (Refused other n)) =
     (other ≡ named) × ((text : List ℕ) × Goes tells device from (stage_then from (Error n text)) p p')
 IsAnsweredAt tells device from named p p' (Err (NoReply fault)) = Fails tells device from fault p p'
 
--- `IsAnsweredAt` holds at each stage that makes `request`, which a fault calls `named`, whatever
--- the device
+-- The call with `request` is made, at whatever stage of a look makes it, and whatever the device:
+-- it is done, or refused, or gets no reply. A fault calls the request `named`.
 abbrev pub IsAnswered : {P : Type 0} → (P → List Passed → Type 0) → LookRequest → PlainRequest → P → P → Result Unit LookFault → Type 0
 IsAnswered tells named request p p' result =
     (device : List ℕ) (from : LookStage) → request_at device from ≡ Some request → IsAnsweredAt tells device from named p p' result
 
--- the read of the reel's first record, with its bytes, or why it gave none
+-- The first record of the reel in the drive `device` is read, at the reading stage of a look. The
+-- read returns these bytes, or is refused with this number, or gets no reply.
 abbrev pub IsReadAt : {P : Type 0} → (P → List Passed → Type 0) → List ℕ → P → P → Result (Vec ℕ Global) LookFault → Type 0
 IsReadAt tells device p p' (Ok bytes) = Goes tells device Reading (after_read bytes.items) p p'
 IsReadAt tells device p p' (Err (Refused named n)) = Goes tells device Reading (Closing (Refusal named n)) p p'
 IsReadAt tells device p p' (Err (NoReply fault)) = Fails tells device Reading fault p p'
 
--- `IsReadAt` holds, whatever the device
+-- The first record of the reel was read, at the reading stage of a look, whatever the device. The
+-- result has the record's bytes, or no bytes at a mark or at the end of the reel. Otherwise it has
+-- the number with which the server refused the read, or why no reply came.
 abbrev pub IsFrontRead : {P : Type 0} → (P → List Passed → Type 0) → P → P → Result (Vec ℕ Global) LookFault → Type 0
 IsFrontRead tells p p' result = (device : List ℕ) → IsReadAt tells device p p' result

@@ -1,4 +1,6 @@
--- One mtio operation: its requests, what is printed, and the exit status. Public contracts cite it.
+-- One mtio operation: its requests, what is printed, and the exit status. A peer is the far end of
+-- a connection: what is sent over it goes through that connection. `kind` gives what passed at the
+-- peer and what the output has. Public contracts cite it.
 use Rattle.std.specs.Prelude.{◌≡◌, ◌&&◌, ℕ, Bool, List, [], ◌∷◌, ◌++◌, length, codes, decimal, Option, Some, None, Result, Ok, Err, if◌then◌else◌, nat_eq}
 use Rattle.rmt_wire.specs.Counted.{Counting}
 use Rattle.rmt_wire.specs.Reply.{PlainReply}

@@ -1,4 +1,5 @@
--- What passes between a caller and a peer that keeps a log. Public contracts cite it.
+-- What passes between a caller and a peer that keeps a log. `p` and `p'` are the peer before and
+-- after, and `tells` relates a peer to what passed so far. Public contracts cite it.
 use Rattle.std.specs.Prelude.{◌≡◌, ℕ, Bool, true, false, List, [], ◌∷◌, ◌++◌, map, take}
 use Rattle.rdump_net.specs.declared.peer.Passed.{Passed}
 use Rattle.rdump_net.specs.declared.peer.Passed.TheVariants.{Connected, Sent, Given, Ended}

@@ -1,5 +1,9 @@
--- Reading a volume over a peer: its requests, what is printed and written, and how it ends. Public
--- contracts cite it.
+-- Reading a volume over a peer: its requests, what is printed and written, and how it ends. A peer
+-- is the far end of a connection: what is sent over it goes through that connection. `p` and `p'`
+-- are the peer before and after, and `tells` relates a peer to what passed so far. `next` gives the
+-- request that follows some replies. `after` and `goes` say what to do with the reel once its
+-- volume was read. `kind` gives what passed at the peer and what the outputs have. Public contracts
+-- cite it.
 use Rattle.std.specs.Prelude.{◌≡◌, ◌⊎◌, ◌≤◌, ◌+◌, ◌-◌, ◌^◌, ◌&&◌, ℕ, Bool, true, false, List, [], ◌∷◌, ◌++◌, length, take, position, nat_eq, nat_lt, Option, Some, None, Result, Ok, Err, if◌then◌else◌, Vec}
 use Rattle.std.specs.Global.{Global}
 use Rattle.std.specs.List.{concat}
@@ -59,8 +63,8 @@ next_forward goes n (Done k ∷ replies) = next_over goes replies
 next_forward goes n (Error k text ∷ replies) = next_close replies
 next_forward goes n (Data bytes ∷ replies) = None
 
--- the next request, after these replies, when reading rewinds and then spaces forward as
--- `next_forward` does; the close if the rewind is refused, or if `n` records are too many for one
+-- the next request, after these replies, when reading rewinds and then spaces forward over the `n`
+-- records and the mark; the close if the rewind is refused, or if `n` records are too many for one
 -- request; None at the end, or if a reply does not fit
 abbrev pub next_again : AfterVolume → ℕ → List PlainReply → Option PlainRequest
 next_again goes n [] = Some (Op MTREW 1)
@@ -69,8 +73,8 @@ next_again goes n (Error k text ∷ replies) = next_close replies
 next_again goes n (Data bytes ∷ replies) = None
 
 -- The next request, after these replies, when reading spaces back over one record. If that is done,
--- there is no mark, and the close is next. If it is refused with EIO, as at a mark, reading looks
--- from the beginning, as `next_again` does.
+-- there is no mark, and the close is next. If it is refused with EIO, as at a mark, reading rewinds
+-- and spaces forward over the `n` records and the mark.
 abbrev pub next_back : AfterVolume → ℕ → List PlainReply → Option PlainRequest
 next_back goes n [] = Some (Op MTBSR 1)
 next_back goes n (Done k ∷ replies) = next_close replies
@@ -290,7 +294,8 @@ IsDone next tells p p' replies (Err fault) = CallSteps next tells p p' replies (
 abbrev pub EndsAtRefusal : (List PlainReply → Option PlainRequest) → List PlainReply → Type 0
 EndsAtRefusal next replies = (number : ℕ) (text : List ℕ) → next (replies ++ Error number text ∷ []) ≡ None
 
--- `IsDone` holds whenever `request` is the next one
+-- Whenever `request` is next, and nothing follows a refusal of it, one more call is made. Ok: its
+-- reply says that the request was done. Err: it was refused, or got no reply.
 abbrev pub IsDoneNext : {P : Type 0} → (P → List Passed → Type 0) → PlainRequest → P → P → Result Unit ReadFault → Type 0
 IsDoneNext tells request p p' result =
     (next : List PlainReply → Option PlainRequest) (replies : List PlainReply) → next replies ≡ Some request
@@ -331,7 +336,8 @@ pub record AreRecordsWritten {P F : Type 0} (next : List PlainReply → Option P
   pub written : IsPrinted kind.contents (concat more) old.out new.out (is_copied result)
   pub reads : Reads next kind.tells old.peer new.peer replies result later
 
--- `AreRecordsWritten` holds whenever exactly the label was read before
+-- whenever exactly the label was read before, the records after it are read and written to the
+-- output, up to the result
 abbrev pub AreFurtherRecordsWritten : {P F : Type 0} → StreamKind P F → StreamEnds P F → StreamEnds P F → Result ℕ ReadFault → Type 0
 AreFurtherRecordsWritten kind old new result =
     (device : List ℕ) (after : AfterVolume) (replies : List PlainReply) → IsVolumeReading 1 replies
@@ -365,7 +371,8 @@ pub record IsCopied {P F W : Type 0} (next : List PlainReply → Option PlainReq
   pub whole : named && filled ≡ is_copied result
   pub reads : ReadsVolume next after kind.tells old.peer new.peer replies result later
 
--- `IsCopied` holds whenever nothing was read before
+-- Whenever the device was opened and rewound, and nothing was read, the text of the label is
+-- printed, and the records after it are written to the file, until the reads end with `result`.
 abbrev pub IsCopiedAtLabel : {P F W : Type 0} → CopyKind P F W → CopyEnds P F W → CopyEnds P F W → Result ℕ ReadFault → Type 0
 IsCopiedAtLabel kind old new result =
     (device : List ℕ) (after : AfterVolume) (seen : List PlainReply) → IsAtLabel seen
@@ -404,15 +411,18 @@ HasSoughtMark next goes tells p p' replies (Ok (Some fault)) =
     × GoesOnBy next next_close later × IsUnmarked next later fault
 HasSoughtMark next goes tells p p' replies (Err fault) = CallSteps next tells p p' replies (Err fault)
 
--- `HasSoughtMark` holds whenever `step` gives the next requests
+-- Whenever `step` gives the next requests, this is the result of looking for the mark. Ok None: the
+-- mark was found, or not looked for. Ok (Some fault): it was not found, for this reason. Err: a
+-- call got no reply.
 abbrev pub IsLookedBy : {P : Type 0} → (AfterVolume → List PlainReply → Option PlainRequest) → (P → List Passed → Type 0) → P → P
     → Result (Option ReadFault) ReadFault → Type 0
 IsLookedBy step tells p p' result =
     (goes : AfterVolume) (next : List PlainReply → Option PlainRequest) (replies : List PlainReply)
     → GoesOnBy next (step goes) replies → HasSoughtMark next goes tells p p' replies result
 
--- `HasSoughtMark` holds whenever the request after `n` records is next, which looks for the mark if
--- `goes` asks for it
+-- After the last of `n` records, this is the result of looking for the mark, if `goes` asks for
+-- that. Ok None: the mark was found, or not looked for. Ok (Some fault): it was not found, for this
+-- reason. Err: a call got no reply.
 abbrev pub IsLookedAtEnd : {P : Type 0} → (P → List Passed → Type 0) → AfterVolume → ℕ → P → P → Result (Option ReadFault) ReadFault → Type 0
 IsLookedAtEnd tells goes n p p' result =
     (next : List PlainReply → Option PlainRequest) (replies : List PlainReply) → GoesOnBy next (next_mark goes n) replies
@@ -427,7 +437,8 @@ IsTakenAway next tells p p' replies (Ok x) =
     × GoesOnBy next next_close (replies ++ taken)
 IsTakenAway next tells p p' replies (Err fault) = CallSteps next tells p p' replies (Err fault)
 
--- `IsTakenAway` holds whenever the mark was found or not looked for
+-- whenever the mark was found or not looked for, the reel is taken offline if `goes` is `Offline`,
+-- and the close is next; or a call fails with the fault
 abbrev pub IsTakenAwayAtMark : {P : Type 0} → (P → List Passed → Type 0) → AfterVolume → P → P → Result Unit ReadFault → Type 0
 IsTakenAwayAtMark tells goes p p' result =
     (next : List PlainReply → Option PlainRequest) (replies : List PlainReply) → GoesOnBy next (next_end goes) replies
@@ -444,20 +455,22 @@ pub record Concludes {P : Type 0} (next : List PlainReply → Option PlainReques
   pub whole : is_whole result ≡ true
   pub ends : (passed : List Passed) → CallsFollow next replies passed → ReadEnds next goes later (passed ++ more) result
 
--- `Concludes` holds whenever no mark was found and the close is next
+-- Whenever no mark was found, for the reason `fault`, and the close is next, further calls are made
+-- to the end of the read, which has this result.
 abbrev pub IsClosedUnmarked : {P : Type 0} → (P → List Passed → Type 0) → ReadFault → P → P → Result Unit ReadFault → Type 0
 IsClosedUnmarked tells fault p p' result =
     (goes : AfterVolume) (next : List PlainReply → Option PlainRequest) (replies : List PlainReply) → GoesOnBy next next_close replies
     → IsUnmarked next replies fault → Concludes next goes tells p p' replies result
 
--- `Concludes` holds whenever a mark was found or not looked for
+-- Whenever a mark was found or not looked for, further calls are made to the end of the read, which
+-- has this result.
 abbrev pub IsConcludedAtMark : {P : Type 0} → (P → List Passed → Type 0) → AfterVolume → P → P → Result Unit ReadFault → Type 0
 IsConcludedAtMark tells goes p p' result =
     (next : List PlainReply → Option PlainRequest) (replies : List PlainReply) → GoesOnBy next (next_end goes) replies
     → IsMarkKnown next goes replies → Concludes next goes tells p p' replies result
 
--- `Concludes` holds whenever the request after `n` records is next, which looks for the mark if
--- `goes` asks for it
+-- After the last of `n` records, further calls are made to the end of the read, which has this
+-- result. They look for the mark if `goes` asks for it.
 abbrev pub IsConcludedAtEnd : {P : Type 0} → (P → List Passed → Type 0) → AfterVolume → ℕ → P → P → Result Unit ReadFault → Type 0
 IsConcludedAtEnd tells goes n p p' result =
     (next : List PlainReply → Option PlainRequest) (replies : List PlainReply) → GoesOnBy next (next_mark goes n) replies

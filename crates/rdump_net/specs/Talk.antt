@@ -1,5 +1,8 @@
--- What a client does over a peer: each call of the client, and what passed in it. Public contracts
--- cite it.
+-- What a client does over a peer: each call of the client, and what passed in it. A peer is the far
+-- end of a connection: what is sent over it goes through that connection. `p` and `p'` are the peer
+-- before and after, and `tells` relates a peer to what passed so far. `told` holds for the payloads
+-- that the client's source can have, and `allows` for the states from which an attempt may start.
+-- Public contracts cite it.
 use Rattle.std.specs.Prelude.{◌≡◌, ◌≢◌, ⊤, ℕ, Bool, true, false, List, [], ◌∷◌, ◌++◌, map, Result, Ok, Err}
 use Rattle.dump_client.specs.Standing.{Standing, StartedAt, AnsweredAt, FedAt, CutAt}
 use Rattle.dump_client.specs.Client.{ClientHeld, HasFed, NextRequestAt, unanswered}
@@ -58,7 +61,9 @@ pub data TalkStep (told : List (List ℕ) → Type 0) (allows : Standing → Typ
   answers : {old new : Standing} {fed : List ℕ} (answer : Answer) (result : Result Unit StartFault)
       → AnsweredAt old.stage old answer result new → TalkStep told allows old fed [] new fed
 
--- calls as `TalkStep` describes, one after the other, from the client's state `start` on
+-- Calls of the client and of its connection, one after the other. They begin at the client's state
+-- `start`, when the bytes `first` have come since its last request. With them are what passed, and
+-- the client's state and the bytes since its last request at the end.
 pub data Talks (told : List (List ℕ) → Type 0) (allows : Standing → Type 0) (start : Standing) (first : List ℕ) : List Passed → Standing → List ℕ → Type 0 where
   none : Talks told allows start first [] start first
   one_more : {passed more : List Passed} {before after : Standing} {fed later : List ℕ}

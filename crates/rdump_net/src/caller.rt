@@ -1,4 +1,6 @@
 //! One request to a peer, and its whole reply.
+//!
+//! A peer is the far end of a connection: what is sent over it goes through that connection.
 ghost use Rattle.std.specs.Prelude.{◌≡◌, ◌≤◌, ℕ, List, ◌++◌, Some};
 ghost use Rattle.rmt_wire.specs.Lent.{plain_request, plain_wanted};
 ghost use Rattle.rmt_wire.specs.Reply as kinds;
@@ -33,8 +35,9 @@ pub struct PeerCaller {
 }
 
 impl PeerCaller {
-    /// Makes a caller. It allocates `rmt_wire::READER_LIMIT` bytes for replies and 65,536 for
-    /// received bytes, and fails only if these allocations fail.
+    /// Makes a `PeerCaller`, which sends requests to a peer and waits for the replies. The call
+    /// allocates `rmt_wire::READER_LIMIT` bytes for replies and 65,536 for received bytes, and
+    /// fails only if these allocations fail.
     pub fn new(alloc: Global) -> Result<PeerCaller, AllocError> {
         let Ok(piece) = Box::new(alloc, [0; PIECE]) else {
             return Err(AllocError);
@@ -47,8 +50,8 @@ impl PeerCaller {
         })
     }
 
-    /// Sends a request once over the open connection, and waits for the whole reply: data for a
-    /// read, and a number for any other request. An error of the server is a reply too.
+    /// Sends a request once over the open connection, and waits for the whole reply. An error of
+    /// the server is a reply too.
     ///
     /// The device of an open is one line of at most `LINE_LIMIT` bytes. A read asks for at most
     /// `RECORD_LIMIT` bytes, and a write has at most as many. All other numbers are at most
@@ -69,13 +72,15 @@ impl PeerCaller {
     ) -> Result<KeptReply, CallFault>
         requires spelling { HasSpelling (plain_request request.now) }
         requires within { IsWithin (wanted_by (plain_request request.now)) }
-        // If the peer's contract gives the log, the request is sent once, as `rmt_wire` writes it.
-        // The peer then gives the reply and nothing more: data for a read, a number for any other
-        // request, or an error. The call returns that reply.
+        // If the peer's contract gives the log, the call sends the request once, as `rmt_wire`
+        // writes it. If the call returns a reply, exactly this reply came after the request. The
+        // reply is either an error or a success. A success contains data if the request is a read,
+        // and a number if not.
         //
-        // If there is no reply, the call returns why. The connection may have ended during the
-        // request or the reply. The bytes that came may not be a reply, or may be more than one
-        // reply. An allocation may have failed, for the request or for a reply that came.
+        // If the call returns no reply, it returns one of three reasons. The first is that the
+        // connection ended during the request or the reply. The second is that the bytes that came
+        // are not a reply, or are more than one reply. The third is that an allocation failed, for
+        // the request or for a reply that came.
         ensures { IsCalled P.tells (plain_request request.now) (plain_result result) peer.old peer.new }
     {
         self.text.clear();
@@ -94,14 +99,14 @@ impl PeerCaller {
         )
     }
 
-    /// Reads the next record from the drive that was opened, and waits for the whole of it. Returns
-    /// no bytes at a mark or at the end of the reel.
+    /// Reads the next record from the drive that was opened, and waits until the whole record has
+    /// come. Returns no bytes at a mark or at the end of the reel.
     ///
     /// Fails with `Refused` if the server replied with an error, and otherwise as `call` does.
     pub fn next_record<P: Peer>(&mut self, peer: &mut P) -> Result<Vec<u8>, ReadFault>
-        // If the peer's contract gives the log, the call makes one read of `RECORD_LIMIT` bytes. It
-        // returns the bytes of the reply. If the reply is an error, the call returns `Refused` with
-        // the number of the error. If there is no reply, it returns why.
+        // If the peer's contract gives the log, the call makes one read of `RECORD_LIMIT` bytes,
+        // and returns the bytes of the reply. If the reply is an error, the call returns `Refused`
+        // with the number of the error. If there is no reply, it returns why.
         ensures { IsRecordCalled P.tells peer.old peer.new result }
     {
         let read = Request::Read {
@@ -131,8 +136,8 @@ impl PeerCaller {
         requires op { op ≤ MTNOP }
         requires count { count ≤ NUMBER_LIMIT }
         // If the peer's contract gives the log, the call sends the given operation once, with the
-        // given count. It returns that the operation was done, or the number of the error in the
-        // reply. If there is no reply, it returns why.
+        // given count. The call returns either that the operation was done or, if the reply is an
+        // error, the error's number. If there is no reply, the call returns why.
         ensures { IsOperationCalled P.tells op count peer.old peer.new result }
     {
         let reply = self.call(peer, &Request::Op { op, count })?;
@@ -154,8 +159,9 @@ fn wanted_of(request: &Request<'_>) -> Wanted
     }
 }
 
-/// Waits for a reply of this kind, which begins with the next byte that the peer sends. Fails as
-/// `call` does.
+/// Waits for a reply of this kind, which begins with the next byte that the peer sends. Fails with
+/// `ConnectionEnded` if the connection ends before the reply is whole, with `Botched` if the bytes
+/// are no such reply or more bytes follow it, and with `OutOfMemory` if an allocation fails.
 fn hear<P: Peer>(
     alloc: Global,
     peer: &mut P,

@@ -18,11 +18,11 @@ pub trait Keeper {
     /// Whether a call can fail.
     ghost can_fail: { Self → Type 0 };
 
-    /// Replaces the stored checkpoint by that of this run, with these counted volumes. Returns
-    /// whether it could; if not, the earlier checkpoint stays.
+    /// Stores the checkpoint of this run with these counted volumes, in place of the earlier
+    /// checkpoint. Returns whether it could; if not, the earlier checkpoint stays.
     fn keep(&mut self, run: &Run, counts: &[VolumeCount]) -> bool
-        // Adds the checkpoint of the run and the counts at the end of the list of kept checkpoints.
-        // If the call fails, no checkpoint is added.
+        // Adds one checkpoint, that of the run and the counts, to the end of the list of kept
+        // checkpoints. If the call fails, no checkpoint is added.
         ensures put { PutsOn puts self.old self.new (put_if (plain_checkpoint run.now counts.now) result) }
         // A call fails only if the keeper can fail. If the keeper cannot fail before a call, it
         // cannot fail after the call.

@@ -1,4 +1,7 @@
 //! A whole dump, which keeps its checkpoint or none.
+//!
+//! A count is the record of a volume that was written whole: its number, its first block and its
+//! number of blocks.
 ghost use Rattle.std.specs.Prelude.{◌≡◌, false};
 ghost use Rattle.rdump_net.specs.Keeping.{IsDumpKept, IsKeptUp, IsUnkept, kept_ends, kept_kind, plain_checkpoint};
 ghost use Rattle.rdump_net.specs.Lines.{IsDumped};
@@ -27,8 +30,8 @@ impl Keeper for NoKeeper {
     }
 }
 
-/// Has a client write its run over a peer, each volume over a connection of its own, and prints the
-/// outcome.
+/// Makes a client write its run to a tape server (the peer), with a new connection for each
+/// attempt, and prints the outcome.
 ///
 /// For each counted volume it prints `volume 1: 2 blocks from 0`, and at the end
 /// `dump complete: 2 volumes, 3 blocks`.
@@ -47,20 +50,21 @@ pub fn dump<B: Blocks, P: Peer, R: Read, W: Write>(
     operator: &mut R,
     out: &mut Counted<W>,
 ) -> ExitStatus
-    // If the peer's contract gives the log, each request is sent once, and only if the client asked
-    // for it. Each request is sent whole, unless the connection ends during the request. If the
-    // connection ends, only a beginning of the request is sent.
+    // If the peer's contract gives the log, the call sends only requests that the client made, and
+    // sends each of them once. It sends each request whole, unless the connection ends during the
+    // request. In that case it sends only a beginning of the request.
     //
-    // The client is fed all bytes that the peer received, in order. The client is told that the
-    // connection ended exactly if the peer reported an end.
+    // The call passes to the client all bytes that came from the peer, in order. If the peer
+    // reports an end of the connection, the call reports this end to the client. The call reports
+    // no other end.
     ensures talks { TalksOver B.holds FromAny P.tells client.old client.new peer.old peer.new }
-    // The call prints exactly one line for each volume that was counted since the start, in order,
-    // with the volume's own numbers. The call prints no line for any other volume. Between the
-    // lines of volumes, the call prints failures and questions. At the end, the call prints the
-    // last line. The line of a failure contains the number of the first volume that is not counted
-    // yet. The call can ask a question although no failure was printed. No clause ties the printed
-    // failures and questions to the attempts. If a write failed, only a beginning of all these
-    // lines was printed, and the failure is counted.
+    // The call prints exactly one line for each volume that was counted since the start, in order.
+    // The numbers in the line are those of the volume. The call prints no line for any other
+    // volume. Between the lines of volumes, the call prints failures and questions. At the end, the
+    // call prints one last line. The line of a failure contains the number of the first volume that
+    // is not counted yet. The call can ask a question although no failure was printed. No clause
+    // says which failures and questions follow which attempts. If a write failed, what was printed
+    // is only a beginning of these lines, and the failure is counted.
     //
     // The status is `Success` exactly if the run is finished and everything was printed, and
     // `Abnormal` otherwise.
@@ -71,7 +75,8 @@ pub fn dump<B: Blocks, P: Peer, R: Read, W: Write>(
     end.status()
 }
 
-/// Has a client write its run over a peer, as `dump` does, and keeps its checkpoint with `keeper`.
+/// Makes a client write its run to a tape server, as `dump` does, and stores the client's
+/// checkpoint with `keeper`.
 ///
 /// It keeps the checkpoint before the first attempt, and after each count once the count's line is
 /// printed. It keeps nothing for a run that is finished or abandoned at the start, and nothing
@@ -92,25 +97,25 @@ pub fn dump_kept<B: Blocks, P: Peer, R: Read, W: Write, K: Keeper>(
 ) -> Conclusion
     // The promises about kept checkpoints hold if the keeper's contract gives the checkpoints that
     // were kept. The contract of `ReplacedFile` does not give them. No clause says that a keeper
-    // stores the text of the checkpoint. The private `text_of` makes the text that `ReplacedFile`
-    // stores. The clause of `text_of` says that this text is that of the checkpoint. An attempt
-    // starts only if the last checkpoint that was kept has the client's run and counts. This holds
-    // for the first attempt, too, and for each attempt after a new count. So nothing is sent after
-    // the keeper has failed. Suppose that the dump is complete, and that a volume was counted since
-    // the start. Then the last checkpoint that was kept has the last count.
+    // stores the text of the checkpoint. The private call `text_of` makes the text that
+    // `ReplacedFile` stores. The clause of `text_of` says that this call returns the text of the
+    // checkpoint. An attempt starts only if the last checkpoint that was kept has the client's run
+    // and counts. This holds for the first attempt and for each later attempt. After the keeper has
+    // failed, nothing is sent. Suppose that the dump is complete, and that a volume was counted
+    // since the start. Then the last checkpoint that was kept has the last count.
     //
-    // The keeper gets a checkpoint only after the lines of all volumes that were counted since the
-    // start are printed whole.
+    // The call gives a checkpoint to the keeper only after it has printed the whole line of each
+    // volume that was counted since the start.
     //
-    // The call prints the lines of `dump`. If the dump ends as `Unkept`, the last line is
-    // `checkpoint not written`. The dump ends as `Complete` only if the run is finished. No clause
-    // says that a checkpoint is kept again only if a volume was counted. After the keeper has
-    // failed, no attempt starts. No clause says that the call then prints nothing but the last
-    // line.
+    // The call prints the lines that `dump` prints. If the dump ends as `Unkept`, the last line is
+    // `checkpoint not written`. The dump ends as `Complete` only if the run is finished. After the
+    // keeper has failed, no attempt starts. No clause forbids two things: that the call keeps the
+    // same checkpoint again although no volume was counted, and that the call prints other lines
+    // between the keeper's failure and the last line.
     ensures kept { IsDumpKept (kept_kind B.holds P.tells W.contents K.puts) (kept_ends client.old peer.old out.old keeper.old)
         (kept_ends client.new peer.new out.new keeper.new) result }
-    // The dump ends as `Unkept`, with a checkpoint that could not be kept, only if the keeper can
-    // fail.
+    // `Unkept` means that a checkpoint could not be kept. If the keeper cannot fail, the dump does
+    // not end as `Unkept`.
     ensures able { result ≡ ends.Unkept → K.can_fail keeper.old }
 {
     match client.state() {

@@ -1,8 +1,8 @@
-//! A dump over a connection: the client's attempts to write volumes to a server, from the first
-//! request to the lines that the operator reads.
+//! Runs a dump over a connection: makes the client's attempts to write volumes to a server, and
+//! prints the lines that the operator reads.
 //!
-//! `Peer` is the far end of a connection; `SocketPeer` reaches it over TCP. `dump` has a client
-//! write its volumes over a peer, asks the operator after a failure, and prints each counted
+//! `Peer` is the far end of a connection; `SocketPeer` reaches it over TCP. `dump` makes a client
+//! write its volumes to a tape server, asks the operator after a failure, and prints each counted
 //! volume. `dump_kept` also keeps the checkpoint with a `Keeper`.
 //!
 //! `copy_volume` reads a volume back, `mt` does one operation, and `look_at_reel` finds out what a
@@ -12,12 +12,13 @@
 //!
 //! # Contracts
 //!
-//! Promises about a peer, the far end of a connection, hold if the peer's contract gives its *log*:
-//! what passed over the connection, in order. The contract of `SocketPeer`, a peer at a socket of
-//! the system, does not give its log. So no clause says what passed through a socket, why a call of
-//! the socket failed (`SocketPeer::failure`), or how long a call waits.
+//! A *peer* is the far end of a connection. Its *log* is what passed over the connection, in order.
+//! The promises about what passes over a connection hold only if the peer's contract gives the log.
+//! The contract of `SocketPeer`, which uses a socket of the system, does not give the log. So no
+//! clause says what passed through a socket. No clause says which error `SocketPeer::failure`
+//! returns, or how long a call waits.
 //!
-//! A *keeper* stores the text of the client's checkpoint. Each new text replaces the text before.
+//! A *keeper* stores the text of the client's checkpoint. Each new text replaces the previous one.
 #![tactic(auto)]
 
 mod attempt;

@@ -50,8 +50,8 @@ fn line_of(count: VolumeCount) -> ArrayString<LINE_ROOM>
 /// number of a refusal or the number of a counted volume. The line has at most 73 bytes.
 pub fn failure_line(volume: u32, fault: AttemptFault) -> ArrayString<LINE_ROOM>
     // Returns the line of a failed attempt, with the volume's number and the fault's name. If the
-    // fault is a refusal, the number of the error follows. If the fault is a counted reel, the
-    // number of the volume on that reel follows. The line has at most 73 bytes.
+    // server refused a request, the number of the error follows. If the attempt met a counted reel,
+    // the number of the volume on that reel follows. The line has at most 73 bytes.
     ensures text { result.bytes ≡ line_of_failure volume fault }
     ensures short { length result.bytes ≤ 73 }
 {

@@ -68,7 +68,7 @@ pub enum LookFault {
     NoReply(CallFault),
 }
 
-/// Finds out what the first reel of a drive begins with, over a connection of its own.
+/// Finds out, over a new connection, what is at the beginning of the first reel of a drive.
 ///
 /// It opens the device for reading, rewinds, and reads 1,024 bytes. If that returns no bytes, it
 /// rewinds and spaces over one mark. If this is refused with `EIO`, there is no mark, and the reel
@@ -92,9 +92,9 @@ pub fn look_at_reel<P: Peer>(
     requires { IsLine device.now }
     // If the peer's contract gives the log, the call sends the open for reading, the rewind, a read
     // of 1,024 bytes, and the close. If the read returned no record, the call sends a rewind and
-    // MTFSF 1 before the close. The call sends each request once, after the reply to the previous
-    // request. If the open is refused, the call sends nothing more. After any other refusal, the
-    // call sends the close next.
+    // MTFSF 1 (forward over one mark) before the close. The call sends each request once, after the
+    // reply to the previous request. If the open is refused, the call sends nothing more. After any
+    // other refusal, the call sends the close next.
     //
     // Once the reply to the close has come, the call returns what the reel begins with: the record
     // that was read or, if MTFSF was done, a mark. If MTFSF was refused with `EIO`, the call

@@ -20,8 +20,8 @@ use rmt_wire::{Counted, Request, print_text};
 use std::alloc::Global;
 use std::io::Write;
 
-/// Does one mtio operation `op`, with this count, at a device, over a connection of its own. It
-/// prints the server's reply on one line: `A1`, or `E5 Input/output error`.
+/// Does the mtio operation `op` with this count at a device, over a new connection. It prints the
+/// server's reply on one line: `A1`, or `E5 Input/output error`.
 ///
 /// It opens the device, for reading and writing if the operation is `MTWEOF` and for reading if
 /// not, and closes it after the operation. If the open is refused, that reply is printed instead.

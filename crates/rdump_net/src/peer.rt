@@ -36,22 +36,21 @@ pub trait Peer {
     /// Connects to the peer. An earlier connection, if there is one, is dropped first. Returns true
     /// and logs `Connected` if the connection was made. Otherwise returns false and logs `Ended`.
     fn connect(&mut self) -> bool
-        // If the call makes a connection, it adds a connection to the log. If the call makes none,
-        // it adds an end.
+        // If a connection is made, the call adds a connection to the log. Otherwise it adds an end.
         ensures { Logs tells self.old self.new (connected result) };
 
     /// Sends all of these bytes. Returns whether it could. If not, some first part of them was
     /// sent, perhaps none, and the connection ended.
     fn send(&mut self, bytes: &[u8]) -> bool
-        // Adds the bytes to the log. If the connection ends during the call, the call adds a
-        // beginning of the bytes and then an end.
+        // Adds the bytes to the log. If the connection ends during the call, it adds only a
+        // beginning of the bytes, and then an end.
         ensures { (passed : List Passed) × AreBytesSent bytes.now result passed × Logs tells self.old self.new passed };
 
-    /// Waits for bytes, and writes those that came to the front of `into`. Returns how many came,
+    /// Waits for bytes from the peer, and puts them at the front of `into`. Returns how many came,
     /// at most the length of `into`. If `into` has room, 0 means that the connection ended.
     fn receive(&mut self, into: &mut [u8]) -> usize
         // Returns no more bytes than the buffer has room for, and adds the returned bytes to the
-        // log. If there is room and the call returns no bytes, the connection has ended.
+        // log. If the buffer has room and the call returns no bytes, the connection has ended.
         ensures within { result ≤ length into.new }
         ensures told { Logs tells self.old self.new (given into.new (take result into.new)) };
 
@@ -66,17 +65,17 @@ pub trait Peer {
     /// An implementation that looks at the reel uses a connection of its own. If it returns false,
     /// the operator is asked in place of the attempt; it may first print why.
     fn may_begin(&mut self) -> bool
-        // The call answers whether an attempt may begin, and adds nothing to the log.
+        // Returns whether an attempt may begin, and adds nothing to the log.
         ensures { Logs tells self.old self.new [] }
     {
         true
     }
 
-    /// Called after an attempt over this peer failed, with the reason. The connection is closed by
-    /// then, and nothing passes. An implementation may print the reason.
+    /// Reports to the peer that an attempt failed, and why. The connection is closed by then, and
+    /// nothing passes. An implementation may print the reason.
     fn attempt_failed(&mut self, fault: AttemptFault)
-        // The call tells the peer that an attempt failed, and adds nothing to the log. No clause
-        // says that `dump` makes this call.
+        // The call reports to the peer that an attempt failed, and adds nothing to the log. No
+        // clause says that `dump` makes this call.
         ensures { Logs tells self.old self.new [] }
     {
         let _ = fault;

@@ -17,10 +17,11 @@ pub enum Protection {
     Mark,
 }
 
-/// Returns why a dump must not write on a reel with this beginning, or None if it may.
+/// Returns why a dump must not write on a reel with this beginning, or None if the dump may write
+/// on it.
 ///
-/// It may if the reel is empty, or begins with a label of the same name, level and date. The
-/// label's volume number does not matter. `date` is in seconds since 1970 began, UTC.
+/// The dump may write on it if the reel is empty, or begins with a label of the same name, level
+/// and date. The label's volume number does not matter. `date` is in seconds since 1970 began, UTC.
 pub fn find_protection(front: &ReelFront, name: &str, level: u64, date: u64) -> Option<Protection>
     // Returns why a dump must not overwrite the reel, or none if a dump may overwrite it. The call
     // returns none exactly if the reel is empty, or if its first record is a label of the given

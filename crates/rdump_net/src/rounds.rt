@@ -1,5 +1,7 @@
 //! The rounds of a dump: attempt after attempt, the lines that report them, and the operator's
 //! answers.
+//!
+//! `operator` is the stream of the operator's answers.
 ghost use Rattle.std.specs.Prelude.{◌≡◌, ◌≢◌, false, Some, length, drop, if◌then◌else◌};
 ghost use Rattle.dump_client.specs.Standing.{checkpoint_of};
 ghost use Rattle.rdump_net.specs.Lines.{DumpLines, IsFinish, IsRound, complete_line, count_lines, failure_lines};
@@ -43,8 +45,8 @@ pub(crate) fn round<B: Blocks, P: Peer, R: Read, W: Write>(
     }
 }
 
-/// Has the client try its next volume if `may`, and asks the operator if not. Returns how the dump
-/// ended, if it did.
+/// Makes the client try its next volume or, if the argument `may` is false, asks the operator.
+/// Returns how the dump ended, if it did.
 fn begin_volume<B: Blocks, P: Peer, R: Read, W: Write>(
     client: &mut Client<B>,
     peer: &mut P,
@@ -56,8 +58,8 @@ fn begin_volume<B: Blocks, P: Peer, R: Read, W: Write>(
     ensures talks { TalksOver B.holds (FromThis client.old.at) P.tells client.old client.new peer.old peer.new }
     ensures printed { IsRound W.contents client.old.at.counts client.new.at out.old out.new result }
     ensures still { result ≡ Some ends.Complete → client.new.at ≡ client.old.at }
-    // If no attempt may begin, the client and the peer are unchanged. No clause says that this
-    // function is given the peer's answer.
+    // If `may` is false, the client and the peer are unchanged. No clause says that `may` is the
+    // peer's answer.
     ensures held { may ≡ false → (client.new ≡ client.old) × (peer.new ≡ peer.old) }
 {
     if may {

@@ -1,4 +1,6 @@
 //! Reading a volume back over a peer.
+//!
+//! A peer is the far end of a connection: what is sent over it goes through that connection.
 ghost use Rattle.std.specs.Prelude.{◌≡◌, ◌≤◌, IfSome, IfErr, length, nat_eq, position};
 ghost use Rattle.rmt_wire.specs.Lent.{plain_request};
 ghost use Rattle.rmt_wire.specs.declared.limits.TheConstants.{NUMBER_LIMIT};
@@ -37,8 +39,8 @@ pub enum AfterVolume {
     Offline,
 }
 
-/// Reads the first volume of a reel, as `copy_volume` does with `AfterVolume::Stay`. The reel stays
-/// in the drive.
+/// Reads the first volume of a reel, and leaves the reel in the drive. It calls `copy_volume` with
+/// `AfterVolume::Stay`.
 ///
 /// Returns the exit status: `Success` if the volume was read whole, else `Abnormal`. The device is
 /// one line of at most `LINE_LIMIT` bytes.
@@ -61,9 +63,9 @@ pub fn read_volume<P: Peer, F: Write, W: Write>(
     }
 }
 
-/// Reads the first volume of a reel over a connection of its own. It prints the label to `out`, up
-/// to its first zero byte. It writes the records after the label to `file`, up to the first mark or
-/// the end of the reel.
+/// Reads the first volume of a reel over a new connection. It prints the label to `out`, up to its
+/// first zero byte. It writes the records after the label to `file`, up to the first mark or the
+/// end of the reel.
 ///
 /// It opens the device for reading, rewinds, reads record after record, and closes the device.
 /// After an error reply to one of these or to MTOFFL it sends nothing more. The same holds after
@@ -99,36 +101,41 @@ pub fn copy_volume<P: Peer, F: Write, W: Write>(
     // If the peer's contract gives the log, the call sends the open for reading and the rewind.
     // Then the call sends reads until one returns no bytes. Then it sends the close. The call sends
     // each request after the reply to the previous request. If one of these requests is refused,
-    // the call sends nothing more. If its argument is `AfterVolume::Stay`, the call sends no other
+    // the call sends nothing more. If the argument is `AfterVolume::Stay`, the call sends no other
     // requests.
     //
     // Suppose that the argument is `Check` or `Offline`, and that the first read returned a record.
-    // Then the call looks for the mark after the reads. First the call sends MTBSR 1, back over one
-    // record. If MTBSR is refused with EIO, the call sends three requests. These are a rewind,
-    // MTFSR (forward over records) by the number of records including the label, and MTFSF 1
-    // (forward over one mark). If any other refusal comes, the call sends the close next. If the
-    // number of records is above `NUMBER_LIMIT`, the call sends the close in place of MTFSR.
+    // Then the call looks for the mark that ends the volume, once the reads are done. First the
+    // call sends MTBSR 1 (back over one record). If MTBSR is refused with EIO, the call sends three
+    // more requests. The first is a rewind. The second is MTFSR (forward over records) with the
+    // number of all records, the label included. The third is MTFSF 1 (forward over one mark). If
+    // MTBSR is refused with another error, or one of the three requests is refused, the call sends
+    // the close next. If the number of records is above `NUMBER_LIMIT`, the call sends the close in
+    // place of MTFSR.
     //
-    // The result is `NoMark` if MTBSR was done. The result is `Undetermined` if one of the requests
-    // that look for the mark was refused or could not be sent. In both cases the close was sent,
-    // whatever the reply to the close was. The call succeeds only if MTFSF was done.
+    // The result is `NoMark` if MTBSR was done. The result is `Undetermined` if the call gave up
+    // the search for the mark. The call gives up if MTBSR is refused with an error other than EIO,
+    // if one of the three requests is refused, or if there are too many records for MTFSR. Before
+    // the call returns `NoMark` or `Undetermined`, it sends the close, and the reply to the close
+    // does not matter. If the call has searched for the mark, it succeeds only if MTFSF was done.
     //
-    // With `Offline`, if MTFSF was done, the call sends MTOFFL, which moves the reel to the bin.
-    // The call sends MTOFFL once, before the close. In all other cases the call does not send
-    // MTOFFL.
+    // If the argument is `Offline` and MTFSF was done, the call sends MTOFFL once, before the
+    // close. MTOFFL moves the reel to the bin. In all other cases the call does not send MTOFFL.
     //
-    // Suppose that the first read returns no bytes, so that there is no label. Then the call
-    // neither looks for a mark nor sends MTOFFL. The call sends the close next, as with `Stay`. The
-    // call prints and writes nothing, and the result is as with `Stay`.
+    // Suppose that the first read returns no bytes. Then there is no label, and the call neither
+    // looks for a mark nor sends MTOFFL. The call sends the close next. It prints and writes
+    // nothing. The result is the one that the argument `Stay` would give.
     //
-    // If a write failed, the call sends neither MTOFFL nor the close, because it has read no mark.
-    // No clause says that the call stops reading after the failed write.
+    // Suppose that a write failed. Then each read that the call made has returned a record. MTOFFL
+    // and the close follow only after a read that returns no bytes. So the call sends neither of
+    // them. No clause says that the call stops reading after the failed write.
     //
     // The call prints the text of the label, and writes the records after the label to the file. If
     // a write failed, only a beginning of this text or of these records was written.
     //
-    // The result says which request was refused, or why the next request has no reply. The result
-    // says that a write failed exactly if a write failed.
+    // If the call fails, and the result is neither `NoMark` nor `Undetermined`, the result says one
+    // of three things: which request was refused, why the next request has no reply, or that a
+    // write failed. The result says that a write failed if one failed, and only then.
     ensures { IsRead (copy_kind P.tells F.contents W.contents) device.now after
         (copy_ends peer.old file.old out.old) (copy_ends peer.new file.new out.new) result }
 {
@@ -143,7 +150,8 @@ pub fn copy_volume<P: Peer, F: Write, W: Write>(
     result
 }
 
-/// Makes all calls of reading a volume, over the open connection.
+/// Makes all calls of reading a volume, over the open connection. `after` says what to do with the
+/// reel once its volume was read whole.
 fn go_through<P: Peer, F: Write, W: Write>(
     caller: &mut PeerCaller,
     peer: &mut P,
@@ -190,8 +198,8 @@ fn after_for_count(after: AfterVolume, records: u64) -> AfterVolume
     }
 }
 
-/// Ends the read after `records` records: looks for the mark, takes the reel offline if it is to
-/// go, and closes the device.
+/// Ends the read after `records` records: looks for the mark unless `goes` is `Stay`, takes the
+/// reel offline if `goes` is `Offline`, and closes the device.
 fn conclude<P: Peer>(
     caller: &mut PeerCaller,
     peer: &mut P,
@@ -207,7 +215,7 @@ fn conclude<P: Peer>(
     }
 }
 
-/// Takes the reel offline, if it is to go, and closes the device.
+/// Takes the reel offline, if `goes` is `Offline`, and closes the device.
 fn conclude_at_mark<P: Peer>(
     caller: &mut PeerCaller,
     peer: &mut P,
@@ -231,7 +239,7 @@ fn close_unmarked<P: Peer>(
     Err(fault)
 }
 
-/// Looks for the mark after `records` records, unless the reel stays unchecked.
+/// Looks for the mark after `records` records, unless `goes` is `Stay`.
 ///
 /// Returns None if the mark was found or not looked for, else why it was not found: `NoMark` or
 /// `Undetermined`. Fails if a request gets no valid reply.

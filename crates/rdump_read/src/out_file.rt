@@ -1,4 +1,6 @@
 //! The file into which volumes are read back.
+//!
+//! In comments, `line` is the parsed command line.
 use rdump_args::ReadLine;
 use rdump_files::named_file;
 use std::alloc::Global;

@@ -1,4 +1,6 @@
 //! `rdump read`.
+//!
+//! In comments, `line` is the parsed command line.
 ghost use Rattle.rdump_read.specs.Status.{IsReadStatus};
 ghost use Rattle.rdump_args.specs.Rdump.{IsReadLine};
 
@@ -75,7 +77,8 @@ fn read_one<R: ClientSystem>(rt: &R, line: &ReadLine<'_>, file: &OutFile) -> Exi
     }
 }
 
-/// Cuts a file to the length in `line`, if there is one, and syncs it. Returns the exit status.
+/// Cuts a file to the length in `line`, if `line` has one, and then syncs the file. Returns the
+/// exit status.
 pub(crate) fn finish_file<R: ClientSystem>(
     rt: &R,
     line: &ReadLine<'_>,

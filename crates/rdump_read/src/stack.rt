@@ -1,4 +1,6 @@
 //! Reads back the volumes of a stack, one after the other.
+//!
+//! In comments, `line` is the parsed command line.
 ghost use Rattle.rdump_read.specs.Status.{IsReadStatus};
 ghost use Rattle.rdump_args.specs.Rdump.{IsReadLine};
 
@@ -48,9 +50,9 @@ fn end_stack<R: ClientSystem>(
     }
 }
 
-/// Ends the read of a dump if the next reel is not one of it. Cuts and syncs the file if nothing is
-/// missing below the length in `line`. Without a length, the dump may continue on further reels.
-/// Returns the exit status.
+/// Ends the read of a dump when the next reel does not belong to the dump. Cuts and syncs the file
+/// if nothing is missing below the length in `line`. Without a length, the dump may continue on
+/// further reels. Returns the exit status.
 fn end_dump<R: ClientSystem>(
     rt: &R,
     line: &ReadLine<'_>,

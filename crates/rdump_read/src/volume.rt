@@ -245,7 +245,8 @@ fn report_sizes<R: ClientSystem>(rt: &R, sizes: BlockSizes) {
     };
 }
 
-/// Prints which volume a reel has, which is of another dump than the ones before.
+/// Prints which volume a reel has, which is of another dump than the ones before. `to` is the
+/// address of the server that is read from.
 fn report_other<R: ClientSystem>(rt: &R, to: &str, label: &VolumeLabel) -> ReadEnd {
     let to = plain(to);
     let (name, level, volume) = (label.name(), label.level(), label.volume());
@@ -285,8 +286,8 @@ fn report_block_fault<R: ClientSystem>(rt: &R, line: &ReadLine<'_>, fault: &Bloc
     }
 }
 
-/// Prints why a volume was not read whole from this server, with the system's error if there is
-/// one.
+/// Prints why a volume was not read whole from the server with the address `to`, with the system's
+/// error `failure` if there is one.
 fn report_read<R: ClientSystem>(rt: &R, to: &str, fault: ReadFault, failure: Option<&io::Error>) {
     match (fault, failure) {
         (ReadFault::OutputFailed, _) => {

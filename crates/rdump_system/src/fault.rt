@@ -49,7 +49,8 @@ pub fn report_unwritten<R: Eprint>(rt: &R, status: ExitStatus) -> ExitStatus
     status
 }
 
-/// Prints that standard output could not be written, if `failures` is not 0, and returns `status`.
+/// If `failures` is not 0, prints that standard output could not be written. Returns `status` in
+/// any case.
 pub fn report_failures<R: Eprint>(rt: &R, failures: u64, status: ExitStatus) -> ExitStatus
     // Returns the exit status that it was given, whether or not a write failed.
     ensures { result ≡ status }

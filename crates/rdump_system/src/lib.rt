@@ -1,4 +1,5 @@
-//! What every command of `rdump` needs: its part of the runtime, and the messages for errors.
+//! What the commands of `rdump` share: the part of the runtime that they use, and the messages for
+//! errors.
 //!
 //! `ClientSystem` is the part of the runtime that the commands use. `print_fault` and the functions
 //! `report` and `report_..` print on standard error what failed, and return the exit status.

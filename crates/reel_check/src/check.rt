@@ -1,4 +1,6 @@
 //! Reading a record file from front to end, to find what it holds.
+//!
+//! `at` is an offset in bytes, and `room` the buffer that records are read into.
 
 ghost use Rattle.std.specs.Prelude.{◌≡◌, ◌≢◌, ◌+◌, ◌<◌, ◌≤◌, ◌^◌, ℕ, List, [], IfOk, OnErr, OnOk, IsErr, drop, length};
 ghost use Rattle.tape.specs.Tape.{PlainEntry};
@@ -13,8 +15,8 @@ use crate::{ReelContents, ReelTally};
 use dump_run::LABEL_BYTES;
 use tape::{LENGTH_BYTES, Medium, MediumFailed, entry_size, next_length};
 
-/// Returns what a record file holds. Reads it once, entry by entry from front to end, and does not
-/// change it.
+/// Reads a reel's medium, and returns what the reel holds. Reads the medium once, entry by entry
+/// from front to end, and does not change it.
 ///
 /// The bytes of each record are read in pieces as long as `room`, so that a read error of the disk
 /// is noticed. With an empty `room`, only lengths are read, and a first entry that may be a label.
@@ -33,7 +35,7 @@ pub fn check_reel<M: Medium>(medium: &mut M, room: &mut [u8]) -> Result<ReelCont
     ensures failed { OnErr result (HasRisen (M.failures medium.old) (M.failures medium.new)) }
     // If the medium cannot fail, the call succeeds.
     ensures able { OnErr result (M.can_fail medium.old) }
-    // If it succeeds, no call of the medium failed in it.
+    // If the check succeeds, no call of the medium failed during the check.
     ensures quiet { OnOk result (M.failures medium.new ≡ M.failures medium.old) }
 {
     let bytes = medium.len()?;

@@ -13,7 +13,7 @@ ghost use Rattle.reel_check.specs.declared.holding.VolumeEnd.TheVariants.{OneMar
 
 use dump_run::one_label;
 
-/// Law: a list of entries has at most one `Holding`.
+/// The law that a list of entries has at most one description (`Holding`).
 ///
 /// It does nothing: its contract is a law of the definitions.
 pub fn one_holding()
@@ -23,8 +23,9 @@ pub fn one_holding()
     one_label();
 }
 
-/// Law: two reels have the same `Holding` if they have the same label, as many blocks of the same
-/// length, and the same end. The bytes of their blocks do not matter: a volume has no checksum.
+/// The law that two reels have the same description (`Holding`) if they have the same label, the
+/// same number of blocks, blocks of the same length, and the same end. The bytes of their blocks do
+/// not matter: a volume has no checksum.
 ///
 /// It does nothing: its contract is a law of the definitions.
 pub fn one_volume()
@@ -37,14 +38,14 @@ pub fn one_volume()
     one_label();
 }
 
-/// Law: what a dump leaves on a reel that it counts is a whole volume. It has the label of
+/// The law that each reel holds a whole volume if a dump has counted this reel. It has the label of
 /// a volume of a run, blocks of the run's size, and one mark. The same is true without blocks.
 ///
 /// It does nothing: its contract is a law of the definitions.
 pub fn dumped_volume()
-    // A reel that a dump has counted has the label of a volume of a run, blocks of the run's size,
-    // one mark, and nothing else. A check describes such a reel as a whole volume. This is also
-    // true if the volume has no blocks.
+    // If a dump has counted a reel, this reel has the label of a volume of a run, blocks of the
+    // run's size, one mark, and nothing else. A check describes such a reel as a whole volume. This
+    // is also true if the volume has no blocks.
     ensures some { (run : PlainRun) (volume first : ℕ) (blocks : List (List ℕ)) → IsRun run → IsInRange 1 blocks_limit volume → first ≤ blocks_limit →
         All (λ block. length block ≡ run.block_bytes) blocks → blocks ≢ [] →
         IsVolume (label_of run volume first) (length blocks) run.block_bytes OneMark (Record (label run volume first) ∷ (map Record blocks ++ Mark ∷ [])) }

@@ -1,4 +1,5 @@
-//! What a reel holds: whose volume it is, how many blocks it has, and whether it is whole.
+//! Checks what a reel holds: which volume of which dump, how many blocks, and whether the volume is
+//! whole.
 //!
 //! `check_reel` reads a record file from front to end and returns its `ReelContents`. `ReelTally`
 //! takes the entries of a reel one after the other, from any source, and determines what they are:
@@ -12,8 +13,8 @@
 //! reel has any other entries.
 //!
 //! A check describes a volume as whole if one mark, and nothing else, follows the blocks. A check
-//! cannot find out whether the blocks are those that were dumped, because a volume has neither a
-//! checksum nor the number of its blocks.
+//! cannot find out whether the blocks are those that were dumped, because a volume contains neither
+//! a checksum nor the number of its blocks.
 //!
 //! A *tally* is a value of the type `ReelTally`. You add entries to a tally one by one, and the
 //! tally gives the description of these entries.

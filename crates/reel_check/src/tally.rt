@@ -28,7 +28,7 @@ impl Model for ReelTally {
 }
 
 impl ReelTally {
-    /// Makes the tally of no entries.
+    /// Makes a tally without entries.
     pub fn new() -> ReelTally
         // Returns a tally without entries.
         ensures { IsTally result [] }
@@ -40,7 +40,7 @@ impl ReelTally {
         }
     }
 
-    /// Adds a record of these bytes, 1 to `rmt_wire::RECORD_LIMIT` of them.
+    /// Adds a record with the given bytes: at least 1 byte, and at most `rmt_wire::RECORD_LIMIT`.
     ///
     /// If it is the first entry, it is read as a label. Otherwise only its length counts.
     pub fn record(&mut self, bytes: &[u8])
@@ -66,9 +66,10 @@ impl ReelTally {
         self.marks = self.marks.saturating_add(1);
     }
 
-    /// Returns what the entries are so far.
+    /// Returns the description of the entries that were added so far.
     pub fn holding(&self) -> &Holding
-        // Returns the description of the entries that were added. No other body has its type.
+        // Returns the description of the entries that were added. The types allow only this body,
+        // so there is no edit.
         ensures { result.now ≡ self.now.holding }
     {
         &self.holding
@@ -90,7 +91,7 @@ impl ReelTally {
         self.marks
     }
 
-    /// Consumes the tally, and returns what the entries that were added are.
+    /// Consumes the tally, and returns the description of the entries that were added to it.
     pub fn into_holding(self) -> Holding
         // Consumes the tally, and returns the description of the entries that were added.
         ensures { result ≡ self.holding }

@@ -1,5 +1,6 @@
 -- Drives in folders: their state, without the contents of the folders, and the effect of each call.
--- Public contracts cite it.
+-- A drive's latched reel is the first of its stack: it is in the drive until it is laid back or
+-- moved to the bin. Public contracts cite it.
 use Rattle.std.specs.Prelude.{◌≡◌, ◌≢◌, ◌⊎◌, ℕ, ◌<◌, Bool, true, false, List, [], length, slice_set, slice_index_or, map, Option, Some, None, Result, Ok, Err}
 use Rattle.std.specs.List.{Contains}
 use Rattle.tape.specs.Failures.{raised}

@@ -20,8 +20,8 @@ abbrev pub IsUnsynced : ℕ → Option ℕ → Option ℕ → List FileStep → 
 IsUnsynced truncations failed noted before after =
     ((failed ≡ Some truncations) × (after ≡ before)) ⊎ ((noted ≡ Some truncations) × (after ≡ before ++ Sync false ∷ []))
 
--- Why the file was left in its stack, and not moved to the bin: it could not be synced, as
--- `IsUnsynced` says of the same arguments, or the move failed after a sync that succeeded.
+-- Why the file was left in its stack, and not moved to the bin: it could not be synced, now or
+-- since its last truncation, or the move failed after a sync that succeeded.
 abbrev pub IsLeft : ℕ → Option ℕ → Option ℕ → List FileStep → List FileStep → Type 0
 IsLeft truncations failed noted before after =
     IsUnsynced truncations failed noted before after ⊎ (after ≡ before ++ Sync true ∷ Move false ∷ [])

@@ -1,4 +1,7 @@
 //! Drives whose reels are files in folders.
+//!
+//! A drive's latched reel is the first of its stack: it is in the drive until it is laid back or
+//! moved to the bin.
 
 ghost use Rattle.std.specs.Prelude.{◌≡◌, ◌≤◌, ◌<◌, ◌↔◌, false, IfOk, IfSome, IsSome, IsErr, IsErrAnd, MatchResult, None, map, length};
 ghost use Rattle.std.specs.IoError.{error_kind, raw_os_error};
@@ -76,9 +79,9 @@ impl<R: FolderSystem, L: Log + Drop> Model for FolderStacks<R, L> {
 }
 
 impl<R: FolderSystem> FolderStacks<R, NoLog> {
-    /// Returns these drives, from 1 to `DRIVE_LIMIT`, each with a name. `bin` is the folder of the
-    /// bin, and `capacity` is that of each reel in bytes. It reads no folder. If several drives
-    /// have the same name, the first is used.
+    /// Returns stacks for 1 to `DRIVE_LIMIT` given drives, each of which has a name. `bin` is the
+    /// folder of the bin, and `capacity` is that of each reel in bytes. It reads no folder. If
+    /// several drives have the same name, the first is used.
     ///
     /// Fails only if an allocation fails.
     pub fn open(
@@ -100,7 +103,8 @@ impl<R: FolderSystem> FolderStacks<R, NoLog> {
 }
 
 impl<R: FolderSystem, L: Log + Drop> FolderStacks<R, L> {
-    /// Returns drives as `open` does, which log to `log` what they do.
+    /// Returns stacks as `open` does, but these stacks write to `log` what is done with their
+    /// reels.
     pub fn with_log(
         rt: R,
         drives: &[FolderDrive<'_>],
@@ -128,11 +132,11 @@ impl<R: FolderSystem, L: Log + Drop> FolderStacks<R, L> {
         })
     }
 
-    /// Checks the folders and returns the first that is missing, is not a folder, cannot be read,
-    /// or whose permissions do not allow new files. It checks the folders of the stacks in the
-    /// order of the drives, then the bin's. If the user owns the folder, the owner's permission to
-    /// write counts. For another user, that of the group or of others counts. For root, and for an
-    /// unknown user, anybody's counts.
+    /// Checks the folders, and returns the first one that is missing, is not a folder, cannot be
+    /// read, or has permissions that do not allow new files. It checks the folders of the stacks in
+    /// the order of the drives, then the bin's. If the user owns the folder, the owner's permission
+    /// to write counts. For another user, that of the group or of others counts. For root, and for
+    /// an unknown user, anybody's counts.
     ///
     /// It then returns the first drive's folder that
     /// - is also the bin's,
@@ -181,8 +185,9 @@ impl<R: FolderSystem, L: Log + Drop> FolderStacks<R, L> {
         None
     }
 
-    /// Opens and locks the file of the reel to latch, as `FolderDriveState::find` does. Logs the
-    /// file that was opened, or the failure; if there is no reel to latch, it logs nothing.
+    /// Opens and locks the file of the reel to latch, and logs that, or the failure. Returns
+    /// `None`, and does not log that, if a reel is already latched or no regular file is in the
+    /// folder. An interrupted move is completed before, and this is logged.
     fn find(&self, drive: usize) -> io::Result<Option<OpenedReel>>
         requires { drive < length self.now.rows }
         ensures free { MatchResult result (λ found. IsSome found → (row_at self.now drive).latched ≡ false) (λ _. (row_at self.now drive).latched ≡ false) }
@@ -201,8 +206,9 @@ impl<R: FolderSystem, L: Log + Drop> FolderStacks<R, L> {
         }
     }
 
-    /// Moves the latched reel's file to the bin, as `Stacks::offline` does, and logs the result.
-    /// `medium` is the open file of that reel.
+    /// Moves the latched reel's file to the bin, and logs the result. `medium` is the open file of
+    /// that reel. Fails with `NameTaken` if the bin has a reel with that name, and with `Device` if
+    /// the system fails.
     fn take_off(&mut self, drive: usize, medium: &FileMedium) -> Result<(), DriveFault>
         requires { drive < length self.old.rows }
         ensures { IsFolderMove self.old drive medium.now result self.new }
@@ -247,18 +253,18 @@ impl<R: FolderSystem, L: Log + Drop> Stacks for FolderStacks<R, L> {
     // drive, below, named, found: `drive` returns the first drive with the given name.
     //
     // latch: A latch takes a reel only if no reel is latched at the drive (`IsFolderCall`). The
-    // latched reel stands at its beginning and has the capacity of the stacks. The latched reel's
-    // file has had no failed call, no cut to length 0 and no write.
+    // latched reel is at its beginning, and its capacity is the one that the stacks were given. The
+    // latched reel's file has had no failed call, no cut to length 0 and no write.
     //
     // latch: A latch that fails because the stack is empty, or because an allocation failed, is not
     // counted as a failure. Every other failed latch is a device fault and is counted.
     //
     // unlatch: After a reel is laid back, no reel is latched at the drive.
     //
-    // offline: A move succeeds only if a reel is latched, and if no sync of the reel's file failed
-    // after the last cut to length 0. After a move that succeeded, no reel is latched at the drive.
-    // A move that failed hands the reel back. A failed move is counted as a device fault, unless
-    // the bin has a reel with the same name.
+    // offline: A move fails if no reel is latched. A move also fails if a sync of the reel's file
+    // has failed after the file's last cut to length 0. After a move that succeeded, no reel is
+    // latched at the drive. A move that failed hands the reel back. A failed move is counted as a
+    // device fault, unless the bin has a reel with the same name.
     //
     // failures: `failures` returns the count of device failures.
 

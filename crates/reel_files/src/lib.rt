@@ -1,14 +1,15 @@
-//! Reels in files of the system: drives whose stacks are folders of such files. `FileMedium` is a
-//! file as the medium of a reel.
+//! Drives whose stacks are folders in the file system, and whose reels are the files in these
+//! folders. `FileMedium` is a file as the medium of a reel.
 //!
 //! The contracts leave the contents of files and folders unspecified. Failures of the system are
 //! counted.
 //!
 //! # Contracts
 //!
-//! A trait, `MovableFile`, stands for a file that can be synced and moved. The *steps* of a file
+//! The trait `MovableFile` stands for a file that can be synced and moved. The *steps* of a file
 //! are its syncs and moves, in order. For every `MovableFile` whose steps are known, the contract
-//! of `take_offline` gives the order of sync and move. `offline` calls `take_offline`.
+//! of `take_offline` gives the order of sync and move. To move a reel, the call `offline` of
+//! `FolderStacks` calls `take_offline`.
 #![tactic(auto)]
 
 mod folder;

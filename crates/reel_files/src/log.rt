@@ -6,7 +6,8 @@ pub trait Log {
     /// cannot be written is dropped.
     fn note(&self, line: &str);
 
-    /// Logs a line that describes a failure, like `note`. A log may mark these lines.
+    /// Logs a line that describes a failure. The line must not contain a line feed. A log may mark
+    /// these lines.
     fn warn(&self, line: &str) {
         self.note(line);
     }

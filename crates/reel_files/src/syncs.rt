@@ -46,7 +46,7 @@ pub trait MovableFile {
         ensures step { Makes told self.old self.new (Sync (is_ok result) ∷ []) }
         ensures same { truncations self.new ≡ truncations self.old };
 
-    /// Moves the file to the other folder. The result describes where the file is then.
+    /// Moves the file to another folder. The result describes where the file is then.
     fn rename(&mut self) -> Result<Self::Moved, Self::Refusal>
         // If the file's steps are known, `rename` adds one step, which says that a move was made
         // and whether the move succeeded.
@@ -81,14 +81,15 @@ impl<E: Copy> Model for Syncs<E> {
 impl<E: Copy> Syncs<E> {
     /// Returns a state in which no sync has failed.
     pub fn new() -> Syncs<E>
-        // In the new `Syncs` (a record of failed syncs) no sync has failed. No other body has its
-        // type.
+        // In the new `Syncs` (a record of failed syncs) no sync has failed. The types allow only
+        // this body, so there is no edit.
         ensures { result ≡ None }
     {
         Syncs { failed: None }
     }
 
-    /// Syncs the file, unless a sync of it has failed since it was last truncated to zero length.
+    /// Syncs the file, unless an earlier sync failed after the file was last truncated to zero
+    /// length.
     ///
     /// Fails with the reason of that earlier sync, or of this one. The system reports only once
     /// what it could not write, so a sync after a failed one would not report it again.
@@ -150,26 +151,28 @@ pub fn take_offline<F: MovableFile>(
     file.rename()
 }
 
-/// Syncs a file before it is closed, as `Syncs::sync` does, if it was written to or truncated since
-/// it was opened, even if that failed. Returns whether it was synced.
+/// Syncs a file that is about to be closed, if a write or a truncation was tried after the file was
+/// opened. It syncs as `Syncs::sync` does. Returns whether the file was synced.
 ///
 /// Fails with the reason if the file cannot be synced.
 pub fn sync_at_close<F: MovableFile>(
     file: &mut F,
     syncs: &mut Syncs<F::Refusal>,
 ) -> Result<bool, F::Refusal>
-    // If the file was written to after it was opened, even by a failed write, `sync_at_close` syncs
-    // the file as `Syncs::sync` does. The file makes one sync, and a failed sync is recorded. If an
-    // earlier sync failed after the last cut to length 0, the file makes no sync.
+    // Suppose that the file was written to after it was opened, even by a failed write. Then
+    // `sync_at_close` syncs the file as `Syncs::sync` does. The call asks the file once to sync,
+    // and records a failed sync. If an earlier sync failed after the last cut to length 0, the call
+    // does not ask the file to sync.
     ensures written { F.written file.old ≡ true → MatchResult result
         (λ synced. (synced ≡ true) × Makes F.told file.old file.new (Sync true ∷ []))
         (λ _. Steps F.told file.old file.new (IsUnsynced (F.truncations file.old) syncs.old syncs.new)) }
     // If the file was not written to after it was opened, `sync_at_close` leaves the file as it is
     // and records nothing.
     ensures unwritten { F.written file.old ≡ false → (result ≡ Ok false) × (file.new ≡ file.old) × (syncs.new ≡ syncs.old) }
-    // As in `Syncs::sync`, it fails if a sync of the file has failed since the last cut to nothing.
+    // If the file was written to, and an earlier sync of it failed after the last cut to length 0,
+    // `sync_at_close` fails, as `Syncs::sync` does.
     ensures again { F.written file.old ≡ true → syncs.old ≡ Some (F.truncations file.old) → IsErr result }
-    // As in `Syncs::sync`, a sync that fails is noted.
+    // `sync_at_close` records a failed sync, as `Syncs::sync` does.
     ensures noted { MatchResult result (λ _. syncs.new ≡ syncs.old) (λ _. syncs.new ≡ Some (F.truncations file.old)) }
 {
     if !file.is_written() {

@@ -1,5 +1,5 @@
--- What a session promises for each request, for all kinds of drives, seats and reels. Public
--- contracts cite it.
+-- What a session promises for each request, for all kinds of drives, seats and reels. `k` has the
+-- promises of the kinds of holds, stacks and reels. Public contracts cite it.
 use Rattle.std.specs.Prelude.{◌≡◌, ◌⊎◌, ℕ, ◌<◌, Bool, true, false, IsTrue, Option, Some, None}
 use Rattle.rmt_wire.specs.Request.{PlainRequest}
 use Rattle.rmt_wire.specs.Request.PlainRequest.{Open, Close, Op}

@@ -1,4 +1,5 @@
--- Laws of sessions, each with its own name. Public contracts cite it.
+-- Laws of sessions, each with its own name. A drive's latched reel is the first of its stack: it is
+-- in the drive until it is laid back or moved to the bin. Public contracts cite it.
 use Rattle.std.specs.Prelude.{◌≡◌, ◌≢◌, ℕ, ◌≤◌, Bool, true, List, Option, Some}
 use Rattle.tape.specs.Trouble.{TroubledTape}
 use Rattle.tape.specs.declared.trouble.Trouble.{Trouble}
@@ -65,8 +66,8 @@ abbrev pub StaysAtUnderTrouble : {H Seat : Type 0} → Kinds H Seat ListLibrary 
 StaysAtUnderTrouble {H} {Seat} k = (old : DriveTable H ListLibrary Seat TroubledTape) (session_state : SessionState Seat TroubledTape) (on : Bool) →
     IsAt k (state old session_state) → IsAt k (state (record old { stacks = record old.stacks { trouble = on } }) session_state)
 
--- `IsServedUnder` holds for one request over drives in memory, if a trouble is set for its device
--- call
+-- One request of a session at drives in memory is served under the trouble that is set for its
+-- device call. No reel on the stacks or in the bin has a trouble afterwards.
 abbrev pub TroublesAreServed : Type 0
 TroublesAreServed = (trouble : Trouble) (old new : MemoryState) (before : SessionView) (request : PlainRequest) (reply : PlainReply) →
     IsAt in_memory old → HasView in_memory old before → IsSetFor trouble request old → IsCarriedOut in_memory old request reply new →
@@ -83,7 +84,8 @@ abbrev pub NoMemoryIsWanted : Type 0
 NoMemoryIsWanted = (trouble : Trouble) (holders holders' : List ℕ) (k : ℕ) (before after : SessionView) (request : PlainRequest) (reply : PlainReply) →
     TroubledServe trouble holders k before request reply after holders' → is_of_stacks request ≡ true → reply ≢ refused NoMemory
 
--- `IsEnded` holds after the end of a session whose open reel has no trouble
+-- After the end of a session whose open reel has no trouble, that reel is back on its stack, and
+-- its drive has no holder. No reel on the stacks or in the bin has a trouble.
 abbrev pub EndsUntroubled : Type 0
 EndsUntroubled = (stacks : Bool) (old new : MemoryState) (before : SessionView) →
     IsAt in_memory old → HasView in_memory old before → IsTroubled NoTrouble stacks old → IsClosed in_memory old new → IsEnded old before new

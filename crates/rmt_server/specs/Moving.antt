@@ -1,4 +1,5 @@
--- How a session moves the open reel to the bin. Public contracts depend on it (through Carrying).
+-- How a session moves the open reel to the bin. `k` has the promises of the kinds of holds, stacks
+-- and reels. Public contracts depend on it (through Carrying).
 use Rattle.std.specs.Prelude.{◌≡◌, ℕ, Option, Some, None, MatchOption, Result, Ok, Err}
 use Rattle.rmt_wire.specs.Request.PlainRequest.{Op}
 use Rattle.rmt_wire.specs.Reply.{PlainReply}
@@ -35,7 +36,8 @@ MovesIn k old device None count reply new = ⊥
 MovesIn k old device (Some reel) count reply new =
     (result : Result Unit DriveFault) × (reply ≡ move_reply count result) × IsTakenOff k old device reel result new
 
--- `MovesIn` for the open device and its reel; if no device is open, this does not hold
+-- The reel of the open device is moved, and the result of the move decides the reply. If no device
+-- is open, or if it has no reel, this does not hold.
 abbrev pub MovesReel : {H S Seat R : Type 0} → Kinds H Seat S R → State H S Seat R → Option (Opened R) → ℕ → PlainReply
     → State H S Seat R → Type 0
 MovesReel k old None count reply new = ⊥

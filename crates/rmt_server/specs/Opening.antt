@@ -1,4 +1,5 @@
--- How a session closes what it has open, and opens a drive. Public contracts cite it.
+-- How a session closes what it has open, and opens a drive. `k` has the promises of the kinds of
+-- holds, stacks and reels. Public contracts cite it.
 use Rattle.std.specs.Prelude.{◌≡◌, ℕ, Option, Some, None, MatchOption, Result, Ok, Err, List}
 use Rattle.rmt_wire.specs.Reply.{PlainReply}
 use Rattle.rmt_wire.specs.Reply.PlainReply.{Done}

@@ -19,7 +19,8 @@ CallsReelOf {R} r device (Some reel) new request reply =
     (answer : TapeAnswer) × (moved : R) × (new ≡ Some (record device { reel = Some moved })) × (reply ≡ reel_reply request answer)
     × IsReelCall r reel (tape_request request) answer moved
 
--- `CallsReelOf` for the open device and its reel; if no device is open, this does not hold
+-- The request is one call of the reel of the open device. The call's answer gives the reply, and
+-- only the reel changes. If no device is open, or if it has no reel, this does not hold.
 abbrev pub CallsOpenReel : {R : Type 0} → ReelPromise R → Option (Opened R) → Option (Opened R) → PlainRequest → PlainReply → Type 0
 CallsOpenReel r None new request reply = ⊥
 CallsOpenReel r (Some device) new request reply = CallsReelOf r device device.reel new request reply
@@ -31,7 +32,8 @@ ReelServes r old new request reply =
     MatchOption (refusal (status_at old) request) (CallsOpenReel r old new request reply)
     (λ refusal. (reply ≡ refused refusal) × (new ≡ old))
 
--- A request that the open reel serves, as `ReelServes` says. The drives and the seat are unchanged.
+-- A request that the open reel serves. If a check refuses it, nothing is done. Otherwise there is
+-- one call of the reel. The drives and the seat are unchanged.
 abbrev pub Serves : {H S Seat R : Type 0} → Kinds H Seat S R → State H S Seat R → PlainRequest → PlainReply → State H S Seat R → Type 0
 Serves k old request reply new =
     (new.drives ≡ old.drives) × (new.seat ≡ old.seat) × ReelServes k.reels old.opened new.opened request reply

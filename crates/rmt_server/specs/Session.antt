@@ -1,5 +1,6 @@
 -- What a session has open, and what each request does (rmt(8); effects and the order of checks are
--- this project's). Public contracts cite it.
+-- this project's). A drive's latched reel is the first of its stack: it is in the drive until it is
+-- laid back or moved to the bin. Public contracts cite it.
 use Rattle.std.specs.Prelude.{◌≡◌, ℕ, ◌<◌, min, ◌==◌, nat_lt, Bool, true, false, ◌||◌, IsTrue, if◌then◌else◌, List, [], ◌∷◌, ◌++◌, length, Option, Some, None, MatchOption, Result, Ok, Err}
 use Rattle.rmt_wire.specs.Request.{PlainRequest}
 use Rattle.rmt_wire.specs.declared.limits.TheConstants.{RECORD_LIMIT}

@@ -1,5 +1,7 @@
 -- A session at its drives: what it holds and has open, how it is viewed, and what each of its calls
--- preserves. Public contracts cite it.
+-- preserves. A drive's latched reel is the first of its stack: it is in the drive until it is laid
+-- back or moved to the bin. `k` has the promises of the kinds of holds, stacks and reels. Public
+-- contracts cite it.
 use Rattle.std.specs.Prelude.{◌≡◌, ◌≢◌, ◌⊎◌, ℕ, ◌<◌, ◌≤◌, Option, Some, None}
 use Rattle.tape.specs.Tape.{Tape, TapeRequest, TapeAnswer}
 use Rattle.tape.specs.Call.{IsTapeCall, reel_kind}

@@ -1,4 +1,6 @@
--- What a server does with a stream of requests. Public contracts cite it.
+-- What a server does with a stream of requests. `k` has the promises of the kinds of holds, stacks
+-- and reels. `kind` gives the contents of the two streams, if they are specified. Public contracts
+-- cite it.
 use Rattle.std.specs.Prelude.{◌≡◌, ◌≢◌, ℕ, ◌<◌, Bool, List, [], ◌∷◌, ◌++◌, map, take, Option, Some, None, Result, Ok, Err}
 use Rattle.std.specs.List.{flat_map}
 use Rattle.std.specs.Io.KnownBytes.{Appends, Consumes, IsAtEnd}
@@ -196,7 +198,8 @@ pub record IsServedAs {H S Seat R In Out : Type 0} (k : Kinds H Seat S R) (kind 
   pub steps : (fails shared : Bool) → MayFail k old fails → MayShare k old shared → (start : SessionView) → HasView k old start
       → (finish : SessionView) × ServeRun fails shared k.reels.GROWS start done finish × k.stacks.holds new.drives.stacks (closed finish).library
 
--- the result of serving as `IsServedAs` says, for a session with its streams
+-- The result of serving the two streams of a session: the bytes that were read, the requests with
+-- their replies, and the bytes that follow. The open device was closed after that.
 abbrev pub ServesAs : {In Out H S Seat R : Type 0} → Kinds H Seat S R → ReadPromise In → WritePromise Out → Result Served ServeFault
     → Serving (Counting In) Out H S Seat R → Serving (Counting In) Out H S Seat R → Type 0
 ServesAs k input output result old new =

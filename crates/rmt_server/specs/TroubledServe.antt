@@ -1,6 +1,7 @@
 -- One request of a session over drives and reels in memory, if the failure of its device call is
 -- known in advance. It is a serve step with fewer possible results, along with the holders of the
--- drives. Public contracts cite it.
+-- drives. A drive's latched reel is the first of its stack: it is in the drive until it is laid
+-- back or moved to the bin. Public contracts cite it.
 use Rattle.std.specs.Prelude.{◌≡◌, ◌≢◌, ◌⊎◌, ℕ, ◌<◌, Bool, true, false, if◌then◌else◌, List, slice_set, slice_index, Option, Some, None, MatchOption, Result, Ok, Err}
 use Rattle.rmt_wire.specs.Request.{PlainRequest}
 use Rattle.rmt_wire.specs.Request.PlainRequest.{Open, Close, Op}
@@ -60,7 +61,9 @@ IsOpenCause trouble n (Err drive.NoReel) = n ≡ 0
 IsOpenCause trouble n (Err drive.Device) = (n ≡ 0) × (trouble ≢ NoTrouble)
 IsOpenCause trouble n (Err _) = ⊥
 
--- the open of `device` by a session that has nothing open, with these holders of the drives
+-- A session that has nothing open opens `device`. `trouble` is the fault that is set for the
+-- device, and `holders` has the number of the session that holds each drive, or 0. Without an
+-- access, the open's mode is not valid: the open is refused, and nothing changes.
 abbrev pub TroubledOpenStep : Trouble → List ℕ → SessionView → List ℕ → Option Access → PlainReply → SessionView → Type 0
 TroubledOpenStep trouble holders before device None reply after = (reply ≡ refused Invalid) × (after ≡ before)
 TroubledOpenStep trouble holders before device (Some access) reply after =

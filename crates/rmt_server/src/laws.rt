@@ -1,4 +1,7 @@
 //! Laws of sessions. Each law is the contract of a function that does nothing.
+//!
+//! A drive's latched reel is the first of its stack: it is in the drive until it is laid back or
+//! moved to the bin.
 
 ghost use Rattle.std.specs.Prelude.{◌≡◌, Bool};
 ghost use Rattle.tape.specs.contracts.troubled.TroubledReelReel.TheImpl.{ghosts as of_reel};
@@ -18,9 +21,9 @@ ghost use Rattle.rmt_server.specs.Laws.{StaysAtUnderTrouble, TroublesAreServed, 
 use drives::{Holds, Stacks, lying_troubles};
 use tape::device_steps;
 
-/// The law that two sessions of different seats, at the drives of one thread, never have the same
-/// drive open, with or without its reel. If one session acts, the drives still match each other
-/// session: its seat and its open drive.
+/// The law that, at the drives of one thread, two sessions with different seats never have the same
+/// drive open. A drive counts as open even if its reel is in the bin. If one session acts, the
+/// drives still match each other session: its seat and its open drive.
 ///
 /// It does nothing: its contract is a law of the definitions.
 pub fn one_holder<S: Stacks>()
@@ -31,8 +34,8 @@ pub fn one_holder<S: Stacks>()
     ensures others { OthersStayAt (kinds of_holds S.Stacks S.Reel.Reel) }
 {}
 
-/// The law that a session's open drive is held by its seat, with or without its reel. A drive that
-/// no seat holds is therefore open in no session.
+/// The law that a session's seat holds the drive that the session has open, even if the drive's
+/// reel is in the bin. A drive that no seat holds is therefore open in no session.
 ///
 /// It does nothing: its contract is a law of the definitions.
 pub fn open_is_held<S: Stacks>()
@@ -43,21 +46,21 @@ pub fn open_is_held<S: Stacks>()
     ensures free { FreeIsClosed (kinds of_holds S.Stacks S.Reel.Reel) }
 {}
 
-/// The law that drives still match a session after others have acted on them. Three conditions are
-/// needed. The seat still belongs to the holds, the numbers of drives are unchanged, and the reel
-/// of an online drive stays latched. For the third it is enough that reels stay latched at all
-/// drives but one, which this session does not have open.
+/// The law that drives still match a session after other sessions or an operator have acted on the
+/// drives. Three conditions are needed. The seat still belongs to the holds, the numbers of drives
+/// are unchanged, and the reel of an online drive stays latched. For the third it is enough that
+/// reels stay latched at all drives but one, which this session does not have open.
 ///
 /// It does nothing: its contract is a law of the definitions.
 pub fn still_at<H: Holds, S: Stacks>()
     // Drives still match a session after others have acted, if three conditions hold. The session's
-    // seat belongs to the hold record. The numbers of drives in the hold record and in the stacks
-    // have not changed. The session's open reel is still latched.
+    // seat belongs to the hold record. The hold record and the stacks have as many drives as
+    // before. The session's open reel is still latched.
     ensures at { StaysAt (kinds H.Holds S.Stacks S.Reel.Reel) }
-    // The third condition (the open reel is still latched) may be replaced by another condition:
-    // reels stay latched at all drives but one, and the session does not have this one drive open.
-    // For example, an operator may rearrange the reels of a drive that the session does not have
-    // open.
+    // Two other conditions together can replace the third one (the open reel is still latched).
+    // First, reels stay latched at all drives except one. Second, the session does not have this
+    // one drive open. For example, an operator may rearrange the reels of a drive that the session
+    // does not have open.
     ensures elsewhere { StaysAtElsewhere (kinds H.Holds S.Stacks S.Reel.Reel) }
 {}
 
@@ -71,8 +74,8 @@ pub fn more_seats<S: Stacks>()
     ensures { StaysAtWithMoreSeats (kinds of_holds S.Stacks S.Reel.Reel) }
 {}
 
-/// The law that drives with reels in memory still match a session after the trouble of the stacks
-/// was set or cleared.
+/// The law that drives with reels in memory still match a session after a trouble (an injected
+/// fault) of the stacks was set or cleared.
 ///
 /// It does nothing: its contract is a law of the definitions.
 pub fn stacks_trouble<H: Holds>()
@@ -81,20 +84,22 @@ pub fn stacks_trouble<H: Holds>()
     ensures { StaysAtUnderTrouble (kinds H.Holds of_stacks of_reel) }
 {}
 
-/// The law that stacks and reels in memory have exactly one view, if each reel has its own name.
+/// The law that stacks and reels in memory have exactly one session view, if no two reels have the
+/// same name.
 ///
 /// It does nothing: its contract is a law of the definitions.
 pub fn one_session_view()
-    // If each reel name occurs once, the session view of stacks in memory and the open reel is
-    // known.
+    // If no two reels have the same name, the session view of stacks in memory and of the open reel
+    // is known.
     ensures told { (x : MemoryState) → IsLibrary x.drives.stacks (library_of x.drives.stacks) → HasView in_memory x (session_view_seen x) }
     // Stacks in memory and the open reel have only one session view.
     ensures one { (x : MemoryState) (v : SessionView) → HasView in_memory x v → v ≡ session_view_seen x }
 {}
 
-/// The law of one request over drives and reels in memory, if the failure of its device call is
-/// known in advance. The trouble is set on the stacks before an open and before operation 6 of
-/// mtio. Before other requests it is set on the open reel. No other trouble is set.
+/// The law that gives the effect of one request on drives and reels in memory, if a trouble (an
+/// injected fault) is set before the request. The trouble is set on the stacks before an open and
+/// before operation 6 of mtio. Before other requests it is set on the open reel. No other trouble
+/// is set.
 ///
 /// Then `TroubledServe` gives the reply, drives, session and holders. No reel on the stacks or in
 /// the bin has a trouble afterwards. A trouble of the open reel or of the stacks is still set, or a
@@ -113,23 +118,23 @@ pub fn troubled_serve()
     lying_troubles();
 }
 
-/// The law that a request under `TroubledServe` is a serve step. An open and operation 6 of mtio
-/// never run out of memory then, since stacks in memory allocate nothing for them.
+/// The law that each effect that `troubled_serve` gives is a serve step. An open and operation 6 of
+/// mtio never run out of memory then, since stacks in memory allocate nothing for them.
 ///
 /// It does nothing: its contract is a law of the definitions.
 pub fn troubled_is_served()
     // The effect that `troubled_serve` gives for a request is a serve step.
     ensures served { TroubledIsServed }
-    // With that effect, an open and MTOFFL never run out of memory, because stacks in memory
-    // allocate nothing for these two requests.
+    // If `troubled_serve` gives the effect of an open or an MTOFFL, this request never runs out of
+    // memory. Stacks in memory allocate nothing for these two requests.
     ensures memory { NoMemoryIsWanted }
 {
     device_steps();
 }
 
-/// The law of setting or clearing the troubles of the open reel and of the stacks. The drives still
-/// match the session then, and the view of both is unchanged. If no reel on the stacks or in the
-/// bin has a trouble, they are then set as `troubled_serve` requires.
+/// The law that troubles of the open reel and of the stacks can be set or cleared, and that the
+/// drives then still match the session. The view of both is unchanged. If no reel on the stacks or
+/// in the bin has a trouble, they are then set as `troubled_serve` requires.
 ///
 /// It does nothing: its contract is a law of the definitions.
 pub fn troubles_set()
@@ -143,20 +148,20 @@ pub fn troubles_set()
     // are set afterwards.
     ensures set { (reel : Trouble) (stacks : Bool) (x : MemoryState) → troubled_in x.drives.stacks.library ≡ 0 →
         IsTroubled reel stacks (with_troubles reel stacks x) }
-    // A trouble can be set for each request in the way that `troubled_serve` requires.
+    // For each request, a trouble can be set in the way that `troubled_serve` requires.
     ensures request { (trouble : Trouble) (request : PlainRequest) (x : MemoryState) → troubled_in x.drives.stacks.library ≡ 0 →
         IsSetFor trouble request (set_for trouble request x) }
 {}
 
-/// The law of what the end of a session leaves, over drives and reels in memory, if its open reel
-/// has no trouble.
+/// The law that gives the state of drives and reels in memory after a session has ended, if no
+/// trouble is set for the session's open reel.
 ///
 /// It does nothing: its contract is a law of the definitions.
 pub fn untroubled_end()
-    // This law is about drives and reels in memory. The law requires that no trouble is set for the
-    // open reel, or for a reel on a stack or in the bin. After the session has ended, the reel that
-    // it had open is on its stack, and the drive is free. After the end, no reel on a stack or in
-    // the bin has a trouble.
+    // Suppose that the drives and reels are in memory. Suppose also that no trouble is set for the
+    // open reel, for a reel on a stack, or for a reel in the bin. Then, after the session has
+    // ended, the reel that it had open is on the drive's stack, and the drive is free. No reel on a
+    // stack or in the bin has a trouble then.
     ensures { EndsUntroubled }
 {
     lying_troubles();

@@ -1,12 +1,13 @@
-//! The tape server: the session of one client over the drives, and serving its stream of requests.
+//! The tape server: a session carries out the requests of one client at the drives, and the call
+//! `serve` serves a stream of requests.
 //!
 //! # Contracts
 //!
 //! A session carries out the requests of one client. A session has either nothing open, or an open
 //! drive that its seat holds. The *session view* is the known content of the stacks and of the
 //! session's open reel. A *serve step* is what one request and its reply may do to the session
-//! view. Drives *match* a session if the session's seat and what the session has open belong to
-//! these drives.
+//! view. Drives *match* a session if the session's seat belongs to their hold record, and if the
+//! session has either one of these drives or nothing open.
 #![tactic(auto)]
 
 mod access;

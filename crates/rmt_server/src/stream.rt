@@ -34,7 +34,7 @@ pub enum ServeFault {
 }
 
 impl From<OutputFault> for ServeFault {
-    // from_gives: A failed output becomes `Output`.
+    // from_gives: `from` turns each failed output into `ServeFault::Output`.
 
     ghost use Rattle.std.specs.Prelude.{◌≡◌};
     ghost use Rattle.rmt_server.specs.declared.stream.ServeFault.TheVariants.{Output};
@@ -124,8 +124,8 @@ pub fn serve<R: Read, W: Write, H: Holds, S: Stacks>(
     requires at { IsAt (kinds H.Holds S.Stacks S.Reel.Reel) (state drives.old session.old) }
     // the reader holds no unread bytes
     requires empty { Unread wire.old [] }
-    // The output consists of the replies to the requests that were read, joined in order, and
-    // nothing else. The requests were carried out one after the other. Each reply has a spelling.
+    // The output consists only of the replies to the requests that were read, in order. The
+    // requests were carried out one after the other. Each reply has a spelling.
     //
     // If a write failed, a beginning of the last reply was written, and no further request was
     // carried out.
@@ -135,8 +135,8 @@ pub fn serve<R: Read, W: Write, H: Holds, S: Stacks>(
     // which of these ways it ended.
     //
     // If the content of stacks and reel is known, the requests and replies are a run of serve steps
-    // (field `steps`). In this run a device fails only if a device could fail at the start. In this
-    // run a drive is busy only if another seat may hold a drive.
+    // (field `steps`). If no device can fail at the start, no device fails in this run. If no other
+    // seat can hold a drive, no drive is busy in this run.
     //
     // `serve` assigns no number to a seat (field `same_seats`), and the session's seat keeps its
     // number (field `number`).

@@ -17,8 +17,8 @@ use rmt_wire::Counted;
 use std::alloc::Global;
 use std::io::{Read, Write};
 
-/// Has a client write its run over a peer, as `rdump_net::dump` does. Returns the exit status of
-/// `rdump dump`: 0 if the run is finished and every line was printed, else 3.
+/// Makes a client write its run to a tape server, as `rdump_net::dump` does. Returns the exit
+/// status of `rdump dump`: 0 if the run is finished and every line was printed, else 3.
 pub fn dump<B: Blocks, P: Peer, R: Read, W: Write>(
     alloc: Global,
     client: &mut Client<B>,
@@ -71,7 +71,7 @@ pub fn mt<P: Peer, W: Write>(
     rdump_net::mt(alloc, peer, device, op, count, out).code()
 }
 
-/// Prints on `out` the answer of `rdump dates` for the bytes of a dumpdates file, as
+/// Prints on `out` what `rdump dates` prints for the bytes of a dumpdates file, as
 /// `rdump_files::dates` does. Returns the exit status of `rdump dates`: 0 if the answer was
 /// printed, else 1.
 pub fn dates<W: Write>(

@@ -1,5 +1,5 @@
-//! Most of the public items of the crates below, under one name: the parts of `rmtd`, `rdump` and
-//! `rsim`. Its `dump`, `read_volume`, `mt`, `dates` and `schedule` return the number of their exit
+//! Exports most of the public items of the crates that `rmtd`, `rdump` and `rsim` consist of. This
+//! crate's `dump`, `read_volume`, `mt`, `dates` and `schedule` return the number of their exit
 //! status. It adds a peer in memory, which tests use in place of a connection.
 //!
 //! # Contracts

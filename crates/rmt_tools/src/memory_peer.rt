@@ -67,9 +67,11 @@ impl MemoryPeer {
         })
     }
 
-    /// Returns the reels. For a reel that a session has open, only its name is there.
+    /// Returns the stacks and the bin of the peer, with their reels. For a reel that a session has
+    /// open, only its name is there.
     pub fn stacks(&self) -> &ListStacks
-        // Returns the reels of the peer. No other body has its type.
+        // Returns the stacks and the bin of the peer. The types allow only this body, so there is
+        // no edit.
         ensures { result.now ≡ self.now.drives.stacks }
     {
         &self.far.drives.stacks
@@ -129,9 +131,9 @@ fn take_front(bytes: &mut Vec<u8>, into: &mut [u8]) -> usize
 }
 
 impl Peer for MemoryPeer {
-    // connect, told, send, receive, hang_up, log: The log has each connection that was made, the
-    // bytes that were sent, and the bytes that were received. The log also has each end of a
-    // connection that a call noticed. No clause says which call notices an end.
+    // connect, told, send, receive, hang_up, log: The log contains each connection that was made,
+    // the bytes that were sent, and the bytes that were received. If a call notices that a
+    // connection ended, the log also contains this end. No clause says which call notices an end.
     //
     // connect, fresh, cleared: After a connect, the session has nothing open. What the earlier
     // session had open is closed.

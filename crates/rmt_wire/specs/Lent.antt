@@ -1,4 +1,5 @@
--- The plain values of requests and replies that lend bytes. Public contracts cite it.
+-- The plain values of requests and replies that lend bytes. A plain value is what contracts use for
+-- a value that the code has in memory. Public contracts cite it.
 use Rattle.std.specs.Prelude.{ℕ, Option, Some, None, Result, Ok, Err}
 use Rattle.rmt_wire.specs.Request.{PlainRequest}
 use Rattle.rmt_wire.specs.Request.PlainRequest.{Open, Close, Write, WriteDropped, Read, Op}

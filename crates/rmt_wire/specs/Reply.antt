@@ -1,4 +1,5 @@
--- Replies as values, and how each is spelled (rmt(8)). Public contracts cite it.
+-- Replies as values, and how each is spelled (rmt(8)). The kind of a reply is a number or data.
+-- Public contracts cite it.
 use Rattle.std.specs.Prelude.{◌≡◌, ℕ, ◌≤◌, List, [], ◌∷◌, ◌++◌, length, take, decimal}
 use Rattle.rmt_wire.specs.Number.{SpellsNumber, HasNoLineFeed, line_feed}
 

@@ -1,5 +1,6 @@
--- The reply that the bytes of a stream begin with, computed from the front. `ReplyParts` defines
--- the same by whole texts. Public contracts cite it.
+-- The reply that the bytes of a stream begin with, computed byte by byte from their beginning.
+-- `ReplyParts` defines the same reply by the whole texts of replies. The kind of a reply is a
+-- number or data. Public contracts cite it.
 use Rattle.std.specs.Prelude.{ℕ, suc, ◌+◌, ◌==◌, if◌then◌else◌, nat_lt, min, List, [], ◌∷◌, ◌++◌, length, take, drop, Some, None, Ok, Err}
 use Rattle.rmt_wire.specs.Number.{line_feed}
 use Rattle.rmt_wire.specs.Parsed.{Parsed, after, number_front}

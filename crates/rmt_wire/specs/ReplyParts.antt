@@ -1,5 +1,5 @@
 -- How the bytes that answer one request divide into a reply and a rest, defined on whole texts by
--- the grammar alone. Public contracts cite it.
+-- the grammar alone. The kind of a reply is a number or data. Public contracts cite it.
 use Rattle.std.specs.Prelude.{◌≡◌, ◌≢◌, ◌⊎◌, ℕ, ◌<◌, ◌≤◌, List, [], ◌∷◌, ◌++◌, length, Option, Some, None, Result, Ok, Err}
 use Rattle.std.specs.Str.Parse.{AllDigits, digits_value}
 use Rattle.rmt_wire.specs.Reply.{PlainReply, Wanted, SpellsReply}

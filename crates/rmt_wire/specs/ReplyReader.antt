@@ -1,4 +1,5 @@
--- The state of a reader of replies. Public contracts cite it.
+-- The state of a reader of replies. A plain value is what contracts use for a value that the code
+-- has in memory. The kind of a reply is a number or data. Public contracts cite it.
 use Rattle.std.specs.Prelude.{◌≡◌, ◌≤◌, ℕ, ◌<◌, List, ◌∷◌, ◌++◌, length, drop, Option, Some, None, Result, Ok, Err}
 use Rattle.rmt_wire.specs.Number.{SpellsNumber, line_feed}
 use Rattle.rmt_wire.specs.declared.limits.TheConstants.{READER_LIMIT}
@@ -36,7 +37,8 @@ abbrev pub kept_while : Option Wanted → List ℕ → List ℕ
 kept_while None bytes = bytes
 kept_while (Some wanted) bytes = kept_of bytes
 
--- the reader waits for this, and these bytes were pushed since then and not yet returned
+-- the reader `h` waits for a reply of the kind `wanted`, if for any, and these bytes were pushed
+-- since then and not yet returned
 pub record ReplyUnread (h : ReplyHeld) (wanted : Option Wanted) (bytes : List ℕ) : Type 0 where
   pub waits : h.wanted ≡ wanted
   pub keeps : h.kept ≡ kept_while wanted bytes

@@ -1,5 +1,6 @@
--- The request that the bytes of a stream begin with, computed from the front. `RequestParts`
--- defines the same by whole texts. No public contract needs it.
+-- The request that the bytes of a stream begin with, computed byte by byte from their beginning.
+-- `RequestParts` defines the same request by the whole texts of requests. No public contract needs
+-- it.
 use Rattle.std.specs.Prelude.{ℕ, ◌≤◌, ◌+◌, ◌==◌, if◌then◌else◌, nat_lt, List, [], ◌∷◌, length, take, drop, Some, None, Ok, Err}
 use Rattle.rmt_wire.specs.Number.{line_feed}
 use Rattle.rmt_wire.specs.Parsed.{Parsed, after, number_front}

@@ -1,4 +1,6 @@
--- The state of a reader of requests. Public contracts cite it.
+-- The state of a reader of requests. A plain value is what contracts use for a value that the code
+-- has in memory. The front of the reader is the first of the bytes that it keeps. Public contracts
+-- cite it.
 use Rattle.std.specs.Prelude.{◌≡◌, ◌≤◌, ℕ, ◌+◌, ◌-◌, ◌==◌, ◌<◌, if◌then◌else◌, nat_lt, min, List, [], ◌∷◌, ◌++◌, length, take, drop, Option, Some, None, Result, Ok, Err}
 use Rattle.rmt_wire.specs.Request.{PlainRequest}
 use Rattle.rmt_wire.specs.declared.limits.TheConstants.{READER_LIMIT}

@@ -1,5 +1,5 @@
--- Reading the next request of a stream: what is returned, and what is left. Public contracts cite
--- it.
+-- Reading the next request of a stream: what is returned, and what is left. A plain value is what
+-- contracts use for a value that the code has in memory. Public contracts cite it.
 use Rattle.std.specs.Prelude.{◌≡◌, ◌≢◌, ℕ, ◌+◌, ◌*◌, ◌<◌, List, [], ◌∷◌, ◌++◌, length, Option, Some, None, Result, Ok, Err}
 use Rattle.std.specs.List.{flat_map}
 use Rattle.std.specs.Io.KnownBytes.{Appends, Consumes, IsAtEnd}

@@ -36,7 +36,7 @@ impl<T> Model for Counted<T> {
 impl<T> Counted<T> {
     /// Wraps `inner`, with a count of 0 failures and `u64::MAX` reads left.
     pub fn new(inner: T) -> Self
-        // The new `Counted` wraps the given stream and has counted no failure. Its number of reads
+        // The new `Counted` wraps the given stream and has counted no failure. The number of reads
         // left is the greatest `u64`.
         ensures inner { result.inner ≡ inner }
         ensures failures { result.failures ≡ 0 }
@@ -49,8 +49,8 @@ impl<T> Counted<T> {
         }
     }
 
-    /// Returns how many reads and writes failed, or accepted none of some bytes. The count stays at
-    /// `u64::MAX`.
+    /// Returns the count of failures: reads and writes that failed, and writes that were given
+    /// bytes but accepted none. The count stays at `u64::MAX`.
     pub fn failures(&self) -> u64
         // `failures` returns the count of failures.
         ensures { result ≡ self.now.failures }
@@ -58,9 +58,10 @@ impl<T> Counted<T> {
         self.failures
     }
 
-    /// The reader or writer itself.
+    /// Returns the wrapped reader or writer.
     pub fn into_inner(self) -> T
-        // `into_inner` returns the wrapped stream. No other body has its type.
+        // `into_inner` returns the wrapped stream. The types allow only this body, so there is no
+        // edit.
         ensures { result ≡ self.inner }
     {
         self.inner
@@ -110,7 +111,7 @@ impl<R: Read> Read for Counted<R> {
 }
 
 impl<W: Write> Write for Counted<W> {
-    // bound, bytes: A write appends the first bytes of those given, and returns how many it
+    // bound, bytes: A write appends a beginning of the given bytes, and returns how many bytes it
     // appended. A failed write appends nothing.
     //
     // failed, took_none, took_some: A write counts a failure if it failed, or if it was given bytes

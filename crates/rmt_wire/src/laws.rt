@@ -24,13 +24,14 @@ pub fn one_reading()
         Parts bytes requests rest → Parts bytes others other → (requests ≡ others) × (rest ≡ other) }
     ensures some_parts { (bytes : List ℕ) → (requests : List PlainRequest) × (rest : List ℕ) × Parts bytes requests rest
         × (IsRequestPrefix rest ⊎ ((fault : WireFault) × HasFault rest fault)) }
-    // The bytes alone decide which requests a reader returns and which bytes the reader leaves.
+    // The bytes alone decide which requests a reader returns, and which bytes the reader leaves
+    // unread.
     ensures answers { (bytes rest other : List ℕ) (answer another : Result (Option PlainRequest) WireFault) →
         ParsesAs bytes answer rest → ParsesAs bytes another other → (answer ≡ another) × (rest ≡ other) }
 {}
 
-/// `dropped_line` finds a write to be dropped if and only if the bytes begin with `W`, a number
-/// above `RECORD_LIMIT` and a line feed. It returns the length of that line in bytes and the
+/// A reader drops a write if and only if the bytes of the write begin with `W`, a number above
+/// `RECORD_LIMIT` and a line feed. `dropped_line` returns the length of that line in bytes and the
 /// number, whatever follows.
 ///
 /// The function does nothing: its contract is a law of the definitions.
@@ -41,32 +42,33 @@ pub fn dropped_writes()
     ensures { (bytes : List ℕ) (len count : ℕ) → (dropped_line bytes ≡ Some (len, count)) ↔ IsDroppedLine bytes len count }
 {}
 
-/// For a client that knows what it waits for, no spelling of a reply begins another, and each
-/// spells one reply only.
+/// If a client knows which kind of reply it waits for, the bytes show where the reply ends and
+/// which reply it is.
 ///
 /// The function does nothing: its contract is a law of the definitions.
 pub fn one_reply()
-    // A client waits for one kind of reply, and this law is about the replies of one kind. No
-    // spelling of one of these replies is the beginning of a longer spelling. Each spelling spells
-    // only one of these replies.
+    // A client waits for one kind of reply. Among the spellings of all replies of this kind, no
+    // spelling is the beginning of a longer one. Each of these spellings spells only one reply of
+    // this kind.
     ensures { (wanted : Wanted) (text more : List ℕ) (reply other : PlainReply) →
         SpellsReply text reply wanted → SpellsReply (text ++ more) other wanted → (more ≡ []) × (reply ≡ other) }
 {}
 
-/// For any bytes pushed since a reply was waited for, a reader has exactly one possible result: the
-/// reply, none yet, or a fault.
+/// The bytes that a reader got since it began to wait for a reply decide the reader's result: the
+/// reply, no reply yet, or a fault.
 ///
 /// The function does nothing: its contract is a law of the definitions.
 pub fn one_reply_reading()
-    // The bytes that come after a reader began to wait for a reply decide the reader's result.
-    // Exactly one result is possible.
+    // A reader begins to wait for a reply. The bytes that come after this decide the reader's
+    // result. Exactly one result is possible.
     ensures answers { (wanted : Option Wanted) (bytes : List ℕ) → ReplyIsDecided wanted bytes }
     ensures some_answer { (wanted : Option Wanted) (bytes : List ℕ) →
         (answer : Result (Option PlainReply) WireFault) × (rest : List ℕ) × ReplyParsesAs wanted bytes answer rest }
 {}
 
-/// A reply is written as at most `READER_LIMIT` bytes if its data, if any, are at most
-/// `RECORD_LIMIT` bytes. They are if the reply answers a client that waits for no more than that.
+/// A reply with at most `RECORD_LIMIT` bytes of data, or with no data, is written as at most
+/// `READER_LIMIT` bytes. A reply has no more data than that if its client waits for at most
+/// `RECORD_LIMIT` bytes.
 ///
 /// The function does nothing: its contract is a law of the definitions.
 pub fn short_replies()
@@ -74,18 +76,19 @@ pub fn short_replies()
     // bytes. So the reply fits into a reader.
     ensures short { (reply : PlainReply) →
         ReplyHasSpelling reply → data_length reply ≤ RECORD_LIMIT → length (reply_text reply) ≤ READER_LIMIT }
-    // A reply to a client that waits for at most 262,144 bytes has at most 262,144 bytes of data.
+    // If a client waits for at most 262,144 bytes of data, each reply that the client can get has
+    // at most 262,144 bytes of data.
     ensures answers { (reply : PlainReply) (wanted : Wanted) →
         AnswersTo reply wanted → IsWithin wanted → data_length reply ≤ RECORD_LIMIT }
 {}
 
-/// A reader that waits for a reply keeps, of an error, the first 255 bytes of its text and
-/// everything from its line feed on. It keeps all bytes of any other reply.
+/// A reader that waits for a reply keeps the first 255 bytes of an error's text, drops the rest of
+/// the text, and keeps all other bytes.
 ///
 /// The function does nothing: its contract is a law of the definitions.
 pub fn long_texts()
-    // An error reply has a text. A reader drops the bytes of this text after the first 255, and
-    // keeps every other byte of the reply.
+    // An error reply has a text. A reader keeps the first 255 bytes of this text and drops the rest
+    // of the text. The reader keeps all other bytes of the reply.
     ensures begun { (bytes number line : List ℕ) → IsErrorText bytes number line → HasNoLineFeed line →
         kept_of bytes ≡ error_bytes number (take 255 line) }
     ensures whole { (bytes number line rest : List ℕ) → IsErrorText bytes number (line ++ line_feed ∷ rest) → HasNoLineFeed line →

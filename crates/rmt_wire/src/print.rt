@@ -4,9 +4,9 @@ ghost use Rattle.rmt_wire.specs.Print.{IsPrinted};
 use crate::counted::Counted;
 use std::io::Write;
 
-/// Prints a whole text to a stream that counts its failures, and returns true. If a write fails or
-/// accepts no byte, it returns false: a beginning of the text was printed, and the failure is
-/// counted.
+/// Prints a text to a stream that counts its failures, and returns whether the whole text was
+/// printed. If a write fails or accepts no byte, it returns false: a beginning of the text was
+/// printed, and the failure is counted.
 pub fn print_text<W: Write>(out: &mut Counted<W>, text: &[u8]) -> bool
     // If `print_text` returns true, it printed the whole text and no write failed. If `print_text`
     // returns false, it printed a beginning of the text and counted the failure.

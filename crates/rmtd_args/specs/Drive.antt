@@ -1,5 +1,5 @@
--- The arguments DEVICE=DIR of `rmtd`: drives with stacks that are folders. Public contracts cite
--- it.
+-- The arguments DEVICE=DIR of `rmtd`: drives with stacks that are folders. A plain value is what
+-- contracts use for a value that the code has in memory. Public contracts cite it.
 use Rattle.std.specs.Prelude.{◌≤◌, ◌<◌, ◌==◌, ◌≢◌, ℕ, Option, IsSome, List, length, map}
 use Rattle.std.specs.Borrow.{Bor}
 use Rattle.std.specs.Int.{IsInRange}

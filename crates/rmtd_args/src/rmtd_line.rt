@@ -1,4 +1,6 @@
 //! The arguments of `rmtd`.
+//!
+//! `rmtd` is clap's description of the command.
 
 ghost use Rattle.std.specs.Prelude.{◌≡◌, map, codes, false, [], IfOk, IfErr, IsErrOf, MatchOption, MatchResult, option_map};
 ghost use Rattle.clap.specs.Words.{App, HasKind, app_of, first_of, found_of, kind_of, new_app, rows_of, rule_of, with_rule};
@@ -44,8 +46,8 @@ pub enum LineFault {
     OutOfMemory,
 }
 
-/// Parses the arguments of `rmtd`; the first is the name of the program itself. They are `--stdio`
-/// or `--listen ADDRESS`, with `[--capacity BYTES] [--connections N] [--bin DIR] [DEVICE=DIR]...`.
+/// Parses the arguments of `rmtd`, which begin with the name of the program. They are `--stdio` or
+/// `--listen ADDRESS`, with `[--capacity BYTES] [--connections N] [--bin DIR] [DEVICE=DIR]...`.
 ///
 /// Exactly one of `--stdio` and `--listen` is given. A number is 0 to 9223372036854775807, in
 /// digits. The default of `--capacity` is 1048576 bytes.
@@ -60,19 +62,20 @@ pub fn server_words<'a>(
     alloc: Global,
     arguments: &'a [&'a str],
 ) -> Result<ServerLine<'a>, LineFault>
-    // If the call returns a line of arguments, clap (the parser of arguments) accepts the
-    // arguments, and the line has the values that clap matched. The flag and the texts are as
-    // given. The numbers are the values of their digits, at most 9223372036854775807. If no
-    // capacity is given, the capacity is 1,048,576. Exactly one of `--stdio` and `--listen` was
-    // given.
+    // A *line* (`ServerLine`) contains the parsed arguments. If the call returns a line, clap (the
+    // parser of arguments) accepts the arguments, and the line has the values that clap matched.
+    // The line says whether `--stdio` was given. Texts are in the line as they were given. Each
+    // number in the line is the value of the digits that were given, and is at most
+    // 9223372036854775807. If no capacity is given, the capacity is 1,048,576. Exactly one of
+    // `--stdio` and `--listen` was given.
     //
-    // The drives of the line are the arguments that are not options, in order, each split at its
-    // first `=`. Each drive has a device of 1 to 255 bytes without a line feed, and a folder that
-    // is not empty (`KeepsDriveRules`). No two drives have the same device. There are at most 64
-    // drives. If there is a drive, `--bin` was given.
+    // The drives of the line are the arguments that are not options, in order. Each of these
+    // arguments is split at its first `=`. Each drive has a device of 1 to 255 bytes without a line
+    // feed, and a folder that is not empty (`KeepsDriveRules`). No two drives have the same device.
+    // There are at most 64 drives. If there is a drive, `--bin` was given.
     ensures line { IfOk result (IsLineOf (map (λ s. s.now) arguments.entry.now)) }
-    // The call returns that the arguments are bad in two cases only. Either clap refuses them, or
-    // the values that clap matched break a rule of the clause `line`.
+    // The call returns `BadWords` (the arguments are bad) in two cases only. Either clap refuses
+    // the arguments, or the values that clap matched break a rule of the clause `line`.
     ensures refused { IsErrOf result LineFault.BadWords → AreBadArguments (map (λ s. s.now) arguments.entry.now) }
 {
     match server_line(alloc, arguments) {
@@ -81,24 +84,25 @@ pub fn server_words<'a>(
     }
 }
 
-/// Parses the arguments as `server_words` does, but fails with clap's error. The error's text is
-/// for the user: it says what is wrong with the arguments. It is the help or the version only if
-/// the arguments ask for that.
+/// Parses the arguments as `server_words` does, and returns an error of clap if that fails. The
+/// error's text is for the user: it says what is wrong with the arguments. It is the help or the
+/// version only if the arguments ask for that.
 ///
 /// The error's kind is `OutOfMemory` if an allocation failed. If clap refuses the arguments, the
 /// kind is one with which clap refuses them.
 pub fn server_line<'a>(alloc: Global, arguments: &'a [&'a str]) -> Result<ServerLine<'a>, Error>
     // Returns the line that `server_words` promises.
     ensures line { IfOk result (IsLineOf (map (λ s. s.now) arguments.entry.now)) }
-    // The call returns an error other than out of memory in two cases only. Either clap refuses the
-    // arguments, or the values that clap matched break a rule of `server_words`. No clause says
-    // what an error prints.
+    // The call returns an error whose kind is not `OutOfMemory` in two cases only. Either clap
+    // refuses the arguments, or the values that clap matched break a rule of `server_words`. No
+    // clause says which text an error has.
     ensures refused { IfErr result (λ e. ¬ (kind_of e ≡ ErrorKind.OutOfMemory) → AreBadArguments (map (λ s. s.now) arguments.entry.now)) }
-    // The call returns clap's help or version as an error only if clap answers these arguments with
-    // it.
+    // The error that the call returns is clap's help or version only if clap answers these
+    // arguments with its help or version.
     ensures shown { IfErr result (λ e. IsShown (kind_of e) → AskToBeShown (map (λ s. s.now) arguments.entry.now)) }
     // Suppose that clap refuses the arguments, or answers them with its help or version. Then the
-    // error has a kind that clap gives for these arguments, or is out of memory.
+    // error that the call returns has one of two kinds: a kind that clap gives for these arguments,
+    // or `OutOfMemory`.
     ensures kinds { IfErr result (λ e. ¬ (faults_in (map (λ s. s.now) arguments.entry.now) ≡ [])
         → HasKind (faults_in (map (λ s. s.now) arguments.entry.now)) e) }
 {
@@ -125,7 +129,8 @@ fn line_with<'a>(
     line_or_refusal(alloc, rmtd, &matches)
 }
 
-/// Returns the line in clap's matches. If they break a rule, fails with the error for the user.
+/// Returns the command line in clap's matches. If they break a rule, fails with the error for the
+/// user.
 fn line_or_refusal<'a>(
     alloc: Global,
     rmtd: &mut Command<'a>,
@@ -176,7 +181,8 @@ fn fault_from(error: &Error) -> LineFault
     }
 }
 
-/// Returns the line in clap's matches, or the rule that they break. Fails if an allocation fails.
+/// Returns the command line in clap's matches, or the rule that they break. Fails if an allocation
+/// fails.
 fn line_from_matches<'a>(
     alloc: Global,
     matches: &ArgMatches<'a>,
@@ -189,8 +195,8 @@ fn line_from_matches<'a>(
     Ok(checked_line(matches, given.as_slice(), drives))
 }
 
-/// Returns the line in clap's matches, or the rule that they break. `given` are the arguments that
-/// are not options, and `drives` are the drives that these give.
+/// Returns the command line in clap's matches, or the rule that they break. `given` are the
+/// arguments that are not options, and `drives` are the drives that these give.
 fn checked_line<'a>(
     matches: &ArgMatches<'a>,
     given: &[&'a str],

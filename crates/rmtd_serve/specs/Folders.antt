@@ -1,4 +1,6 @@
--- The stacks of drives in folders, from the arguments of `rmtd`. Public contracts cite it.
+-- The stacks of drives in folders, from the arguments of `rmtd`. A drive's latched reel is the
+-- first of its stack: it is in the drive until it is laid back or moved to the bin. Public
+-- contracts cite it.
 use Rattle.std.specs.Prelude.{ℕ, false, List, map}
 use Rattle.reel_files.specs.Folders.{FolderLibrary, folder_row, folder_library}
 use Rattle.rmtd_args.specs.Drive.{plain_drive}

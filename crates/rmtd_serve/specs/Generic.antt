@@ -1,4 +1,6 @@
--- One stream served with drives of any kind. Public contracts cite it.
+-- One stream served with drives of any kind. `k` has the promises of the kinds of holds, stacks and
+-- reels. `kind` gives the contents of the two streams, if they are specified. Public contracts cite
+-- it.
 use Rattle.std.specs.Prelude.{◌≡◌, None, OnOk, Result, Err}
 use Rattle.drives.specs.Opening.{Kinds}
 use Rattle.rmt_server.specs.declared.stream.Served.{Served}

@@ -1,4 +1,6 @@
--- The effect of serving a pair of streams at a seat, on the streams and on the seat.
+-- The effect of serving a pair of streams at a seat, on the streams and on the seat. `k` has the
+-- promises of the kinds of holds, stacks and reels. `kind` gives the contents of the two streams,
+-- if they are specified.
 use Rattle.std.specs.Prelude.{◌≡◌, ◌≢◌, None, OnOk, Result, Err}
 use Rattle.std.specs.declared.io.traits.Read.{Ghosts as ReadPromise}
 use Rattle.std.specs.declared.io.traits.Write.{Ghosts as WritePromise}
@@ -42,7 +44,7 @@ pub record IsServedAfresh {H S Seat R In Out : Type 0} (k : Kinds H Seat S R) (k
   pub at : IsAt k finish
   pub kept : KeepsSeats k start finish
 
--- the session returns the seat and the stacks as `IsServedAfresh` says, however the streams ended
+-- The session returns the seat, which holds no drive, and the stacks, however the streams ended.
 abbrev pub IsSeatReturned : {H S Seat R In Out : Type 0} → Kinds H Seat S R → StreamsKind In Out → State H S Seat R
     → Streams In Out → Streams In Out → Seat → S → Type 0
 IsSeatReturned {H} {S} {Seat} {R} k kind start old new seat stacks =
@@ -53,14 +55,14 @@ IsSeatReturned {H} {S} {Seat} {R} k kind start old new seat stacks =
 abbrev pub idle : {In Out H S Seat R : Type 0} → Counting In → Counting Out → DriveTable H S Seat R → Seat → Serving (Counting In) Out H S Seat R
 idle input output drives seat = record { requests = input; replies = output; state = seated_at drives seat None }
 
--- a session of its own serves the streams, with this ending, and returns the seat
+-- A session made for these streams alone serves them, with this ending, and returns the seat.
 abbrev pub ServesAfresh : {In Out H S Seat R : Type 0} → Kinds H Seat S R → ReadPromise In → WritePromise Out
     → Serving (Counting In) Out H S Seat R → Serving (Counting In) Out H S Seat R → Result Served SessionFault → Type 0
 ServesAfresh k input output old new ending =
     IsServedAfresh k (streams_kind input.remaining output.contents) old.state (streams_of old) (streams_of new) new.state.drives new.state.seat ending
 
--- a session of its own serves the streams and returns the seat and the stacks `back`, however the
--- streams ended
+-- A session made for these streams alone serves them. It then returns the seat and the stacks
+-- `back`, however the streams ended.
 abbrev pub GivesBack : {In Out H S Seat R : Type 0} → Kinds H Seat S R → ReadPromise In → WritePromise Out
     → Serving (Counting In) Out H S Seat R → Streams In Out → Seat × S → Type 0
 GivesBack k input output old new back =

@@ -1,4 +1,5 @@
--- Streams served one after the other with a drive in memory. Public contracts cite it.
+-- Streams served one after the other with a drive in memory. `kind` gives the contents of the two
+-- streams, if they are specified. Public contracts cite it.
 use Rattle.std.specs.Prelude.{◌≡◌, ℕ, ◌<◌, false, true, List, length, slice_index, Result}
 use Rattle.drives.specs.TapeLibrary.{TapeLibrary}
 use Rattle.drives.specs.ListLibrary.{ListLibrary, IsLibrary, library_of, StacksCanFail}

@@ -1,4 +1,6 @@
--- The effect of the start of `rmtd`, and what remains to be done. Public contracts cite it.
+-- The effect of the start of `rmtd`, and what remains to be done. In comments, `line` is the parsed
+-- command line. `kind` gives the contents of the two streams, if they are specified. Public
+-- contracts cite it.
 use Rattle.std.specs.Prelude.{◌≡◌, ℕ, ◌<◌, List, [], length, Option, Some, None, IsSome, All, option_map, unwrap_or, Result}
 use Rattle.std.specs.declared.clone.Clone.{Ghosts as ClonePromise}
 use Rattle.std.specs.declared.io.traits.Read.{Ghosts as ReadPromise}
@@ -71,7 +73,8 @@ pub data IsBegun {In Out R Dir : Type 0} {reads : ReadPromise Dir} {clones : Clo
   refused : AreUntouched old new → begun ≡ End Failed
       → IsBegun kind arguments old new begun
 
--- `IsBegun` holds for some arguments; no clause says which ones the program has
+-- What some arguments ask for was done, and `begun` is what remains to be done. No clause says
+-- which arguments the program has.
 abbrev pub IsStarted : {In Out R Dir : Type 0} {reads : ReadPromise Dir} {clones : ClonePromise R} → StreamsKind In Out
     → Streams In Out → Streams In Out → Begun R Dir reads clones → Type 0
 IsStarted kind old new begun = (arguments : List Text) × IsBegun kind arguments old new begun

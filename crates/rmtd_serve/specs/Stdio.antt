@@ -1,4 +1,5 @@
--- A server of one stream. Public contracts cite it.
+-- A server of one stream. `kind` gives the contents of the two streams, if they are specified.
+-- Public contracts cite it.
 use Rattle.std.specs.Prelude.{◌≡◌, ℕ, false, true, List, [], ◌∷◌, codes, Some, Result, Ok, Err}
 use Rattle.rmt_server.specs.declared.stream.Served.{Served}
 use Rattle.rmt_server.specs.Session.{SessionView, session_view, ServeRun}
@@ -48,12 +49,14 @@ pub record IsServedAlone {In Out : Type 0} (kind : StreamsKind In Out) (capacity
   pub ends : EndsWith kind ending old new read done rest
   pub run : ServeRun false false true (blank_session_view capacity) done finish
 
--- One stream is served as `IsServedAlone` says, and the exit status is that of how it ended.
+-- One stream is served with the drive in memory, from the empty reel on. The exit status is that of
+-- how it ended.
 abbrev pub EndsStdio : {In Out : Type 0} → StreamsKind In Out → ℕ → Streams In Out → Streams In Out → ExitStatus → Type 0
 EndsStdio kind capacity old new status =
     (ending : Result Served SessionFault) × (status ≡ exit_status ending) × IsServedAlone kind capacity old new ending
 
--- One stream is served as `IsServedAlone` says, and `code` is the number of the exit status.
+-- One stream is served with the drive in memory, from the empty reel on. `code` is the number of
+-- the exit status.
 abbrev pub IsStdio : {In Out : Type 0} → StreamsKind In Out → ℕ → Streams In Out → Streams In Out → ℕ → Type 0
 IsStdio kind capacity old new code =
     (status : ExitStatus) × (code ≡ exit_code status) × EndsStdio kind capacity old new status

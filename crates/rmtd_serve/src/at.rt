@@ -33,10 +33,11 @@ pub fn serve_at<H: Holds + Drop, S: Stacks + Drop, I: Read, O: Write>(
     requires own { H.belongs drives.holds seat }
     requires idle { HoldsJust (H.shows seat) None }
     requires enough { S.drives drives.stacks ≤ H.drives drives.holds }
-    // A session serves a pair of streams at a seat that holds no drive, as `serve` of `rmt_server`
-    // promises. When the session ends, it closes what it opened. `serve_at` returns the seat and
-    // its stacks. The seat holds no drive and keeps its number. Other seats hold what they held
-    // before. If an allocation failed before the first request was read, neither stream is touched.
+    // If the seat holds no drive, a session serves the pair of streams, as the contract of `serve`
+    // in `rmt_server` says. When the session ends, it closes what it opened. `serve_at` returns the
+    // seat and its stacks. The seat holds no drive and keeps its number. Other seats hold what they
+    // held before. If an allocation failed before the first request was read, neither stream is
+    // touched.
     ensures { GivesBack (kinds H.Holds S.Stacks S.Reel.Reel) I.Read O.Write (idle input.old output.old drives seat)
         (streams input.new output.new) result }
 {

@@ -6,16 +6,18 @@ ghost use Rattle.hold_table.specs.Seats.{IsSeatAt};
 use drives::DRIVE_LIMIT;
 use hold_table::{HoldSeat, HoldTable, SEAT_LIMIT};
 
-/// Closes the table after the last connection has ended, with the seats that `serve_many` returned.
+/// Closes the table of a server whose last connection has ended, and returns for each drive which
+/// seat holds it.
 ///
-/// Returns for each drive the number of the seat that holds it, or 0. If all seats of the table are
-/// given back, no drive is held. If some are missing, no drive is held by a seat that was given
-/// back.
+/// The seats are those that `serve_many` returned. The result has for each drive the number of the
+/// seat that holds the drive, or 0. If all seats of the table are given back, no drive is held. If
+/// some are missing, no drive is held by a seat that was given back.
 pub fn close_table(table: HoldTable, seats: Vec<HoldSeat>) -> [u64; DRIVE_LIMIT]
     requires seats { All (λ s. IsSeatAt table s × HoldsJust s.view None) seats.items }
-    // If all 32 seats are passed to `close_table`, every word of the table is 0. If only some seats
-    // are passed, no word is the number of a passed seat. `main` of `rmtd` calls `close_table` with
-    // the seats that `serve_many` returned.
+    // For each drive, `close_table` returns the number of the seat that holds the drive, or 0. If
+    // all 32 seats are passed to `close_table`, each of these numbers is 0. If only some seats are
+    // passed, none of these numbers is the number of a passed seat. `main` of `rmtd` calls
+    // `close_table` with the seats that `serve_many` returned.
     ensures free { length seats.items ≡ SEAT_LIMIT → (drive : ℕ) → slice_index result drive ≡ 0 }
     ensures back { All (λ s. (drive : ℕ) → slice_index result drive ≢ s.view.number) seats.items }
 {

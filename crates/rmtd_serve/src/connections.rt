@@ -66,14 +66,14 @@ fn lasting(why: &io::Error) -> Option<u32>
 }
 
 impl<'a, C: Clock, L: Log + Drop> Connections<'a, C, L> {
-    /// Makes the connections of this listener.
+    /// Makes a `Connections`, which accepts the connections of this listener.
     ///
     /// `clock` measures the pause after a failed accept. At most `left` connections come. `log`
     /// gets the log lines.
     pub fn new(clock: &'a C, listener: &'a TcpListener, left: u64, log: L) -> Self
         // The number of connections that may still come is the number given to `new`.
         ensures left { result.left ≡ left }
-        // The number of accepts that may fail is the greatest `u64`. The listener is not marked as
+        // The allowed number of failed accepts is the greatest `u64`. The listener is not marked as
         // broken.
         ensures tries { result.tries ≡ 18446744073709551615 }
         ensures whole { result.broken ≡ None }
@@ -90,8 +90,8 @@ impl<'a, C: Clock, L: Log + Drop> Connections<'a, C, L> {
         }
     }
 
-    /// Returns the exit status of a server that served them: `Ended` if as many came as `new` was
-    /// given, else `Failed`.
+    /// Returns the exit status of a server that served these connections: `Ended` if all
+    /// connections have come, and otherwise `Failed`.
     pub fn status(&self) -> ExitStatus
         // `status` returns `Ended` if all connections have come, and otherwise `Failed`.
         ensures { result ≡ if self.now.left == 0 then Ended else Failed }

@@ -1,4 +1,6 @@
 //! Drives whose reels are files in folders, from the arguments of `rmtd`.
+//!
+//! `start` says whether a log line begins with the time.
 ghost use Rattle.std.specs.Prelude.{◌≡◌, ◌≤◌, false, All, IfOk, length, map};
 ghost use Rattle.drives.specs.declared.holds.TheConstants.{DRIVE_LIMIT};
 ghost use Rattle.reel_files.specs.Folders.{folder_row};
@@ -12,7 +14,7 @@ use reel_files::{FolderDrive, FolderStacks, FolderSystem, Log, NoLog};
 use rmtd_args::DriveArgument;
 use std::alloc::{AllocError, Global};
 
-/// Makes the stacks of these drives and the bin, in their folders, without a log. Each reel has
+/// Makes the stacks of these drives and the bin, in their folders. They have no log. Each reel has
 /// `capacity` bytes.
 ///
 /// There must be 1 to `DRIVE_LIMIT` drives. It reads no folder, and fails only if an allocation
@@ -25,8 +27,9 @@ pub fn folder_stacks<R: FolderSystem>(
 ) -> Result<FolderStacks<R, NoLog>, AllocError>
     requires some { 1 ≤ length arguments.now }
     requires few { length arguments.now ≤ DRIVE_LIMIT }
-    // The stacks in folders have the drives that the arguments name, in order. The stacks have the
-    // folders of the arguments, the bin's folder and the given capacity.
+    // The stacks have the drives that the arguments name, in order. Each drive has the folder that
+    // its argument names. The stacks also have the given folder of the bin and the given capacity
+    // of a reel.
     ensures named { IfOk result (λ s. s ≡ stacks_of arguments.now bin.now capacity) }
     ensures count { IfOk result (λ s. length s.rows ≡ length arguments.now) }
 {
@@ -69,7 +72,8 @@ fn folder_drives<'a>(
     Ok(drives)
 }
 
-/// Makes stacks of these drives for each seat of a table, in the order of the seats' numbers.
+/// Makes the stacks of these drives once for each seat of a table, in the order of the seats'
+/// numbers.
 ///
 /// All of them use the same folders, each independently. Each logs what it does to standard error,
 /// with the seat's number, in lines that begin as `start` says. There must be 1 to `DRIVE_LIMIT`
@@ -83,12 +87,12 @@ pub fn seat_stacks<R: FolderSystem + Eprint>(
 ) -> Result<Vec<FolderStacks<R, ErrorLog<R>>>, AllocError>
     requires some { 1 ≤ length arguments.now }
     requires few { length arguments.now ≤ DRIVE_LIMIT }
-    // `seat_stacks` returns 32 stacks, one for each seat of a table.
+    // `seat_stacks` returns the stacks of each of the 32 seats of a table.
     ensures count { IfOk result (λ all. length all.items ≡ SEAT_LIMIT) }
-    // Each of the stacks has as many drives as the arguments name.
+    // The stacks of each seat have as many drives as the arguments name.
     ensures drives { IfOk result (λ all. All (λ s. length s.rows ≡ length arguments.now) all.items) }
-    // Each of the stacks is as `folder_stacks` makes it, so a drive has the same number and the
-    // same folder at every seat.
+    // The stacks of each seat are those that `folder_stacks` makes. So a drive has the same number
+    // and the same folder at every seat.
     ensures named { IfOk result (λ all. All (λ s. s ≡ stacks_of arguments.now bin.now capacity) all.items) }
 {
     let mut all = Vec::with_capacity(rt.alloc(), SEAT_LIMIT)?;

@@ -26,17 +26,19 @@ pub trait Incoming {
     /// The last pair was returned.
     ghost is_over: { Self → Type 0 };
 
-    /// Returns the next pair, or None after the last one. It may wait for one, as a read may.
+    /// Returns the next pair of streams, or None after the last pair. It may wait for a pair, as a
+    /// read may.
     fn next(&mut self) -> Option<(Self::In, Self::Out)>
-        // `next` returns `None` only if the last pair of streams was returned.
+        // `next` returns `None` only if it has returned the last pair of streams before.
         ensures { result ≡ None → is_over self.new };
 
-    /// Returns the number that a log has for the last pair returned. No contract speaks of it.
+    /// Returns the number, for log lines, of the pair of streams that `next` returned last. No
+    /// contract speaks of it.
     fn number(&self) -> u64 {
         0
     }
 
-    /// Called if the last pair returned is dropped without being served, with the reason. No
-    /// contract speaks of it.
+    /// Receives the reason why the pair of streams that `next` returned last was dropped without
+    /// being served. No contract speaks of it.
     fn dropped(&self, _why: DropReason) {}
 }

@@ -5,7 +5,8 @@
 //! # Contracts
 //!
 //! The server has one drive in memory, or drives in folders. The server serves one stream after the
-//! other, or up to 32 streams in parallel. `rmt_tools` exports the names of this crate too.
+//! other, or up to 32 streams in parallel. A *serve step* is one request with its reply and its
+//! effect, as the protocol allows them. `rmt_tools` exports the names of this crate too.
 //!
 //! A worker has a seat and stacks. The invariant of `Worker` says that the seat holds no drive and
 //! belongs to a table, and that the stacks have no more drives than this table. The invariant holds

@@ -12,8 +12,8 @@ use rmt_wire::Counted;
 use std::net::TcpStream;
 use std::rt::Clock;
 
-/// Serves connections one after the other, until all have come or their listener can never accept
-/// again. Returns the connections.
+/// Serves connections one after the other, until all connections have come or their listener can
+/// never accept again. Returns the connections.
 ///
 /// Each connection finds the reels as the one before left them. A connection that ended within a
 /// request, or failed, counts too. The log has a line for the end of each.
@@ -22,13 +22,14 @@ pub fn serve_connections<'a, C: Clock, L: Log + Drop>(
     connections: Connections<'a, C, L>,
 ) -> Connections<'a, C, L>
     // Each served connection finds the reels as the previous connection left them. The requests of
-    // each connection and their replies are a run of serve steps. No clause is about the bytes of a
-    // connection.
+    // each connection and their replies together are a run of serve steps. No clause is about the
+    // bytes of a connection.
     ensures turns { ServedInTurn server.old server.new }
     // `serve_connections` ends in three cases: all connections have come (`left`), the listener can
-    // never accept again (`broken`), or no more accepts may fail (`tries`). Only an accept changes
-    // `left`, `broken` and `tries`, and a failed accept lowers `tries` by one. Private clauses say
-    // this about accepts, and `thread_tests` tests it.
+    // never accept again (`broken`), or the allowed number of failed accepts is used up (`tries`).
+    // Only an accept changes `left`, `broken` and `tries`, and a failed accept lowers `tries` by
+    // one. Private clauses promise this of each accept. The crate `thread_tests` tests that accepts
+    // keep this promise.
     ensures over { AreOver result.left result.tries result.broken }
 {
     let mut connections = connections;

@@ -42,8 +42,8 @@ impl Model for MemoryServer {
 }
 
 impl MemoryServer {
-    /// Makes the drive, with one empty reel `reel` of `capacity` bytes. Fails only if an allocation
-    /// fails.
+    /// Makes a server with one drive and one empty reel, which is named `reel` and has room for
+    /// `capacity` bytes. Fails only if an allocation fails.
     pub fn new(alloc: Global, capacity: u64) -> Result<MemoryServer, AllocError>
         // The new server has one drive with one empty reel of the given capacity, and an empty bin.
         ensures { IfOk result (λ s. s ≡ (blank_session_view capacity).library) }
@@ -53,8 +53,8 @@ impl MemoryServer {
         Ok(MemoryServer { server })
     }
 
-    /// Serves one stream in a session of its own, which releases the drive at its end. Returns how
-    /// the stream ended.
+    /// Serves one stream in a new session, and releases the drive when the session ends. Returns
+    /// how the stream ended.
     ///
     /// Fails with `Stream` if a read or a write failed, with `OutOfMemory` if an allocation failed
     /// before the first request was read, and with `NoSeat` if no session number is left. In the
@@ -64,13 +64,12 @@ impl MemoryServer {
         input: &mut Counted<R>,
         output: &mut Counted<W>,
     ) -> Result<Served, SessionFault>
-        // Each stream finds the reels as the previous stream left them. The requests read and their
-        // replies are a run of serve steps (what the protocol allows a request to do). In this run
-        // no device fails, and no drive is held by another seat. At the end of the stream, the
-        // server closes what is open.
+        // Each stream finds the reels as the previous stream left them. The requests that were read
+        // and their replies together are a run of serve steps. In this run no device fails, and no
+        // drive is held by another seat. At the end of the stream, the server closes what is open.
         //
-        // If `serve` returns `Ok`, no read or write failed. If `serve` returns `Stream`, the error
-        // names a stream, and that stream failed. If `serve` returns `OutOfMemory` or `NoSeat`,
+        // If `serve` returns `Ok`, no read or write failed. If `serve` returns the error `Stream`,
+        // this error names the stream that failed. If `serve` returns `OutOfMemory` or `NoSeat`,
         // neither stream was touched.
         ensures { IsServedNext (streams_kind R.remaining W.contents) self.old self.new
             (streams input.old output.old) (streams input.new output.new) result }

@@ -1,4 +1,6 @@
 //! Prepares a listener that serves connections in parallel.
+//!
+//! `start` says whether a log line begins with the time.
 ghost use Rattle.std.specs.Prelude.{◌≡◌, ◌≤◌, Some, IfOk, length, map, option_map};
 ghost use Rattle.drives.specs.declared.holds.TheConstants.{DRIVE_LIMIT};
 ghost use Rattle.rmtd_args.specs.Drive.{KeepsDriveRules, plain_drive};

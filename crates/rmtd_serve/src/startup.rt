@@ -1,5 +1,7 @@
 //! The start of `rmtd`: reads its arguments and does what they ask, up to the point where
 //! connections are served in parallel.
+//!
+//! `start` says whether a log line begins with the time.
 ghost use Rattle.std.specs.Prelude.{◌≡◌, ◌⊎◌, ◌≤◌, Some, None, IfOk, OnErr, length, map, option_map};
 ghost use Rattle.clap.specs.Words.{kind_of};
 ghost use Rattle.drives.specs.declared.holds.TheConstants.{DRIVE_LIMIT};
@@ -76,8 +78,9 @@ pub fn start<R: ServerSystem, I: Read, O: Write>(
     input: &mut Counted<I>,
     output: &mut Counted<O>,
 ) -> io::Result<Begun<R>>
-    // `start` does for some arguments what `begin` promises, or `start` returns `Failed` and
-    // touches neither stream. No clause says that these are the arguments of the program.
+    // Either `start` does what `begin` promises for some list of arguments, or `start` returns
+    // `Failed` and touches neither stream. No clause says that the arguments of the program are
+    // this list.
     ensures started { IfOk result (IsStarted (streams_kind I.remaining O.contents)
         (streams input.old output.old) (streams input.new output.new)) }
     // If `start` returns an error, neither stream was touched.
@@ -169,9 +172,9 @@ pub fn begin<R: ServerSystem, I: Read, O: Write>(
     // these streams as `run_stdio` promises. `begin` returns the status that `run_stdio` promises.
     //
     // If the arguments ask for standard input and output with drives in folders, `begin` serves
-    // these streams. `begin` answers each request that it read, once and in order, up to the end.
-    // `begin` returns the status of that end (`ExitStatus::of`). No clause says which replies
-    // `begin` writes.
+    // these streams. `begin` answers each request that it read, once and in order, until the stream
+    // ends. `begin` returns the status that `ExitStatus::of` gives for this ending. No clause says
+    // which replies `begin` writes.
     //
     // If the arguments ask for `--listen` with a drive in memory, `begin` returns `Ended` or
     // `Failed`, and neither stream is touched. No clause says that connections were served.

@@ -23,8 +23,9 @@ impl ExitStatus {
     /// Returns the exit status of `rmtd --stdio` for this ending of the stream.
     pub fn of(ending: Result<Served, SessionFault>) -> ExitStatus
         // The exit status is `Ended` if the stream ended between two requests, and `CutOff` if the
-        // stream ended inside a request. The exit status is `Malformed` if the bytes are no
-        // request, and `Failed` if a stream or the start failed.
+        // stream ended inside a request. The exit status is `Malformed` if the bytes that came are
+        // not a request. It is `Failed` if a read or a write failed, or if the server could not
+        // start.
         ensures { result ≡ exit_status ending }
     {
         match ending {

@@ -20,10 +20,11 @@ pub fn run_stdio<R: Read, W: Write>(
     output: &mut Counted<W>,
     capacity: u64,
 ) -> u8
-    // The requests read from the input and the replies on the output are a run of serve steps from
-    // one empty reel. In this run no device fails, and no drive is held by another seat.
-    // `run_stdio` returns an exit status as a number. This exit status depends on how the stream
-    // ended (`ExitStatus::of`). If the start failed, neither stream was touched.
+    // The requests that were read from the input and the replies on the output together are a run
+    // of serve steps. The run starts with one empty reel. In this run no device fails, and no drive
+    // is held by another seat. `run_stdio` returns, as a number, the exit status that
+    // `ExitStatus::of` gives for the end of the stream. If the server could not start, neither
+    // stream was touched.
     ensures { IsStdio (streams_kind R.remaining W.contents) capacity (streams input.old output.old) (streams input.new output.new) result }
 {
     ExitStatus::of(serve_alone(alloc, input, output, capacity)).code()

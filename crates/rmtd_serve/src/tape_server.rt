@@ -53,8 +53,8 @@ impl<S: Stacks + Drop> TapeServer<S> {
         Ok(TapeServer { alloc, drives })
     }
 
-    /// Serves one stream in a session of its own, which releases the drive at its end. Returns how
-    /// the stream ended.
+    /// Serves one stream in a new session, and releases the drive when the session ends. Returns
+    /// how the stream ended.
     ///
     /// Fails with `Stream` if a read or a write failed, with `OutOfMemory` if an allocation failed
     /// before the first request was read, and with `NoSeat` if no session number is left. In the
@@ -64,15 +64,15 @@ impl<S: Stacks + Drop> TapeServer<S> {
         input: &mut Counted<R>,
         output: &mut Counted<W>,
     ) -> Result<Served, SessionFault>
-        // Each stream has a session of its own, which has nothing open before and after. Every
-        // drive is free when the session begins. So if the stacks' content is known, no open finds
-        // a drive busy. `TapeServer::serve` keeps the promises of `rmt_server`'s `serve` for the
-        // stream. If the input or the output failed, `TapeServer::serve` returns `Stream` with the
-        // fault that `serve` returned.
+        // Each stream is served in a new session. The session has nothing open before the stream
+        // and after it. Every drive is free when the session begins. So, if the contract of the
+        // stacks gives their content, no open finds a drive busy. `TapeServer::serve` keeps the
+        // promises of `rmt_server`'s `serve` for the stream. If the input or the output failed,
+        // `TapeServer::serve` returns `Stream` with the fault that `rmt_server`'s `serve` returned.
         //
         // `TapeServer::serve` returns `OutOfMemory` if an allocation failed before the first
         // request was read. `TapeServer::serve` returns `NoSeat` if no number was left for a
-        // session. In both cases nothing is touched.
+        // session. In both cases neither the stacks nor a stream is touched.
         ensures { IsServedAt (kinds of_holds S.Stacks S.Reel.Reel) (streams_kind R.remaining W.contents) self.old self.new
             (streams input.old output.old) (streams input.new output.new) result }
     {

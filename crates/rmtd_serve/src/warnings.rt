@@ -1,4 +1,6 @@
 //! A log of warnings on standard error, for a server whose replies are on standard output.
+//!
+//! `start` says whether a log line begins with the time.
 
 use crate::error_log::ErrorLog;
 use crate::line_start::LineStart;

@@ -1,4 +1,5 @@
--- The drives of a schedule. No public contract cites this.
+-- The drives of a schedule. Plain data are the values that contracts use for what the code has in
+-- memory. No public contract cites this.
 use Rattle.std.specs.Prelude.{map}
 use Rattle.world_model.specs.First.{PlainDriveSpec}
 use Rattle.rsim_schedule.specs.declared.drive_line.DriveLine.{DriveLine}

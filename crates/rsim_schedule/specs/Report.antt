@@ -1,4 +1,5 @@
--- The report of a world, in lines. Public contracts rely on this (through Ending).
+-- The report of a world, in lines. A count is the record of a volume that the client wrote whole to
+-- a reel. Public contracts rely on this (through Ending).
 use Rattle.std.specs.Prelude.{ℕ, List, [], ◌∷◌, ◌++◌, length, codes, decimal, unwrap_or, nat_eq, if◌then◌else◌}
 use Rattle.std.specs.List.{flat_map}
 use Rattle.std.specs.Str.{bytes_eq}

@@ -1,14 +1,13 @@
-//! Schedules: texts of one command a line that say what happens between a dump client, a tape
-//! server and strangers.
+//! Runs schedules, which say what happens between a dump client, a tape server and strangers.
 //!
 //! `schedule` runs one in a world of its own and prints a report. `rsim` is the whole program, from
 //! its arguments to its exit status.
 //!
 //! # Contracts
 //!
-//! A *schedule* is a text with one command in each line. Most commands mean an event of the world.
-//! The clauses below do not say which event a line means, or at which line a schedule ends early.
-//! Tests check both.
+//! A *schedule* is a text with one command in each line. Most commands make one event happen in the
+//! world. The clauses below do not say which event a line makes, or at which line a schedule ends
+//! early. Tests check both.
 #![tactic(auto)]
 
 mod arguments;

@@ -38,7 +38,8 @@ fn print_failed<W: Write>(world: &World, out: &mut Counted<W>) -> Result<(), Hal
     }
 }
 
-/// Runs an event as `make` does, if it is possible. Returns whether it was.
+/// Runs an event if it is possible, and prints the attempt that it made fail, if any. Returns
+/// whether it was possible. Fails if an allocation or the write fails.
 fn run_if_possible<W: Write>(
     world: &mut World,
     event: Event<'_>,

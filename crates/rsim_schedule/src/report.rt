@@ -80,7 +80,8 @@ fn push_reel(text: &mut Vec<u8>, world: &World, reel: &[u8]) -> Result<(), Alloc
     push_text(text, "\n")
 }
 
-/// Appends all entries of a reel.
+/// Appends the length of each entry of a reel, in order, and ` M` for a mark. Fails if an
+/// allocation fails.
 fn push_entries(text: &mut Vec<u8>, world: &World, reel: &[u8]) -> Result<(), AllocError>
     ensures { OnOk result (text.new.items ≡ text.old.items ++ flat_map entry_text (entries_of_reel world.now reel.now)) }
 {
@@ -129,7 +130,7 @@ fn push_stack(text: &mut Vec<u8>, world: &World, device: &[u8]) -> Result<(), Al
     }
 }
 
-/// Appends a text, the names of reels, and the end of the line.
+/// Appends the text `keyword`, the names of reels, and the end of the line.
 fn push_names(text: &mut Vec<u8>, keyword: &str, reels: &[ListedReel]) -> Result<(), AllocError>
     ensures { OnOk result (text.new.items ≡ text.old.items ++ keyword.now ++ names_text (names_of reels.now) ++ codes "\n") }
 {
@@ -184,7 +185,7 @@ fn push_dates(text: &mut Vec<u8>, world: &World) -> Result<(), AllocError>
     }
 }
 
-/// Appends a text and a number after it.
+/// Appends the text `before` and a number after it.
 fn push_number(text: &mut Vec<u8>, before: &str, number: u64) -> Result<(), AllocError>
     ensures { OnOk result (text.new.items ≡ text.old.items ++ before.now ++ decimal number) }
 {

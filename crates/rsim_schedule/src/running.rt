@@ -17,9 +17,9 @@ use std::alloc::Global;
 use std::io::Write;
 use tape_world::World;
 
-/// Runs a schedule: a text of one command a line. It prints on `out` each attempt that fails, when
-/// it fails. At the end it prints a report of the world: the entries of each reel, the stacks, the
-/// bin, the counted volumes, and dumpdates.
+/// Runs a schedule: a text with one command in each line. It prints on `out` each attempt that
+/// fails, when it fails. At the end it prints a report of the world: the entries of each reel, the
+/// stacks, the bin, the counted volumes, and dumpdates.
 ///
 /// At the first faulty line it prints, in place of the report, `line 3: bad line` or
 /// `line 3: not possible`. Lines count from 1. If an allocation fails, it prints
@@ -30,21 +30,21 @@ use tape_world::World;
 pub fn schedule<W: Write>(alloc: Global, text: &[u8], out: &mut Counted<W>) -> ExitStatus
     // The call has three outcomes. In the first outcome, all events are made. The call prints one
     // line for each attempt that failed, then the report of the resulting world, and returns
-    // `Success`. Some list of events, in a world of good drives, leads to exactly these lines and
-    // this report. The report lists the reels with the lengths of their entries, the stacks, the
-    // bin, the counts, and dumpdates.
+    // `Success`. For some list of events and some drives that `good_drives` accepts, a new world
+    // with these drives gives exactly these lines and this report. The report lists the reels with
+    // the lengths of their entries, the stacks, the bin, the counts, and dumpdates.
     //
     // In the second outcome, the schedule ends early. The call first prints one line for each
-    // attempt that failed. Some list of events leads to exactly these lines. The call then prints
-    // the number of the line at which the schedule ended, and the reason. The status is
+    // attempt that failed. There is a list of events that gives exactly these lines. The call then
+    // prints the reason, with the number of the line at which the schedule ended. The status is
     // `StartupError` for a bad line or an event that is not possible. The status is `Abnormal` if
     // an allocation fails.
     //
-    // The private call that prints why a schedule ended prints different words for each reason.
+    // A private call prints why a schedule ended. It prints different words for each reason.
     //
-    // In the third outcome, a write of the output fails. The call then prints nothing more. What it
-    // has printed so far is a beginning of what it would print in the first or the second outcome.
-    // The status is `Abnormal`.
+    // In the third outcome, a write of the output fails. The call then prints nothing more. The
+    // text that it has printed so far is a beginning of the text of the first or of the second
+    // outcome. The status is `Abnormal`.
     ensures { IsScheduled W.contents out.old result out.new }
 {
     let mut lines = ScheduleLines::new(text);

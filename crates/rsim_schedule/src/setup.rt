@@ -29,8 +29,9 @@ pub(crate) fn read_drives<'a>(
     Ok(drives)
 }
 
-/// Adds the drives at the beginning of a schedule to `drives`, which must be empty. Fails as
-/// `read_drives` does.
+/// Adds the drives at the beginning of a schedule to `drives`, which must be empty. Fails with
+/// `BadLine` if the first command is not a drive, if there is no command, or if a world cannot have
+/// these drives. Fails with `OutOfMemory` if an allocation fails.
 fn add_drives<'a>(
     alloc: Global,
     drives: &mut Vec<DriveLine<'a>>,

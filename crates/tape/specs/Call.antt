@@ -1,4 +1,5 @@
--- One call of a reel. Public contracts cite it.
+-- One call of a reel. A kind of reel is a type that implements `Reel`, with what it promises. `r`
+-- has the promises of the kind of reel. Public contracts cite it.
 use Rattle.std.specs.Prelude.{◌≡◌, ◌⊎◌, ℕ, ◌<◌, ◌≤◌, List, Bool, IsTrue, length}
 use Rattle.tape.specs.Failures.{HasRisen, Steps}
 use Rattle.tape.specs.Tape.{Tape, TapeRequest, TapeAnswer, TapeStep}
@@ -45,21 +46,22 @@ reel_kind holds capacity failures can_fail makes grows =
 
 -- One call of a reel, with its answer.
 pub record IsTapeCall {S : Type 0} (r : ReelKind S) (old new : S) (request : TapeRequest) (answer : TapeAnswer) : Type 0 where
-  -- If the tape is known, the call is a step of it.
+  -- If the tape is known before the call, it is known after it, and the call is a step of the tape.
   pub step : Steps r.holds old new (λ t u. TapeStep (r.capacity old) t request answer u)
-  -- Even if the tape is unknown, the answer is one that the call can have.
+  -- Even if the tape is unknown, the answer is one of those that a call of this kind can have.
   pub can : CanAnswer request answer
   -- The answer is `Device` only if the device failed in the call.
   pub device : answer ≡ Fault Device → HasRisen (r.failures old) (r.failures new)
   -- If the device failed in the call, the answer is `Device`.
   pub failed : (r.failures new ≡ r.failures old) ⊎ (answer ≡ Fault Device)
-  -- The answer is `Device` only if the device can fail. No call makes it able to.
+  -- The answer is `Device` only if the device can fail. If the device cannot fail before the call,
+  -- it cannot fail after the call.
   pub able : answer ≡ Fault Device → r.can_fail old
   pub quiet : r.can_fail new → r.can_fail old
   -- The answer is `OutOfMemory` only if the reel can allocate.
   pub memory : answer ≡ Fault OutOfMemory → IsTrue r.grows
-  -- The count of failures does not fall.
+  -- The count of failures does not fall, and the capacity does not change.
   pub counted : r.failures old ≤ r.failures new
   pub same_capacity : r.capacity new ≡ r.capacity old
-  -- The call keeps the promises of this kind of reel.
+  -- The call also keeps the further promises that this kind of reel makes.
   pub made : r.makes old new request answer

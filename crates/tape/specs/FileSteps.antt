@@ -1,6 +1,7 @@
 -- What the parts of a reel on a medium do to the medium, and to the tape that its bytes spell. The
 -- contracts of `next_length` and `entry_size` cite `LooksAlong`, `AreMediumCalls`, `first_length`
--- and `size_by_length`. No other public contract needs it.
+-- and `size_by_length`. No other public contract needs it. `m` has the promises of the kind of
+-- medium, and `t` is a tape.
 use Rattle.std.specs.Prelude.{◌≡◌, ◌⊎◌, ◌==◌, if◌then◌else◌, ℕ, ◌+◌, ◌-◌, ◌^◌, ◌<◌, ◌≤◌, Bool, List, [], ◌∷◌, ◌++◌, length, reverse, take, Option, Some, None, MatchOption, Result, IsErr, IfOk, MatchResult}
 use Rattle.tape.specs.Failures.{HasRisen, Steps}
 use Rattle.tape.specs.Tape.{PlainEntry, Tape, TapeRequest, entries_of, tape, stands_at, mark_count, marks_met, records_met, passed_for_marks, passed_for_records}
@@ -32,8 +33,8 @@ abbrev pub LooksAlong : {A S : Type 0} → MediumKind S → ℕ → Result A Med
 LooksAlong m at result tells old new =
     AreMediumCalls m (λ bytes left. (left ≡ bytes) × IfOk result (λ answer. (t : Tape) → IsFile bytes at t → tells bytes t answer)) 0 (IsErr result) old new
 
--- Calls of the medium of a reel, in a row, as `AreMediumCalls` says. `does` relates the reel's tape
--- before and after.
+-- Calls of the medium of a reel, in a row. `does` relates the reel's tape before and after. At most
+-- `added` bytes are added. `fails` says whether the last call failed; no call follows a failed one.
 pub record AreReelCalls {M : Type 0} (m : MediumKind M) (does : Tape → Tape → Type 0) (added : ℕ) (fails : Type 0)
     (old new : FileTape M) : Type 0 where
   pub step : Steps (HoldsTape m.holds) old new does
@@ -69,7 +70,8 @@ abbrev pub way_left : Way → ℕ → ℕ
 way_left Forward at = 2 ^ 64 - at
 way_left Back at = at
 
--- One entry in this direction was passed. `u` is the tape afterwards.
+-- One entry in the direction `way` was passed, and `is_mark` says whether it is a mark. `u` is the
+-- tape afterwards.
 pub record IsPassed (way : Way) (t : Tape) (is_mark : Bool) (u : Tape) : Type 0 where
   pub entry : PlainEntry
   pub mark : mark_count entry ≡ (if is_mark then 1 else 0)
@@ -90,13 +92,14 @@ pub record IsWalked (way : Way) (count met passed : ℕ) (bytes : List ℕ) (t :
   pub place : to ≡ stands_at (place_after way passed t) t
   pub left_is : left ≡ count - met
 
--- A walk past `count` marks, or as far as there are entries, was made, as `IsWalked` says.
+-- A walk past `count` marks, or as far as there are entries, was made. `walked` has the offset
+-- where it ended and how many of the `count` marks were missing.
 abbrev pub HasWalkedMarks : Way → ℕ → List ℕ → Tape → Walked → Type 0
 HasWalkedMarks way count bytes t walked =
     IsWalked way count (marks_met (ahead way t)) (passed_for_marks count (ahead way t)) bytes t walked.at walked.left
 
--- A walk past `count` records, or up to the first mark or the last entry, was made, as `IsWalked`
--- says.
+-- A walk past `count` records, or up to the first mark or the last entry, was made. `walked` has
+-- the offset where it ended and how many of the `count` records were missing.
 abbrev pub HasWalkedRecords : Way → ℕ → List ℕ → Tape → Walked → Type 0
 HasWalkedRecords way count bytes t walked =
     IsWalked way count (records_met (ahead way t)) (passed_for_records count (ahead way t)) bytes t walked.at walked.left

@@ -1,4 +1,5 @@
--- A medium that fails at a chosen call, and what that call leaves. Public contracts cite it.
+-- A medium that fails at a chosen call, and what that call leaves. `m` has the promises of the kind
+-- of medium. Public contracts cite it.
 use Rattle.std.specs.Prelude.{◌≡◌, ◌⊎◌, ℕ, zero, suc, ◌+◌, ◌≤◌, Bool, true, false, if◌then◌else◌, List, ◌++◌, length, take, Option, Some, None, refl}
 use Rattle.std.specs.Coded.{Coded, code_by, coded×, coded_ℕ, coded_bool, coded_option}
 use Rattle.tape.specs.Failures.{Steps}

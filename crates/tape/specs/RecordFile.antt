@@ -1,5 +1,5 @@
--- A record file: a reel's entries as bytes (the format is this project's own). Public contracts
--- cite it.
+-- A record file: a reel's entries as bytes (the format is this project's own). `m` has the promises
+-- of the kind of medium, and `t` is a tape. Public contracts cite it.
 use Rattle.std.specs.Prelude.{◌≡◌, ◌≢◌, ◌⊎◌, ◌&&◌, ◌==◌, if◌then◌else◌, ℕ, zero, suc, ◌+◌, ◌*◌, ◌<◌, ◌≤◌, false, List, [], ◌∷◌, ◌++◌, length, take, drop, flat_map, nat_eq, nat_le, Option, Some, None, refl}
 use Rattle.std.specs.Coded.{Coded, code_by, coded×, coded_ℕ}
 use Rattle.std.specs.Int.{w32, to_le_bytes, from_le_bytes}

@@ -187,7 +187,7 @@ abbrev pub RewindStep : Tape → TapeAnswer → Tape → Type 0
 RewindStep t Done u = u ≡ tape [] (entries_of t)
 RewindStep t _ u = ⊥
 
--- Nothing changes.
+-- The no-operation of mtio (MTNOP): the answer is `Done`, and nothing changes.
 abbrev pub NothingStep : Tape → TapeAnswer → Tape → Type 0
 NothingStep t Done u = u ≡ t
 NothingStep t _ u = ⊥

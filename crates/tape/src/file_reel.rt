@@ -44,7 +44,7 @@ impl<M: Medium> Model for FileReel<M> {
 impl<M: Medium> FileReel<M> {
     /// Returns the medium that the reel is on.
     pub fn medium(&self) -> &M
-        // `medium` lends the reel's medium. No other body has its type.
+        // `medium` lends the reel's medium. The types allow only this body, so there is no edit.
         ensures { result.now ≡ self.now.medium }
     {
         &self.medium
@@ -59,14 +59,14 @@ impl<M: Medium> FileReel<M> {
         medium
     }
 
-    /// Opens the reel on this medium, at its beginning, with a capacity in bytes. Makes no call of
-    /// the medium.
+    /// Opens the reel that is on this medium, with a capacity in bytes. The reel stands at its
+    /// beginning. Makes no call of the medium.
     ///
     /// Ignores bytes after the last whole entry; the next write cuts them off. Entries beyond the
     /// capacity can be read like others.
     pub fn open(medium: M, capacity: u64) -> FileReel<M>
-        // The opened reel has the entries that the medium's bytes spell, and stands at their
-        // beginning. The reel has the given medium and capacity.
+        // The opened reel has the entries that the medium's bytes spell, and stands at the
+        // beginning of these entries. The reel has the given medium and capacity.
         ensures told { (bytes : List ℕ) (entries : List PlainEntry) →
             M.holds medium bytes → SpellsReel bytes entries → HoldsTape M.holds result (tape [] entries) }
         ensures medium { result.medium ≡ medium }
@@ -144,7 +144,9 @@ impl<M: Medium> FileReel<M> {
         Ok(())
     }
 
-    /// Writes `count` marks at the place, as `Reel::op` does.
+    /// Writes `count` marks at the place, with nothing after them. A count of 0 changes nothing.
+    /// Fails with `Full` if there is no room for all of them, and with `Device` if the medium
+    /// fails.
     fn write_marks(&mut self, count: u32) -> Result<(), TapeFault>
         ensures { IsTapeCall (file_reel_kind (medium_kind_of M.Medium)) self.old self.new (WriteMarks count) (done_answer result) }
     {
@@ -197,12 +199,12 @@ impl<M: Medium> Reel for FileReel<M> {
     // write, read, op, rewind: If the medium's bytes are known, each call is a step of the tape
     // that these bytes spell. No call allocates.
     //
-    // failures: Each call keeps the promises of every reel, even if the medium's bytes are not
-    // known. The reel's count of failures is that of its medium.
+    // failures: Each call keeps the promises that every reel keeps (`IsTapeCall`), even if the
+    // medium's bytes are not known. The reel's count of failures is the count of its medium.
     //
     // makes: A call fails with `Device` only if the medium can fail, or has too little room for the
-    // bytes to be written (`IsFileCall`). No call makes the medium able to fail. Only written bytes
-    // use up room.
+    // bytes to be written (`IsFileCall`). If the medium cannot fail before a call, it cannot fail
+    // after the call. Only written bytes use up room.
 
     ghost holds = { HoldsTape M.holds };
 

@@ -41,14 +41,14 @@ impl<M: Medium> Model for FuseMedium<M> {
 }
 
 impl<M: Medium> FuseMedium<M> {
-    /// Makes a medium around `inner` that fails at call number `at`, counted from 0.
+    /// Wraps `inner` in a medium that counts its calls from 0 and makes call number `at` fail.
     ///
     /// If `once`, no later call is made to fail; else each later call fails too. An append that is
     /// due to fail adds its first `left` bytes.
     pub fn new(inner: M, at: u64, left: usize, once: bool) -> FuseMedium<M>
-        // The new medium wraps another medium. The arguments of `new` say which call is to fail
-        // (its number), and whether the calls after it succeed. Another argument says how many of
-        // its bytes an append leaves in the inner medium when `new` makes it fail.
+        // The new medium wraps the given inner medium. One argument of `new` is the number of the
+        // call that is to fail. Another argument says whether all later calls are to fail too. A
+        // third argument says how many bytes an append adds to the inner medium before it fails.
         ensures { result ≡ record { inner = inner; to_go = Some at; left = left; once = once; failures = 0 } }
     {
         FuseMedium {
@@ -112,14 +112,14 @@ impl<M: Medium> Medium for FuseMedium<M> {
     // stopped: A call that is due to fail does fail.
     //
     // passed: A call that is not due to fail can still fail. It fails only if the inner medium can
-    // fail or has less room than the call adds.
+    // fail, or has too little room for the bytes that the call is to add.
     //
-    // append, append_framed, left: An append that is due to fail, with a frame or without, adds
-    // only its first bytes. The number of bytes that `new` was given is the most that the append
-    // adds. If the inner medium cannot fail and has room, the append adds exactly this number of
-    // bytes, or all of its bytes if it has fewer.
+    // append, append_framed, left: Suppose that an append, with a frame or without, is due to fail.
+    // Then it adds its bytes from the first one on, but at most the number of bytes that was given
+    // to `new`. If the inner medium cannot fail and has room, the append adds exactly this number
+    // of bytes, or all of its bytes if it has fewer.
     //
-    // cut, kept, made: If a cut is due to fail, the number of bytes that `new` was given decides
+    // cut, kept, made: If a cut is due to fail, the number of bytes that was given to `new` decides
     // what the cut does. If the number is 0, the cut changes nothing. If the number is at least 1
     // and the inner medium cannot fail, the cut is made in the inner medium.
     //
@@ -131,8 +131,8 @@ impl<M: Medium> Medium for FuseMedium<M> {
     // unfailed: A call that is not due to fail makes calls of the inner medium. It succeeds only if
     // none of these inner calls failed. So a failed inner call is not repeated.
     //
-    // call, same: Each call keeps the promises of every medium. The bytes of a `FuseMedium` are
-    // those of the inner medium, if they are known.
+    // call, same: Each call keeps the promises that every medium keeps (`IsMediumCall`). The bytes
+    // of a `FuseMedium` are those of the inner medium, if they are known.
 
     ghost holds = { λ f bytes. M.holds f.inner bytes };
 

@@ -12,7 +12,8 @@ ghost use Rattle.tape.specs.declared.laws.TheConstants.{OLDER_RECORD_LIMIT};
 
 use rmt_wire::RECORD_LIMIT;
 
-/// Law: each step of a device with a trouble (`DeviceStep`) is a step of its tape (`TapeStep`).
+/// Law: whatever trouble (injected fault) is set for a device, each step of the device
+/// (`DeviceStep`) is a step of its tape (`TapeStep`).
 ///
 /// With `Trouble::None`, no step fails with `Device`. Each step of a `TroubledReel` keeps the
 /// promises of every `Reel`.
@@ -24,12 +25,13 @@ pub fn device_steps()
     // If no trouble is set, no step fails with `Device`.
     ensures untroubled { (capacity : ℕ) (t : Tape) (request : TapeRequest) (answer : TapeAnswer) (u : Tape) →
         DeviceStep capacity None t request answer u → answer ≢ Fault Device }
-    // Each call of a `TroubledReel` keeps the promises of every reel.
+    // Each call of a `TroubledReel` keeps the promises that every reel keeps (`IsTapeCall`).
     ensures call { (old new : TroubledTape) (request : TapeRequest) (answer : TapeAnswer) →
         TroubledStep old new request answer → IsTroubledCall old new request answer }
 {}
 
-/// Law: each list of bytes spells one list of entries, and at an offset at most one tape.
+/// Law: each list of bytes spells one list of entries, and together with an offset it spells at
+/// most one tape.
 ///
 /// It does nothing: its contract is a law of the definitions.
 pub fn one_spelling()
@@ -37,7 +39,7 @@ pub fn one_spelling()
     // list of entries. The bytes consist of the images of these entries, one after the other, and a
     // tail that does not begin with an image.
     ensures entries { (bytes : List ℕ) (entries : List PlainEntry) → SpellsReel bytes entries ↔ (entries ≡ entries_in bytes) }
-    // At a given offset, the bytes spell at most one tape.
+    // With a given offset for the place, the bytes spell at most one tape.
     ensures tape { (bytes : List ℕ) (offset : ℕ) (t : Tape) → IsFile bytes offset t → t ≡ tape_in offset bytes }
 {}
 
@@ -46,7 +48,8 @@ pub fn one_spelling()
 /// It is the only limit that servers of earlier versions wrote reels with.
 pub const OLDER_RECORD_LIMIT: usize = 65536;
 
-/// Law: a reel that was written with the older limit spells the same entries under the new one.
+/// Law: if a reel was written under an older, smaller limit on the length of records, the reel
+/// spells the same entries under the new limit.
 ///
 /// The older limit is `OLDER_RECORD_LIMIT`, the new one `rmt_wire::RECORD_LIMIT`. The law also
 /// covers a reel whose last write was stopped halfway. It follows that raising the limit changes
@@ -63,7 +66,10 @@ pub fn older_reels()
     same_entries(OLDER_RECORD_LIMIT, RECORD_LIMIT);
 }
 
-/// The law of `older_reels`, for any two limits below 2^32 with `older` at most `newer`.
+/// A reel that was written while `older` was the limit of a record's length reads as the same
+/// entries under any larger limit `newer` below 2^32.
+///
+/// `older_reels` is this law for the two limits that servers have had.
 fn same_entries(older: usize, newer: usize)
     requires order { older ≤ newer }
     requires range { newer < 2 ^ 32 }

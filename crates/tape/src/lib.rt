@@ -1,4 +1,5 @@
-//! Reels of tape: their records and marks, their place, and what each call does to them.
+//! Reels of tape: the records and marks on a reel, the place where the next call acts, and what
+//! each call does.
 //!
 //! A reel is a list of entries with a capacity in bytes. The place is where the next call acts.
 //! `Reel` is the trait of all reels. `ListReel` keeps its entries in memory. `TroubledReel` is a
@@ -11,9 +12,10 @@
 //! # Contracts
 //!
 //! A tape is a list of entries and a place in the list, where the next call acts. An entry is a
-//! record of 1 to 262,144 bytes, or a mark. A reel stores a tape, for example on a medium. A medium
-//! holds bytes. You can read them, append bytes at the end, and cut bytes off the end.
-//! docs/REELS.md describes reels and their record files.
+//! record of 1 to 262,144 bytes, or a mark. What one call does to a tape is a *step* of the tape. A
+//! reel stores a tape, for example on a medium. A medium holds bytes. You can read them, append
+//! bytes at the end, and cut bytes off the end. A *trouble* is an injected fault: it makes the next
+//! call of a reel's device fail. docs/REELS.md describes reels and their record files.
 #![tactic(auto)]
 
 mod entry;

@@ -122,13 +122,13 @@ impl Reel for ListReel {
     // refuses a number that is not an operation of a reel.
     //
     // op, step: Spacing moves over `count` marks or records, in either direction. If there are
-    // fewer than `count`, spacing stops where it met a mark, the end or the beginning, and fails
-    // with `EndOrMark`. Spacing does not change the entries.
+    // fewer than `count` of them, spacing stops where it met a mark, the end or the beginning, and
+    // fails with `EndOrMark`. Spacing does not change the entries.
     //
     // device, failures, GROWS: The device of a reel in memory never fails, and its count of
     // failures is 0. The reel may allocate.
     //
-    // call: Each call keeps the promises of every reel.
+    // call: Each call keeps the promises that every reel keeps (`IsTapeCall`).
 
     ghost holds = { IsTape };
 

@@ -11,7 +11,7 @@ use crate::Entry;
 use rmt_wire::RECORD_LIMIT;
 use std::alloc::{AllocError, Global};
 
-/// Reads the entries of a record file, from its beginning to the last whole one.
+/// Reads the entries of a record file, from the first entry to the last whole one.
 ///
 /// Ignores the bytes after that one. Fails with `AllocError` if an allocation fails.
 pub fn read_entries(alloc: Global, file: &[u8]) -> Result<Vec<Entry>, AllocError>

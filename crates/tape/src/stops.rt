@@ -22,8 +22,8 @@ pub fn reopened<M: Medium>(reel: FileReel<FuseMedium<M>>, capacity: u64) -> File
     FileReel::open(reel.into_medium().into_inner(), capacity)
 }
 
-/// Writes a record to a reel whose medium stops at a chosen call. Then opens the reel again on what
-/// remains there, with a capacity in bytes.
+/// Writes a record to a reel whose medium fails at a chosen call, and opens the reel again. The
+/// reel is opened on what remains there, with a capacity in bytes.
 ///
 /// Returns the result of the write, and the reel. Whichever call stops, the entries before the
 /// place remain. After them are the old entries, none, or the record. The result is never
@@ -35,13 +35,13 @@ pub fn write_and_reopen<M: Medium>(
 ) -> (Result<(), TapeFault>, FileReel<M>)
     requires { IsRecord bytes.now }
     // `write_and_reopen` writes a record to a reel on a `FuseMedium`, and then opens the reel
-    // again. The entries before the place do not change, whichever calls are due to fail and
-    // however many bytes they leave. If the write succeeded, the record follows the entries before
-    // the place. If the device failed, the old entries, no entries, or the record follow. If the
-    // write was refused for another reason, the old entries follow.
+    // again. The entries before the place never change. It does not matter which calls are due to
+    // fail, or how many bytes a failed call leaves on the medium. If the write succeeded, the
+    // entries before the place are followed by the record. If the device failed, they are followed
+    // by the old entries, by no entries, or by the record. If the write was refused for another
+    // reason, they are followed by the old entries.
     ensures stood { Reopens M.holds reel result.1 (λ t u. StandsAfterWrite t (Record bytes.now ∷ []) (done_answer result.0) u) }
-    // The result of the write, and the entries afterwards, are those that one step of the tape
-    // gives.
+    // The result of the write, and the entries afterwards, are those of one step of the tape.
     ensures step { Reopens M.holds reel result.1 (λ t u. StandsAfterStep reel.capacity t (Write bytes.now) (done_answer result.0) u) }
     // The write fails with `Device` only if a call is due to fail, or if the inner medium can fail
     // or has too little room.
@@ -57,8 +57,8 @@ pub fn write_and_reopen<M: Medium>(
     (written, reopened(reel, capacity))
 }
 
-/// Writes marks to a reel whose medium stops at a chosen call. Then opens the reel again on what
-/// remains there, with a capacity in bytes.
+/// Writes marks to a reel whose medium fails at a chosen call, and opens the reel again. The reel
+/// is opened on what remains there, with a capacity in bytes.
 ///
 /// Returns the result of the write, and the reel. Whichever call stops, the entries before the
 /// place remain. After them are the old entries, or any number of the marks. The result is never
@@ -69,16 +69,17 @@ pub fn mark_and_reopen<M: Medium>(
     capacity: u64,
 ) -> (Result<(), TapeFault>, FileReel<M>)
     // `mark_and_reopen` writes marks to a reel on a `FuseMedium`, and then opens the reel again.
-    // The entries before the place do not change, whichever calls are due to fail and however many
-    // bytes they leave. If the count is 0, no entry changes. If a write of at least 1 mark
-    // succeeded, all of the marks follow the entries before the place. If the device failed, the
-    // old entries or any number of the marks follow. If the write was refused for another reason,
-    // the old entries follow.
+    // The entries before the place never change. It does not matter which calls are due to fail, or
+    // how many bytes a failed call leaves on the medium. If the count of marks is 0, no entry
+    // changes. If a write of at least 1 mark succeeded, the entries before the place are followed
+    // by all of the marks. If the device failed, they are followed by the old entries, or by any
+    // number of the marks. If the write was refused for another reason, they are followed by the
+    // old entries.
     ensures stood { Reopens M.holds reel result.1 (λ t u. StandsAfterMarks t count (done_answer result.0) u) }
-    // The result, and the entries afterwards, are those that one step of the tape gives. The write
-    // fails with `Device` only if a call is due to fail, or if the inner medium can fail or has too
-    // little room. The write never fails with `OutOfMemory`. The reel that is opened again has the
-    // given capacity.
+    // The result of the write, and the entries afterwards, are those of one step of the tape. The
+    // write fails with `Device` only if a call is due to fail, or if the inner medium can fail or
+    // has too little room. The write never fails with `OutOfMemory`. The reel that is opened again
+    // has the given capacity.
     ensures step { Reopens M.holds reel result.1 (λ t u. StandsAfterStep reel.capacity t (WriteMarks count) (done_answer result.0) u) }
     ensures cause { result.0 ≡ Err Device →
         (M.can_fail reel.medium.inner ⊎ CanStop reel.medium.to_go) ⊎ (M.spare reel.medium.inner < 4 * count) }

@@ -39,7 +39,7 @@ impl Model for TroubledReel {
 }
 
 impl TroubledReel {
-    /// Makes a reel of `reel`, with no trouble set and no failed device call.
+    /// Wraps `reel` in a reel that has no trouble set and has counted no failed device call.
     pub fn new(reel: ListReel) -> TroubledReel
         // The new reel has the tape and the capacity of the given reel. No trouble (an injected
         // fault) is set, and no failure was counted.
@@ -105,7 +105,8 @@ impl TroubledReel {
         TapeFault::Device
     }
 
-    /// Writes `count` marks, as `Reel::op` does.
+    /// Writes `count` marks at the place, under the trouble that is set. If the trouble makes this
+    /// fail, counts the failure, clears the trouble and returns `Device`.
     fn write_marks(&mut self, count: u32) -> Result<(), TapeFault>
         ensures { TroubledStep self.old self.new (WriteMarks count) (done_answer result) }
     {
@@ -120,22 +121,22 @@ impl TroubledReel {
 impl Reel for TroubledReel {
     // step: A call fails with `Device` if and only if a trouble is set and the call reaches the
     // device. Every read reaches the device. Spacing reaches the device if its count is at least 1.
-    // A write reaches the device if there is room for it and no allocation fails. A write of marks
-    // reaches the device under the same conditions, if the count of marks is at least 1.
+    // A write reaches the device if there is room for it and no allocation fails. A write of at
+    // least one mark reaches the device under the same conditions.
     //
     // step: A call that fails with `Device` leaves the place and the entries before it unchanged.
     // The trouble decides what a failed write leaves after the place: the old entries, no entries,
-    // or the first of the new entries. Any other failed call leaves the old entries after the
-    // place.
+    // or some of the new entries from the first one on. Any other failed call leaves the old
+    // entries after the place.
     //
     // step, failures: A failure with `Device` is counted, up to the greatest `u64`, and clears the
     // trouble. Any other call changes neither the count nor the trouble, even if an allocation
     // failed in that call.
     //
-    // step: A call that does not fail with `Device` makes the same step as on a tape whose device
-    // never fails.
+    // step: A call that does not fail with `Device` does what it does on a reel whose device never
+    // fails.
     //
-    // call, bound: Each call keeps the promises of every reel.
+    // call, bound: Each call keeps the promises that every reel keeps (`IsTapeCall`).
 
     ghost holds = { IsTapeOf };
 

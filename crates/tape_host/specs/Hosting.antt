@@ -1,5 +1,6 @@
 -- The state of a host in memory, and its invariant, which ties the drives to the sessions of the
--- connections. No public contract needs it.
+-- connections. Plain data are the values that contracts use for what the code has in memory. No
+-- public contract needs it.
 use Rattle.std.specs.Prelude.{◌≡◌, ◌⊎◌, ℕ, ◌+◌, ◌<◌, Bool, true, false, List, [], length, map, option_map, Option, Some, None, MatchOption}
 use Rattle.rmt_wire.specs.Request.{PlainRequest}
 use Rattle.rmt_wire.specs.Reply.{PlainReply, reply_text}

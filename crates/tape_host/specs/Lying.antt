@@ -1,5 +1,6 @@
--- Which reels are in their slots, on the stacks and in the bin, and which are away. Public
--- contracts cite it.
+-- Which reels are in their slots, on the stacks and in the bin, and which are away. A drive's
+-- latched reel is the first of its stack: it is in the drive until it is laid back or moved to the
+-- bin. Public contracts cite it.
 use Rattle.std.specs.Prelude.{◌≡◌, ℕ, drop, List, [], ◌∷◌, Option, Some, None, IsSome}
 use Rattle.drives.specs.TapeLibrary.{ReelSlot, Drive, LibraryOf, drive_at, latched_at}
 use Rattle.rmt_server.specs.Session.{PlainSession}

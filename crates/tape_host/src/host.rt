@@ -1,4 +1,7 @@
 //! One server.
+//!
+//! A drive's latched reel is the first of its stack: it is in the drive until it is laid back or
+//! moved to the bin.
 ghost use Rattle.std.specs.Prelude.{◌≡◌, ◌+◌, ◌<◌, ◌≤◌, false, true, [], None, IfOk, IfErr, IfSome, IsTrue, MatchResult, length, map, replicate, vec_len, vec_capacity};
 ghost use Rattle.std.specs.Option.{option_copied, option_map};
 ghost use Rattle.drives.specs.declared.fault.DriveFault.TheVariants.{OutOfMemory};
@@ -79,8 +82,8 @@ impl Host {
         })
     }
 
-    /// Makes the server's side of the next connection, unless it is made already, and keeps it
-    /// until `admit`.
+    /// Makes the server's side of the next connection, unless that side exists already, and keeps
+    /// it until `admit` is called.
     ///
     /// Fails if an allocation fails, or if no number is left for its seat. Nothing that contracts
     /// see has changed then.
@@ -116,7 +119,7 @@ impl Host {
         result
     }
 
-    /// Admits the next connection: the server's side of it, which `prepare` made, is now live.
+    /// Admits the next connection: the server's side that `prepare` made for it becomes live.
     pub fn admit(&mut self)
         requires { self.old.ready ≡ true }
         // Admits the next connection: its server's side becomes live. The new session has nothing
@@ -132,9 +135,9 @@ impl Host {
     /// numbered from 0.
     pub fn holder(&self, drive: usize) -> u64
         requires { drive < length self.now.server.holders }
-        // Returns the number of the connection whose session has the drive open, with or without
-        // its reel. If no session has the drive open, the call returns 0. No two sessions have the
-        // same drive open.
+        // Returns the number of the connection whose session has the drive open, even if the
+        // drive's reel is in the bin. If no session has the drive open, the call returns 0. No two
+        // sessions have the same drive open.
         ensures holder { IsHolder self.now.server drive result }
         ensures once { IsHeldOnce self.now.server }
     {
@@ -167,9 +170,8 @@ impl Host {
         count
     }
 
-    /// Takes one turn of the server's side of a connection: carries out one request of the bytes
-    /// that were pushed. If the request makes a device call, the call meets the trouble, and no
-    /// other call does.
+    /// Carries out the next request of a connection, if the pushed bytes contain the whole request.
+    /// If the request makes a device call, the call meets the trouble, and no other call does.
     ///
     /// The reply is appended to `back`, which must have room for `READER_LIMIT` more bytes. If
     /// `lost` is true, `back` does not change. If the bytes are no request, the server's side ends,
@@ -187,18 +189,17 @@ impl Host {
         requires room { vec_len back.old + READER_LIMIT ≤ vec_capacity back.old }
         // Carries out one request. The request comes from the bytes that `Host::push` gave to the
         // reader. If the request makes a device call, the caller of `serve` decides whether and how
-        // that device call fails. The definition `troubled_serve` gives the reply. It also gives
-        // the drives, the session and the holders after the call.
+        // that device call fails. The definition `troubled_serve` gives the reply, and the drives,
+        // the session and the holders after the request.
         //
         // Appends the reply to the buffer `back`, which must have spare room for 262,156 bytes. If
         // the caller asks that the reply be lost, the call appends nothing.
         //
-        // After each call of `Host`, no injected fault (`Trouble`) is set. `Host` has this as its
-        // invariant.
+        // After each call of `Host`, no injected fault (`Trouble`) is set. This is the invariant of
+        // `Host`.
         //
         // Returns the kind of the request, the kind of the reply, and the number in the reply. If
-        // the request is an open, the call also returns whether the mode of the open is for
-        // writing.
+        // the request is an open, the call also returns whether the open is for writing.
         //
         // Ends the server's side if the pushed bytes are not a request. If the pushed bytes are
         // only the beginning of a request, the call does nothing. It also does nothing if the
@@ -212,7 +213,10 @@ impl Host {
         turn
     }
 
-    /// Like `serve`, but a fault does not end the server's side.
+    /// Carries out the next request of a connection, if the bytes that were pushed contain a whole
+    /// one. If the bytes are no request, returns `Broken` and leaves the server's side live. The
+    /// request's device call meets the trouble, and the reply is appended to `back`, unless `lost`
+    /// is true.
     fn turn(&mut self, connection: usize, trouble: Trouble, back: &mut Vec<u8>, lost: bool) -> Turn
         requires room { vec_len back.old + READER_LIMIT ≤ vec_capacity back.old }
         ensures { TurnsAt self.old trouble lost (with_back self.old back.old.items) connection
@@ -234,8 +238,8 @@ impl Host {
         turn
     }
 
-    /// Ends the server's side of a connection: closes what it has open, and the side is no longer
-    /// live. Does nothing if it is not live. Connections are numbered from 1.
+    /// Ends the server's side of a connection: closes what its session has open, and makes the side
+    /// no longer live. Does nothing if it is not live. Connections are numbered from 1.
     pub fn end(&mut self, connection: usize)
         // Ends the server's side of a connection. If the side is live, its session closes what it
         // has open, the session's drive becomes free, and the side is no longer live.
@@ -249,7 +253,7 @@ impl Host {
         }
     }
 
-    /// Ends the server's side of every connection, as with `end`.
+    /// Ends the server's side of every connection, as `end` does.
     pub fn restart(&mut self)
         // Ends the server's side of every connection, as `Host::end` does.
         ensures { self.new ≡ hosted (all_ended self.old.server (length self.old.server.sides)) self.old.ready }
@@ -259,8 +263,8 @@ impl Host {
         }
     }
 
-    /// Returns the number of the first drive of that name, from 0, or none if there is no such
-    /// drive.
+    /// Returns the number of the first drive of that name, counted from 0, or none if there is no
+    /// such drive.
     pub fn drive(&self, name: &[u8]) -> Option<usize>
         // Returns the first drive with the given name, or none if there is no such drive.
         ensures { IsDriveNamed name.now self.now.server.library result }
@@ -281,8 +285,8 @@ impl Host {
         Some(&live.session)
     }
 
-    /// Returns the reels of a drive's stack, in order: the first is latched, or is the next to be.
-    /// Drives are numbered from 0.
+    /// Returns the reels of a drive's stack in order, beginning with the reel that is latched or is
+    /// the next to be latched. Drives are numbered from 0.
     pub fn stack(&self, drive: usize) -> &[ListedReel]
         requires { drive < length self.now.server.library.drives }
         // Returns the reels of a drive's stack.
@@ -299,8 +303,8 @@ impl Host {
         self.drives.stacks.bin()
     }
 
-    /// Returns the reel of that name, on a stack or in the bin, or none if it is latched or there
-    /// is no such reel.
+    /// Returns the reel of that name, on a stack or in the bin, or none if that reel is latched or
+    /// does not exist.
     pub fn reel(&self, name: &[u8]) -> Option<&TroubledReel>
         // Returns the reel with the given name, or none if that reel is latched or there is no such
         // reel.

@@ -99,7 +99,9 @@ fn carry(
     carried
 }
 
-/// Takes one turn of a session: carries out the next request if a whole one was pushed.
+/// Takes one turn of a session: carries out the next request if a whole one was pushed. The
+/// request's device call meets the trouble, and the reply is appended to `back`, unless `lost` is
+/// true.
 pub(crate) fn take_turn(
     reader: &mut RequestReader,
     session: &mut Session<LocalHolds, ListStacks>,

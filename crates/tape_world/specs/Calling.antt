@@ -25,7 +25,8 @@ pub record IsSameRun (c d : WorldClient) : Type 0 where
   pub number : d.number ≡ c.number
   pub source : d.client.source ≡ c.client.source
 
--- the connections after the client left its own, if it has one
+-- The connections after the client left connection `k`. They are unchanged if the client has no
+-- connection (None).
 abbrev pub over_own : Option ℕ → List Connection → List Connection
 over_own None connections = connections
 over_own (Some k) connections = changed without_peer connections k

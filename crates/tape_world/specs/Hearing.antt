@@ -1,5 +1,5 @@
--- The effect of bytes that reach the client, on it and on its connection. No public contract needs
--- it.
+-- The effect of bytes that reach the client, on it and on its connection. A count is the record of
+-- a volume that the client wrote whole to a reel. No public contract needs it.
 use Rattle.std.specs.Prelude.{◌≡◌, ℕ, Bool, true, false, IsTrue, List, ◌++◌, length, drop, option_to_list, Option, Some, None}
 use Rattle.dump_client.specs.Standing.{FedAt}
 use Rattle.dump_client.specs.Client.{HasFedAt, unanswered}

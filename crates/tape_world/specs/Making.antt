@@ -1,4 +1,5 @@
--- The parts of a new world. Public contracts cite it.
+-- The parts of a new world. A plain value is what contracts use for a value that the code has in
+-- memory. Public contracts cite it.
 use Rattle.std.specs.Prelude.{ℕ, Bool, false, not, ◌||◌, List, [], ◌∷◌, ◌++◌, map, Some}
 use Rattle.std.specs.List.{list_any}
 use Rattle.std.specs.Str.{bytes_eq}

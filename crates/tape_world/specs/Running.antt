@@ -1,4 +1,5 @@
--- Events as plain data, and the effect of a list of events on a world. Public contracts cite it.
+-- Events as plain data, and the effect of a list of events on a world. Plain data are the values
+-- that contracts use for what the code has in memory. Public contracts cite it.
 use Rattle.std.specs.Prelude.{◌≡◌, ℕ, ◌<◌, List, [], ◌∷◌, length, map, take, slice_get, Some}
 use Rattle.world_model.specs.World.{World}
 use Rattle.world_model.specs.Events.{PlainEvent}

@@ -1,5 +1,6 @@
--- The run that is saved outside the client, and the client that resumes it. No public contract
--- needs it.
+-- The run that is saved outside the client, and the client that resumes it. A count is the record
+-- of a volume that was written whole: its number, its first block and its number of blocks. No
+-- public contract needs it.
 use Rattle.std.specs.Prelude.{◌≡◌, ◌≢◌, ◌==◌, ℕ, false, List, Option, Some, None}
 use Rattle.std.specs.List.{list_any}
 use Rattle.dump_run.specs.Blocks.{listed}

@@ -1,4 +1,6 @@
--- The parts of a world in memory, as plain data. No public contract needs it.
+-- The parts of a world in memory, as plain data. Plain data are the values that contracts use for
+-- what the code has in memory. A count is the record of a volume that the client wrote whole to a
+-- reel. No public contract needs it.
 use Rattle.std.specs.Prelude.{ℕ, List, [], map, get_or, option_map, Option, Vec}
 use Rattle.std.specs.Global.{Global}
 use Rattle.dumpdates.specs.Entry.{DatesEntry}

@@ -1,4 +1,6 @@
--- The values that functions of a world return. Public contracts cite it.
+-- The values that functions of a world return. Plain data are the values that contracts use for
+-- what the code has in memory. A count is the record of a volume that the client wrote whole to a
+-- reel. Public contracts cite it.
 use Rattle.std.specs.Prelude.{◌≡◌, ◌↔◌, ℕ, ◌≤◌, false, List, Option, Some, None}
 use Rattle.rmt_wire.specs.ReplyReader.{ReplyHeld}
 use Rattle.drives.specs.TapeLibrary.{KeptReel, ReelSlot, TapeLibrary, IsDriveNamed, drive_at}

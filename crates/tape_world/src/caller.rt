@@ -1,4 +1,7 @@
 //! The client of a world, the runs that were begun, and the run that is saved outside the client.
+//!
+//! A count is the record of a volume that was written whole: its number, its first block and its
+//! number of blocks.
 
 use dump_client::{Client, ListBlocks, Run, VolumeCount};
 

@@ -1,4 +1,6 @@
 //! The history of a world: what is recorded of everything that happened.
+//!
+//! A count is the record of a volume that the client wrote whole to a reel.
 
 use dump_client::{AttemptFault, VolumeCount};
 

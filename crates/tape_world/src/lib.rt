@@ -8,17 +8,18 @@
 //! # Contracts
 //!
 //! `WorldState` contains the real server, the real client, and the bytes in transit between them.
-//! Each of the seventeen events is one method of `WorldState`, with the clause `IsEvent`. The
-//! clause allows two outcomes. In the first, the event happens: it was possible, and the new world
-//! is the one that `world_model` defines. In the second, the world stays as it was, because the
-//! event is not possible or because an allocation failed.
+//! `WorldState` has one method for each of the seventeen events. The contract of each method is the
+//! clause `IsEvent`, which allows two outcomes. In the first, the event happens: it was possible,
+//! and the new world is the one that `world_model` defines. In the second, the world stays as it
+//! was, because the event is not possible or because an allocation failed.
 //!
-//! `WorldState` has an invariant, too. The client's source has the payload of the client's run,
-//! without an injected fault. The saved text is the checkpoint of the saved run with its saved
-//! list. The name of each reel is one of the names that were given at the start. Some methods need
-//! more of the world, and require that it meets `IsWorldKept`. `World::make` calls these methods,
-//! and proves the requirement. `WorldState` is private to the crate. docs/PROMISES.md lists its
-//! methods because `run` makes each event by calling one of them.
+//! `WorldState` also has an invariant. The invariant has three parts. The client's source has the
+//! payload of the client's run, and this source has no injected fault. If a run is saved, the world
+//! also has the text of a checkpoint, which is the checkpoint of the saved run with the saved list
+//! of counts. The name of each reel is one of the names that were given at the start. Some methods
+//! also require that the world meets `IsWorldKept`. `World::make` calls these methods, and proves
+//! before each call that the world meets `IsWorldKept`. `WorldState` is private to the crate. But
+//! `run` makes each event by calling one of its methods, so docs/PROMISES.md lists these methods.
 #![tactic(auto)]
 
 mod caller;

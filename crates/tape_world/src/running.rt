@@ -9,7 +9,8 @@ use crate::stop::EventStop;
 use crate::world::World;
 use world_model::faultless;
 
-/// Makes these events happen, one after the other. Each event first allocates what it needs.
+/// Makes these events happen in a world, one after the other. Each event first allocates what it
+/// needs.
 ///
 /// Stops at the first event that is not possible there (`NotPossible`), or for which an allocation
 /// fails (`OutOfMemory`). The world is then as after the events before it.
@@ -30,11 +31,11 @@ pub fn run(world: &mut World, events: &[Event<'_>]) -> Result<(), WorldFault>
     // If the call fails, it returns the index of the first event that was not made. All events
     // before that index were made, and no others.
     ensures stopped { IfErr result (λ fault. IsStopped world.old (map plain_event events.now) (fault_place fault) world.new) }
-    // The call returns `NotPossible` only if the event at that index is not possible in the world
-    // before it.
+    // The call returns `NotPossible` only if the event at the returned index is not possible in the
+    // world before that event.
     ensures impossible { IfErr result (λ fault. IsEventRefused (map plain_event events.now) world.new fault) }
-    // Suppose that the call starts with a new world of one drive, and that all events are without
-    // faults. Then the law `faultless` of `world_model` holds for the resulting world.
+    // Suppose that the world is new and has one drive before the call, and that all events are
+    // without faults. Then the law `faultless` of `world_model` holds for the resulting world.
     ensures in_order { LeavesInOrder world.old (map plain_event events.now) world.new }
 {
     faultless();

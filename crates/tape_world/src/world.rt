@@ -43,8 +43,8 @@ impl Model for World {
 }
 
 impl World {
-    /// Makes a world in which nothing has happened: a server with these drives, whose reels are
-    /// blank, no connection and no client. `good_drives` must be true of the drives.
+    /// Makes a world in which nothing has happened yet, with these drives and blank reels, and
+    /// without connections or a client. `good_drives` must be true of the drives.
     ///
     /// Fails only if an allocation fails.
     pub fn new(alloc: Global, drives: &[DriveSpec<'_>]) -> Result<World, AllocError>
@@ -57,7 +57,7 @@ impl World {
         Ok(World { world_state })
     }
 
-    /// The headline, which holds of each world, whatever happened:
+    /// States what is true in each world, whatever happened in it. The headline is:
     ///
     /// - Each reel that was counted and not reopened holds exactly its volume's records and one
     ///   file mark. `entry` returns just these for such a reel.
@@ -90,18 +90,19 @@ impl World {
     ///
     /// Does nothing: its contract is what holds of the world.
     pub fn kept(&self)
-        // This law states the headline for each world. The section `world_model` explains *count*,
-        // *the count's own session* and *foreign*. The three statements of the headline hold, as
-        // one record: `counted_reels`, `no_two_holders` and `dumpdates_gained`.
+        // The headline is the main result about each world. It consists of three statements:
+        // `counted_reels`, `no_two_holders` and `dumpdates_gained`. This clause states them as one
+        // record. The section `world_model` explains *count*, *the count's own session* and
+        // *foreign*.
         ensures headline { Headline self.now }
-        // Some list of events led to this world from the first world of some drives. So each law
-        // about lists of events applies to this world.
+        // Some list of events led to this world from a first world, whose drives `good_drives`
+        // accepts. So each law about lists of events applies to this world.
         ensures reached { IsReached self.now }
         // Each world meets `IsWorldKept`. The other clauses of this law are proved from
         // `IsWorldKept`.
         ensures kept { IsWorldKept self.now }
-        // The holder of a drive is the connection whose session has the drive open. No two sessions
-        // have the same drive open.
+        // The holder of a drive is the connection whose session has the drive open, whether or not
+        // the session still has a reel in the drive. No two sessions have the same drive open.
         ensures holders { AreHeld self.now.server }
         ensures no_two_holders { NoTwoHolders self.now }
         // A counted reel holds its volume and nothing else, unless a foreign session opened the
@@ -110,29 +111,29 @@ impl World {
         // Suppose that no foreign session opened a counted reel for writing after the count's own
         // session did. Then `World::entry` returns the entries of the counted volume.
         ensures volumes_told { TellsVolumes self.now }
-        // Take the runs that were entered in dumpdates, in their order. Entering them one by one in
-        // an empty list gives dumpdates. No run was entered twice. When a run was entered, the
-        // counts in the client's list covered all blocks of the run, in order. Each volume in that
-        // list was counted.
+        // If the runs that were entered in dumpdates are entered in an empty list, one by one and
+        // in the same order, the result is dumpdates. No run was entered twice. When a run was
+        // entered, the counts in the client's list covered all blocks of the run, in order. The
+        // history has each of these counts.
         ensures dumpdates_gained { DumpdatesGained self.now }
         // On each connection of the client, the server has carried out as many requests as the
         // client sent, or one fewer.
         ensures sent_requests { SentRequests self.now }
         // Suppose that no foreign session opened a counted reel for writing after the count's own
-        // session did. Then only the count's own session has written on the reel after that
-        // session's open.
+        // session did. Then no other session has written on the reel since the count's own session
+        // opened it.
         ensures reels_not_reopened { ReelsNotReopened self.now }
-        // When the client opens a reel for writing in an attempt, the open is not foreign to the
-        // counts in the client's list.
+        // Suppose that the client opens a reel for writing in an attempt. Then the session of this
+        // attempt is not foreign to the counts in the client's list.
         ensures own_opens { OwnOpens self.now }
         // A latched reel belongs to one session. The reel is first on the stack of the drive that
         // this session holds.
         ensures latched_reels { LatchedReels self.now }
         // Once the server has accepted the label of an attempt, the attempt's reel holds exactly
-        // what the attempt's accepted writes wrote. The clause promises this only until a write of
-        // the attempt meets a device fault, or another session writes on the reel. Up to that
-        // moment, the session's position is also the reel's end, while the session has the reel in
-        // its drive and the server has not carried out the session's MTOFFL.
+        // what the attempt's accepted writes wrote. This ends when a write of the attempt meets a
+        // device fault, or when another session writes on the reel. Suppose that this has not
+        // ended, that the session has the reel in its drive, and that the server has not carried
+        // out an MTOFFL of the session. Then the position of the session is the reel's end.
         ensures labelled_reels { LabelledReels self.now }
         // Each volume in the client's list was counted under the number of the client's run. A run
         // that has not begun has no counts.

@@ -1,4 +1,5 @@
--- A connection as plain data, and the effect of events on it. Public contracts cite it.
+-- A connection as plain data, and the effect of events on it. Plain data are the values that
+-- contracts use for what the code has in memory. Public contracts cite it.
 use Rattle.std.specs.Prelude.{ℕ, true, List, drop, option_map}
 use Rattle.tape_host.specs.declared.turn.Turn.{Turn}
 use Rattle.tape_host.specs.declared.turn.Turn.TheVariants as turns

@@ -79,8 +79,8 @@ impl Connection {
         Ok(())
     }
 
-    /// Reserves room for a request of the client, unless the connection was cut and the request
-    /// will be lost.
+    /// Reserves room for a request of the client, unless the connection was cut. After a cut the
+    /// request will be lost.
     ///
     /// Fails if an allocation fails. Nothing has changed then.
     pub fn reserve_request(&mut self) -> Result<(), AllocError>
@@ -113,7 +113,7 @@ impl Connection {
         }
     }
 
-    /// Notes a turn of the server's side. A fault ends the server's side.
+    /// Records what the server's side did in one turn. A fault ends the server's side.
     pub fn note_turn(&mut self, turn: Turn)
         // Records one turn of the server's side. If the server carried out a request, the call adds
         // 1 to the attempt's number of carried-out requests. If the request was a write, the call
@@ -210,23 +210,23 @@ pub fn send(
     connections[connection - 1].send(bytes)
 }
 
-/// Removes the first `count` bytes in transit to the server, which arrived. The connection with
-/// this number must exist.
+/// Removes the first `count` bytes in transit to the server, after they arrived. The connection
+/// with this number must exist.
 pub fn arrive(connections: &mut [Connection], connection: usize, count: usize)
     requires first { 1 ≤ connection }
     requires last { connection ≤ length connections.old }
-    // Removes the given number of bytes that are in transit to the server, from the front.
+    // Removes the given number of bytes from the front of the bytes in transit to the server.
     ensures { map plain_connection connections.new ≡ changed (arrived count) (map plain_connection connections.old) connection }
 {
     connections[connection - 1].toward.pass(count);
 }
 
-/// Removes the first `count` bytes in transit to the peer, which arrived. The connection with this
-/// number must exist.
+/// Removes the first `count` bytes in transit to the peer, after they arrived. The connection with
+/// this number must exist.
 pub fn deliver_back(connections: &mut [Connection], connection: usize, count: usize)
     requires first { 1 ≤ connection }
     requires last { connection ≤ length connections.old }
-    // Removes the given number of bytes that are in transit to the peer, from the front.
+    // Removes the given number of bytes from the front of the bytes in transit to the peer.
     ensures { map plain_connection connections.new ≡ changed (deliver_back count) (map plain_connection connections.old) connection }
 {
     connections[connection - 1].back.pass(count);

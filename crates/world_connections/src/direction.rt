@@ -110,8 +110,8 @@ impl Direction {
         }
     }
 
-    /// Takes a turn of the server's side of a connection, and adds the reply at the end, unless it
-    /// is lost. There must be room for `READER_LIMIT` bytes.
+    /// Lets the server's side of a connection take one turn, and appends the reply to the bytes in
+    /// transit, unless the reply is to be lost. There must be room for `READER_LIMIT` bytes.
     pub fn take_reply(
         &mut self,
         host: &mut Host,
@@ -120,8 +120,8 @@ impl Direction {
         lost: bool,
     ) -> Turn
         requires { READER_LIMIT ≤ self.old.spare }
-        // Takes one turn of the server's side, with the promises of `Host::serve`. The call appends
-        // the reply to the bytes in transit, unless the caller asks that the reply be lost.
+        // Lets the server's side take one turn, as `Host::serve` promises. The call appends the
+        // reply to the bytes in transit, unless the caller asks that the reply be lost.
         ensures { ServesAt trouble lost host.old connection self.old.way result host.new self.new.way }
     {
         host.serve(connection, trouble, &mut self.bytes, lost)

@@ -1,6 +1,8 @@
 -- How the headline is proved: what every event preserves of the reels of the client's attempts, and
--- of its counts. No statement of the headline uses these definitions. Public contracts depend on it
--- (through Kept).
+-- of its counts. No statement of the headline uses these definitions. A count is the record of a
+-- volume that the client wrote whole to a reel. Here `w` is a world, `k` the number of a
+-- connection, `l` a connection, `d` the attempt on a connection, `b` a run that was begun, `s` the
+-- server's side of a connection, and `x` a count. Public contracts depend on it (through Kept).
 use Rattle.std.specs.Prelude.{◌≡◌, ℕ, ◌+◌, ◌≤◌, true, false, List, [], length, Contains, Some}
 use Rattle.tape.specs.Tape.{PlainEntry}
 use Rattle.rmt_server.specs.ServerState.{ServerConnection}
@@ -26,7 +28,8 @@ IsLabelled w k d =
     d.label ≡ true → (b : Begun) × (numbered w.begun d.run ≡ Some b)
     × ((reel : List ℕ) → IsQuiet w k d reel → IsReelWritten w k b d reel)
 
--- `IsLabelled` holds of the attempt of each of the client's connections
+-- On each of the client's connections: if the label of its attempt was accepted, its run was begun.
+-- Each reel on which the attempt is quiet then holds what it wrote.
 abbrev pub AreLabelled : World → Type 0
 AreLabelled w = (k : ℕ) (l : Connection) (d : AttemptState) → connection_of w k ≡ Some l → l.dump ≡ Some d → IsLabelled w k d
 
@@ -37,7 +40,8 @@ pub record IsSingle (opens : List Opening) (k : ℕ) (d : AttemptState) : Type 0
   pub none : d.carried ≡ 0 → (o : Opening) → Contains opens o → o.connection ≡ k → ⊥
   pub some : d.label ≡ true → (reel : List ℕ) × Contains opens (opening k reel)
 
--- `IsSingle` holds of each of the client's connections
+-- Each of the client's connections has one opening at most. It has none before its first request
+-- was carried out, and one once its label was accepted.
 abbrev pub AreSingle : World → Type 0
 AreSingle w = (k : ℕ) (l : Connection) (d : AttemptState) → connection_of w k ≡ Some l → l.dump ≡ Some d → IsSingle w.opens k d
 
@@ -59,6 +63,7 @@ pub record IsEarnedBy (w : World) (x : Count) (l : Connection) (d : AttemptState
   pub fault : d.fault ≡ false
   pub opened : Contains w.opens (opening x.connection x.reel)
 
--- each count of the world belongs to an attempt on one of its connections, as `IsEarnedBy` says
+-- Each count of the world belongs to the attempt of one of its connections, whose label, blocks and
+-- mark were accepted, and whose MTOFFL was carried out.
 abbrev pub EachCountHasAttempt : World → Type 0
 EachCountHasAttempt w = (x : Count) → Contains w.counts x → (l : Connection) × (d : AttemptState) × (b : Begun) × IsEarnedBy w x l d b

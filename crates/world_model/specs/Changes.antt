@@ -1,4 +1,5 @@
--- The parts of a world, and how an event changes one of them. Public contracts cite it.
+-- The parts of a world, and how an event changes one of them. A count is the record of a volume
+-- that the client wrote whole to a reel. Public contracts cite it.
 use Rattle.std.specs.Prelude.{◌≡◌, ℕ, zero, suc, ◌==◌, Bool, true, false, if◌then◌else◌, List, [], ◌∷◌, ◌++◌, length, map, option_and_then, option_map, Option, Some, None}
 use Rattle.rmt_wire.specs.Counted.{raised}
 use Rattle.rmt_wire.specs.Request.{PlainRequest}

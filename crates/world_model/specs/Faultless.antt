@@ -1,5 +1,8 @@
 -- A world without faults, with a server of one drive: what every event preserves there, and how the
--- volumes are left. Public contracts cite it.
+-- volumes are left. A count is the record of a volume that the client wrote whole to a reel. Here
+-- `w` is a world, `k` the number of a connection, `l` a connection, `d` the attempt on a
+-- connection, `b` a run that was begun, `s` the server's side of a connection, `c` the client, and
+-- `x` a count. Public contracts cite it.
 use Rattle.std.specs.Prelude.{◌≡◌, ◌≢◌, ◌⊎◌, ℕ, ◌+◌, ◌<◌, ◌≤◌, Bool, true, false, List, [], ◌∷◌, ◌++◌, length, map, take, drop, slice_get, Contains, Option, Some, None}
 use Rattle.tape.specs.Tape.{PlainEntry, tape, offset_of}
 use Rattle.tape.specs.declared.trouble.Trouble.TheVariants.{None as NoTrouble}
@@ -63,7 +66,8 @@ IsFaultlessFailure capacity run (Refused n) = (n ≡ ENOENT) ⊎ (n ≡ ENXIO) �
 IsFaultlessFailure capacity run ReelTooSmall = capacity < room_for_one run
 IsFaultlessFailure capacity run fault = ⊥
 
--- if the last event made an attempt fail, `IsFaultlessFailure` has its cause
+-- If the last event made an attempt fail, the server has no such drive, no reel in it or no memory.
+-- Or the reel is too small for a label and one block.
 abbrev pub FailsFaultless : PlainDriveSpec → World → Type 0
 FailsFaultless drive w =
     (volume : ℕ) (fault : AttemptFault) → w.failure ≡ Some (volume, fault)
@@ -111,12 +115,14 @@ blanks drive names = map (λ name. slot name (Some (kept_reel [] drive.capacity)
 abbrev pub one_drive : PlainDriveSpec → List (ReelSlot KeptReel) → List (ReelSlot KeptReel) → TapeLibrary
 one_drive drive stack bin = library (drive_with drive.name stack ∷ []) bin
 
--- the volume of a count, if its run was begun
+-- A count records that a run wrote a volume to a reel. Its volume has these entries, or none if the
+-- run was never begun.
 abbrev pub volume_by : Option Begun → Count → List PlainEntry
 volume_by None x = []
 volume_by (Some b) x = whole_volume b.run b.payload x.volume x.first x.count
 
--- the reel of a count, with its volume
+-- The slot of the reel on which the counted volume `x` lies. The reel holds exactly that volume.
+-- `begun` are the runs that were begun.
 abbrev pub volume_slot : ℕ → List Begun → Count → ReelSlot KeptReel
 volume_slot capacity begun x = slot x.reel (Some (kept_reel (volume_by (numbered begun x.run) x) capacity))
 
@@ -198,8 +204,8 @@ pub record Attempt : Type 0 where
 abbrev pub attempt_on : ℕ → Begun → AttemptState → PlainSession → Attempt
 attempt_on k b d session = record { connection = k; begun = b; dump = d; session = session }
 
--- Whatever the reply to this step leads to, the reels, holders, session and counts are then as
--- `StandsThen` and `CountsThen` say.
+-- Whatever the reply to this step leads to, the reels, holders, session and counts fit it: the next
+-- step, a failure for one of the causes above, or the end of the attempt.
 abbrev pub Leads : PlainDriveSpec → Stock → Attempt → Standing → Step → PlainReply → Type 0
 Leads drive t a old step reply =
     (progress : Progress) (new : Standing) → ReceivesAt old step (Reply reply) false progress new
@@ -244,7 +250,8 @@ ReelsStandAt Asking drive w c = w.server.library.bin ≡ volume_slots drive (sto
 ReelsStandAt Abandoned drive w c = ⊥
 ReelsStandAt stage drive w c = IsFree drive (stock_of w)
 
--- `ReelsStandAt` holds at the stage of the client; without a client, the drive is free
+-- The reels, holders and session are as they have to be at the stage of the client. Without a
+-- client, the drive is free.
 abbrev pub StandsWith : Option WorldClient → PlainDriveSpec → World → Type 0
 StandsWith None drive w = IsFree drive (stock_of w)
 StandsWith (Some c) drive w = ReelsStandAt c.at.stage drive w c

@@ -1,4 +1,7 @@
--- Facts about each world, beside the headline. Public contracts cite it.
+-- Facts about each world, beside the headline. A drive's latched reel is the first of its stack: it
+-- is in the drive until it is laid back or moved to the bin. A count is the record of a volume that
+-- the client wrote whole to a reel. Here `w` is a world, `k` the number of a connection, `s` the
+-- server's side of a connection, `c` the client, and `x` a count. Public contracts cite it.
 use Rattle.std.specs.Prelude.{◌≡◌, ◌≢◌, ◌⊎◌, ℕ, ◌+◌, ◌<◌, ◌≤◌, ◌++◌, true, List, [], length, map, slice_get, Contains, Some}
 use Rattle.drives.specs.TapeLibrary.{drive_at}
 use Rattle.rmt_server.specs.ServerState.{ServerConnection}

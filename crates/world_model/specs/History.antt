@@ -1,5 +1,5 @@
--- The history of a world: the counts of a run, and dumpdates after runs were entered. Public
--- contracts cite it.
+-- The history of a world: the counts of a run, and dumpdates after runs were entered. A count is
+-- the record of a volume that the client wrote whole to a reel. Public contracts cite it.
 use Rattle.std.specs.Prelude.{◌≡◌, ℕ, ◌==◌, Bool, true, false, List, [], ◌∷◌, Contains, Option, Some, None}
 use Rattle.dumpdates.specs.Entry.{DatesEntry}
 use Rattle.dumpdates.specs.Dates.{entered}

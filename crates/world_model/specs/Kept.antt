@@ -1,5 +1,7 @@
 -- How the headline is proved: everything that each event preserves. No statement of the headline
--- uses these definitions. Public contracts cite it.
+-- uses these definitions. A count is the record of a volume that the client wrote whole to a reel.
+-- Here `w` is a world, `l` a connection, `b` a run that was begun, and `c` the client. Public
+-- contracts cite it.
 use Rattle.std.specs.Prelude.{◌≡◌, ◌≢◌, ℕ, ◌<◌, true, false, [], length, Contains, Option, Some, None}
 use Rattle.rmt_server.specs.ServerState.{ServerState, ServerConnection}
 use Rattle.drives.specs.TapeLibrary.{drive_at}
@@ -71,7 +73,7 @@ pub record AreBooked (w : World) : Type 0 where
 abbrev pub IsClientLawful : World → Type 0
 IsClientLawful w = (c : WorldClient) → w.caller ≡ Some c → IsLawful c.at
 
--- everything that holds of the first world and that each event preserves
+-- The invariant of a world: the first world meets it, and each event preserves it.
 pub record IsWorldKept (w : World) : Type 0 where
   -- The client's counts are volumes of its run, in order. The stage that the client has reached
   -- fits its counts.
@@ -79,20 +81,20 @@ pub record IsWorldKept (w : World) : Type 0 where
   -- While an attempt is under way, the client has exactly one connection of its own. Between
   -- attempts it has none. On every earlier connection of the client, the client's side has ended.
   pub owned : IsOwned w
-  -- In it, `sent`: On each connection of the client, the server has carried out all requests that
+  -- Field `sent`: On each connection of the client, the server has carried out all requests that
   -- were sent, or all but the last. Suppose that the last request is not carried out yet. Then its
   -- whole text is in transit or has reached the server, or the text is lost. The session has
   -- carried out all earlier steps of the attempt and nothing else, without a device fault.
   --
-  -- In it, `good`: Each run that was begun is within its limits. Its payload has all blocks of the
-  -- run, and each block is whole.
+  -- Field `good`: Each run that was begun is within the limits of a run (`IsRun`). Its payload has
+  -- all blocks of the run, and each block is whole.
   --
-  -- In it, `own`: The attempt on the client's own connection is of the client's run and volume. The
-  -- attempt is in one of three states. In the first state, the client is to send its next request,
-  -- and no bytes are in transit. In the second state, the request of the current step was sent and
-  -- is not carried out yet. In the third state, this request was carried out. Its reply is in
-  -- transit, is partly or wholly read, or is lost. If the reply lets the client continue with a
-  -- next step, the session has carried out all steps before that step.
+  -- Field `own`: The attempt on the client's own connection is for the run and the volume that the
+  -- client works on. The attempt is in one of three states. In the first state, the client is about
+  -- to send its next request, and no bytes are in transit. In the second state, the request of the
+  -- current step was sent and is not carried out yet. In the third state, this request was carried
+  -- out. Its reply is in transit, is partly or wholly read, or is lost. If the reply lets the
+  -- client continue with a next step, the session has carried out all steps before that step.
   pub told : AreTold w
   -- The history's list of opens has at most one open for each connection of the client. Before the
   -- server has carried out the first request of a connection, the list has no open of this
@@ -101,9 +103,10 @@ pub record IsWorldKept (w : World) : Type 0 where
   pub single : AreSingle w
   -- Once the server has accepted the label of an attempt, the attempt's reel holds exactly what the
   -- attempt's accepted writes wrote, even after the session ends. The field promises this only
-  -- until a write of the attempt meets a device fault, or another session writes on the reel. Up to
-  -- that moment, the session's position is also the reel's end, while the session has the reel in
-  -- its drive and the server has not carried out the session's MTOFFL.
+  -- until a write of the attempt meets a device fault, or another session writes on the reel.
+  -- Suppose that neither of the two has happened. Suppose also that the session has the reel in its
+  -- drive, and that the server has not carried out the session's MTOFFL. Then the session's
+  -- position is the reel's end.
   pub labelled : AreLabelled w
   -- Each count was made on a connection of the client. The count has the run, the volume and the
   -- first block of that connection's attempt. The attempt opened the counted reel for writing. The
@@ -114,23 +117,23 @@ pub record IsWorldKept (w : World) : Type 0 where
   -- has ended, the connection is cut. If the server's side has ended, no bytes are in transit to
   -- the server.
   pub tidy : AreTidy w
-  -- The holder of a drive is the connection whose session has the drive open, with or without its
-  -- reel. A drive that no session has open has no holder. No two sessions have the same drive open,
-  -- because a drive has only one holder.
+  -- The holder of a drive is the connection whose session has the drive open, even if the session
+  -- no longer has a reel in the drive. A drive that no session has open has no holder. No two
+  -- sessions have the same drive open, because a drive has only one holder.
   pub held : AreHeld w.server
-  -- A slot is the place of a reel on a stack or in the bin. While a session has a drive open with
-  -- its reel, the first slot of the drive's stack is empty. All other slots contain their reels.
+  -- A slot is the place of a reel on a stack or in the bin. While a session has a drive open and a
+  -- reel in it, the first slot of the drive's stack is empty. All other slots contain their reels.
   pub laid : AreLaid w.server
-  -- In it, `last`, `begun`, `listed`, `none`: The client's run is the last run that was begun. Each
+  -- Fields `last`, `begun`, `listed`, `none`: The client's run is the last run that was begun. Each
   -- volume in the client's list was counted under the number of that run. If the client was
   -- restarted, the history can have more counts of the run than the client's list has. No count has
   -- a run number above that of the last run.
   --
-  -- In it, `kept`: The saved run is the last run that was begun, and was not entered in dumpdates.
-  -- The saved list has the first volumes of the saved run, in order. Each volume in the saved list
-  -- was counted.
+  -- Field `kept`: The saved run, which a restarted client resumes, is the last run that was begun,
+  -- and was not entered in dumpdates. The saved list has the first volumes of the saved run, in
+  -- order. Each volume in the saved list was counted.
   --
-  -- In it, `earned`, `once`, `finished`, `dates`: Each run that was entered in dumpdates was begun,
+  -- Fields `earned`, `once`, `finished`, `dates`: Each run that was entered in dumpdates was begun,
   -- and was entered once. When the run was entered, the client's list covered the run, and each
   -- volume in the list was counted. The client's current run is entered only if the run is
   -- finished. Dumpdates has exactly the entries of the entered runs, in the order in which the runs
@@ -139,26 +142,26 @@ pub record IsWorldKept (w : World) : Type 0 where
   -- No two reels have the same name. For each accepted open in the history, the opened reel still
   -- exists.
   pub once : AreNamed w
-  -- For each accepted open in the history, the connection exists. If a session has a reel open for
-  -- writing, no other session has opened that reel for writing after this session did.
+  -- For each accepted open in the history, the connection of this open exists. If a session has a
+  -- reel open for writing, no other session has opened that reel for writing after this session
+  -- did.
   pub opened : AreOpened w
-  -- Whenever a connection wrote on a reel, it was the connection that had last opened the reel for
-  -- writing.
+  -- Each write on a reel was made by the connection that had last opened the reel for writing.
   pub writers : AreWritersLast w
-  -- In it, `paired`: For each accepted open, the history has the list of counts that the client had
+  -- Field `paired`: For each accepted open, the history has the list of counts that the client had
   -- when the open was accepted.
   --
-  -- In it, `late`, `stopped`: An attempt begins with three requests: the open, the rewind, and the
+  -- Fields `late`, `stopped`: An attempt begins with three requests: the open, the rewind, and the
   -- look, which reads the label. If a session of the client has written, it has carried out more
   -- than these three requests. Suppose that no foreign session opened a counted reel for writing
-  -- after the count's own session did. If a later session of the client opened this reel, the
-  -- client sent at most these three requests in that later session.
+  -- after the count's own session did. Suppose also that a later session of the client opened this
+  -- reel. Then the client sent at most these three requests in that later session.
   --
-  -- In it, `listed`, `looked`: While an attempt is under way, up to its count, the client's list
-  -- does not change. The history has this list with the attempt's own open, and with each later
-  -- open. Suppose that no foreign session opened a counted reel for writing after the count's own
-  -- session did. If the attempt under way opened this reel after the count's own session did, the
-  -- client does not continue after the look.
+  -- Fields `listed`, `looked`: While an attempt is under way and has not counted its volume, the
+  -- client's list does not change. The history records this list for the attempt's own open, and
+  -- for each later open. Suppose that no foreign session opened a counted reel for writing after
+  -- the count's own session did. Suppose also that the attempt under way opened this reel after the
+  -- count's own session did. Then the client does not continue after the look.
   pub not_reopened : AreNotReopened w
   -- Each live server's side has a list of bytes that it has not read yet. The list may be empty.
   -- Because this list always exists, statements about unread bytes apply to every live server's

@@ -1,5 +1,6 @@
 -- How the headline is proved: what every event preserves of the names of reels, of the openings and
--- of the writings. No statement of the headline uses these definitions. Public contracts depend on
+-- of the writings. No statement of the headline uses these definitions. Here `w` is a world, `k`
+-- the number of a connection, and `s` the server's side of a connection. Public contracts depend on
 -- it (through Kept).
 use Rattle.std.specs.Prelude.{◌≡◌, ◌≢◌, ℕ, ◌<◌, ◌≤◌, List, length, take, Contains, Some}
 use Rattle.drives.specs.TapeLibrary.{TapeLibrary, names_in, times, EachReelOnce}

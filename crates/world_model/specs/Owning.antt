@@ -1,6 +1,7 @@
 -- How the headline is proved: which connection is the client's own, and which run is the client's.
--- No statement of the headline uses these definitions. Public contracts depend on it (through
--- Kept).
+-- No statement of the headline uses these definitions. Here `w` is a world, `k` the number of a
+-- connection, `l` a connection, `d` the attempt on a connection, `b` a run that was begun, and `c`
+-- the client. Public contracts depend on it (through Kept).
 use Rattle.std.specs.Prelude.{◌≡◌, ℕ, IsTrue, Bool, true, false, Some}
 use Rattle.dump_client.specs.declared.stage.Stage.{Stage}
 use Rattle.dump_client.specs.declared.stage.Stage.TheVariants.{ToSend, Waiting}

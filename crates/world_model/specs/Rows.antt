@@ -1,4 +1,5 @@
--- Which events are possible. Public contracts depend on it (through Steps).
+-- Which events are possible. Here `l` is a connection, `s` the server's side of a connection, and
+-- `c` the client. Public contracts depend on it (through Steps).
 use Rattle.std.specs.Prelude.{◌≡◌, ◌⊎◌, ◌≢◌, ℕ, ◌+◌, ◌*◌, ◌≤◌, Bool, true, false, IsTrue, List, length, slice_index_or, Contains, Option, Some, None, Result, Ok}
 use Rattle.rmt_wire.specs.Request.{PlainRequest}
 use Rattle.rmt_wire.specs.RequestParts.{ParsesAs}

@@ -1,6 +1,9 @@
 -- How the headline is proved: what was sent on each of the client's connections, and what the
--- server did with it. No statement of the headline uses these definitions. Public contracts depend
--- on it (through Kept).
+-- server did with it. No statement of the headline uses these definitions. A count is the record of
+-- a volume that the client wrote whole to a reel. The look is the read of the reel's first record,
+-- before anything is written. Here `w` is a world, `k` the number of a connection, `l` a
+-- connection, `d` the attempt on a connection, `b` a run that was begun, `s` the server's side of a
+-- connection, and `c` the client. Public contracts depend on it (through Kept).
 use Rattle.std.specs.Prelude.{◌≡◌, ◌⊎◌, ℕ, ◌+◌, ◌^◌, ◌<◌, ◌≤◌, Bool, true, false, List, [], ◌++◌, length, get_or, Option, Some, None}
 use Rattle.rmt_wire.specs.declared.limits.TheConstants.{READER_LIMIT, RECORD_LIMIT}
 use Rattle.rmt_wire.specs.Request.{PlainRequest, SpellsRequest, request_text}

@@ -1,5 +1,5 @@
--- The server carries out one request: which drive that meets, and what changes. Public contracts
--- cite it.
+-- The server carries out one request: which drive that meets, and what changes. Here `w` is a world
+-- and `k` the number of a connection. Public contracts cite it.
 use Rattle.std.specs.Prelude.{◌≡◌, ◌≢◌, ℕ, ◌+◌, ◌≤◌, Bool, true, false, List, [], ◌∷◌, ◌++◌, length, slice_get, Contains, Some, None, MatchOption, Ok}
 use Rattle.rmt_wire.specs.Request.{PlainRequest}
 use Rattle.rmt_wire.specs.Request.PlainRequest.{Open, Op}

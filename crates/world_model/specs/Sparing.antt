@@ -1,6 +1,8 @@
 -- How the headline is proved: why no other attempt of the same run writes on the reel of a count.
--- No statement of the headline uses these definitions. Public contracts depend on it (through
--- Kept).
+-- No statement of the headline uses these definitions. A count is the record of a volume that the
+-- client wrote whole to a reel. The look is the read of the reel's first record, before anything is
+-- written. Here `w` is a world, `k` the number of a connection, `l` a connection, `d` the attempt
+-- on a connection, `c` the client, and `x` a count. Public contracts depend on it (through Kept).
 use Rattle.std.specs.Prelude.{◌≡◌, ◌≢◌, ℕ, ◌<◌, ◌≤◌, List, length, Contains, Some}
 use Rattle.dump_client.specs.Standing.{Standing, FedAt, IsAtStep}
 use Rattle.dump_client.specs.Client.{HasFedAt}

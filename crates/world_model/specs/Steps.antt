@@ -1,4 +1,6 @@
--- The effect of each event. Public contracts cite it.
+-- The effect of each event. A count is the record of a volume that the client wrote whole to a
+-- reel. Here `k` is the number of a connection, `l` a connection, `b` a run that was begun, `s` the
+-- server's side of a connection, and `c` the client. Public contracts cite it.
 use Rattle.std.specs.Prelude.{◌≡◌, ℕ, ◌+◌, Bool, true, false, List, [], ◌∷◌, ◌++◌, length, take, drop, option_map, option_to_list, Option, Some, None, Result, Ok, Err}
 use Rattle.rmt_wire.specs.Request.{PlainRequest, request_text}
 use Rattle.rmt_wire.specs.Reply.{PlainReply}

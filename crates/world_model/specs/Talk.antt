@@ -1,5 +1,7 @@
 -- The requests that the client sent on a connection, and those that the server carried out, over a
--- list of events. Public contracts cite it.
+-- list of events. Here `k` is the number of a connection, `d` the attempt on a connection, `b` a
+-- run that was begun, `s` the server's side of a connection, and `c` the client. Public contracts
+-- cite it.
 use Rattle.std.specs.Prelude.{◌≡◌, ◌⊎◌, ℕ, ◌==◌, Bool, true, false, List, [], ◌∷◌, ◌++◌, Option, Some, Result, Ok}
 use Rattle.rmt_wire.specs.Request.{PlainRequest}
 use Rattle.rmt_wire.specs.RequestParts.{ParsesAs}
@@ -49,8 +51,8 @@ CarriedOut k w (Serve j trouble) u requests =
     × Unread s.reached bytes × ParsesAs bytes found rest × Finds w j trouble s found rest u × (requests ≡ carried_here (j == k) found)
 CarriedOut k w event u requests = requests ≡ []
 
--- Events one after the other, as in `Runs`. With them are all requests that the client sent on
--- connection `k`, in order, and all that the server carried out there, in order.
+-- Events one after the other, from the world `first` on. With them are all requests that the client
+-- sent on connection `k`, in order, and all that the server carried out there, in order.
 pub data Talks (k : ℕ) (first : World) : List PlainEvent → World → List PlainRequest → List PlainRequest → Type 0 where
   none : Talks k first [] first [] []
   one_more : {events : List PlainEvent} {before after : World} {sent carried : List PlainRequest} (event : PlainEvent) (more done : List PlainRequest)

@@ -1,5 +1,6 @@
 -- A client, a server, and everything that has passed between them: the state that the headline is
--- about. Public contracts cite it.
+-- about. A count is the record of a volume that the client wrote whole to a reel. Public contracts
+-- cite it.
 use Rattle.std.specs.Prelude.{ℕ, zero, suc, Bool, List, slice_get, slice_set, Option, None}
 use Rattle.rmt_wire.specs.ReplyReader.{ReplyHeld}
 use Rattle.dumpdates.specs.Entry.{DatesEntry}

@@ -23,19 +23,18 @@ ghost use Rattle.world_model.specs.Serving.{ServerTurn, IsNextSent, Meets, Other
 use dump_client::same_run;
 use rmt_wire::{dropped_writes, one_reading, one_reply, one_reply_reading};
 
-/// Two lists of events, one after the other, are one list of events.
+/// States that two lists of events, one after the other, lead to the same world as the joined list.
 ///
 /// Does nothing: its contract is a law of the definitions.
 #[tactic(auto, using(crate::proofs::Runs::run_on))]
 pub fn one_run()
-    // Suppose that one list of events leads from a first world to a second world, and that another
-    // list leads from the second world to a third. Then the two lists, joined, lead from the first
-    // world to the third.
+    // Suppose that one list of events leads from world A to world B, and that another list leads
+    // from world B to world C. Then the joined list leads from world A to world C.
     ensures { (first before after : World) (events more : List PlainEvent) →
         Runs first events before → Runs before more after → Runs first (events ++ more) after }
 {}
 
-/// Everything that holds of a world after every list of events. The first world of good drives
+/// States what holds of each world, whatever events led to it. The first world of good drives
 /// satisfies `IsWorldKept`, and each event preserves it. Each possible event has a world after it
 /// (`steps`). No event adds or removes the name of a reel.
 ///
@@ -73,10 +72,10 @@ pub fn one_run()
 ///
 /// Does nothing: its contract is a law of the definitions.
 pub fn kept()
-    // A first world, in which nothing has happened yet, meets `IsWorldKept` if its drives are good.
-    // Each event preserves `IsWorldKept`. So every list of events from such a first world leads to
-    // a world that meets `IsWorldKept`. `IsReached` says of a world that some list of events leads
-    // to it from such a first world.
+    // A first world, in which nothing has happened yet, meets `IsWorldKept` if its drives are good
+    // (`AreGoodDrives`). Each event preserves `IsWorldKept`. So every list of events from such a
+    // first world leads to a world that meets `IsWorldKept`. A world meets `IsReached` if some list
+    // of events leads from such a first world to that world.
     ensures first { (drives : List PlainDriveSpec) → AreGoodDrives drives → IsWorldKept (first_world drives) }
     ensures after { (w u : World) (event : PlainEvent) → IsWorldKept w → Happens w event u → IsWorldKept u }
     ensures runs { (drives : List PlainDriveSpec) (events : List PlainEvent) (w : World) → AreGoodDrives drives →
@@ -88,53 +87,54 @@ pub fn kept()
     ensures steps { (w : World) (event : PlainEvent) → IsWorldKept w → Possible w event → (u : World) × Happens w event u }
     // No event adds or removes the name of a reel.
     ensures names { (w u : World) (event : PlainEvent) → IsWorldKept w → Happens w event u → SameNames w.server.library u.server.library }
-    // The three statements of the headline hold. This clause states them as one record, `Headline`.
-    // Each statement is also a separate clause: `counted_reels`, `no_two_holders` and
-    // `dumpdates_gained`.
+    // The headline consists of three statements, and each of them holds. This clause states them as
+    // one record, `Headline`. Each statement is also a separate clause: `counted_reels`,
+    // `no_two_holders` and `dumpdates_gained`.
     ensures headline { (w : World) → IsWorldKept w → Headline w }
-    // The holder of a drive is the connection whose session has the drive open, with or without its
-    // reel. No two sessions have the same drive open.
+    // The holder of a drive is the connection whose session has the drive open, even if the session
+    // no longer has a reel in the drive. No two sessions have the same drive open.
     ensures holders { (w : World) → IsWorldKept w → AreHeld w.server }
     ensures no_two_holders { (w : World) → IsWorldKept w → NoTwoHolders w }
     // Suppose that no foreign session opened a counted reel for writing after the count's own
-    // session did. Then only the count's own session has written on the reel after that session's
-    // open.
+    // session did. Then, since the count's own session opened the reel, only that session has
+    // written on the reel.
     ensures reels_not_reopened { (w : World) → IsWorldKept w → ReelsNotReopened w }
     // Suppose that one session opened a reel for writing, and that nobody opened the reel for
-    // writing after that. Then only that session has written on the reel after its own open. If the
-    // reel was counted in that session, no foreign session opened the reel for writing after that
-    // session did.
+    // writing after that. Then, since that session opened the reel, only that session has written
+    // on the reel. If the reel was counted in that session, no foreign session opened the reel for
+    // writing after that session did.
     ensures unopened { (w : World) (x : Count) → IsUnopenedSince w.opens x.connection x.reel → IsNotReopened w x }
     ensures unwritten { (w : World) (k : ℕ) (reel : List ℕ) → IsWorldKept w → IsUnopenedSince w.opens k reel → IsAlone w k reel }
-    // When the client opens a reel for writing in an attempt, the open is not foreign to the counts
-    // in the client's list. So the client's own open does not cancel the promise of `counted_reels`
-    // for these counts.
+    // Suppose that the client opens a reel for writing in an attempt. Then the session of this
+    // attempt is not foreign to the counts in the client's list. So the client's own open does not
+    // cancel the promise of `counted_reels` for these counts.
     ensures own_opens { (w : World) → IsWorldKept w → OwnOpens w }
     // Suppose that the server accepted the label of an attempt, and that none of the attempt's
     // writes met a device fault. Suppose also that no other session has written on the attempt's
     // reel after the attempt opened the reel. Then the reel holds exactly what the attempt's
-    // accepted writes wrote. As long as the session has the reel in its drive and the server has
-    // not carried out the attempt's MTOFFL, the session's position is the reel's end.
+    // accepted writes wrote. As long as the attempt's session has the reel in its drive, and the
+    // server has not carried out the attempt's MTOFFL, the session's position is the reel's end.
     ensures labelled_reels { (w : World) → IsWorldKept w → LabelledReels w }
     // A counted reel still exists. It holds its volume and nothing else, unless a foreign session
     // opened the reel for writing after the count's own session did. The volume consists of the
     // label, one record for each counted block, and one mark.
     ensures counted_reels { (w : World) → IsWorldKept w → CountedReels w }
-    // Take the runs that were entered in dumpdates, in their order. Entering them one by one in an
-    // empty list gives dumpdates. No run was entered twice. When a run was entered, the counts in
-    // the client's list covered all blocks of the run, in order. Each volume in that list was
-    // counted.
+    // Take the runs that were entered in dumpdates, in the order in which they were entered.
+    // Entering them one by one in an empty list gives dumpdates. No run was entered twice. When a
+    // run was entered, the counts in the client's list covered all blocks of the run, in order. The
+    // history has each of these counts.
     ensures dumpdates_gained { (w : World) → IsWorldKept w → DumpdatesGained w }
     // On each connection of the client, the server has carried out as many requests as the client
     // sent, or one fewer.
     ensures sent_requests { (w : World) → IsWorldKept w → SentRequests w }
     // On each connection of the client, the server carries out the client's requests in the order
-    // in which the client sent them. Only the last request may not be carried out yet. If the last
-    // request is not carried out yet, it is the request that comes next in the attempt. `Talks`
-    // lists the requests that were sent and the requests that were carried out.
+    // in which the client sent them. The server has carried out all requests that the client sent,
+    // or all but the last. In the second case, the last request is the one that comes next in the
+    // attempt. `Talks` lists the requests that were sent and the requests that were carried out.
     ensures requests { (drives : List PlainDriveSpec) (events : List PlainEvent) (w : World) (k : ℕ) (sent carried : List PlainRequest) →
         AreGoodDrives drives → Talks k (first_world drives) events w sent carried → IsBeginning w k sent carried }
-    // For each list of events, `Talks` gives these two lists of requests.
+    // For each list of events there are two lists of requests that meet `Talks`: one of the
+    // requests that were sent, and one of the requests that were carried out.
     ensures talks { (first w : World) (events : List PlainEvent) (k : ℕ) → Runs first events w →
         (sent : List PlainRequest) × (carried : List PlainRequest) × Talks k first events w sent carried }
     // A latched reel belongs to one session. The reel is first on the stack of the drive that this
@@ -143,9 +143,9 @@ pub fn kept()
     // Each volume in the client's list was counted under the number of the client's run. A run that
     // has not begun has no counts.
     ensures clients_counts { (w : World) → IsWorldKept w → ClientsCounts w }
-    // Only an event that delivers bytes to the client can add counts. If such an event adds counts,
-    // it adds the same volumes to the client's list. This also holds if the client was restarted
-    // with a saved list.
+    // Only an event that delivers bytes to the client can add counts to the history. If such an
+    // event adds counts, it adds the same volumes to the client's list. This also holds if the
+    // client was restarted with a saved list.
     ensures counts_grow { (w u : World) (event : PlainEvent) → Happens w event u → CountsGrow w event u }
 {
     same_run();
@@ -155,8 +155,9 @@ pub fn kept()
     one_reply_reading();
 }
 
-/// The effect of one request that the server carries out, in a world that satisfies `IsWorldKept`.
-/// The server either carries out a request, or finds a fault and ends the session (`carries`).
+/// States what happens when the server carries out one request, in a world that meets
+/// `IsWorldKept`. The server either carries out a request, or finds a fault and ends the session
+/// (`carries`).
 ///
 /// On one of the client's connections, it is the one request that was sent and not carried out. A
 /// request of any session, stale or not, meets one of these:
@@ -174,35 +175,36 @@ pub fn one_request()
     // In each turn, the server carries out one request, or ends its side of the connection.
     ensures carries { (w u : World) (k : ℕ) (trouble : Trouble) → Happens w (Serve k trouble) u →
         ServerTurn w k trouble u ⊎ (u ≡ ended_at (with_no_failure w) k) }
-    // On a connection of the client, at most one request was sent and is not carried out yet. A
-    // turn of the server carries out this request.
+    // On a connection of the client, at most one request was sent but not yet carried out. On this
+    // connection, the server can carry out only that request.
     ensures next_request { (w u : World) (k : ℕ) (t : Trouble) (c : ServerTurn w k t u) (d : AttemptState) →
         IsWorldKept w → HasDump w k d → IsNextSent w d c.request }
     // A request of any session, even of a session whose client is gone, has one of three outcomes:
     // `refusal`, `own` or `free`. The type `Meets` lists these outcomes.
     //
-    // In it, `refusal`: The server refuses the request (`IsRefused`). Drives, stacks, bin, reels,
-    // holders and the session stay as before. An open is an exception: even if it is refused, it
-    // first closes what the session had open. Every error reply to an open is a refusal: a bad
-    // mode, no such drive, a drive of another session, no reel, or a failed device. Every other
-    // request is refused only if a check fails: nothing is open, the reel is in the bin, or the
-    // access, count or operation is wrong.
+    // If the outcome is `refusal`, the server refuses the request (`IsRefused`). Drives, stacks,
+    // bin, reels, holders and the session stay as before. An open is an exception: even if it is
+    // refused, it first closes what the session had open. Every error reply to an open is a
+    // refusal, whatever its cause: a bad mode, no such drive, a drive of another session, no reel,
+    // or a failed device. Every other request is refused only if it fails a check. The checks are
+    // that the session has a drive open, that the reel is not in the bin, and that the access, the
+    // count and the operation are right.
     //
-    // In it, `own`: The request is not an open and passes all checks. The session is still the
-    // holder of the drive that it has open, and has no other drive open. The request can change
-    // only this drive's stack and the end of the bin. If the reel or its move to the bin fails, the
-    // outcome is still `own`, because the position or the reel may have changed before the error
-    // reply.
+    // If the outcome is `own`, the request is not an open and passes all checks. The session is
+    // still the holder of the drive that it has open, and has no other drive open. The request can
+    // change only this drive's stack and the end of the bin. If the reel or its move to the bin
+    // fails, the outcome is still `own`, because the position or the reel may have changed before
+    // the error reply.
     //
-    // In it, `free`: The request is an open. It first closed what the session had open, and then
-    // opened a drive without a holder. After that close, the request changed only the stack of the
-    // drive that it opened.
+    // If the outcome is `free`, the request is an open. It first closed what the session had open,
+    // and then opened a drive without a holder. After that close, the request changed only the
+    // stack of the drive that it opened.
     ensures stale_requests { (w u : World) (k : ℕ) (trouble : Trouble) (c : ServerTurn w k trouble u) → IsWorldKept w →
         Meets w k c.s.session c.request c.reply u c.session }
     // A request changes no drive that another session has open.
     ensures others_stay { (w u : World) (k : ℕ) (trouble : Trouble) (c : ServerTurn w k trouble u) → IsWorldKept w → OthersStay w k u }
-    // If the server carries out an MTOFFL of the client's session without error, the reel is in the
-    // bin with its whole volume. This holds whether or not the reply arrives.
+    // If the server carries out an MTOFFL of the client's session without an error, the reel is
+    // then in the bin with its whole volume. This holds whether or not the reply arrives.
     ensures whole_at_the_move { (w u : World) (k : ℕ) (t : Trouble) (c : ServerTurn w k t u) (d : AttemptState) →
         IsWorldKept w → HasDump w k d → IsMoveDone c.request c.reply → IsWholeInBin w k d u }
 {

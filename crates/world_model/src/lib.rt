@@ -6,16 +6,17 @@
 //!
 //! # Contracts
 //!
-//! In this crate, the world and its events are plain data. The crate has only laws. A law does
-//! nothing, so there is no edit of a law. docs/WORLD.md explains the terms of this section. An
-//! *attempt* is the client's work on one volume, over one connection. The *history* of a world
-//! lists the accepted opens for writing, the writes, the counts and the runs that were entered in
-//! dumpdates. A *count* records one counted volume: its run, connection, reel, volume, first block
-//! and number of blocks. The *count's own session* is the session of that connection. The *client's
-//! list* contains the counts of the current run that the client itself holds. A session of a
-//! stranger or of another run is *foreign* to the count. A session of the count's run is foreign,
-//! too, if it opened the reel while the client's list of counts lacked that volume with that first
-//! block.
+//! In this crate, the world and its events are plain data. The crate has only laws. Calling a law
+//! does nothing, so this page lists no edits for laws. docs/WORLD.md explains the terms of this
+//! section. An *attempt* is the client's work on one volume, over one connection. The *history* of
+//! a world lists the accepted opens for writing, the writes, the counts and the runs that were
+//! entered in dumpdates. A *count* records one counted volume: its run, connection, reel, volume,
+//! first block and number of blocks. The *count's own session* is the session of the count's
+//! connection. The *client's list* contains the counts that the client itself holds. They are
+//! counts of the client's current run. A session is *foreign* to a count in two cases. In the first
+//! case, the session belongs to a stranger, or to another run than the run of the count. In the
+//! second case, the session belongs to the run of the count. But when the session opened the
+//! count's reel, the client's list had no count with the same volume and first block.
 #![tactic(auto)]
 
 mod laws;

@@ -11,9 +11,9 @@ ghost use Rattle.world_model.specs.Faultless.{IsFaultless, AreFaultless, IsFault
 use dump_client::same_run;
 use rmt_wire::{dropped_writes, one_reading, one_reply};
 
-/// Without faults, the volumes are left in order. Start from the first world of one good drive. Let
-/// runs begin, attempts start, requests be sent, bytes arrive, and requests be carried out without
-/// a device failure. After each list of such events:
+/// States that the volumes of a dump without faults are on the reels in order. Start from the first
+/// world of one good drive. Let runs begin, attempts start, requests be sent, bytes arrive, and
+/// requests be carried out without a device failure. After each list of such events:
 ///
 /// - An attempt has failed only for lack of the drive, of a reel, of memory, or of room for a label
 ///   and one block.
@@ -23,24 +23,25 @@ use rmt_wire::{dropped_writes, one_reading, one_reply};
 ///
 /// Does nothing: its contract is a law of the definitions.
 pub fn faultless()
-    // Without faults, the volumes of a dump are in order. The law is about a server of one drive,
-    // and about events of five kinds. A run begins. An attempt starts. The client sends a request,
-    // and no read of its payload fails. Bytes reach the server or the client. The server carries
-    // out a request, and no device call fails. The first world meets `IsFaultlessWorld`. In a world
-    // that meets `IsFaultlessWorld` and `IsWorldKept`, each event of these kinds preserves
-    // `IsFaultlessWorld`.
+    // Without faults, the volumes of a dump are in order. The law is about a server with one drive,
+    // and about five kinds of events. The first kind is that a run begins. The second is that an
+    // attempt starts. The third is that the client sends a request, and no read of its payload
+    // fails. The fourth is that bytes reach the server or the client. The fifth is that the server
+    // carries out a request, and no device call fails. The first world of such a server meets
+    // `IsFaultlessWorld`. In a world that meets `IsFaultlessWorld` and `IsWorldKept`, each event of
+    // these kinds preserves `IsFaultlessWorld`.
     ensures first { (drive : PlainDriveSpec) → IsFaultlessWorld drive (first_world (drive ∷ [])) }
     ensures after { (drive : PlainDriveSpec) (w u : World) (event : PlainEvent) → IsWorldKept w → IsFaultlessWorld drive w →
         IsFaultless event → Happens w event u → IsFaultlessWorld drive u }
     // This clause is about a world that meets `IsFaultlessWorld` and `IsWorldKept`. An attempt
-    // fails only if the server has no such drive, no reel or no memory, or if the label and one
-    // block do not fit on the reel. The first counted volume is on the reel that was first on the
-    // drive's stack in the first world. The second volume is on the reel that was second there, and
-    // so on. Each counted reel holds its volume and nothing else. Between attempts the bin has
-    // exactly the counted reels, in order.
+    // fails only in four cases: the drive does not exist, the drive has no reel, the server is out
+    // of memory, or the label and one block do not fit on the reel. The first counted volume is on
+    // the reel that was first on the drive's stack in the first world. The second volume is on the
+    // reel that was second there, and so on. Each counted reel holds its volume and nothing else.
+    // Between attempts the bin has exactly the counted reels, in order.
     ensures in_order { (drive : PlainDriveSpec) (w : World) → IsWorldKept w → IsFaultlessWorld drive w → VolumesInOrder drive w }
-    // Every list of events of these kinds, from the first world of one good drive, leads to a world
-    // for which this whole law holds.
+    // Every list of events of these kinds, from the first world of a server with one good drive,
+    // leads to a world in which all promises of `in_order` hold.
     ensures runs { (drive : PlainDriveSpec) (events : List PlainEvent) (w : World) → AreGoodDrives (drive ∷ []) →
         AreFaultless events → Runs (first_world (drive ∷ [])) events w → VolumesInOrder drive w }
 {

@@ -1,4 +1,7 @@
 //! Reads the lines of counts in a checkpoint.
+//!
+//! A count is the record of a volume that was written whole: its number, its first block and its
+//! number of blocks.
 ghost use Rattle.std.specs.Prelude.{◌≡◌, ◌≤◌, length};
 ghost use Rattle.dump_run.specs.CheckpointParts.{AreCounts};
 

@@ -1,4 +1,7 @@
 //! Checks the order of the counts in a checkpoint.
+//!
+//! A count is the record of a volume that was written whole: its number, its first block and its
+//! number of blocks.
 ghost use Rattle.std.specs.Prelude.{◌↔◌, ◌≤◌, IsTrue};
 ghost use Rattle.dump_run.specs.CheckpointParts.{IsNext, AreOrdered};
 

@@ -1,4 +1,7 @@
 //! Writes the text of a checkpoint.
+//!
+//! A count is the record of a volume that was written whole: its number, its first block and its
+//! number of blocks.
 ghost use Rattle.std.specs.Prelude.{◌≡◌, ◌++◌, [], ◌∷◌, OnOk, OnErr, length, map, take};
 ghost use Rattle.rmt_wire.specs.Number.{line_feed};
 ghost use Rattle.dump_run.specs.Checkpoint.{checkpoint_text, count_line, joined, run_lines};

@@ -1,4 +1,6 @@
 //! The bytes of a file that were read when a length was read.
+//!
+//! `at` is an offset in bytes.
 
 ghost use Rattle.std.specs.Prelude.{◌≡◌, IfSome, length};
 

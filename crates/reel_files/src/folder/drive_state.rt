@@ -1,4 +1,7 @@
 //! One drive whose stack is a folder.
+//!
+//! A drive's latched reel is the first of its stack: it is in the drive until it is laid back or
+//! moved to the bin.
 
 ghost use Rattle.std.specs.Prelude.{◌≡◌, ◌≢◌, ◌⊎◌, false, true, Some, IfOk, IsSome, is_some, MatchBool, MatchResult};
 ghost use Rattle.reel_files.specs.Folders.{folder_row};
@@ -92,8 +95,8 @@ impl FolderDriveState {
         self.find_first(rt, bin, log)
     }
 
-    /// Opens and locks the file of the first reel that the bin does not have, as `find` does.
-    /// Returns `None` if there is none.
+    /// Opens and locks the file of the first reel that the bin does not have. Returns `None` if
+    /// there is none. Interrupted moves of the reels before it are completed, and each is logged.
     fn find_first<R: FolderSystem, L: Log>(
         &self,
         rt: &R,
@@ -116,7 +119,8 @@ impl FolderDriveState {
         Err(Refusal::new(folder, "list", changed))
     }
 
-    /// Returns the report of a move that was finished.
+    /// Returns the warning that a move to the bin, cut short by an earlier stop, is now completed,
+    /// with the flaw found, if any.
     fn finished(&self, found: &OpenedReel, flaw: Option<MoveFlaw>) -> Report {
         let (drive, reel) = (self.name.as_str(), found.latched.name.as_str());
         let mut report = Report::warning(format_args!(
@@ -161,7 +165,8 @@ impl FolderDriveState {
         report
     }
 
-    /// Syncs the file as `close` does, and returns the report.
+    /// Syncs the file of the latched reel if it was written to or truncated since the latch, even
+    /// if that failed. Returns the report of the close, or `None` if no reel is latched.
     fn sync<R: FolderSystem>(&mut self, rt: &R, bin: &str, medium: &FileMedium) -> Option<Report>
         ensures name { self.new.name ≡ self.old.name }
         ensures folder { self.new.folder ≡ self.old.folder }

@@ -1,4 +1,7 @@
 //! Finds the first reel of a folder.
+//!
+//! A drive's latched reel is the first of its stack: it is in the drive until it is laid back or
+//! moved to the bin.
 
 use super::known::{FileId, InBin, known_at, look_in_bin};
 use super::lock::take_lock;
@@ -126,8 +129,9 @@ fn open_file<R: FolderSystem>(rt: &R, path: &str) -> io::Result<(File, bool)> {
     }
 }
 
-/// Opens the file as `open_file` does, or only to read if the bin has another file with its name.
-/// Returns `None` if nothing has the path.
+/// Opens the file to read and to append, or only to read if the system allows no more or if the bin
+/// has another file with its name. Returns whether it is open only to read, too. Returns `None` if
+/// nothing has the path.
 fn open_there<R: FolderSystem>(
     rt: &R,
     path: &str,
@@ -144,9 +148,10 @@ fn open_there<R: FolderSystem>(
     }
 }
 
-/// Opens the file as `open_there` does and takes its advisory lock, which belongs to the handle.
-/// Returns `None` if the path did not lead to that file when it was opened, or does not now that it
-/// is locked.
+/// Opens the file at this path and takes its advisory lock, which belongs to the handle. It is open
+/// only to read if the system allows no more, or if `in_bin` says that the bin has another file
+/// with its name. Returns `None` if the path did not lead to the file `id` when it was opened, or
+/// does not now that it is locked.
 fn open_locked<R: FolderSystem>(
     rt: &R,
     path: &str,

@@ -37,8 +37,8 @@ pub(super) fn look_at<R: FolderSystem>(rt: &R, folder: &str) -> io::Result<FileI
     Ok(FileId::of(&found))
 }
 
-/// Checks the folder of a further drive like `look_at`, and adds its identity to those of the
-/// earlier drives.
+/// Checks that the folder of a further drive can be used, as far as that shows without changing
+/// anything. Adds its identity to `seen`, those of the earlier drives.
 pub(super) fn look_at_next<R: FolderSystem>(
     rt: &R,
     folder: &str,

@@ -1,4 +1,7 @@
 //! Moves the file of a reel from its stack to the bin.
+//!
+//! A drive's latched reel is the first of its stack: it is in the drive until it is laid back or
+//! moved to the bin.
 
 use super::known::{FileId, InBin, known_at, look_in_bin};
 use super::lock::wait_for_lock;

@@ -1,4 +1,7 @@
 //! Opens and closes a drive.
+//!
+//! A drive's latched reel is the first of its stack: it is in the drive until it is laid back or
+//! moved to the bin.
 ghost use Rattle.std.specs.Prelude.{◌≡◌, ℕ, ◌<◌, Some, None, IfOk};
 ghost use Rattle.drives.specs.Calls.{stacks_kind};
 ghost use Rattle.drives.specs.Stacking.{HasLatched};

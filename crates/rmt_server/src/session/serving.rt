@@ -1,4 +1,6 @@
 //! The requests that the open reel serves.
+//!
+//! `access` is how the device was opened: for reading, writing or both.
 ghost use Rattle.std.specs.Prelude.{◌≡◌, ℕ, ◌<◌, ◌≤◌, ◌&&◌, Some, None, IfOk, length};
 ghost use Rattle.rmt_wire.specs.declared.limits.TheConstants.{RECORD_LIMIT};
 ghost use Rattle.rmt_wire.specs.Request.PlainRequest.{Write, WriteDropped, Read, Op};

@@ -44,7 +44,8 @@ impl FarEnd {
         })
     }
 
-    /// Ends the session, and starts another one with an empty reader. Returns None as `new` does.
+    /// Ends the session, and starts another one with an empty reader. Returns None if an allocation
+    /// fails, or if no number is left for a session.
     pub(super) fn renew(&mut self) -> Option<()>
         ensures fresh { self.new.session.opened ≡ None }
         ensures cleared { IsCleared self.old.drives self.old.session self.new.drives }

@@ -10,7 +10,8 @@ use crate::reply::Reply;
 use crate::reply::parts::parts;
 use std::alloc::AllocError;
 
-/// Appends a reply as it is sent, with no leading zeros in its numbers.
+/// Appends to a buffer the bytes that are sent for a reply, with no leading zeros in the reply's
+/// numbers.
 ///
 /// The reply must have a spelling. Its number, or the count of its data, is at most `NUMBER_LIMIT`,
 /// and its text is one line of at most `LINE_LIMIT` bytes.
@@ -19,13 +20,14 @@ use std::alloc::AllocError;
 /// `out` and its capacity are unchanged.
 pub fn push_reply(out: &mut Vec<u8>, reply: &Reply<'_>) -> Result<(), AllocError>
     requires { ReplyHasSpelling (plain_reply reply.now) }
-    // `push_reply` appends the reply as it is sent. The appended bytes spell the reply.
+    // `push_reply` appends to the buffer the bytes that are sent for the reply. These bytes spell
+    // the reply.
     ensures appended { OnOk result (out.new.items ≡ out.old.items ++ reply_text (plain_reply reply.now)) }
     // `push_reply` fails only if the buffer has less spare capacity than the reply takes. If
     // `push_reply` fails, the buffer and its capacity are unchanged.
     ensures unchanged { OnErr result ((out.new.items ≡ out.old.items) × (vec_capacity out.new ≡ vec_capacity out.old)) }
     ensures full { OnErr result (vec_capacity out.old < vec_len out.old + length (reply_text (plain_reply reply.now))) }
-    // What is appended spells the reply.
+    // The appended bytes spell the reply.
     ensures spelled { (wanted : Wanted) → AnswersTo (plain_reply reply.now) wanted
         → SpellsReply (reply_text (plain_reply reply.now)) (plain_reply reply.now) wanted }
 {

@@ -1,4 +1,6 @@
 //! Reads the reply that bytes begin with.
+//!
+//! The kind of a reply is a number or data.
 
 ghost use Rattle.std.specs.Prelude.{◌≡◌, ◌+◌, ◌<◌, ◌≤◌, ◌^◌, ◌++◌, length, take, drop, IfOk, IfSome};
 ghost use Rattle.rmt_wire.specs.Lent.{plain_wanted, lent_reply};

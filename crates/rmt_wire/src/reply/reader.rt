@@ -1,4 +1,6 @@
 //! A reader of replies.
+//!
+//! The kind of a reply is a number or data.
 
 ghost use Rattle.std.specs.Prelude.{◌≡◌, ℕ, ◌+◌, ◌-◌, ◌≤◌, ◌≢◌, ◌↔◌, Option, Some, None, List, [], ◌++◌, length, take, drop, min, IfOk, IfSome, IsTrue};
 ghost use Rattle.rmt_wire.specs.Reply as kinds;
@@ -92,18 +94,19 @@ impl ReplyReader {
         self.buffer.len() == self.start
     }
 
-    /// Returns how many bytes `push` takes now. The text of an error that is waited for takes no
+    /// Returns how many bytes `push` can take now. The text of an error that is waited for takes no
     /// room after its first 255 bytes.
     pub fn room(&self) -> usize
-        // `room` returns how many bytes `push` takes now. While the reader waits for a reply, the
-        // bytes of an error's text after the first 255 take no room.
+        // `room` returns how many bytes `push` can take now. While the reader waits for a reply, an
+        // error's text takes room for its first 255 bytes only.
         ensures { (wanted : Option kinds.Wanted) (bytes : List ℕ) →
             ReplyUnread self.now wanted bytes → result + reply_taken_of wanted bytes ≡ READER_LIMIT }
     {
         READER_LIMIT - (self.buffer.len() - self.start)
     }
 
-    /// Waits for a reply of this kind. It is to begin with the next byte that is pushed.
+    /// Sets which kind of reply the reader waits for. The reply is to begin with the next byte that
+    /// is pushed.
     ///
     /// Nothing may be waited for yet: `next` has returned the last reply that was, if any. At most
     /// `RECORD_LIMIT` bytes of data may be waited for.
@@ -124,8 +127,8 @@ impl ReplyReader {
         }
     }
 
-    /// Forgets every byte that `next` has not returned, and what is waited for, as a new connection
-    /// requires. It keeps its buffer and allocates nothing.
+    /// Discards all unread bytes and ends the wait for a reply, so that the reader can serve a new
+    /// connection. The reader keeps its buffer and allocates nothing.
     pub fn clear(&mut self)
         // After `clear` the reader waits for no reply, and no byte is unread.
         ensures { ReplyUnread self.new None [] }
@@ -159,10 +162,10 @@ impl ReplyReader {
         count
     }
 
-    /// Returns the reply that is waited for, and lends its data or the first 255 bytes of its text.
-    /// After that, nothing is waited for. Returns None if the bytes pushed so far are only a
-    /// beginning of the reply; then there is room for more. Also returns None if nothing is waited
-    /// for and no byte was pushed.
+    /// Returns the reply that the reader waits for, and lends the reply's data or the first 255
+    /// bytes of an error's text. After that, nothing is waited for. Returns None if the bytes
+    /// pushed so far are only a beginning of the reply; then there is room for more. Also returns
+    /// None if nothing is waited for and no byte was pushed.
     ///
     /// Fails at the first byte that rules out every reply, and returns the same fault until
     /// `clear`. The fault is `NotAReply`, `BadNumber`, or `TooMuchData` for a count of data that is
@@ -172,7 +175,7 @@ impl ReplyReader {
         // `next` returns the reply that the reader waits for. If the unread bytes are only a
         // beginning of a reply, `next` returns `None`, and there is room for more bytes. If the
         // unread bytes cannot begin a reply, `next` returns the fault of the first byte that rules
-        // out every reply. If the reader waits for no reply, the fault of any byte is
+        // out every reply. If the reader waits for no reply and a byte is unread, the fault is
         // `TooMuchData`.
         //
         // If `next` returns no reply, the reader is unchanged (field `unchanged`).

@@ -39,9 +39,9 @@ pub fn write_reply<W: Write>(out: &mut Counted<W>, reply: &Reply<'_>) -> Result<
     ensures counted { out.old.failures ≤ out.new.failures }
     // If `write_reply` succeeds, it has counted no failure.
     ensures steady { OnOk result (out.new.failures ≡ out.old.failures) }
-    // The number of reads left stays.
+    // The number of reads left does not change.
     ensures left { out.new.left ≡ out.old.left }
-    // What is written spells the reply.
+    // The written bytes spell the reply.
     ensures spelled { (wanted : Wanted) → AnswersTo (plain_reply reply.now) wanted
         → SpellsReply (reply_text (plain_reply reply.now)) (plain_reply reply.now) wanted }
 {

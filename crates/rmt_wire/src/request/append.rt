@@ -11,8 +11,9 @@ use crate::request::Request;
 use crate::short_text::{ShortText, numbered, push_number};
 use std::alloc::AllocError;
 
-/// Appends a request as it is sent. Its numbers have no leading zeros, a mode is its number alone,
-/// and a close has no text. A dropped write is appended as its line alone.
+/// Appends to a buffer the bytes that are sent for a request. The request's numbers have no leading
+/// zeros, a mode is its number alone, and a close has no text. A dropped write is appended as its
+/// line alone.
 ///
 /// The request must have a spelling. Its device is one line of at most `LINE_LIMIT` bytes, and its
 /// numbers are at most `NUMBER_LIMIT`. A write has at most `RECORD_LIMIT` bytes, and a dropped
@@ -22,29 +23,32 @@ use std::alloc::AllocError;
 /// `out` and its capacity are unchanged.
 pub fn push_request(out: &mut Vec<u8>, request: &Request<'_>) -> Result<(), AllocError>
     requires { HasSpelling (plain_request request.now) }
-    // `push_request` appends the request as it is sent. The appended bytes spell the request. For a
-    // write of more than 262,144 bytes, `push_request` appends only the line that begins the write.
+    // `push_request` appends to the buffer the bytes that are sent for the request. These bytes
+    // spell the request. For a write of more than 262,144 bytes, `push_request` appends only the
+    // line that begins the write.
     ensures appended { OnOk result (out.new.items ≡ out.old.items ++ request_text (plain_request request.now)) }
     // If `push_request` fails, the buffer and its capacity are unchanged.
     ensures unchanged { OnErr result ((out.new.items ≡ out.old.items) × (vec_capacity out.new ≡ vec_capacity out.old)) }
     // `push_request` fails only if the buffer has less spare capacity than the request takes.
     ensures full { OnErr result (vec_capacity out.old < vec_len out.old + length (request_text (plain_request request.now))) }
-    // What is appended spells the request.
+    // The appended bytes spell the request.
     ensures spelled { IsTextOf (request_text (plain_request request.now)) (plain_request request.now) }
 {
     let (lines, data) = parts(request);
     push_text(out, lines.as_slice(), data)
 }
 
-/// Appends the line that begins the write of a record of `count` bytes, at most `RECORD_LIMIT`
-/// (rmt(8)). Reserves room for the bytes of the record, which the caller appends next.
+/// Appends the line that begins the write (rmt(8)) of a record of `count` bytes, of which there are
+/// at most `RECORD_LIMIT`. Reserves room for the bytes of the record, which the caller appends
+/// next.
 ///
 /// Fails only if `out` has less spare capacity than the line and the bytes take and an allocation
 /// fails. Then `out` and its capacity are unchanged.
 pub fn push_write_line(out: &mut Vec<u8>, count: usize) -> Result<(), AllocError>
     requires { count ≤ RECORD_LIMIT }
-    // `push_write_line` appends the line that begins a write of `count` bytes. This line, followed
-    // by any `count` bytes, spells a write of those bytes, as it is sent.
+    // `push_write_line` appends the line that begins a write of `count` bytes. The line is appended
+    // in the form in which it is sent. The line followed by any `count` bytes spells the write of
+    // these bytes.
     ensures begun { OnOk result ((bytes : List ℕ) → length bytes ≡ count →
         out.new.items ++ bytes ≡ out.old.items ++ request_text (PlainRequest.Write bytes)) }
     // If `push_write_line` succeeds, the buffer has spare capacity for `count` bytes.
@@ -54,7 +58,7 @@ pub fn push_write_line(out: &mut Vec<u8>, count: usize) -> Result<(), AllocError
     ensures unchanged { OnErr result ((out.new.items ≡ out.old.items) × (vec_capacity out.new ≡ vec_capacity out.old)) }
     ensures full { OnErr result ((bytes : List ℕ) → length bytes ≡ count →
         vec_capacity out.old < vec_len out.old + length (request_text (PlainRequest.Write bytes))) }
-    // With that many bytes after it, what is appended spells the write.
+    // The appended line, followed by any `count` bytes, spells the write of these bytes.
     ensures spelled { (bytes : List ℕ) → length bytes ≡ count →
         IsTextOf (request_text (PlainRequest.Write bytes)) (PlainRequest.Write bytes) }
 {

@@ -1,4 +1,6 @@
 //! A reader of requests.
+//!
+//! The front of the reader is the first of the bytes that it keeps.
 
 ghost use Rattle.std.specs.Prelude.{◌≡◌, ℕ, ◌+◌, ◌-◌, ◌≤◌, ◌<◌, ◌↔◌, List, [], ◌++◌, length, take, drop, min, IfOk, IfSome, IsTrue};
 ghost use Rattle.rmt_wire.specs.RequestReader as spec;
@@ -151,11 +153,12 @@ impl RequestReader {
         self.buffer.len() == self.start
     }
 
-    /// Returns how many bytes `push` takes now. The data of a dropped write take no room once
+    /// Returns how many bytes `push` can take now. The data of a dropped write take no room once
     /// `next` has returned every request before it.
     pub fn room(&self) -> usize
-        // `room` returns how many bytes `push` takes now. A write can be too long to keep. The data
-        // of such a write take no room once `next` has returned every request before the write.
+        // `room` returns how many bytes `push` can take now. A write can be too long to keep. The
+        // data of a write that is too long take no room once `next` has returned every request
+        // before this write.
         ensures { (bytes : List ℕ) → Unread self.now bytes → result + taken_of bytes ≡ READER_LIMIT }
     {
         let unread = &self.buffer.as_slice()[self.start..];
@@ -171,9 +174,9 @@ impl RequestReader {
         ensures count { (bytes : List ℕ) → Unread self.old bytes → result ≡ min (length piece.now) (READER_LIMIT - taken_of bytes) }
         // The bytes that `push` took are unread afterwards.
         ensures unread { (bytes : List ℕ) → Unread self.old bytes → Unread self.new (bytes ++ take result piece.now) }
-        // Each push adds bytes to those pushed before. The requests that `next` returned before the
-        // push are also the first requests that the longer list of bytes spells. The reader keeps
-        // at most 262,156 bytes.
+        // Each push adds bytes to the bytes that were pushed before. All these bytes together spell
+        // a list of requests that begins with the requests that `next` returned before the push.
+        // The reader keeps at most 262,156 bytes.
         ensures given { (pushed : List ℕ) (requests : List PlainRequest) →
             IsGiven self.old pushed requests → IsGiven self.new (pushed ++ take result piece.now) requests }
         ensures limit { length self.new.kept ≤ READER_LIMIT }

@@ -1,4 +1,6 @@
 //! The image of an entry on a medium: how it is read and how it is written.
+//!
+//! `at` is an offset in bytes.
 
 ghost use Rattle.std.specs.Prelude.{◌≡◌, ◌+◌, ◌*◌, ◌<◌, ◌≤◌, ◌^◌, IfOk, IfSome, IsErr, length, drop, replicate};
 ghost use Rattle.tape.specs.Tape.{IsRecord};
@@ -55,7 +57,7 @@ fn length_at<M: Medium>(medium: &mut M, at: u64) -> Result<Option<u32>, MediumFa
     Ok(Some(length_in(bytes)))
 }
 
-/// Returns the length of the entry that begins at offset `at` of a record file, 0 for a mark.
+/// Returns the length of the entry that begins at offset `at` of a record file, or 0 for a mark.
 ///
 /// Returns `None` if no whole entry begins there: that is the end. `at` is the offset at which the
 /// entry before it ends, or 0. Reads lengths only, and does not change the medium.

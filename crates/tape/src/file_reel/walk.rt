@@ -1,4 +1,6 @@
 //! A walk along a reel, past marks or records.
+//!
+//! `way` is the direction of a walk, and `at` an offset in bytes.
 
 ghost use Rattle.std.specs.Prelude.{◌≡◌, ◌<◌, ◌≤◌, IfOk, IfSome, MatchResult};
 ghost use Rattle.tape.specs.RecordFile.{medium_kind_of};
@@ -76,7 +78,7 @@ fn pass_last<M: Medium>(medium: &mut M, at: u64) -> Result<Option<PassedEntry>, 
     }))
 }
 
-/// Passes the next entry from an offset in this direction. Returns `None` if there is none.
+/// Passes the next entry from offset `at` in the direction `way`. Returns `None` if there is none.
 fn pass<M: Medium>(medium: &mut M, way: Way, at: u64) -> Result<Option<PassedEntry>, MediumFailed>
     ensures run { LooksAlong (medium_kind_of M.Medium) at result (HasPassed way) medium.old medium.new }
     ensures nearer { IfOk result (λ passed. IfSome passed (λ p. way_left way p.at < way_left way at)) }

@@ -1,4 +1,7 @@
 //! The functions that return the state of a world.
+//!
+//! A drive's latched reel is the first of its stack: it is in the drive until it is laid back or
+//! moved to the bin.
 ghost use Rattle.std.specs.Prelude.{◌≡◌, Option, Some, map, IfSome};
 ghost use Rattle.std.specs.Option.{option_copied, option_map};
 ghost use Rattle.drives.specs.ListLibrary.{rest_slot};
@@ -28,7 +31,7 @@ impl World {
 
     /// Returns the entries of dumpdates.
     pub fn dates(&self) -> &Dates
-        // Returns the entries of dumpdates. No other body has its type.
+        // Returns the entries of dumpdates. The types allow only this body, so there is no edit.
         ensures { result.now ≡ self.now.dates }
     {
         &self.world_state.dates
@@ -43,7 +46,7 @@ impl World {
         self.world_state.history.failure
     }
 
-    /// Returns the number of the connection of the client's attempt, while one is under way.
+    /// Returns the number of the connection of the client's attempt, if an attempt is under way.
     pub fn own(&self) -> Option<usize>
         // Returns the number of the connection of the client's attempt, or none if no attempt is
         // under way.
@@ -52,7 +55,7 @@ impl World {
         self.world_state.own
     }
 
-    /// Returns the client, while there is one.
+    /// Returns the client, if there is one.
     pub fn client(&self) -> Option<&Client<ListBlocks>>
         // Returns the real client. The client's source has the payload of its run.
         ensures told { option_map client_told (option_copied result) ≡ option_map caller_told self.now.caller }
@@ -63,8 +66,8 @@ impl World {
         Some(&caller.client)
     }
 
-    /// Returns the session of a connection, while the server's side is live. The number of its seat
-    /// is that of the connection.
+    /// Returns the session of a connection, if the server's side of the connection is live. The
+    /// number of its seat is that of the connection.
     pub fn session(&self, connection: usize) -> Option<&Session<LocalHolds, ListStacks>>
         // Returns the real session of a connection whose server's side is live.
         ensures seen { option_map (λ s. session_seen s.opened) (option_copied result)
@@ -74,9 +77,9 @@ impl World {
         self.world_state.host.session(connection)
     }
 
-    /// Returns how many of the bytes in transit can now reach the server, and how many the peer,
-    /// which is the client or a stranger. The server's reader can have room for fewer than are in
-    /// transit. Returns none if there is no such connection.
+    /// Returns how many bytes in transit can reach the server now, and how many can reach the peer
+    /// (the client or a stranger). The server's reader can have room for fewer than are in transit.
+    /// Returns none if there is no such connection.
     pub fn on_way(&self, connection: usize) -> Option<(usize, usize)>
         // Returns how many bytes in transit can reach the server's side of a connection now, and
         // how many can reach the peer.
@@ -92,7 +95,7 @@ impl World {
         Some((toward, conn.back.bytes().len()))
     }
 
-    /// Returns the reels of the first drive of that name, in the order of its stack. The first is
+    /// Returns the reels on the stack of the first drive with this name, in order. The first is
     /// latched, or is the next to be. Returns none if there is no such drive.
     pub fn stack(&self, drive: &[u8]) -> Option<&[ListedReel]>
         // Returns the stack of the first drive with the given name, or none if there is no such

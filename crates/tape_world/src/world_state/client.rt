@@ -189,7 +189,7 @@ impl WorldState {
     /// Starts an attempt of the client, on a new connection. Not possible unless the client is
     /// ready.
     pub(crate) fn connect(&mut self) -> Result<(), EventStop>
-        // Starts an attempt of the client, on a new connection of its own.
+        // Starts an attempt of the client, and makes a new connection for this attempt.
         ensures { IsEvent self.old Connect result self.new }
     {
         if !self.is_client_in(State::Ready) {
@@ -222,12 +222,12 @@ impl WorldState {
         Ok(())
     }
 
-    /// Reports the end of the connection to the peer, which leaves it. Not possible unless the
-    /// connection was cut and the peer is still there.
+    /// Lets the peer (the client or a stranger) notice that the connection ended, and leave the
+    /// connection. Not possible unless the connection was cut and the peer is still there.
     pub(crate) fn end_at_client(&mut self, connection: usize) -> Result<(), EventStop>
         requires { IsWorldKept self.old }
-        // The peer notices that a connection ended. The world records how the client's attempt
-        // ended.
+        // The peer notices that a connection ended. If the peer is the client, the world records
+        // how the client's attempt ended.
         ensures { IsEvent self.old (EndAtClient connection) result self.new }
     {
         let Some(conn) = find(&self.connections, connection) else {

@@ -38,8 +38,8 @@ impl WorldState {
         Ok(())
     }
 
-    /// Sends these bytes from a stranger. Not possible unless the connection is a stranger's that
-    /// is still there.
+    /// Sends these bytes from a stranger to the server. Not possible unless the connection is a
+    /// stranger's that is still there.
     pub(crate) fn says(&mut self, connection: usize, bytes: &[u8]) -> Result<(), EventStop>
         // A stranger sends bytes to the server. If the connection was cut, the bytes are lost.
         ensures { IsEvent self.old (Says connection bytes.now) result self.new }

@@ -1,4 +1,7 @@
 //! The event that enters the finished run in dumpdates.
+//!
+//! A count is the record of a volume that was written whole: its number, its first block and its
+//! number of blocks.
 ghost use Rattle.std.specs.Prelude.{◌≡◌, ◌==◌, IfOk};
 ghost use Rattle.std.specs.List.{list_any};
 ghost use Rattle.world_model.specs.Events.PlainEvent.{Enter};

@@ -1,4 +1,6 @@
 //! The event in which bytes reach the client or a stranger.
+//!
+//! A count is the record of a volume that the client wrote whole to a reel.
 ghost use Rattle.std.specs.Prelude.{◌≡◌, ◌==◌, ◌<◌, ◌≤◌, ◌++◌, length, map, option_to_list, slice_get};
 ghost use Rattle.std.specs.Vec.{vec_capacity, vec_len};
 ghost use Rattle.world_model.specs.Changes.{changed, reel_opened_by};
@@ -134,15 +136,15 @@ fn deliver_or_leave(
 }
 
 impl WorldState {
-    /// Delivers the first `count` bytes in transit to the peer. Not possible if the peer has left,
-    /// `count` is 0, or fewer bytes are in transit.
+    /// Delivers to the peer the first `count` bytes that are in transit to it. Not possible if the
+    /// peer has left, `count` is 0, or fewer bytes are in transit.
     pub(crate) fn to_client(&mut self, connection: usize, count: usize) -> Result<(), EventStop>
         requires { IsWorldKept self.old }
         // Delivers bytes to the peer of a connection. The client reads the bytes. A stranger drops
         // them.
         //
-        // If the client counts a volume, the history lists the count with its run, its connection
-        // and the reel that this connection opened.
+        // If the client counts a volume, the history lists the count. The listed count names the
+        // run, the client's connection, and the reel that this connection opened.
         //
         // If these bytes make the attempt fail or finish, the client leaves the attempt's
         // connection.

@@ -129,7 +129,8 @@ impl WorldState {
         WorldState::with_host(alloc, drives, host)
     }
 
-    /// Like `new`, with a host that is made already.
+    /// Makes a world of `host`, the server with these drives, whose reels are blank. The world has
+    /// no connection and no client. Fails only if an allocation fails.
     fn with_host(
         alloc: Global,
         drives: &[DriveSpec<'_>],

@@ -1,5 +1,8 @@
 //! The run that is saved outside the client, as in a checkpoint file, and the client that resumes
 //! it.
+//!
+//! A count is the record of a volume that was written whole: its number, its first block and its
+//! number of blocks.
 ghost use Rattle.std.specs.Prelude.{◌≡◌, ◌↔◌, true, IfOk, length, map};
 ghost use Rattle.dump_run.specs.Checkpoint.{checkpoint_text};
 ghost use Rattle.world_model.specs.Events.PlainEvent.{ClientRestart, Save};
@@ -102,8 +105,8 @@ fn end_own(connections: &mut [Connection], own: Option<usize>)
 }
 
 impl WorldState {
-    /// Saves the client's run outside the client, with its counts. Not possible if there is no
-    /// client, or its run is abandoned, or both finished and entered.
+    /// Saves the client's run and its list of counts outside the client. Not possible if there is
+    /// no client, or its run is abandoned, or both finished and entered.
     pub(crate) fn save(&mut self) -> Result<(), EventStop>
         requires { IsWorldKept self.old }
         // Saves the client's run and its list of counts, so that both outlive a restart of the
@@ -122,13 +125,14 @@ impl WorldState {
         Ok(())
     }
 
-    /// Replaces the client by one that resumes the saved run, or by none if none is saved. The
-    /// client leaves its own connection, if it has one. Not possible if there is no client.
+    /// Replaces the client by a new one that resumes the saved run, or only removes the client if
+    /// no run is saved. The old client leaves its own connection, if it has one. Not possible if
+    /// there is no client.
     pub(crate) fn client_restart(&mut self) -> Result<(), EventStop>
         requires { IsWorldKept self.old }
-        // Restarts the client. The client resumes from the checkpoint text of the saved run with
-        // its saved list. If no run is saved, there is no client after the restart. If the client
-        // has a connection of its own, it leaves this connection.
+        // Restarts the client. The new client resumes from the checkpoint text of the saved run,
+        // with the saved list. If no run is saved, there is no client after the restart. The old
+        // client leaves its own connection, if it has one.
         ensures { IsEvent self.old ClientRestart result self.new }
     {
         if self.caller.is_none() {

@@ -1,4 +1,6 @@
 //! The event in which the server carries out a request that reached it.
+//!
+//! A count is the record of a volume that the client wrote whole to a reel.
 ghost use Rattle.std.specs.Prelude.{◌≡◌, ◌≤◌, ◌<◌, ◌++◌, Contains, List, ℕ, IfOk, OnErr, Some, length, map, option_map, vec_len, vec_capacity};
 ghost use Rattle.std.specs.List.{position_or_len};
 ghost use Rattle.std.specs.Option.{option_copied, option_to_list};
@@ -47,7 +49,8 @@ fn take_turn(
     Ok(turn)
 }
 
-/// Like `take_turn`, for connection `connection`, which must exist.
+/// Takes one turn of the server's side of connection `connection`, which must exist, and notes it
+/// on the connection. Fails if an allocation fails; nothing has changed then.
 fn take_turn_at(
     host: &mut Host,
     connections: &mut [Connection],
@@ -256,26 +259,29 @@ impl History {
 }
 
 impl WorldState {
-    /// Carries out one request that reached the server, whose device call meets this trouble, or
-    /// ends the session if the bytes are no request. Not possible if there is no such connection,
-    /// its server's side is not live, or no whole request has reached it.
+    /// Carries out one request that reached the server, or ends the server's side if the bytes are
+    /// not a request. `trouble` says whether and how the request's device call fails. Not possible
+    /// if there is no such connection, its server's side is not live, or no whole request has
+    /// reached it.
     pub(crate) fn serve(&mut self, connection: usize, trouble: Trouble) -> Result<(), EventStop>
         requires { IsWorldKept self.old }
-        // The server carries out one request that has reached it. If the request makes a device
-        // call, the event says whether and how this device call fails. If the bytes that reached
-        // the server are not a request, the server's side ends.
+        // The server carries out one request that has reached it. If the request makes a call of a
+        // device, the event says whether this call fails, and how. If the bytes that reached the
+        // server are not a request, the server's side ends.
         //
-        // The bytes that are already in transit to the peer stay there. The reply is appended to
-        // them.
+        // The bytes that are already in transit to the peer stay in transit. The reply is appended
+        // to these bytes.
         //
-        // If the request was a write of an attempt, the history records its outcome. If the request
-        // was an open for writing and was accepted, the history lists the open with its reel.
+        // If the request was a write of an attempt, the world records the outcome of this write. If
+        // the request was an open for writing and was accepted, the history lists the open and the
+        // reel that was opened.
         //
-        // For each open for writing, the history also has the list of counts that the client had at
-        // that moment. If there was no client, the list is empty.
+        // For each open for writing, the history also has a list of counts. It is the list that the
+        // client had when the server carried out the open. If there was no client, the list is
+        // empty.
         //
         // If the request writes a record or marks, and the session has a reel open for writing, the
-        // history lists the write with its connection and its reel.
+        // history lists the write, its connection and its reel.
         ensures { IsEvent self.old (Serve connection trouble) result self.new }
     {
         if find(&self.connections, connection).is_none() {

@@ -72,7 +72,10 @@ fn send_on(
     Ok(failure)
 }
 
-/// Like `send_on`, on connection `own`, which must exist.
+/// Sends the next request of the client, which must be about to send one, on connection `own`,
+/// which must exist. If `fails` is true, the read of a block fails. If the attempt fails, it
+/// returns the volume and the cause, and the client leaves the connection. Fails if an allocation
+/// fails; nothing has changed then.
 fn send_own(
     alloc: Global,
     connections: &mut [Connection],

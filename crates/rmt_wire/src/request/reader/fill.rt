@@ -13,10 +13,10 @@ use crate::limits::READER_LIMIT;
 use std::io::{self, Read};
 
 impl RequestReader {
-    /// Reads a stream once, straight into the reader, which then keeps at most `READER_LIMIT`
-    /// bytes. The bytes that came are unread, after those that were. Returns how many came, which
-    /// is 0 only at the end of the stream. The reader must have room, as it has whenever `next`
-    /// returned None.
+    /// Reads once from a stream into the reader, which keeps at most `READER_LIMIT` bytes
+    /// afterwards. The bytes that came are unread, after those that were. Returns how many came,
+    /// which is 0 only at the end of the stream. The reader must have room, as it has whenever
+    /// `next` returned None.
     ///
     /// The unread bytes are moved to the front first. The bytes that came are not copied, with one
     /// exception. If data of a dropped write are discarded, the bytes after them are moved.
@@ -34,8 +34,8 @@ impl RequestReader {
             × IsNotFilled (R.remaining stream.old.inner) (R.remaining stream.new.inner) self.old self.new) }
         // If the read failed, no byte came and the reader is unchanged.
         ensures failed { OnErr result (IsNotFilled (R.remaining stream.old.inner) (R.remaining stream.new.inner) self.old self.new) }
-        // `fill` counts a failure in its stream, which is a `Counted`, if and only if the read
-        // failed. A read that succeeded lowers the `Counted`'s number of reads left by one.
+        // The stream is a `Counted`. `fill` counts a failure in this stream if and only if the read
+        // failed. If the read succeeded, the number of reads left in the stream falls by one.
         ensures counted { OnErr result (stream.new.failures ≡ raised stream.old.failures) }
         ensures steady { OnOk result (stream.new.failures ≡ stream.old.failures) }
         ensures left { OnOk result (stream.new.left + 1 ≡ stream.old.left) }

@@ -1,4 +1,6 @@
 //! Reads the line of a write at the front of a reader.
+//!
+//! The front of the reader is the first of the bytes that it keeps.
 
 ghost use Rattle.std.specs.Prelude.{◌≡◌, ◌≤◌, length, IfSome};
 ghost use Rattle.rmt_wire.specs.RequestKept as spec;
