@@ -59,7 +59,8 @@ function, and what is trusted. [TESTED.md](TESTED.md) says what is only tested, 
 """
 ABOUT_LIMITS = """\
 The prover refuses these edits because it reaches a limit of a tactic before it has tried everything. So the refusal alone does not show that the
-edit breaks a promise. For each edit, the list names what is not proved. The control of each edit is proved by the same tactics.
+edit breaks a promise. For each edit, the list names the clauses that the prover could not prove for the wrong body. The
+control of each edit is proved by the same tactics.
 """
 ABOUT_UNCONTROLLED = """\
 An edit in this list has no right body beside it that is proved, so it may be refused only because its text changed.

@@ -58,9 +58,9 @@ pub fn still_at<H: Holds, S: Stacks>()
     // before. The session's open reel is still latched.
     ensures at { StaysAt (kinds H.Holds S.Stacks S.Reel.Reel) }
     // Two other conditions together can replace the third one (the open reel is still latched).
-    // First, reels stay latched at all drives except one. Second, the session does not have this
-    // one drive open. For example, an operator may rearrange the reels of a drive that the session
-    // does not have open.
+    // First, at every drive but one, a reel that was latched is still latched. Second, the session
+    // does not have that one drive open. For example, an operator may rearrange the reels of a
+    // drive that the session does not have open.
     ensures elsewhere { StaysAtElsewhere (kinds H.Holds S.Stacks S.Reel.Reel) }
 {}
 

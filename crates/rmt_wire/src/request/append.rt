@@ -38,9 +38,8 @@ pub fn push_request(out: &mut Vec<u8>, request: &Request<'_>) -> Result<(), Allo
     push_text(out, lines.as_slice(), data)
 }
 
-/// Appends the line that begins the write (rmt(8)) of a record of `count` bytes, of which there are
-/// at most `RECORD_LIMIT`. Reserves room for the bytes of the record, which the caller appends
-/// next.
+/// Appends the line that begins a write request of rmt(8). The record has `count` bytes, at most
+/// `RECORD_LIMIT`. Reserves room for the bytes of the record, which the caller appends next.
 ///
 /// Fails only if `out` has less spare capacity than the line and the bytes take and an allocation
 /// fails. Then `out` and its capacity are unchanged.
