@@ -13,6 +13,7 @@ from __future__ import annotations
 import argparse
 import itertools
 import os
+import pty
 import random
 import re
 import socket
@@ -25,6 +26,7 @@ from pathlib import Path
 from typing import IO, Iterator, NamedTuple
 
 from checks import check, ended
+from dump import CLEAR, all_of
 from shim import Shim, compiled
 
 CRATES = Path(__file__).resolve().parent.parent / "crates"
@@ -643,6 +645,28 @@ def wire_holds(rmtd: str, program: str) -> None:
             check(f"on a drive, {name}: a dump", got.lines == [*true.lines, "", "/usr level 0 date 7: no volume"], got)
 
 
+def progress_holds(rmtd: str, program: str) -> None:
+    """On a terminal a line shows which reel is read, and how much was: of files, and of a drive. It is cleared before anything else is told."""
+    good = {name: VOLUME + image(None) for name in ("a", "b")}
+    first, later = r"\rreel 1, 0 MiB, 0 KiB/s\x1b\[K", r"(\rreel [12], 0 MiB, \d+ [KM]iB/s\x1b\[K)*"
+    missing = "rdump: z: No such file or directory (os error 2)\r\n"
+    with rdump_in(program) as rdump, serving(rmtd, rdump.folder, good["a"]) as (host, port):
+        rdump.put(good)
+        drive = ("--to", f"{host}:{port}", "--device", DEVICE)
+        for words, status, cleared in (("a", "b"), ALL_WHOLE, CLEAR), (("a", "z", "b"), FAILED, CLEAR + missing), (drive, ALL_WHOLE, CLEAR):
+            near, terminal = pty.openpty()
+            command = (program, "ls", *words)
+            ran = subprocess.run(command, cwd=rdump.folder, stdin=subprocess.DEVNULL, stdout=subprocess.PIPE, stderr=terminal, timeout=GUARD_SECONDS)
+            os.close(terminal)
+            shown = all_of(near).decode()
+            os.close(near)
+            lines = [wire_end(good["a"]).lines[0]] if words == drive else lines_of(good)
+            check(f"{words}: the lines beside progress", (ran.stdout.decode().splitlines(), ran.returncode) == (lines, status), ran)
+            more = later + re.escape(CLEAR) if status == FAILED else ""
+            wanted = first + later + re.escape(cleared) + (r"(" + more + r")?" if more else "")
+            check(f"{words}: the progress", re.fullmatch(wanted, shown) is not None, shown, wanted)
+
+
 def wire_fails(rmtd: str, program: str) -> None:
     """Where no session can be had that is told."""
     with rdump_in(program) as rdump, serving(rmtd, rdump.folder, None) as (host, port):
@@ -761,7 +785,7 @@ def main() -> int:
         random_files_hold(rdump, seed)
     for holds in (dumps_hold, entries_hold, disk_fails, output_fails, many_reels_hold, long_reel_holds):
         holds(rdump)
-    for holds in (wire_holds, wire_fails, relays_hold):
+    for holds in (wire_holds, progress_holds, wire_fails, relays_hold):
         holds(rmtd, rdump)
     return ended()
 

@@ -58,7 +58,7 @@ NOT_PRINTED = (
     "counted {volume} {first} {least}\n",
     "The schedule",
     "Simulator of dumps to a remote tape, under a schedule of events",
-    "a write failed",
+    "the read was stopped",
 )
 # Files all of whose strings are printed, those of one word too.
 ALL_PRINTED = ("rdump_net/src/lines.rt", "rdump_list/src/verdict.rt", "rmtd_serve/src/ended.rt")

@@ -218,6 +218,8 @@ def failed(p: Programs, call: str, number: int, more: tuple[str, ...], before: b
         ends = (line,) if call in AT_CONNECTIONS else (it.told(IO), it.told("its folder could not be synced"))
         stays = b"" if more == FRONT else before or b""
         lawful = [("", "", before), *((texts(1), sizes(count), PADDED[: count * BLOCK] or stays) for count in range(3))]
+        # A file that can't be emptied has what it had, and one that was made is taken away again.
+        lawful += [(texts(1), sizes(0), before)] * (call == "ftruncate")
         came = [(output.encode(), told.encode() + end, data) for output, told, data in lawful for end in ends]
         check(f"{title}: what is told", got.status == ABNORMAL and (got.output, got.told, got.left) in came, got.shown(), came)
         check(f"{title}: the reel stays", len(model.stack) == 1)

@@ -11,6 +11,7 @@ from __future__ import annotations
 
 import argparse
 import os
+import pty
 import random
 import re
 import resource
@@ -27,7 +28,7 @@ from pathlib import Path
 from typing import Iterator, NamedTuple
 
 from checks import check, ended
-from dump import ABNORMAL, CRATES, DAY, DEVICE, DONE, FAILED, GUARD_SECONDS, Ended, Model, Programs, Reel
+from dump import ABNORMAL, CLEAR, CRATES, DAY, DEVICE, DONE, FAILED, GUARD_SECONDS, Ended, Model, Programs, Reel, all_of
 from model_rmtd import Entry, images
 from sites import folders, held, moved_once
 from traced import in_order, made_in, traced
@@ -437,6 +438,46 @@ def full(p: Programs) -> None:
         site.reels("a full output", named(reel(1)), {})
 
 
+def unprinted(p: Programs) -> None:
+    """Where a label can't be printed the reel stays, and the file has what it had."""
+    for more in ((), ("--place",), ("--all",)):
+        title = " ".join(("a full output", *more))
+        (p.folder / "older").write_bytes(b"older")
+        with stacked(p, reel(1)) as site, open("/dev/full", "wb") as stream:
+            got = site.read(*more, out="older", stdout=stream.fileno())
+            told(title, got, "", ABNORMAL, sizes(0) + "rdump: standard output could not be written\n")
+            site.reels(title, named(reel(1)), {})
+        holds(title, p.folder / "older", b"older")
+
+
+def shown(p: Programs) -> None:
+    """What is shown of a read on standard error, where that is a terminal: how far it is, in a line that is cleared before others."""
+    later = r"(\rvolume [123], block \d+, \d+ [KM]iB/s\x1b\[K)*"
+    for title, both in (("a terminal", False), ("one terminal for both outputs", True)):
+        near, terminal = pty.openpty()
+        with stacked(p, reel(3), reel(1), reel(2)) as site:
+            got = site.read("--all", "--length", str(len(PAYLOAD)), out=title, stdout=terminal if both else subprocess.PIPE, stderr=terminal)
+        os.close(terminal)
+        text = all_of(near).decode()
+        os.close(near)
+        check(f"{title}: the read", (got.output, got.status) == ("" if both else texts(3, 1, 2), DONE), got)
+        wanted = ""
+        for volume in (3, 1, 2):
+            label = texts(volume) if both else ""
+            wanted += re.escape(label.replace("\n", "\r\n") + f"\rvolume {volume}, block 1, 0 KiB/s\x1b[K") + later
+            wanted += re.escape(CLEAR + (counted(volume) + BINNED).replace("\n", "\r\n"))
+        check(f"{title}: what it shows", re.fullmatch(wanted, text) is not None, text, wanted)
+        holds(title, p.folder / title, PAYLOAD)
+    near, terminal = pty.openpty()
+    with stacked(p, images([b"abc", b"x" * BLOCK, None])) as site:
+        got = site.read(out="foreign", stdout=subprocess.PIPE, stderr=terminal)
+    os.close(terminal)
+    text = all_of(near).decode()
+    os.close(near)
+    wanted = f"\rblock 1, 0 KiB/s\x1b[K{CLEAR}" + (sizes(1) + FOREIGN).replace("\n", "\r\n")
+    check("a reel without a label on a terminal", (got.output, got.status, text) == ("abc", DONE, wanted), got, text, wanted)
+
+
 # Servers.
 
 OPEN, REWIND, READ, OFFLINE, CLOSE = b"O/dev/st0\n0\n", b"I5\n1\n", b"R262144\n", b"I6\n1\n", b"C\n"
@@ -559,8 +600,8 @@ def unsynced(p: Programs) -> None:
         model = loaded(1)
         got = injected(p, model.address, "EIO:when=1", *more)
         told(f"a sync fails, one volume {more}", got, texts(1), ABNORMAL, counted(1) + NO_SYNC)
-        asked = read_of[0] if "--place" in more else reads(1)
-        check(f"a sync fails, one volume {more}: the reel", len(model.stack) == 1 and model.logs == [[*asked, CLOSE]], model.logs)
+        asked = read_of[0] if "--place" in more else [*reads(1), CLOSE]
+        check(f"a sync fails, one volume {more}: the reel", len(model.stack) == 1 and model.logs == [asked], model.logs)
         model.stop()
     model = loaded(1)
     told("what has no disk", injected(p, model.address, "EIO:when=1+", out="/dev/null"), texts(1), DONE, counted(1))
@@ -886,7 +927,7 @@ def killed(p: Programs) -> None:
 
 
 PARTS = (
-    placed, stacks, many, plain, gaps, nested, others, foreign, uneven, special, twice, full, sent, synced, unsynced, refusals, markless, marked, looks,
+    placed, stacks, many, plain, gaps, nested, others, foreign, uneven, special, twice, full, unprinted, shown, sent, synced, unsynced, refusals, markless, marked, looks,
     behind, again, first, empty, killed,
 )
 

@@ -363,7 +363,8 @@ def closed_streams(p: Programs) -> None:
     listed = ["--device", DEVICE, "--out", path.name, "--to"]
     for title, closing, status, held in (
         ("standard error", "2>&-", DONE, b"".join(BLOCKS)),
-        ("standard output", ">&-", ABNORMAL, b""),
+        # The label can't be printed, so the file has what the read before wrote.
+        ("standard output", ">&-", ABNORMAL, b"".join(BLOCKS)),
     ):
         with p.listening() as (address, _):
             write_volume(address, [label(1, 0), *BLOCKS, None])

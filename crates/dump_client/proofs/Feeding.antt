@@ -16,7 +16,7 @@ use Rattle.dump_client.specs.declared.fault.AttemptFault.{AttemptFault}
 use Rattle.dump_client.specs.declared.fault.AttemptFault.TheVariants.{SourceFault, OutOfMemory}
 use Rattle.dump_client.specs.declared.fault.StartFault.{StartFault}
 use Rattle.dump_client.specs.declared.fault.StartFault.TheVariants as starts
-use Rattle.dump_client.specs.declared.listen.ReplySummary.{ReplySummary}
+use Rattle.dump_client.specs.declared.listen.HeardReply.{HeardReply}
 use Rattle.dump_client.specs.declared.listen.FeedResult.TheVariants as feed_result
 use Rattle.dump_client.specs.declared.stage.Stage.{Stage}
 use Rattle.dump_client.specs.declared.stage.Stage.TheVariants.{Ready, ToSend, Waiting, Asking}
@@ -66,13 +66,13 @@ fed_waits run counts old step r new_reader bytes piece at seen h =
     (λ w. let l = seen w in (Ok None, bytes ++ piece, l.begun, (refl, refl))) h
 
 -- a reply
-pub fed_reply : (run : PlainRun) (counts : List VolumeCount) (old : Standing) (step : Step) (r new_reader : reader.ReplyHeld) (bytes piece : List ℕ) (summary : ReplySummary) (more : Bool) (progress : Progress) (new : Standing) → Waiting step ≡ old.stage
-    → (IsReaderWaiting (wanted_of step) r bytes → IsFeedResult run counts (wanted_of step) (bytes ++ piece) (feed_result.Reply summary more) new_reader)
-    → ((reply : PlainReply) → IsSummary run counts reply summary → ReceivesAt old step (Reply reply) more progress new)
+pub fed_reply : (run : PlainRun) (counts : List VolumeCount) (old : Standing) (step : Step) (r new_reader : reader.ReplyHeld) (bytes piece : List ℕ) (h : HeardReply) (more : Bool) (progress : Progress) (new : Standing) → Waiting step ≡ old.stage
+    → (IsReaderWaiting (wanted_of step) r bytes → IsFeedResult run counts (wanted_of step) (bytes ++ piece) (feed_result.Reply h more) new_reader)
+    → ((reply : PlainReply) → IsSummary run counts reply h.summary → ReceivesAt old step (Reply reply) more progress new)
     → HasFedAt old.stage r bytes → FedAt old.stage old bytes piece progress new
-fed_reply run counts old step r new_reader bytes piece summary more progress new at seen heard h =
+fed_reply run counts old step r new_reader bytes piece h more progress new at seen heard fed =
     subst (λ s. HasFedAt s r bytes → FedAt s old bytes piece progress new) at
-    (λ w. let l = seen w in (Ok (Some l.0), l.1, l.2, subst (λ m. ReceivesAt old step (Reply l.0) m progress new) l.4 (heard l.0 l.3))) h
+    (λ w. let l = seen w in (Ok (Some l.0), l.1, l.2, subst (λ m. ReceivesAt old step (Reply l.0) m progress new) l.4 (heard l.0 l.3.0))) fed
 
 -- no reply
 pub fed_noise : (run : PlainRun) (counts : List VolumeCount) (old : Standing) (step : Step) (r new_reader : reader.ReplyHeld) (bytes piece : List ℕ) (progress : Progress) (new : Standing) → Waiting step ≡ old.stage

@@ -18,7 +18,7 @@ use Rattle.rmt_wire.specs.declared.fault.WireFault.{WireFault}
 use Rattle.dump_run.specs.Run.{PlainRun}
 use Rattle.dump_run.specs.declared.count.VolumeCount.{VolumeCount}
 use Rattle.dump_client.specs.Listening.{IsReaderWaiting, IsReplyHeard, IsFeedResult, is_more}
-use Rattle.dump_client.specs.declared.listen.ReplySummary.{ReplySummary}
+use Rattle.dump_client.specs.declared.listen.HeardReply.{HeardReply}
 use Rattle.dump_client.specs.declared.listen.FeedResult.TheVariants as feed_result
 
 -- the bytes so far and a piece of the rest
@@ -60,7 +60,7 @@ module _ (run : PlainRun) (counts : List VolumeCount) (wanted : Wanted) where
       → (rest : List ℕ) × ReplyUnread new None rest × ReplyParsesAs (Some wanted) bytes (Ok (Some (plain_reply reply))) rest
   next_some old new result reply n e bytes u = (subst (λ a. ReplyIsNext old (plain_reply_result a) new) e n).continues (Some wanted) bytes u
 
-  pub next_fault : (old new : ReplyHeld) (fault : WireFault) (result : Result (Option ReplySummary) WireFault) → ReplyStaysFaulty old (Err fault)
+  pub next_fault : (old new : ReplyHeld) (fault : WireFault) (result : Result (Option HeardReply) WireFault) → ReplyStaysFaulty old (Err fault)
       → IsErrAnd result (λ e. e ≡ fault) → (bytes : List ℕ) → ReplyUnread old (Some wanted) bytes
       → IsReplyHeard run counts wanted bytes result new
   next_fault old new fault (Ok answer) stays is bytes u = absurd is
@@ -74,18 +74,18 @@ module _ (run : PlainRun) (counts : List VolumeCount) (wanted : Wanted) where
       (omega arith, omega arith)
 
   -- what is heard of the bytes so far, with a piece of the rest
-  pub so_far : (bytes text part : List ℕ) (at count : ℕ) (result : Result (Option ReplySummary) WireFault) (new : ReplyHeld) → part ≡ drop at text
+  pub so_far : (bytes text part : List ℕ) (at count : ℕ) (result : Result (Option HeardReply) WireFault) (new : ReplyHeld) → part ≡ drop at text
       → IsReplyHeard run counts wanted ((bytes ++ take at text) ++ take count part) result new
       → IsReplyHeard run counts wanted (bytes ++ take (at + count) text) result new
   so_far bytes text part at count result new same h = subst (λ b. IsReplyHeard run counts wanted b result new) (piece_then bytes text part at count same) h
 
   -- none yet
-  pub none_yet : (bytes : List ℕ) (result : Result (Option ReplySummary) WireFault) (new : ReplyHeld) → IsReplyHeard run counts wanted bytes result new
+  pub none_yet : (bytes : List ℕ) (result : Result (Option HeardReply) WireFault) (new : ReplyHeld) → IsReplyHeard run counts wanted bytes result new
       → result ≡ Ok None → IsReaderWaiting wanted new bytes
   none_yet bytes result new h e = subst (λ r. IsReplyHeard run counts wanted bytes r new) e h
 
   -- a reply comes, with bytes after it that are unread
-  pub reply_then : (bytes text : List ℕ) (at : ℕ) (result : Result (Option ReplySummary) WireFault) (s : ReplySummary) (new : ReplyHeld) (empty : Bool)
+  pub reply_then : (bytes text : List ℕ) (at : ℕ) (result : Result (Option HeardReply) WireFault) (s : HeardReply) (new : ReplyHeld) (empty : Bool)
       → IsReplyHeard run counts wanted (bytes ++ take at text) result new → result ≡ Ok (Some s)
       → ((rest : List ℕ) → ReplyUnread new None rest → (empty ≡ true) ↔ (rest ≡ [])) → empty ≡ false
       → IsFeedResult run counts wanted (bytes ++ text) (feed_result.Reply s (not empty)) new
@@ -98,7 +98,7 @@ module _ (run : PlainRun) (counts : List VolumeCount) (wanted : Wanted) where
       (w.0, w.1 ++ drop at text, (w.2.0, w.2.1, whole), w.3, more ∙ sym (some_more w.1 (drop at text) unread), λ none. absurd (cc))
 
   -- a reply comes, and all of the bytes that were pushed are given
-  pub reply_last : (bytes text : List ℕ) (at : ℕ) (result : Result (Option ReplySummary) WireFault) (s : ReplySummary) (new : ReplyHeld) (empty : Bool)
+  pub reply_last : (bytes text : List ℕ) (at : ℕ) (result : Result (Option HeardReply) WireFault) (s : HeardReply) (new : ReplyHeld) (empty : Bool)
       → IsReplyHeard run counts wanted (bytes ++ take at text) result new → result ≡ Ok (Some s)
       → ((rest : List ℕ) → ReplyUnread new None rest → (empty ≡ true) ↔ (rest ≡ [])) → empty ≡ true
       → IsFeedResult run counts wanted (bytes ++ text) (feed_result.Reply s (nat_lt at (length text))) new
@@ -110,7 +110,7 @@ module _ (run : PlainRun) (counts : List VolumeCount) (wanted : Wanted) where
       (w.0, w.1 ++ drop at text, (w.2.0, w.2.1, whole), w.3, rest_goes_on text at ∙ ap (λ l. is_more (l ++ drop at text)) (sym given), λ last. subst (ReplyUnread new None) given w.4)
 
   -- a fault of the bytes so far is one of all of them
-  pub noise : (bytes text : List ℕ) (at : ℕ) (result : Result (Option ReplySummary) WireFault) (fault : WireFault) (new : ReplyHeld)
+  pub noise : (bytes text : List ℕ) (at : ℕ) (result : Result (Option HeardReply) WireFault) (fault : WireFault) (new : ReplyHeld)
       → IsReplyHeard run counts wanted (bytes ++ take at text) result new → result ≡ Err fault
       → IsFeedResult run counts wanted (bytes ++ text) feed_result.Noise new
   noise bytes text at result fault new h e =

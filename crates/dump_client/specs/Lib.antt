@@ -1,4 +1,4 @@
--- In reading order: Script, Position (an attempt); Listening, Standing, Client (a client); Lawful,
+-- In reading order: Script, Position (an attempt); Listening, Standing, Client, Looking (a client); Lawful,
 -- Replies, Going (what is kept at each step).
 pub mod Script
 pub mod Position
@@ -7,4 +7,5 @@ pub mod Standing
 pub mod Lawful
 pub mod Replies
 pub mod Client
+pub mod Looking
 pub mod Going

@@ -7,6 +7,8 @@ ghost use Rattle.dump_run.specs.Checkpoint.{SpellsCheckpoint, HasResumeFault};
 ghost use Rattle.dump_run.specs.Checkpoint as texts;
 ghost use Rattle.dump_client.specs.Standing.{VolumeCount, standing, state_of, checkpoint_of, IsOver, StartedAt, AnsweredAt, FedAt, CutAt};
 ghost use Rattle.dump_client.specs.Lawful.{IsLawful};
+ghost use Rattle.dump_client.specs.Looking.{FindsLabel};
+ghost use Rattle.dump_client.specs.Looking as looking;
 ghost use Rattle.dump_client.specs.Client.{HasFed, IsIdle, ResumesAs, unanswered, IsPayload, NextRequestAt, ReadAt, TellsEntry, failures_after, is_source_fault};
 ghost use Rattle.dump_client.specs.declared.stage.Stage.TheVariants as stages;
 
@@ -17,7 +19,7 @@ use crate::stage::Stage;
 use crate::step::Step;
 use crate::{
     Answer, AttemptFault, Blocks, ListBlocks, Progress, ResumeFault, Run, StartFault, State,
-    VolumeCount,
+    VolumeCount, VolumeLabel,
 };
 use dump_run::{Checkpoint, one_checkpoint, push_checkpoint};
 use dumpdates::Entry;
@@ -356,18 +358,46 @@ impl<B: Blocks> Client<B> {
         ensures same_source { self.new.source ≡ self.old.source }
         ensures slots { self.new.room + length self.new.at.counts ≡ self.old.room + length self.old.at.counts }
     {
+        let (progress, _) = self.feed_finding_label(piece);
+        progress
+    }
+
+    /// Takes a piece of the bytes that the server sends, like `feed`, and also returns the label
+    /// that the attempt is about to overwrite.
+    ///
+    /// The look is the read of the reel's first record, before anything is written. The label is
+    /// returned once, with the piece that completes the reply to the look. It is None if the record
+    /// is no label, if the attempt fails at it, and at any other piece. It allocates nothing.
+    pub fn feed_finding_label(&mut self, piece: &[u8]) -> (Progress, Option<VolumeLabel>)
+        // Takes a piece of the server's reply, with the effect and the progress of `feed`.
+        ensures moved { (bytes : List ℕ) → HasFed self.old bytes → FedAt self.old.at.stage self.old.at bytes piece.now result.0 self.new.at }
+        // If the client waits for the reply to the look, and the attempt continues after this
+        // piece, the reply is complete and contains the reel's first record. The call then returns
+        // the label that this record contains, or none if the record is not a label.
+        //
+        // In every other case the call returns no label.
+        ensures found { (bytes : List ℕ) → HasFed self.old bytes → FindsLabel self.old.at.stage (bytes ++ piece.now) result.0 result.1 }
+        // The client keeps the bytes of the awaited reply, as `feed` does.
+        ensures fed { (bytes : List ℕ) → HasFed self.old bytes → HasFed self.new (unanswered self.new.at.stage (bytes ++ piece.now)) }
+        // The total room for counts, used and free, stays the same. The source stays as it was.
+        ensures same_source { self.new.source ≡ self.old.source }
+        ensures slots { self.new.room + length self.new.at.counts ≡ self.old.room + length self.old.at.counts }
+    {
         match self.ledger.stage() {
-            Stage::ToSend(_) if piece.is_empty() => Progress::Send,
-            Stage::ToSend(step) => self.ledger.noise(step),
+            Stage::ToSend(_) if piece.is_empty() => (Progress::Send, None),
+            Stage::ToSend(step) => (self.ledger.noise(step), None),
             Stage::Waiting(step) => {
                 let (run, counts) = (self.ledger.run(), self.ledger.counted());
                 match listen(&mut self.reader, run, counts, piece) {
-                    FeedResult::Waits => Progress::Waiting,
-                    FeedResult::Reply { summary, more } => self.ledger.reply(step, summary, more),
-                    FeedResult::Noise => self.ledger.noise(step),
+                    FeedResult::Waits => (Progress::Waiting, None),
+                    FeedResult::Reply { heard, more } => {
+                        let progress = self.ledger.reply(step, heard.summary, more);
+                        (progress, found_label(step, progress, heard.label))
+                    }
+                    FeedResult::Noise => (self.ledger.noise(step), None),
                 }
             }
-            _ => Progress::Idle,
+            _ => (Progress::Idle, None),
         }
     }
 
@@ -410,6 +440,16 @@ impl<B: Blocks> Client<B> {
         ensures slots { self.new.room + length self.new.at.counts ≡ self.old.room + length self.old.at.counts }
     {
         self.ledger.answer(answer)
+    }
+}
+
+/// Returns the label in a reply to this step if it is the look and the attempt continues.
+fn found_label(step: Step, progress: Progress, label: Option<VolumeLabel>) -> Option<VolumeLabel>
+    ensures { result ≡ looking.found_label step progress label }
+{
+    match (step, progress) {
+        (Step::Look, Progress::Send) => label,
+        _ => None,
     }
 }
 

@@ -30,6 +30,7 @@ mod step;
 pub use client::Client;
 pub use dump_run::{
     BLOCKS_LIMIT, Blocks, ListBlocks, ResumeFault, Run, RunFault, SourceFailed, VolumeCount,
+    VolumeLabel,
 };
 pub use fault::{AttemptFault, StartFault};
 pub use laws::{

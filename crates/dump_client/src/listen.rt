@@ -7,9 +7,9 @@ ghost use Rattle.rmt_wire.specs.Lent.{plain_reply};
 ghost use Rattle.rmt_wire.specs.Reply.{Wanted};
 ghost use Rattle.rmt_wire.specs.ReplyReader.{ReplyUnread};
 ghost use Rattle.dump_client.specs.Script as script;
-ghost use Rattle.dump_client.specs.Listening.{IsReaderWaiting, IsSummary, IsReplyHeard, IsFeedResult};
+ghost use Rattle.dump_client.specs.Listening.{IsReaderWaiting, IsHeardAs, IsReplyHeard, IsFeedResult};
 
-use crate::{Run, VolumeCount};
+use crate::{Run, VolumeCount, VolumeLabel};
 use dump_run::label;
 use rmt_wire::{Reply, ReplyReader, WireFault};
 
@@ -24,13 +24,20 @@ pub(crate) enum ReplySummary {
     Error(u32),
 }
 
+/// A reply that came: its summary and, if it is a record that is a label, the label.
+#[derive(Drop)]
+pub(crate) struct HeardReply {
+    pub(crate) summary: ReplySummary,
+    pub(crate) label: Option<VolumeLabel>,
+}
+
 /// The result of the bytes that came while a reply is awaited.
-#[derive(Clone, Copy)]
+#[derive(Drop)]
 pub(crate) enum FeedResult {
     /// They are the beginning of a reply.
     Waits,
     /// They begin with a reply. `more`: further bytes follow it.
-    Reply { summary: ReplySummary, more: bool },
+    Reply { heard: HeardReply, more: bool },
     /// They do not begin a reply.
     Noise,
 }
@@ -48,14 +55,23 @@ fn counted_label(run: &Run, counts: &[VolumeCount], bytes: &[u8]) -> Option<u32>
     None
 }
 
-/// Summarizes a reply for a client of this run with these counts.
-fn without_text(reply: Reply<'_>, run: &Run, counts: &[VolumeCount]) -> ReplySummary
-    ensures { IsSummary run.now counts.now (plain_reply reply.entry) result }
+/// Summarizes a reply for a client of this run with these counts, and reads the label in it.
+fn without_text(reply: Reply<'_>, run: &Run, counts: &[VolumeCount]) -> HeardReply
+    ensures { IsHeardAs run.now counts.now (plain_reply reply.entry) result }
 {
     match reply {
-        Reply::Done { number } => ReplySummary::Number(number),
-        Reply::Data { bytes } => ReplySummary::Looked(counted_label(run, counts, bytes)),
-        Reply::Error { number, .. } => ReplySummary::Error(number),
+        Reply::Done { number } => HeardReply {
+            summary: ReplySummary::Number(number),
+            label: None,
+        },
+        Reply::Data { bytes } => HeardReply {
+            summary: ReplySummary::Looked(counted_label(run, counts, bytes)),
+            label: VolumeLabel::read(bytes),
+        },
+        Reply::Error { number, .. } => HeardReply {
+            summary: ReplySummary::Error(number),
+            label: None,
+        },
     }
 }
 
@@ -65,7 +81,7 @@ fn hear(
     reader: &mut ReplyReader,
     run: &Run,
     counts: &[VolumeCount],
-) -> Result<Option<ReplySummary>, WireFault>
+) -> Result<Option<HeardReply>, WireFault>
     ensures heard { (wanted : Wanted) (bytes : List ℕ) → ReplyUnread reader.old (Some wanted) bytes →
         IsReplyHeard run.now counts.now wanted bytes result reader.new }
 {
@@ -76,7 +92,8 @@ fn hear(
 }
 
 /// Pushes a piece of the stream to a reader that waits for a reply, up to the end of the first
-/// reply. Bytes of a record are compared with the labels of the counted volumes.
+/// reply. The bytes of a record are compared with the
+/// labels of the counted volumes, and are read as a label.
 ///
 /// The bytes pushed before must be a beginning of a reply, and the reader must have room. After
 /// `Waits` this is so again, with the whole piece. After a reply that no byte follows, the reader
@@ -97,9 +114,9 @@ pub(crate) fn listen(
         at += reader.push(&piece[at..]);
         match hear(reader, run, counts) {
             Ok(None) => {}
-            Ok(Some(summary)) => {
+            Ok(Some(heard)) => {
                 let more = !reader.is_empty() || at < piece.len();
-                return FeedResult::Reply { summary, more };
+                return FeedResult::Reply { heard, more };
             }
             Err(_) => return FeedResult::Noise,
         }

@@ -20,6 +20,8 @@ mod operations;
 mod payload;
 mod printing;
 mod progress;
+mod restored;
+mod restored_stack;
 mod socket;
 mod startup;
 mod statuses;

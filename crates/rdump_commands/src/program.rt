@@ -18,7 +18,8 @@ use std::env;
 use std::io::{self, Write};
 
 /// Does what the arguments of the process ask for, and returns the exit status of `rdump`.
-/// `terminal` is standard error, if that is a terminal: it shows the progress of a dump.
+/// `terminal` is standard error, if that is a terminal: it shows the progress of a dump, a
+/// read or a list.
 ///
 /// The status is `Success` if everything was done. It is `StartupError` if the command could not
 /// begin, because the arguments are wrong or a file cannot be read, for example. It is `Abnormal`
@@ -54,8 +55,8 @@ pub fn run_arguments<R: ClientSystem, S: AsStr, T: Write + Copy + Drop>(
 ) -> ExitStatus {
     match rdump_args(rt.alloc(), arguments) {
         Ok(RdumpLine::Dump(line)) => run_dump(rt, &line, terminal),
-        Ok(RdumpLine::Read(line)) => run_read(rt, line),
-        Ok(RdumpLine::List(line)) => run_ls(rt, line),
+        Ok(RdumpLine::Read(line)) => run_read(rt, line, terminal),
+        Ok(RdumpLine::List(line)) => run_ls(rt, line, terminal),
         Ok(RdumpLine::Mt(line)) => run_mt(rt, line),
         Ok(RdumpLine::Dates { file, asked }) => run_dates(rt, file, asked),
         Err(error) => refuse(rt, error),

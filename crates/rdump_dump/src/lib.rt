@@ -12,7 +12,6 @@ mod dump_command;
 mod dump_end;
 mod dump_start;
 mod dumping;
-mod last_reply;
 mod protecting;
 mod reporting_peer;
 mod run_limit;

@@ -3,7 +3,6 @@
 //! In comments, `line` is the parsed command line.
 ghost use Rattle.std.specs.Prelude.{◌≤◌, length};
 
-use crate::last_reply::LastReply;
 use crate::protecting::{find_obstacle, refusal, report_held};
 use dump_client::AttemptFault;
 use dump_run::VolumeLabel;
@@ -30,7 +29,6 @@ pub(crate) struct ReportingPeer<'a, R: ClientSystem, T> {
     line: DumpLine<'a>,
     socket: SocketPeer<'a, R>,
     looks: SocketPeer<'a, R>,
-    reply: LastReply,
     terminal: Option<T>,
 }
 
@@ -43,7 +41,6 @@ impl<'a, R: ClientSystem, T: Write> ReportingPeer<'a, R, T> {
             line: *line,
             socket: SocketPeer::new(rt, line.to),
             looks: SocketPeer::new(rt, line.to),
-            reply: LastReply::new(),
             terminal,
         }
     }
@@ -53,20 +50,6 @@ impl<'a, R: ClientSystem, T: Write> ReportingPeer<'a, R, T> {
         if let Some(terminal) = &mut self.terminal {
             clear(terminal);
         }
-    }
-
-    /// Prints which label is overwritten, if the last reply contains one. Called before the next
-    /// request, which shows that the dump continues.
-    fn report_label(&mut self) {
-        if let Some(label) = self.label() {
-            self.clear();
-            report_reel(self.rt, &label);
-        }
-    }
-
-    /// Returns the label in the last reply, if any.
-    fn label(&self) -> Option<VolumeLabel> {
-        VolumeLabel::read(self.reply.record()?)
     }
 
     /// Looks at the reel. Returns whether the dump may write on it, and prints why if not.
@@ -86,20 +69,15 @@ impl<'a, R: ClientSystem, T: Write> Peer for ReportingPeer<'a, R, T> {
     ghost tells = { λ _ _. ⊥ };
 
     fn connect(&mut self) -> bool {
-        self.reply.clear();
         self.socket.connect()
     }
 
     fn send(&mut self, bytes: &[u8]) -> bool {
-        self.report_label();
-        self.reply.clear();
         self.socket.send(bytes)
     }
 
     fn receive(&mut self, into: &mut [u8]) -> usize {
-        let count = self.socket.receive(into);
-        self.reply.push(&into[..count]);
-        count
+        self.socket.receive(into)
     }
 
     fn hang_up(&mut self) {
@@ -135,6 +113,11 @@ impl<'a, R: ClientSystem, T: Write> Peer for ReportingPeer<'a, R, T> {
             }
             _ => {}
         }
+    }
+
+    fn overwrites(&mut self, label: &VolumeLabel) {
+        self.clear();
+        report_reel(self.rt, label);
     }
 }
 

@@ -9,15 +9,24 @@
 //! files of a dump are all different. `open_payload` opens the payload, and `PayloadLook` checks
 //! whether it changed. `is_left_dates` and `is_left_checkpoint` recognize the unfinished files that
 //! an interrupted run leaves.
+//!
+//! `FileSink` writes the volumes of a dump that are read back to a file, which is any
+//! `RestoredFile`: each block at its place, or one after the other. `MemoryFile` is such a file in
+//! memory. `Found` is what the sink makes of the first record of a volume, `SinkFault` why it
+//! stopped, and `BlockSizes` how many blocks it wrote. `restored_volumes`, `appended_volumes` and
+//! `restored_bytes` are laws of what is then in the file.
 #![tactic(auto)]
 
+mod block_sizes;
 mod ctime;
 mod dates_file;
 mod dates_update;
 mod dump_files;
 mod dump_update;
+mod file_sink;
 mod files;
 mod left;
+mod live_line;
 mod named;
 mod new_file;
 mod payload;
@@ -25,21 +34,32 @@ mod payload_file;
 mod payload_look;
 mod progress;
 mod replaced_file;
+mod restored_file;
+mod restored_laws;
+mod restored_stack;
 mod resumed_dump;
+mod sink_fault;
 mod whole_file;
 
+pub use block_sizes::BlockSizes;
 pub use ctime::date_text;
 pub use dates_file::{base_date, dates};
 pub use dates_update::{UpdateFault, update};
 pub use dump_files::{DumpFile, DumpFiles, SameFile};
 pub use dump_update::{DumpEnd, dump_and_update, enter_dump};
+pub use file_sink::FileSink;
 pub use files::{read_or_empty, read_steady, seconds_now};
 pub use left::{is_left_checkpoint, is_left_dates};
+pub use live_line::{CLEAR, LiveLine, LiveText, Rate};
 pub use named::named_file;
 pub use payload::{DumperFault, dumper, dumper_of, run_of};
 pub use payload_file::PayloadFile;
 pub use payload_look::{PayloadChange, PayloadLook, open_payload};
-pub use progress::{CLEAR, Clearing, Gauge, ProgressLine, Shown};
+pub use progress::{Clearing, Gauge, ProgressLine, Shown};
 pub use replaced_file::ReplacedFile;
+pub use restored_file::{MemoryFile, RestoredFile};
+pub use restored_laws::{appended_volumes, restored_bytes, restored_volumes};
+pub use restored_stack::restore_stack;
 pub use resumed_dump::{ResumedDumpFault, resume_dump};
+pub use sink_fault::{Found, SinkFault};
 pub use whole_file::{FileFailed, WholeFile};

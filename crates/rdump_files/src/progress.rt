@@ -1,23 +1,10 @@
 //! Shows the progress of a dump.
-use arrayvec::ArrayString;
+use crate::live_line::{CLEAR, LiveLine, LiveText};
 use dump_client::{Blocks, SourceFailed};
 use std::fmt::Write as _;
 use std::io::{self, Write};
 use std::marker::Model;
-use std::time::{Clock, Instant};
-
-/// The least time between two updates of the line, in milliseconds.
-const BETWEEN_MILLIS: u128 = 100;
-
-/// Room for a line of progress, in bytes.
-const LINE_ROOM: usize = 128;
-
-/// Clears a terminal's line, which shows the progress (ECMA-48, EL).
-pub const CLEAR: &[u8] = b"\r\x1b[K";
-
-const KIB: u64 = 1024;
-
-const MIB: u64 = 1024 * KIB;
+use std::time::Clock;
 
 /// Shows how far a dump is. Its calls have no contract.
 pub trait Gauge {
@@ -104,52 +91,22 @@ impl<B: Blocks, G: Gauge> Blocks for Shown<B, G> {
 /// A line on a terminal that shows the volume, the block and the bytes a second of a dump. It is
 /// updated at most ten times a second.
 ///
-/// The bytes a second are counted since the attempt read its first block. A write that fails is
-/// ignored. If the clock cannot be read, nothing is shown.
+/// The bytes a second are counted since the attempt read its first block.
 #[derive(Drop)]
 pub struct ProgressLine<'a, R: Clock, W: Write> {
-    clock: &'a R,
-    terminal: W,
+    line: LiveLine<'a, R, W>,
     blocks: u32,
     volume: u32,
-    began: Option<Instant>,
-    bytes: u64,
-    shown: Option<Instant>,
 }
 
 impl<'a, R: Clock, W: Write> ProgressLine<'a, R, W> {
     /// Makes a progress line at this terminal, with nothing shown yet.
     pub fn new(clock: &'a R, terminal: W) -> Self {
         ProgressLine {
-            clock,
-            terminal,
+            line: LiveLine::new(clock, terminal),
             blocks: 0,
             volume: 1,
-            began: None,
-            bytes: 0,
-            shown: None,
         }
-    }
-
-    // Whether enough time has passed since the last update.
-    fn is_due(&self, now: Instant) -> bool {
-        match self.shown {
-            Some(shown) => now.duration_since(shown).as_millis() >= BETWEEN_MILLIS,
-            None => true,
-        }
-    }
-
-    // Returns the bytes a second since `began`.
-    fn rate(&self, began: Instant, now: Instant) -> u64 {
-        let millis = now.duration_since(began).as_millis();
-        let rate = u128::from(self.bytes) * 1000 / millis.max(1);
-        u64::try_from(rate).unwrap_or(u64::MAX)
-    }
-
-    // Prints the line of this block at this rate.
-    fn print(&mut self, block: u32, rate: u64) {
-        let line = line_of(self.volume, block, self.blocks, rate);
-        let _ = self.terminal.write_all(line.as_bytes());
     }
 }
 
@@ -160,39 +117,18 @@ impl<'a, R: Clock, W: Write> Gauge for ProgressLine<'a, R, W> {
 
     fn begin_volume(&mut self, volume: u32, _first: u32) {
         self.volume = volume;
-        self.began = None;
-        self.bytes = 0;
+        self.line.begin();
     }
 
     fn show(&mut self, block: u32, bytes: usize) {
-        let Ok(now) = Instant::now(self.clock) else {
-            return;
-        };
-        let began = self.began.unwrap_or(now);
-        self.began = Some(began);
-        if self.is_due(now) {
-            self.shown = Some(now);
-            self.print(block, self.rate(began, now));
+        if let Some(rate) = self.line.due() {
+            let (volume, number, blocks) = (self.volume, block.saturating_add(1), self.blocks);
+            let mut text = LiveText::new();
+            let _ = write!(text, "volume {volume}, block {number} of {blocks}, {rate}");
+            self.line.print(&text);
         }
-        self.bytes = self.bytes.saturating_add(bytes as u64);
+        self.line.add(bytes);
     }
-}
-
-/// Returns the line for this block of a volume. `block` is counted from 0, `blocks` is how many the
-/// dump has, and `rate` is in bytes a second.
-fn line_of(volume: u32, block: u32, blocks: u32, rate: u64) -> ArrayString<LINE_ROOM> {
-    let mut line = ArrayString::new();
-    let number = block.saturating_add(1);
-    let (speed, unit) = if rate < 10 * MIB {
-        (rate / KIB, "KiB")
-    } else {
-        (rate / MIB, "MiB")
-    };
-    let _ = write!(
-        line,
-        "\rvolume {volume}, block {number} of {blocks}, {speed} {unit}/s\x1b[K"
-    );
-    line
 }
 
 /// A writer of lines, each in one write. It clears the line of progress at a terminal before each

@@ -2,25 +2,29 @@
 ghost use Rattle.dump_run.specs.Run.{IsDevice};
 
 use crate::ListSystem;
-use crate::drive_reel::read_drive;
+use crate::drive_reel::{DriveReel, read_drive};
 use crate::reel::{ListedReel, Source};
 use printable::plain;
 use rdump_net::{ReadFault, SocketPeer};
 use reel_check::{ReelContents, ReelTally};
 use std::alloc::AllocError;
+use std::io::Write;
 
-/// Reads the first reel on the stack of this drive. If there is no session, it prints why and
-/// returns None. Fails if an allocation fails.
-pub(crate) fn drive_reel<R: ListSystem>(
+/// Reads the first reel on the stack of this drive. `terminal` shows how far that is,
+/// if there is one. If there is no session, it prints why and returns None. Fails if an allocation fails.
+pub(crate) fn drive_reel<R: ListSystem, T: Write + Drop>(
     rt: &R,
     to: &str,
     device: &str,
+    terminal: Option<T>,
 ) -> Result<Option<ListedReel>, AllocError>
     requires { IsDevice device.now }
 {
     let mut peer = SocketPeer::new(rt, to);
-    let mut tally = ReelTally::new();
-    match read_drive(rt.alloc(), &mut peer, device.as_bytes(), &mut tally) {
+    let mut reel = DriveReel::new(rt, terminal);
+    let read = read_drive(rt.alloc(), &mut peer, device.as_bytes(), &mut reel);
+    let tally = reel.into_tally();
+    match read {
         Ok(None) => Ok(Some(reel_of(rt, device, tally, Source::Drive)?)),
         Ok(Some(why)) => Ok(Some(reel_of(rt, device, tally, Source::Undetermined(why))?)),
         Err(ReadFault::OutOfMemory) => Err(AllocError),

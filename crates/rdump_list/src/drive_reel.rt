@@ -1,11 +1,13 @@
 //! Reading the first reel of a drive's stack over a connection. Nothing is written.
 //!
-//! `tally` collects what was read of the reel.
+//! `reel` collects what was read of the reel.
 //!
 //! Only operations that were done decide: a refusal may be a fault of the device, and a read that
 //! returns nothing met a mark or the end.
 ghost use Rattle.rmt_wire.specs.Number.{IsLine};
 
+use crate::ListSystem;
+use crate::progress::ListProgress;
 use crate::spacing::{ReadStop, can_space, next_record, rewind, space};
 use crate::undetermined::Undetermined;
 use rdump_net::{KeptReply, Peer, PeerCaller, ReadFault, VolumeRequest};
@@ -14,19 +16,57 @@ use rmt_wire::fcntl::O_RDONLY;
 use rmt_wire::mtio::{MTBSF, MTBSR, MTFSF, MTFSR};
 use rmt_wire::{NUMBER_LIMIT, Request};
 use std::alloc::Global;
+use std::io::Write;
+
+/// What was read of a drive's reel, and what shows that on a terminal, if there is one.
+#[derive(Drop)]
+pub(crate) struct DriveReel<'a, R: ListSystem, T: Write + Drop> {
+    tally: ReelTally,
+    progress: Option<ListProgress<'a, R, T>>,
+}
+
+impl<'a, R: ListSystem, T: Write + Drop> DriveReel<'a, R, T> {
+    /// Makes one of which nothing was read. `terminal` shows the records, if there is one.
+    pub(crate) fn new(rt: &'a R, terminal: Option<T>) -> Self {
+        let mut progress = ListProgress::at(rt, terminal);
+        if let Some(progress) = &mut progress {
+            progress.begin_reel();
+        }
+        DriveReel {
+            tally: ReelTally::new(),
+            progress,
+        }
+    }
+
+    /// Clears the line of progress, and returns the entries that were read.
+    pub(crate) fn into_tally(mut self) -> ReelTally {
+        if let Some(progress) = &mut self.progress {
+            progress.clear();
+        }
+        self.tally
+    }
+
+    /// Adds a record.
+    fn record(&mut self, record: &[u8]) {
+        self.tally.record(record);
+        if let Some(progress) = &mut self.progress {
+            progress.add(record.len());
+        }
+    }
+}
 
 /// Reads the first reel on the stack of this drive, over a connection of its own, and adds its
-/// entries to the tally.
+/// entries to `reel`.
 ///
 /// Returns why the reel's contents could not be determined, if so. Fails if an allocation fails,
 /// the connection cannot be made or ends, the open is refused, or the bytes that come are no reply.
 ///
 /// The device is one line of at most `LINE_LIMIT` bytes.
-pub(crate) fn read_drive<P: Peer>(
+pub(crate) fn read_drive<P: Peer, R: ListSystem, T: Write + Drop>(
     alloc: Global,
     peer: &mut P,
     device: &[u8],
-    tally: &mut ReelTally,
+    reel: &mut DriveReel<'_, R, T>,
 ) -> Result<Option<Undetermined>, ReadFault>
     requires { IsLine device.now }
 {
@@ -36,7 +76,7 @@ pub(crate) fn read_drive<P: Peer>(
     if !peer.connect() {
         return Err(ReadFault::ConnectionEnded);
     }
-    let told = read_open(&mut caller, peer, device, tally);
+    let told = read_open(&mut caller, peer, device, reel);
     peer.hang_up();
     match told {
         Ok(()) => Ok(None),
@@ -46,16 +86,16 @@ pub(crate) fn read_drive<P: Peer>(
 }
 
 /// Opens the drive, reads its reel, and closes it. It ignores the reply to the close.
-fn read_open<P: Peer>(
+fn read_open<P: Peer, R: ListSystem, T: Write + Drop>(
     caller: &mut PeerCaller,
     peer: &mut P,
     device: &[u8],
-    tally: &mut ReelTally,
+    reel: &mut DriveReel<'_, R, T>,
 ) -> Result<(), ReadStop>
     requires { IsLine device.now }
 {
     open(caller, peer, device)?;
-    let told = read_reel(caller, peer, tally);
+    let told = read_reel(caller, peer, reel);
     let _ = caller.call(peer, &Request::Close);
     told
 }
@@ -79,34 +119,34 @@ fn open<P: Peer>(caller: &mut PeerCaller, peer: &mut P, device: &[u8]) -> Result
     }
 }
 
-/// Reads the reel of the opened drive, and adds its entries to the tally.
-fn read_reel<P: Peer>(
+/// Reads the reel of the opened drive, and adds its entries to `reel`.
+fn read_reel<P: Peer, R: ListSystem, T: Write + Drop>(
     caller: &mut PeerCaller,
     peer: &mut P,
-    tally: &mut ReelTally,
+    reel: &mut DriveReel<'_, R, T>,
 ) -> Result<(), ReadStop> {
     rewind(caller, peer)?;
-    read_records(caller, peer, tally)?;
-    match tally.holding() {
+    read_records(caller, peer, reel)?;
+    match reel.tally.holding() {
         Holding::Foreign => Ok(()),
-        Holding::Empty => look_for_mark(caller, peer, tally),
-        Holding::Volume(_) => look_after(caller, peer, tally),
+        Holding::Empty => look_for_mark(caller, peer, reel),
+        Holding::Volume(_) => look_after(caller, peer, reel),
     }
 }
 
 /// Reads record after record until a read returns nothing, or until the records are no volume.
-fn read_records<P: Peer>(
+fn read_records<P: Peer, R: ListSystem, T: Write + Drop>(
     caller: &mut PeerCaller,
     peer: &mut P,
-    tally: &mut ReelTally,
+    reel: &mut DriveReel<'_, R, T>,
 ) -> Result<(), ReadStop> {
     for _ in 0..u64::MAX {
         let record = next_record(caller, peer)?;
         if record.is_empty() {
             return Ok(());
         }
-        tally.record(&record);
-        if matches!(tally.holding(), Holding::Foreign) {
+        reel.record(&record);
+        if matches!(reel.tally.holding(), Holding::Foreign) {
             return Ok(());
         }
     }
@@ -115,38 +155,38 @@ fn read_records<P: Peer>(
 
 /// Looks for a mark at the beginning, after the first read returned nothing. If spacing over one is
 /// refused, the reel may be empty.
-fn look_for_mark<P: Peer>(
+fn look_for_mark<P: Peer, R: ListSystem, T: Write + Drop>(
     caller: &mut PeerCaller,
     peer: &mut P,
-    tally: &mut ReelTally,
+    reel: &mut DriveReel<'_, R, T>,
 ) -> Result<(), ReadStop> {
     rewind(caller, peer)?;
     if !can_space(caller, peer, MTFSF)? {
         return Err(ReadStop::Undetermined(Undetermined::NoRecord));
     }
-    tally.mark();
+    reel.tally.mark();
     Ok(())
 }
 
 /// Looks for what follows the last record, after a read returned nothing. If a record is right
 /// before this place, that read met the end.
-fn look_after<P: Peer>(
+fn look_after<P: Peer, R: ListSystem, T: Write + Drop>(
     caller: &mut PeerCaller,
     peer: &mut P,
-    tally: &mut ReelTally,
+    reel: &mut DriveReel<'_, R, T>,
 ) -> Result<(), ReadStop> {
     if can_space(caller, peer, MTBSR)? {
         return Ok(());
     }
-    go_after_mark(caller, peer, tally.records())?;
-    tally.mark();
+    go_after_mark(caller, peer, reel.tally.records())?;
+    reel.tally.mark();
     let record = next_record(caller, peer)?;
     if !record.is_empty() {
-        tally.record(&record);
+        reel.record(&record);
         return Ok(());
     }
     if has_second_mark(caller, peer)? {
-        tally.mark();
+        reel.tally.mark();
     }
     Ok(())
 }

@@ -17,7 +17,8 @@ use std::alloc::{AllocError, Global};
 use std::io::{self, Write};
 
 /// Runs `rdump ls`: lists reels, one line each, sorted. If a dumpdates file is given, it prints an
-/// empty line and then one line for each of its dumps. Nothing is written to a reel.
+/// empty line and then one line for each of its dumps. Nothing is written to a reel. `terminal` is
+/// standard error, if that is a terminal: it shows how far the list is.
 ///
 /// Returns the exit status:
 ///
@@ -27,10 +28,14 @@ use std::io::{self, Write};
 /// - `Abnormal` otherwise.
 ///
 /// Errors are printed on standard error; out of memory is printed on standard output.
-pub fn run_ls<R: ListSystem>(rt: &R, line: ListLine<'_>) -> ExitStatus
+pub fn run_ls<R: ListSystem, T: Write + Drop>(
+    rt: &R,
+    line: ListLine<'_>,
+    terminal: Option<T>,
+) -> ExitStatus
     requires { IsListLine line }
 {
-    match list(rt, &line) {
+    match list(rt, &line, terminal) {
         Ok(status) => status,
         Err(AllocError) => {
             let _ = println!(rt; "out of memory");
@@ -40,7 +45,11 @@ pub fn run_ls<R: ListSystem>(rt: &R, line: ListLine<'_>) -> ExitStatus
 }
 
 /// Lists the reels. Returns the exit status. Fails if an allocation fails.
-fn list<R: ListSystem>(rt: &R, line: &ListLine<'_>) -> Result<ExitStatus, AllocError>
+fn list<R: ListSystem, T: Write + Drop>(
+    rt: &R,
+    line: &ListLine<'_>,
+    terminal: Option<T>,
+) -> Result<ExitStatus, AllocError>
     requires { IsListLine line.now }
 {
     let dates = match line.dumpdates {
@@ -48,7 +57,7 @@ fn list<R: ListSystem>(rt: &R, line: &ListLine<'_>) -> Result<ExitStatus, AllocE
         None => None,
     };
     let are_dates_read = dates.is_some() || line.dumpdates.is_none();
-    let (mut reels, are_reels_read) = read_reels(rt, &line.reels)?;
+    let (mut reels, are_reels_read) = read_reels(rt, &line.reels, terminal)?;
     sort(reels.as_mut_slice());
     let mut out = Printer::new(rt.alloc(), io::writer(rt));
     let are_whole = print_reels(rt.alloc(), &mut out, &reels)?;
@@ -74,24 +83,26 @@ fn has_reel<R: ListSystem>(rt: &R, reels: &[ListedReel], are_read: bool) -> bool
 }
 
 /// Returns the reels that the arguments name, and whether all could be read.
-fn read_reels<R: ListSystem>(
+fn read_reels<R: ListSystem, T: Write + Drop>(
     rt: &R,
     reels: &ListedReels<'_>,
+    terminal: Option<T>,
 ) -> Result<(Vec<ListedReel>, bool), AllocError>
     requires { IsListedReels reels.now }
 {
     match reels {
-        ListedReels::Paths(paths) => read_paths(rt, paths),
-        ListedReels::Drive { to, device } => read_first(rt, to, device),
+        ListedReels::Paths(paths) => read_paths(rt, paths, terminal),
+        ListedReels::Drive { to, device } => read_first(rt, to, device, terminal),
     }
 }
 
 /// Returns the reels at these paths, and whether all could be read.
-fn read_paths<R: ListSystem>(
+fn read_paths<R: ListSystem, T: Write + Drop>(
     rt: &R,
     paths: &[&str],
+    terminal: Option<T>,
 ) -> Result<(Vec<ListedReel>, bool), AllocError> {
-    let mut lister = Lister::new(rt)?;
+    let mut lister = Lister::new(rt, terminal)?;
     for path in paths {
         lister.read(path)?;
     }
@@ -100,15 +111,16 @@ fn read_paths<R: ListSystem>(
 
 /// Returns the first reel on the stack of a drive, and whether there was a session with the server
 /// at the address `to`.
-fn read_first<R: ListSystem>(
+fn read_first<R: ListSystem, T: Write + Drop>(
     rt: &R,
     to: &str,
     device: &str,
+    terminal: Option<T>,
 ) -> Result<(Vec<ListedReel>, bool), AllocError>
     requires { IsDevice device.now }
 {
     let mut reels = Vec::new(rt.alloc());
-    match drive_reel(rt, to, device)? {
+    match drive_reel(rt, to, device, terminal)? {
         Some(reel) => {
             reels.push(reel)?;
             Ok((reels, true))

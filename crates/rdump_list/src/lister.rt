@@ -4,12 +4,14 @@
 use crate::ListSystem;
 use crate::fault::{print_fault, report};
 use crate::folder::names_in;
+use crate::progress::ListProgress;
 use crate::reel::{ListedReel, Source};
+use crate::shown_medium::ShownMedium;
 use file_medium::FileMedium;
 use reel_check::{ReelContents, check_reel};
 use std::alloc::AllocError;
 use std::fs::{self, File};
-use std::io::{self, ErrorKind};
+use std::io::{self, ErrorKind, Write};
 
 /// How many bytes of a record are read at once.
 const ROOM: usize = 65536;
@@ -19,30 +21,34 @@ const NO_FILE: &str = "it is no plain file and no folder";
 
 /// Reads record files, one after the other, and collects what they contain.
 #[derive(Drop)]
-pub(crate) struct Lister<'a, R: ListSystem> {
+pub(crate) struct Lister<'a, R: ListSystem, W: Write + Drop> {
     rt: &'a R,
     room: Box<[u8; ROOM]>,
+    progress: Option<ListProgress<'a, R, W>>,
     reels: Vec<ListedReel>,
     has_failed: bool,
 }
 
-impl<'a, R: ListSystem> Lister<'a, R> {
-    /// Makes a lister that has read nothing. It allocates 65,536 bytes. Fails if an allocation
-    /// fails.
-    pub(crate) fn new(rt: &'a R) -> Result<Self, AllocError> {
+impl<'a, R: ListSystem, W: Write + Drop> Lister<'a, R, W> {
+    /// Makes a lister that has read nothing. `terminal` shows how far it is, if there is one. It
+    /// allocates 65,536 bytes. Fails if an allocation fails.
+    pub(crate) fn new(rt: &'a R, terminal: Option<W>) -> Result<Self, AllocError> {
         let Ok(room) = Box::new(rt.alloc(), [0; ROOM]) else {
             return Err(AllocError);
         };
         Ok(Lister {
             rt,
             room,
+            progress: ListProgress::at(rt, terminal),
             reels: Vec::new(rt.alloc()),
             has_failed: false,
         })
     }
 
-    /// Returns the reels that were read, and whether all could be read.
-    pub(crate) fn into_reels(self) -> (Vec<ListedReel>, bool) {
+    /// Clears the line of progress, and returns the reels that were read, and whether all could be
+    /// read.
+    pub(crate) fn into_reels(mut self) -> (Vec<ListedReel>, bool) {
+        self.clear();
         (self.reels, !self.has_failed)
     }
 
@@ -113,8 +119,23 @@ impl<'a, R: ListSystem> Lister<'a, R> {
         if !file.metadata()?.is_file() {
             return Err(io::Error::new(ErrorKind::InvalidInput, NO_FILE));
         }
-        let mut medium = FileMedium::new(file);
-        Ok(check_reel(&mut medium, self.room.as_mut_slice()).ok())
+        let mut shown = ShownMedium {
+            medium: FileMedium::new(file),
+            progress: self.progress.take(),
+        };
+        if let Some(progress) = &mut shown.progress {
+            progress.begin_reel();
+        }
+        let contents = check_reel(&mut shown, self.room.as_mut_slice());
+        self.progress = shown.progress;
+        Ok(contents.ok())
+    }
+
+    /// Clears the line of progress.
+    fn clear(&mut self) {
+        if let Some(progress) = &mut self.progress {
+            progress.clear();
+        }
     }
 
     /// Adds a record file with its contents to the list.
@@ -131,6 +152,7 @@ impl<'a, R: ListSystem> Lister<'a, R> {
     /// Prints why a path cannot be read, and remembers the failure.
     fn print_fault(&mut self, path: &str, why: &str) {
         self.has_failed = true;
+        self.clear();
         print_fault(self.rt, path, why);
     }
 
@@ -138,6 +160,7 @@ impl<'a, R: ListSystem> Lister<'a, R> {
     /// the reason is out of memory.
     fn report(&mut self, path: &str, error: io::Error) -> Result<(), AllocError> {
         self.has_failed = true;
+        self.clear();
         report(self.rt, path, error)
     }
 }

@@ -9,3 +9,5 @@ pub mod DriveCalls
 pub mod Marks
 pub mod Keeping
 pub mod Looking
+pub mod Offline
+pub mod Printing

@@ -1,9 +1,6 @@
 -- A volume that is read over a peer, put together.
 use Rattle.std.proofs.Common.{◌≡◌, ◌≢◌, inl, inr, ℕ, ◌+◌, ◌-◌, ◌^◌, ◌≤◌, List, [], ◌∷◌, ◌++◌, length, Bool, true, false, Option, Some, None, Result, Ok, Err, Vec, Global, refl, sym, ap, subst, ◌∙◌, if◌then◌else◌, append-nil, append_assoc, nat_eq, arith}
 use Rattle.std.proofs.lemmas.Bool.Decides.{nat_tests}
-use Rattle.std.specs.List.{concat}
-use Rattle.std.proofs.lemmas.List.Folds.{concat-append}
-use Rattle.rmt_wire.specs.Counted.{Counting}
 use Rattle.rmt_wire.specs.declared.mtio.TheConstants.{MTREW}
 use Rattle.rmt_wire.specs.declared.limits.TheConstants.{RECORD_LIMIT}
 use Rattle.rmt_wire.specs.Reply.{PlainReply}
@@ -15,21 +12,23 @@ use Rattle.rdump_net.specs.KeptReply.{plain_result}
 use Rattle.rdump_net.specs.Call.{wanted_by, IsPeerCall, IsCalled, Brings}
 use Rattle.rdump_net.specs.Calls.{is_done, CallsFollow, Stops, Extends}
 use Rattle.rdump_net.specs.DriveCalls.{read_fault}
-use Rattle.rmt_wire.specs.Print.{IsPrinted}
-use Rattle.rdump_net.specs.Ends.{copy_ends, copy_kind, stream_ends, stream_kind}
-use Rattle.rdump_net.specs.Reading.{next_of, next_read, next_mark, after_for_count, after_for_records, records_of, text_of, label_text, file_bytes, IsNamed, ReadFails, ReadEnds, is_whole, is_copied, AreRecords, IsAtLabel, IsVolumeReading, IsVolumeRead, EndsAtRefusal, GoesOnBy, Breaks, CallSteps, IsBegun, IsDone, IsDoneBy, IsRecordRead, Reads, ReadsVolume, AreRecordsWritten, Concludes, IsCopied, HasReadVolume}
+use Rattle.rdump_net.specs.Ends.{sink_ends, sink_kind}
+use Rattle.rdump_net.specs.Sink.{SinkCall, Takes, blocks_from, calls_of}
+use Rattle.rdump_net.specs.Sink.SinkCall.{Label, Block}
+use Rattle.rdump_net.specs.Sink.Takes.{nothing, accepted, stopped}
+use Rattle.rdump_net.specs.Reading.{next_of, next_read, next_mark, after_for_count, after_for_records, records_of, IsNamed, ReadFails, ReadEnds, IsEnding, is_whole, is_taken, AreRecords, IsAtLabel, IsVolumeReading, IsVolumeRead, OnlyTheLastIsEmpty, IsBeginningOf, EndsAtRefusal, GoesOnBy, Breaks, CallSteps, IsBegun, IsDone, IsDoneBy, IsRecordRead, Reads, ReadsVolume, AreRecordsGiven, HasConcluded, IsGiven, HasReadVolume}
+use Rattle.rdump_net.specs.Reading.IsEnding.{unasked}
 use Rattle.rdump_net.specs.declared.kept_reply.KeptReply.{KeptReply}
 use Rattle.rdump_net.specs.declared.kept_reply.KeptReply.TheVariants as kept
 use Rattle.rdump_net.specs.declared.fault.VolumeRequest.{VolumeRequest}
 use Rattle.rdump_net.specs.declared.fault.CallFault.{CallFault}
 use Rattle.rdump_net.specs.declared.fault.CallFault.TheVariants as call
 use Rattle.rdump_net.specs.declared.fault.ReadFault.{ReadFault}
-use Rattle.rdump_net.specs.declared.fault.ReadFault.TheVariants.{Refused, Botched, OutputFailed}
+use Rattle.rdump_net.specs.declared.fault.ReadFault.TheVariants.{Refused, Botched, Stopped}
 use Rattle.rdump_net.specs.declared.peer.Passed.{Passed}
 use Rattle.rdump_net.specs.declared.volume.AfterVolume.{AfterVolume}
 use Rattle.rdump_net.specs.declared.volume.AfterVolume.TheVariants.{Stay}
 use Rattle.rdump_net.proofs.Calls.{logs_both, reply_extends, call_extends, call_finishes, extends_both}
-use Rattle.rdump_net.proofs.Printed.{nothing_printed, printed_both}
 use Rattle.rdump_net.proofs.Talking.{alone}
 
 -- the records of replies, and of more
@@ -43,26 +42,26 @@ pub records_same : (a b : List PlainReply) → records_of b ≡ [] → records_o
 records_same a b none = records_more a b ∙ ap (λ l. records_of a ++ l) none ∙ append-nil (records_of a)
 
 -- what is asked after records
-read_again : (after : AfterVolume) (m n : ℕ) (reads : List PlainReply) → AreRecords m n reads → next_read after m reads ≡ Some (Read RECORD_LIMIT)
-read_again after m n [] h = refl
-read_again after m n (Data [] ∷ reads) h = absurd h
-read_again after m n (Data (b ∷ bytes) ∷ reads) h = read_again after (m + 1) n reads h
-read_again after m n (Done k ∷ reads) h = absurd h
-read_again after m n (Error k text ∷ reads) h = absurd h
+read_again : (after : AfterVolume) (c : Bool) (m n : ℕ) (reads : List PlainReply) → AreRecords m n reads → next_read after c m reads ≡ Some (Read RECORD_LIMIT)
+read_again after c m n [] h = refl
+read_again after c m n (Data [] ∷ reads) h = absurd h
+read_again after c m n (Data (b ∷ bytes) ∷ reads) h = read_again after c (m + 1) n reads h
+read_again after c m n (Done k ∷ reads) h = absurd h
+read_again after c m n (Error k text ∷ reads) h = absurd h
 
-read_stops : (after : AfterVolume) (m n number : ℕ) (text : List ℕ) (reads : List PlainReply) → AreRecords m n reads → next_read after m (reads ++ Error number text ∷ []) ≡ None
-read_stops after m n number text [] h = refl
-read_stops after m n number text (Data [] ∷ reads) h = absurd h
-read_stops after m n number text (Data (b ∷ bytes) ∷ reads) h = read_stops after (m + 1) n number text reads h
-read_stops after m n number text (Done k ∷ reads) h = absurd h
-read_stops after m n number text (Error k words ∷ reads) h = absurd h
+read_stops : (after : AfterVolume) (c : Bool) (m n number : ℕ) (text : List ℕ) (reads : List PlainReply) → AreRecords m n reads → next_read after c m (reads ++ Error number text ∷ []) ≡ None
+read_stops after c m n number text [] h = refl
+read_stops after c m n number text (Data [] ∷ reads) h = absurd h
+read_stops after c m n number text (Data (b ∷ bytes) ∷ reads) h = read_stops after c (m + 1) n number text reads h
+read_stops after c m n number text (Done k ∷ reads) h = absurd h
+read_stops after c m n number text (Error k words ∷ reads) h = absurd h
 
-end_after : (after : AfterVolume) (m n : ℕ) (reads ends : List PlainReply) → AreRecords m n reads → next_read after m ((reads ++ Data [] ∷ []) ++ ends) ≡ next_mark (after_for_count after n) n ends
-end_after after m n [] ends h = ap (λ k. next_mark (after_for_count after k) k ends) (sym h)
-end_after after m n (Data [] ∷ reads) ends h = absurd h
-end_after after m n (Data (b ∷ bytes) ∷ reads) ends h = end_after after (m + 1) n reads ends h
-end_after after m n (Done k ∷ reads) ends h = absurd h
-end_after after m n (Error k text ∷ reads) ends h = absurd h
+end_after : (after : AfterVolume) (c : Bool) (m n : ℕ) (reads ends : List PlainReply) → AreRecords m n reads → next_read after c m ((reads ++ Data [] ∷ []) ++ ends) ≡ next_mark (after_for_count after n) c n ends
+end_after after c m n [] ends h = ap (λ k. next_mark (after_for_count after k) c k ends) (sym h)
+end_after after c m n (Data [] ∷ reads) ends h = absurd h
+end_after after c m n (Data (b ∷ bytes) ∷ reads) ends h = end_after after c (m + 1) n reads ends h
+end_after after c m n (Done k ∷ reads) ends h = absurd h
+end_after after c m n (Error k text ∷ reads) ends h = absurd h
 
 -- how many there are
 records_least : (m n : ℕ) (reads : List PlainReply) → AreRecords m n reads → m ≤ n
@@ -90,19 +89,19 @@ record_after m n (Data (b ∷ more) ∷ reads) bytes h some = record_after (m + 
 record_after m n (Done k ∷ reads) bytes h some = absurd h
 record_after m n (Error k text ∷ reads) bytes h some = absurd h
 
-pub reading_next : (device : List ℕ) (after : AfterVolume) (n : ℕ) (replies : List PlainReply) → IsVolumeReading n replies → next_of device after replies ≡ Some (Read RECORD_LIMIT)
-reading_next device after n replies (opened, rewound, b, bytes, reads, e, met, h) =
-    ap (next_of device after) e ∙ ap (λ t. if t then next_read after 1 reads else None) met ∙ read_again after 1 n reads h
+pub reading_next : (device : List ℕ) (after : AfterVolume) (c : Bool) (n : ℕ) (replies : List PlainReply) → IsVolumeReading n replies → next_of device after c replies ≡ Some (Read RECORD_LIMIT)
+reading_next device after c n replies (opened, rewound, b, bytes, reads, e, met, h) =
+    ap (next_of device after c) e ∙ ap (λ t. if t then next_read after c 1 reads else None) met ∙ read_again after c 1 n reads h
 
-pub reading_stops : (device : List ℕ) (after : AfterVolume) (n : ℕ) (replies : List PlainReply) → IsVolumeReading n replies → EndsAtRefusal (next_of device after) replies
-reading_stops device after n replies (opened, rewound, b, bytes, reads, e, met, h) = λ number text.
-    ap (λ l. next_of device after (l ++ Error number text ∷ [])) e ∙ ap (λ t. if t then next_read after 1 (reads ++ Error number text ∷ []) else None) met
-    ∙ read_stops after 1 n number text reads h
+pub reading_stops : (device : List ℕ) (after : AfterVolume) (c : Bool) (n : ℕ) (replies : List PlainReply) → IsVolumeReading n replies → EndsAtRefusal (next_of device after c) replies
+reading_stops device after c n replies (opened, rewound, b, bytes, reads, e, met, h) = λ number text.
+    ap (λ l. next_of device after c (l ++ Error number text ∷ [])) e ∙ ap (λ t. if t then next_read after c 1 (reads ++ Error number text ∷ []) else None) met
+    ∙ read_stops after c 1 n number text reads h
 
-pub reading_mark : (device : List ℕ) (after : AfterVolume) (n : ℕ) (replies : List PlainReply) → IsVolumeRead n replies → GoesOnBy (next_of device after) (next_mark (after_for_count after n) n) replies
-reading_mark device after n replies (before, (opened, rewound, b, bytes, reads, e, met, h), same) = λ ends.
-    ap (λ l. next_of device after (l ++ ends)) same ∙ ap (λ l. next_of device after ((l ++ Data [] ∷ []) ++ ends)) e
-    ∙ ap (λ t. if t then next_read after 1 ((reads ++ Data [] ∷ []) ++ ends) else None) met ∙ end_after after 1 n reads ends h
+pub reading_mark : (device : List ℕ) (after : AfterVolume) (c : Bool) (n : ℕ) (replies : List PlainReply) → IsVolumeRead n replies → GoesOnBy (next_of device after c) (next_mark (after_for_count after n) c n) replies
+reading_mark device after c n replies (before, (opened, rewound, b, bytes, reads, e, met, h), same) = λ ends.
+    ap (λ l. next_of device after c (l ++ ends)) same ∙ ap (λ l. next_of device after c ((l ++ Data [] ∷ []) ++ ends)) e
+    ∙ ap (λ t. if t then next_read after c 1 ((reads ++ Data [] ∷ []) ++ ends) else None) met ∙ end_after after c 1 n reads ends h
 
 pub reading_more : (n : ℕ) (replies : List PlainReply) (bytes : List ℕ) → IsVolumeReading n replies → bytes ≢ [] → IsVolumeReading (n + 1) (replies ++ Data bytes ∷ [])
 reading_more n replies bytes (opened, rewound, b, label, reads, e, met, h) some =
@@ -127,16 +126,16 @@ goes_some : (after : AfterVolume) (n : ℕ) → 1 ≤ n → after_for_count afte
 goes_some after n h = ap (λ t. if t then Stay else after) (not_zero n h)
 
 -- what is asked where the label comes, and after it
-pub label_next : (device : List ℕ) (after : AfterVolume) (replies : List PlainReply) → IsAtLabel replies → next_of device after replies ≡ Some (Read RECORD_LIMIT)
-label_next device after replies (opened, rewound, e, met, none) = ap (next_of device after) e ∙ ap (λ t. if t then Some (Read RECORD_LIMIT) else None) met
+pub label_next : (device : List ℕ) (after : AfterVolume) (c : Bool) (replies : List PlainReply) → IsAtLabel replies → next_of device after c replies ≡ Some (Read RECORD_LIMIT)
+label_next device after c replies (opened, rewound, e, met, none) = ap (next_of device after c) e ∙ ap (λ t. if t then Some (Read RECORD_LIMIT) else None) met
 
-pub label_stops : (device : List ℕ) (after : AfterVolume) (replies : List PlainReply) → IsAtLabel replies → EndsAtRefusal (next_of device after) replies
-label_stops device after replies (opened, rewound, e, met, none) = λ number text.
-    ap (λ l. next_of device after (l ++ Error number text ∷ [])) e ∙ ap (λ t. if t then next_read after 0 (Error number text ∷ []) else None) met
+pub label_stops : (device : List ℕ) (after : AfterVolume) (c : Bool) (replies : List PlainReply) → IsAtLabel replies → EndsAtRefusal (next_of device after c) replies
+label_stops device after c replies (opened, rewound, e, met, none) = λ number text.
+    ap (λ l. next_of device after c (l ++ Error number text ∷ [])) e ∙ ap (λ t. if t then next_read after c 0 (Error number text ∷ []) else None) met
 
-label_mark : (device : List ℕ) (after : AfterVolume) (replies : List PlainReply) → IsAtLabel replies → GoesOnBy (next_of device after) (next_mark (after_for_count after 0) 0) (replies ++ Data [] ∷ [])
-label_mark device after replies (opened, rewound, e, met, none) = λ ends.
-    ap (λ l. next_of device after ((l ++ Data [] ∷ []) ++ ends)) e ∙ ap (λ t. if t then next_read after 0 (Data [] ∷ ends) else None) met
+label_mark : (device : List ℕ) (after : AfterVolume) (c : Bool) (replies : List PlainReply) → IsAtLabel replies → GoesOnBy (next_of device after c) (next_mark (after_for_count after 0) c 0) (replies ++ Data [] ∷ [])
+label_mark device after c replies (opened, rewound, e, met, none) = λ ends.
+    ap (λ l. next_of device after c ((l ++ Data [] ∷ []) ++ ends)) e ∙ ap (λ t. if t then next_read after c 0 (Data [] ∷ ends) else None) met
 
 pub label_read : (replies : List PlainReply) (bytes : List ℕ) → IsAtLabel replies → bytes ≢ [] → IsVolumeReading 1 (replies ++ Data bytes ∷ [])
 label_read replies [] at some = absurd (some refl)
@@ -146,12 +145,39 @@ label_read replies (b ∷ bytes) (opened, rewound, e, met, none) some = (opened,
 data_answers_no_number : (request : PlainRequest) (bytes : List ℕ) (passed : List Passed) → wanted_by request ≡ Number → IsPeerCall request (Ok (Data bytes)) passed → ⊥
 data_answers_no_number request bytes passed w (inl (more, brings, rest)) = (subst (λ k. Brings k (Ok (Data bytes)) more) w brings).1
 data_answers_no_number request bytes passed w (inr (inl (unlike, sent))) = absurd (cc)
-data_answers_no_number request bytes passed w (inr (inr (unlike, nothing))) = absurd (cc)
+data_answers_no_number request bytes passed w (inr (inr (unlike, none))) = absurd (cc)
 
 number_answers_no_read : (n count : ℕ) (passed : List Passed) → IsPeerCall (Read count) (Ok (Done n)) passed → ⊥
 number_answers_no_read n count passed (inl (more, brings, rest)) = brings.1
 number_answers_no_read n count passed (inr (inl (unlike, sent))) = absurd (cc)
-number_answers_no_read n count passed (inr (inr (unlike, nothing))) = absurd (cc)
+number_answers_no_read n count passed (inr (inr (unlike, none))) = absurd (cc)
+
+-- what a list begins with
+pub beginning_same : (a : List PlainReply) → IsBeginningOf a a
+beginning_same a = ([], sym (append-nil a))
+
+pub beginning_both : (a b c : List PlainReply) → IsBeginningOf a b → IsBeginningOf b c → IsBeginningOf a c
+beginning_both a b c (x, e) (y, f) = (x ++ y, f ∙ ap (λ l. l ++ y) e ∙ append_assoc a x y)
+
+-- a sink was given calls, and then more
+pub takes_both : {S : Type 0} (takes : S → S → SinkCall → Bool → Type 0) {s t u : S} {a b : List SinkCall} {first whole : Bool} → first ≡ true → Takes takes s t a first → Takes takes t u b whole
+    → Takes takes s u (a ++ b) whole
+takes_both takes e nothing k = k
+takes_both takes e (accepted h m) k = accepted h (takes_both takes e m k)
+takes_both takes e (stopped h) k = absurd (cc)
+
+-- a record that is not empty, before others
+block_first : (n : ℕ) (bytes : List ℕ) (rest : List (List ℕ)) → bytes ≢ [] → blocks_from n (bytes ∷ rest) ≡ Block n bytes ∷ blocks_from (n + 1) rest
+block_first n [] rest some = absurd (some refl)
+block_first n (b ∷ bytes) rest some = refl
+
+label_first : (bytes : List ℕ) (rest : List (List ℕ)) → bytes ≢ [] → calls_of (bytes ∷ rest) ≡ Label bytes ∷ blocks_from 0 rest
+label_first [] rest some = absurd (some refl)
+label_first (b ∷ bytes) rest some = refl
+
+only_first : (bytes : List ℕ) (rest : List (List ℕ)) → bytes ≢ [] → OnlyTheLastIsEmpty rest → OnlyTheLastIsEmpty (bytes ∷ rest)
+only_first [] rest some h = absurd (some refl)
+only_first (b ∷ bytes) rest some h = h
 
 module _ {P : Type 0} (tells : P → List Passed → Type 0) where
   pub no_data : (p q : P) (request : PlainRequest) (result : Result KeptReply CallFault) (bytes : Vec ℕ Global) → wanted_by request ≡ Number → result ≡ Ok (kept.Data bytes)
@@ -171,7 +197,7 @@ module _ {P : Type 0} (next : List PlainReply → Option PlainRequest) (tells : 
   breaks_after p q r a b c fault x y = record {
     more = x.more ++ y.more;
     logs = logs_both tells p q r x.more y.more x.logs y.logs;
-    fails = λ passed f. subst (λ l. ReadFails next c l fault) (append_assoc passed x.more y.more) (y.fails (passed ++ x.more) (x.follows passed f));
+    fails = λ passed f. subst (λ l. ReadFails next [] c l fault) (append_assoc passed x.more y.more) (y.fails (passed ++ x.more) (x.follows passed f));
   }
 
   pub extends_none : (p : P) (a : List PlainReply) → Extends next tells p p a a
@@ -192,6 +218,7 @@ module _ {P : Type 0} (next : List PlainReply → Option PlainRequest) (tells : 
         record { more = x.more; logs = x.logs; fails = λ passed f. (x.follows passed f, (replies, text, request, refl, e, named, stops n text)) },
         records_same replies (Error n text ∷ []) refl,
         refl,
+        (Error n text ∷ [], refl),
       )
 
   -- it is refused, with a reply that is kept
@@ -201,7 +228,7 @@ module _ {P : Type 0} (next : List PlainReply → Option PlainRequest) (tells : 
       refused_so p q replies request asked n text.items (Refused asked n) e named stops refl (subst (λ r. IsCalled tells request (plain_result r) p q) is h)
 
   -- it has no reply
-  failed_so : (fault : CallFault) (replies : List PlainReply) (passed : List Passed) → Stops next (Some fault) replies passed → ReadFails next replies passed (read_fault fault)
+  failed_so : (fault : CallFault) (replies : List PlainReply) (passed : List Passed) → Stops next (Some fault) replies passed → ReadFails next [] replies passed (read_fault fault)
   failed_so call.ConnectionEnded replies passed h = h
   failed_so call.Botched replies passed h = inl h
   failed_so call.OutOfMemory replies passed h = h
@@ -220,109 +247,133 @@ module _ {P : Type 0} (next : List PlainReply → Option PlainRequest) (tells : 
         record { more = x.more; logs = x.logs; fails = λ passed f. failed_so fault replies (passed ++ x.more) (x.stops passed f) },
         refl,
         whole_so fault,
+        beginning_same replies,
       )
 
--- the records that were written so far
-pub record WrittenTo {P F : Type 0} (tells : P → List Passed → Type 0) (filed : F → Option (List ℕ)) (device : List ℕ) (after : AfterVolume) (replies : List PlainReply)
-    (p q : P) (file file' : Counting F) (turn : ℕ) : Type 0 where
+-- the records that were given to the sink so far
+pub record GivenTo {P S : Type 0} (tells : P → List Passed → Type 0) (takes : S → S → SinkCall → Bool → Type 0) (device : List ℕ) (after : AfterVolume) (c : Bool) (replies : List PlainReply)
+    (p q : P) (s t : S) (turn : ℕ) : Type 0 where
   pub later : List PlainReply
   pub more : List (List ℕ)
+  pub calls : List SinkCall
+  pub number : ℕ
+  pub counts : turn ≡ number + 1
   pub reading : IsVolumeReading turn later
-  pub extends : Extends (next_of device after) tells p q replies later
+  pub extends : Extends (next_of device after c) tells p q replies later
   pub adds : records_of later ≡ records_of replies ++ more
-  pub written : IsPrinted filed (concat more) file file' true
+  pub seam : (rest : List (List ℕ)) → blocks_from 0 (more ++ rest) ≡ calls ++ blocks_from number rest
+  pub only : (rest : List (List ℕ)) → OnlyTheLastIsEmpty rest → OnlyTheLastIsEmpty (more ++ rest)
+  pub took : Takes takes s t calls true
 
-concat_one : (more : List (List ℕ)) (bytes : List ℕ) → concat (more ++ bytes ∷ []) ≡ concat more ++ bytes
-concat_one more bytes = concat-append more (bytes ∷ []) ∙ ap (λ l. concat more ++ l) (append-nil bytes)
-
-module _ {P F : Type 0} (tells : P → List Passed → Type 0) (filed : F → Option (List ℕ)) (device : List ℕ) (after : AfterVolume) (replies : List PlainReply) where
-  pub written_none : (p : P) (file : Counting F) → IsVolumeReading 1 replies → WrittenTo tells filed device after replies p p file file 1
-  written_none p file reading = record {
+module _ {P S : Type 0} (tells : P → List Passed → Type 0) (takes : S → S → SinkCall → Bool → Type 0) (device : List ℕ) (after : AfterVolume) (c : Bool) (replies : List PlainReply) where
+  pub given_none_yet : (p : P) (s : S) → IsVolumeReading 1 replies → GivenTo tells takes device after c replies p p s s 1
+  given_none_yet p s reading = record {
     later = replies;
     more = [];
+    calls = [];
+    number = 0;
+    counts = refl;
     reading = reading;
-    extends = extends_none (next_of device after) tells p replies;
+    extends = extends_none (next_of device after c) tells p replies;
     adds = sym (append-nil (records_of replies));
-    written = nothing_printed filed file;
+    seam = λ rest. refl;
+    only = λ rest h. h;
+    took = nothing;
   }
 
   adds_one : (later : List PlainReply) (more : List (List ℕ)) (bytes : List ℕ) → records_of later ≡ records_of replies ++ more → records_of (later ++ Data bytes ∷ []) ≡ records_of replies ++ (more ++ bytes ∷ [])
   adds_one later more bytes e = records_more later (Data bytes ∷ []) ∙ ap (λ l. l ++ bytes ∷ []) e ∙ append_assoc (records_of replies) more (bytes ∷ [])
 
-  -- the next record, of which some bytes are written
-  pub written_one : (p q r : P) (f g h : Counting F) (turn : ℕ) (bytes text : List ℕ) (w : WrittenTo tells filed device after replies p q f g turn) → Extends (next_of device after) tells q r w.later (w.later ++ Data bytes ∷ [])
-      → bytes ≢ [] → text ≡ bytes → IsPrinted filed text g h true → WrittenTo tells filed device after replies p r f h (turn + 1)
-  written_one p q r f g h turn bytes text w x some same printed = record {
+  -- the next record is accepted
+  pub given_one : (p q r : P) (s t u : S) (turn number : ℕ) (bytes text : List ℕ) (taken : Bool) (w : GivenTo tells takes device after c replies p q s t turn)
+      → Extends (next_of device after c) tells q r w.later (w.later ++ Data bytes ∷ []) → bytes ≢ [] → number + 1 ≡ turn → text ≡ bytes → taken ≡ true → takes t u (Block number text) taken
+      → GivenTo tells takes device after c replies p r s u (turn + 1)
+  given_one p q r s t u turn number bytes text taken w x some counts same is h = record {
     later = w.later ++ Data bytes ∷ [];
     more = w.more ++ bytes ∷ [];
+    calls = w.calls ++ Block w.number bytes ∷ [];
+    number = w.number + 1;
+    counts = ap (λ n. n + 1) w.counts;
     reading = reading_more turn w.later bytes w.reading some;
-    extends = extends_both (next_of device after) tells p q r replies w.later (w.later ++ Data bytes ∷ []) w.extends x;
+    extends = extends_both (next_of device after c) tells p q r replies w.later (w.later ++ Data bytes ∷ []) w.extends x;
     adds = adds_one w.later w.more bytes w.adds;
-    written = subst (λ t. IsPrinted filed t f h true) (ap (λ t. concat w.more ++ t) same ∙ sym (concat_one w.more bytes)) (printed_both filed (concat w.more) text f g h true w.written printed);
+    seam = λ rest. ap (blocks_from 0) (append_assoc w.more (bytes ∷ []) rest) ∙ w.seam (bytes ∷ rest) ∙ ap (λ l. w.calls ++ l) (block_first w.number bytes rest some)
+        ∙ sym (append_assoc w.calls (Block w.number bytes ∷ []) (blocks_from (w.number + 1) rest));
+    only = λ rest o. subst OnlyTheLastIsEmpty (sym (append_assoc w.more (bytes ∷ []) rest)) (w.only (bytes ∷ rest) (only_first bytes rest some o));
+    took = takes_both takes refl w.took (accepted (subst (λ n. takes t u (Block n bytes) true) (let a = w.counts in omega (arith, a, counts)) (subst (λ b. takes t u (Block number b) true) same (subst (takes t u (Block number text)) is h))) nothing);
   }
 
-  -- the mark
-  pub written_all : (p q r : P) (f g : Counting F) (turn : ℕ) (bytes : List ℕ) (w : WrittenTo tells filed device after replies p q f g turn) → Extends (next_of device after) tells q r w.later (w.later ++ Data bytes ∷ [])
-      → bytes ≡ [] → AreRecordsWritten (next_of device after) (stream_kind tells filed) replies (stream_ends p f) (stream_ends r g) (Ok turn)
-  written_all p q r f g turn bytes w x none =
-      let y : Extends (next_of device after) tells q r w.later (w.later ++ Data [] ∷ []) = subst (λ b. Extends (next_of device after) tells q r w.later (w.later ++ Data b ∷ [])) none x in
+  -- the end of the records
+  pub given_all : (p q r : P) (s t : S) (turn : ℕ) (bytes : List ℕ) (w : GivenTo tells takes device after c replies p q s t turn) → Extends (next_of device after c) tells q r w.later (w.later ++ Data bytes ∷ [])
+      → bytes ≡ [] → AreRecordsGiven (next_of device after c) (sink_kind tells takes) replies (sink_ends p s) (sink_ends r t) (Ok turn)
+  given_all p q r s t turn bytes w x none =
+      let y : Extends (next_of device after c) tells q r w.later (w.later ++ Data [] ∷ []) = subst (λ b. Extends (next_of device after c) tells q r w.later (w.later ++ Data b ∷ [])) none x in
       record {
         later = w.later ++ Data [] ∷ [];
         more = w.more ++ [] ∷ [];
         adds = adds_one w.later w.more [] w.adds;
-        written = subst (λ t. IsPrinted filed t f g true) (sym (append-nil (concat w.more)) ∙ sym (concat_one w.more [])) w.written;
-        reads = (extends_both (next_of device after) tells p q r replies w.later (w.later ++ Data [] ∷ []) w.extends y, (w.later, w.reading, refl));
+        only = w.only ([] ∷ []) refl;
+        took = subst (λ l. Takes takes s t l true) (sym (w.seam ([] ∷ []) ∙ append-nil w.calls)) w.took;
+        reads = (extends_both (next_of device after c) tells p q r replies w.later (w.later ++ Data [] ∷ []) w.extends y, (w.later, w.reading, refl));
       }
 
-  -- a write that fails
-  pub written_in_part : (p q r : P) (f g h : Counting F) (turn : ℕ) (bytes text : List ℕ) (w : WrittenTo tells filed device after replies p q f g turn) → Extends (next_of device after) tells q r w.later (w.later ++ Data bytes ∷ [])
-      → bytes ≢ [] → text ≡ bytes → IsPrinted filed text g h false → AreRecordsWritten (next_of device after) (stream_kind tells filed) replies (stream_ends p f) (stream_ends r h) (Err OutputFailed)
-  written_in_part p q r f g h turn bytes text w x some same printed =
-      let all = extends_both (next_of device after) tells p q r replies w.later (w.later ++ Data bytes ∷ []) w.extends x in
+  -- a record that the sink does not accept
+  pub given_in_part : (p q r : P) (s t u : S) (turn number : ℕ) (bytes text : List ℕ) (taken : Bool) (w : GivenTo tells takes device after c replies p q s t turn)
+      → Extends (next_of device after c) tells q r w.later (w.later ++ Data bytes ∷ []) → bytes ≢ [] → number + 1 ≡ turn → text ≡ bytes → taken ≡ false → takes t u (Block number text) taken
+      → AreRecordsGiven (next_of device after c) (sink_kind tells takes) replies (sink_ends p s) (sink_ends r u) (Err Stopped)
+  given_in_part p q r s t u turn number bytes text taken w x some counts same is h =
+      let all = extends_both (next_of device after c) tells p q r replies w.later (w.later ++ Data bytes ∷ []) w.extends x in
       record {
         later = w.later ++ Data bytes ∷ [];
         more = w.more ++ bytes ∷ [];
         adds = adds_one w.later w.more bytes w.adds;
-        written = subst (λ t. IsPrinted filed t f h false) (ap (λ t. concat w.more ++ t) same ∙ sym (concat_one w.more bytes)) (printed_both filed (concat w.more) text f g h false w.written printed);
+        only = w.only (bytes ∷ []) (only_first bytes [] some tt);
+        took = subst (λ l. Takes takes s u l false) (sym (w.seam (bytes ∷ []) ∙ ap (λ l. w.calls ++ l) (block_first w.number bytes [] some)))
+            (takes_both takes refl w.took (stopped (subst (λ n. takes t u (Block n bytes) false) (let a = w.counts in omega (arith, a, counts)) (subst (λ b. takes t u (Block number b) false) same (subst (takes t u (Block number text)) is h)))));
         reads = record {
           more = all.more;
           logs = all.logs;
-          fails = λ passed k. (all.follows passed k, reading_next device after (turn + 1) (w.later ++ Data bytes ∷ []) (reading_more turn w.later bytes w.reading some));
+          fails = λ passed k. (all.follows passed k, reading_next device after c (turn + 1) (w.later ++ Data bytes ∷ []) (reading_more turn w.later bytes w.reading some));
         };
       }
 
+  so_far : (p q : P) (s t : S) (turn : ℕ) (w : GivenTo tells takes device after c replies p q s t turn) → Takes takes s t (blocks_from 0 w.more) true
+  so_far p q s t turn w = subst (λ l. Takes takes s t l true) (sym (ap (blocks_from 0) (sym (append-nil w.more)) ∙ w.seam [] ∙ append-nil w.calls)) w.took
+
+  only_so_far : (p q : P) (s t : S) (turn : ℕ) (w : GivenTo tells takes device after c replies p q s t turn) → OnlyTheLastIsEmpty w.more
+  only_so_far p q s t turn w = subst OnlyTheLastIsEmpty (append-nil w.more) (w.only [] tt)
+
   -- a record that does not come
-  pub written_so_far : (p q r : P) (f g : Counting F) (turn : ℕ) (fault : ReadFault) (w : WrittenTo tells filed device after replies p q f g turn) → CallSteps (next_of device after) tells q r w.later (Err fault)
-      → AreRecordsWritten (next_of device after) (stream_kind tells filed) replies (stream_ends p f) (stream_ends r g) (Err fault)
-  written_so_far p q r f g turn fault w x = record {
+  pub given_so_far : (p q r : P) (s t : S) (turn : ℕ) (fault : ReadFault) (w : GivenTo tells takes device after c replies p q s t turn) → CallSteps (next_of device after c) tells q r w.later (Err fault)
+      → AreRecordsGiven (next_of device after c) (sink_kind tells takes) replies (sink_ends p s) (sink_ends r t) (Err fault)
+  given_so_far p q r s t turn fault w x = record {
     later = x.0;
     more = w.more;
     adds = x.2 ∙ w.adds;
-    written = subst (IsPrinted filed (concat w.more) f g) (sym x.3) w.written;
-    reads = breaks_after (next_of device after) tells p q r replies w.later x.0 fault w.extends x.1;
+    only = only_so_far p q s t turn w;
+    took = subst (Takes takes s t (blocks_from 0 w.more)) (sym x.3) (so_far p q s t turn w);
+    reads = breaks_after (next_of device after c) tells p q r replies w.later x.0 fault w.extends x.1;
   }
 
-  -- no mark
-  pub written_for_good : (p q : P) (f g : Counting F) (turn : ℕ) (w : WrittenTo tells filed device after replies p q f g turn) → 2 ^ 64 - 1 ≤ turn → AreRecordsWritten (next_of device after) (stream_kind tells filed) replies (stream_ends p f) (stream_ends q g) (Err Botched)
-  written_for_good p q f g turn w many = record {
+  -- no end
+  pub given_for_good : (p q : P) (s t : S) (turn : ℕ) (w : GivenTo tells takes device after c replies p q s t turn) → 2 ^ 64 - 1 ≤ turn
+      → AreRecordsGiven (next_of device after c) (sink_kind tells takes) replies (sink_ends p s) (sink_ends q t) (Err Botched)
+  given_for_good p q s t turn w many = record {
     later = w.later;
     more = w.more;
     adds = w.adds;
-    written = w.written;
+    only = only_so_far p q s t turn w;
+    took = so_far p q s t turn w;
     reads = record { more = w.extends.more; logs = w.extends.logs; fails = λ passed k. inr (w.extends.follows passed k, (let long = reading_long turn w.later w.reading in omega (arith, long, many))) };
   }
 
-module _ {P F W : Type 0} (tells : P → List Passed → Type 0) (filed : F → Option (List ℕ)) (contents : W → Option (List ℕ)) (device : List ℕ) (after : AfterVolume) (replies : List PlainReply) where
   -- the label does not come
-  pub copied_none : (p q : P) (f : Counting F) (o : Counting W) (fault : ReadFault) → IsAtLabel replies → CallSteps (next_of device after) tells p q replies (Err fault)
-      → IsCopied (next_of device after) after (copy_kind tells filed contents) replies (copy_ends p f o) (copy_ends q f o) (Err fault)
-  copied_none p q f o fault at x = record {
+  pub given_none : (p q : P) (s : S) (fault : ReadFault) → IsAtLabel replies → CallSteps (next_of device after c) tells p q replies (Err fault)
+      → IsGiven (next_of device after c) after c (sink_kind tells takes) replies (sink_ends p s) (sink_ends q s) (Err fault)
+  given_none p q s fault at x = record {
     later = x.0;
-    named = true;
-    filled = true;
-    label = subst (λ l. IsPrinted contents (label_text l) o o true) (sym (x.2 ∙ at.4)) (nothing_printed contents o);
-    records = subst (λ l. IsPrinted filed (file_bytes l) f f true) (sym (x.2 ∙ at.4)) (nothing_printed filed f);
-    whole = sym x.3;
+    only = subst OnlyTheLastIsEmpty (sym (x.2 ∙ at.4)) tt;
+    took = subst (λ l. Takes takes s s (calls_of l) (is_whole (Err fault))) (sym (x.2 ∙ at.4)) (subst (Takes takes s s []) (sym x.3) nothing);
     reads = x.1;
   }
 
@@ -331,116 +382,109 @@ module _ {P F W : Type 0} (tells : P → List Passed → Type 0) (filed : F → 
   first_record bytes none = records_more replies (Data bytes ∷ []) ∙ ap (λ l. l ++ bytes ∷ []) none
 
   -- a mark comes in its place
-  pub copied_mark : (p q : P) (f : Counting F) (o : Counting W) (bytes : List ℕ) → IsAtLabel replies → Extends (next_of device after) tells p q replies (replies ++ Data bytes ∷ []) → bytes ≡ []
-      → IsCopied (next_of device after) after (copy_kind tells filed contents) replies (copy_ends p f o) (copy_ends q f o) (Ok 0)
-  copied_mark p q f o bytes at x e =
-      let y : Extends (next_of device after) tells p q replies (replies ++ Data [] ∷ []) = subst (λ b. Extends (next_of device after) tells p q replies (replies ++ Data b ∷ [])) e x in
+  pub given_mark : (p q : P) (s : S) (bytes : List ℕ) → IsAtLabel replies → Extends (next_of device after c) tells p q replies (replies ++ Data bytes ∷ []) → bytes ≡ []
+      → IsGiven (next_of device after c) after c (sink_kind tells takes) replies (sink_ends p s) (sink_ends q s) (Ok 0)
+  given_mark p q s bytes at x e =
+      let y : Extends (next_of device after c) tells p q replies (replies ++ Data [] ∷ []) = subst (λ b. Extends (next_of device after c) tells p q replies (replies ++ Data b ∷ [])) e x in
       record {
         later = replies ++ Data [] ∷ [];
-        named = true;
-        filled = true;
-        label = subst (λ l. IsPrinted contents (label_text l) o o true) (sym (first_record [] at.4)) (nothing_printed contents o);
-        records = subst (λ l. IsPrinted filed (file_bytes l) f f true) (sym (first_record [] at.4)) (nothing_printed filed f);
-        whole = refl;
-        reads = (y, label_mark device after replies at, ap (after_for_records after) (first_record [] at.4));
+        only = subst OnlyTheLastIsEmpty (sym (first_record [] at.4)) refl;
+        took = subst (λ l. Takes takes s s (calls_of l) true) (sym (first_record [] at.4)) nothing;
+        reads = (y, label_mark device after c replies at, ap (after_for_records after) (first_record [] at.4));
       }
 
-  -- the label is not printed
-  pub copied_unnamed : (p q : P) (f : Counting F) (o o' : Counting W) (bytes text : List ℕ) → IsAtLabel replies → Extends (next_of device after) tells p q replies (replies ++ Data bytes ∷ [])
-      → bytes ≢ [] → text ≡ text_of bytes → IsPrinted contents text o o' false → IsCopied (next_of device after) after (copy_kind tells filed contents) replies (copy_ends p f o) (copy_ends q f o') (Err OutputFailed)
-  copied_unnamed p q f o o' bytes text at x some same printed = record {
+  -- the sink does not accept the label
+  pub given_unlabelled : (p q : P) (s t : S) (bytes text : List ℕ) (taken : Bool) → IsAtLabel replies → Extends (next_of device after c) tells p q replies (replies ++ Data bytes ∷ [])
+      → bytes ≢ [] → text ≡ bytes → taken ≡ false → takes s t (Label text) taken → IsGiven (next_of device after c) after c (sink_kind tells takes) replies (sink_ends p s) (sink_ends q t) (Err Stopped)
+  given_unlabelled p q s t bytes text taken at x some same is h = record {
     later = replies ++ Data bytes ∷ [];
-    named = false;
-    filled = true;
-    label = subst (λ l. IsPrinted contents (label_text l) o o' false) (sym (first_record bytes at.4)) (subst (λ t. IsPrinted contents t o o' false) same printed);
-    records = subst (λ l. IsPrinted filed (file_bytes l) f f true) (sym (first_record bytes at.4)) (nothing_printed filed f);
-    whole = refl;
+    only = subst OnlyTheLastIsEmpty (sym (first_record bytes at.4)) (only_first bytes [] some tt);
+    took = subst (λ l. Takes takes s t l false) (sym (ap calls_of (first_record bytes at.4) ∙ label_first bytes [] some))
+        (stopped (subst (λ b. takes s t (Label b) false) same (subst (takes s t (Label text)) is h)));
     reads = record {
       more = x.more;
       logs = x.logs;
-      fails = λ passed k. (x.follows passed k, reading_next device after 1 (replies ++ Data bytes ∷ []) (label_read replies bytes at some));
+      fails = λ passed k. (x.follows passed k, reading_next device after c 1 (replies ++ Data bytes ∷ []) (label_read replies bytes at some));
     };
   }
 
-  after_label : (result : Result ℕ ReadFault) (p q r : P) (bytes : List ℕ) (more : List (List ℕ)) (later : List PlainReply) → Extends (next_of device after) tells p q replies (replies ++ Data bytes ∷ [])
-      → bytes ≢ [] → records_of later ≡ bytes ∷ more → Reads (next_of device after) tells q r (replies ++ Data bytes ∷ []) result later → ReadsVolume (next_of device after) after tells p r replies result later
+  after_label : (result : Result ℕ ReadFault) (p q r : P) (bytes : List ℕ) (more : List (List ℕ)) (later : List PlainReply) → Extends (next_of device after c) tells p q replies (replies ++ Data bytes ∷ [])
+      → bytes ≢ [] → records_of later ≡ bytes ∷ more → Reads (next_of device after c) tells q r (replies ++ Data bytes ∷ []) result later → ReadsVolume (next_of device after c) after c tells p r replies result later
   after_label (Ok n) p q r bytes more later x some all y = (
-    extends_both (next_of device after) tells p q r replies (replies ++ Data bytes ∷ []) later x y.0,
-    reading_mark device after n later y.1,
+    extends_both (next_of device after c) tells p q r replies (replies ++ Data bytes ∷ []) later x y.0,
+    reading_mark device after c n later y.1,
     ap (after_for_records after) all ∙ goes_label after bytes more some ∙ sym (goes_some after n (read_some n later y.1)),
   )
-  after_label (Err fault) p q r bytes more later x some all y = breaks_after (next_of device after) tells p q r replies (replies ++ Data bytes ∷ []) later fault x y
+  after_label (Err fault) p q r bytes more later x some all y = breaks_after (next_of device after c) tells p q r replies (replies ++ Data bytes ∷ []) later fault x y
 
-  -- it is, and the records are written, or a part of them
-  pub copied_so : (p q r : P) (f f' : Counting F) (o o' : Counting W) (bytes text : List ℕ) (result : Result ℕ ReadFault) → IsAtLabel replies → Extends (next_of device after) tells p q replies (replies ++ Data bytes ∷ [])
-      → bytes ≢ [] → text ≡ text_of bytes → IsPrinted contents text o o' true → AreRecordsWritten (next_of device after) (stream_kind tells filed) (replies ++ Data bytes ∷ []) (stream_ends q f) (stream_ends r f') result
-      → IsCopied (next_of device after) after (copy_kind tells filed contents) replies (copy_ends p f o) (copy_ends r f' o') result
-  copied_so p q r f f' o o' bytes text result at x some same printed w =
+  -- it does, and is given the records, or a part of them
+  pub given_so : (p q r : P) (s t u : S) (bytes text : List ℕ) (taken : Bool) (result : Result ℕ ReadFault) → IsAtLabel replies → Extends (next_of device after c) tells p q replies (replies ++ Data bytes ∷ [])
+      → bytes ≢ [] → text ≡ bytes → taken ≡ true → takes s t (Label text) taken → AreRecordsGiven (next_of device after c) (sink_kind tells takes) (replies ++ Data bytes ∷ []) (sink_ends q t) (sink_ends r u) result
+      → IsGiven (next_of device after c) after c (sink_kind tells takes) replies (sink_ends p s) (sink_ends r u) result
+  given_so p q r s t u bytes text taken result at x some same is h w =
       let all : records_of w.later ≡ bytes ∷ w.more = w.adds ∙ ap (λ l. l ++ w.more) (first_record bytes at.4) in
       record {
         later = w.later;
-        named = true;
-        filled = is_copied result;
-        label = subst (λ l. IsPrinted contents (label_text l) o o' true) (sym all) (subst (λ t. IsPrinted contents t o o' true) same printed);
-        records = subst (λ l. IsPrinted filed (file_bytes l) f f' (is_copied result)) (sym all) w.written;
-        whole = refl;
+        only = subst OnlyTheLastIsEmpty (sym all) (only_first bytes w.more some w.only);
+        took = subst (λ l. Takes takes s u l (is_taken result)) (sym (ap calls_of all ∙ label_first bytes w.more some))
+            (accepted (subst (λ b. takes s t (Label b) true) same (subst (takes s t (Label text)) is h)) w.took);
         reads = after_label result p q r bytes w.more w.later x some all w.reads;
       }
 
-module _ {P F W : Type 0} (tells : P → List Passed → Type 0) (filed : F → Option (List ℕ)) (contents : W → Option (List ℕ)) (device : List ℕ) (after : AfterVolume) where
+module _ {P S : Type 0} (tells : P → List Passed → Type 0) (takes : S → S → SinkCall → Bool → Type 0) (device : List ℕ) (after : AfterVolume) where
   -- a call before the records fails
-  pub through_none : (p q r : P) (f : Counting F) (o : Counting W) (replies : List PlainReply) (fault : ReadFault) → records_of replies ≡ [] → Extends (next_of device after) tells p q [] replies
-      → CallSteps (next_of device after) tells q r replies (Err fault) → HasReadVolume (copy_kind tells filed contents) device after (copy_ends p f o) (copy_ends r f o) (Err fault)
-  through_none p q r f o replies fault none x y =
-      let all = breaks_after (next_of device after) tells p q r [] replies y.0 fault x y.1 in
+  pub through_none : (p q r : P) (s : S) (replies : List PlainReply) (fault : ReadFault) → records_of replies ≡ [] → Extends (next_of device after false) tells p q [] replies
+      → CallSteps (next_of device after false) tells q r replies (Err fault) → HasReadVolume (sink_kind tells takes) device after (sink_ends p s) (sink_ends r s) (Err fault)
+  through_none p q r s replies fault none x y =
+      let all = breaks_after (next_of device after false) tells p q r [] replies y.0 fault x y.1 in
       record {
+        completed = false;
         replies = y.0;
         more = all.more;
-        named = true;
-        filled = true;
+        end = [];
         logs = all.logs;
-        label = subst (λ l. IsPrinted contents (label_text l) o o true) (sym (y.2 ∙ none)) (nothing_printed contents o);
-        records = subst (λ l. IsPrinted filed (file_bytes l) f f true) (sym (y.2 ∙ none)) (nothing_printed filed f);
-        whole = sym y.3;
+        reads = subst OnlyTheLastIsEmpty (sym (y.2 ∙ none)) tt;
+        took = subst (λ l. Takes takes s s (calls_of l ++ []) (is_whole (Err fault))) (sym (y.2 ∙ none)) (subst (Takes takes s s []) (sym y.3) nothing);
+        ending = unasked;
         ends = all.fails;
       }
 
   -- the records fail
-  pub through_part : (p q r : P) (f f' : Counting F) (o o' : Counting W) (replies : List PlainReply) (fault : ReadFault) → Extends (next_of device after) tells p q [] replies
-      → IsCopied (next_of device after) after (copy_kind tells filed contents) replies (copy_ends q f o) (copy_ends r f' o') (Err fault) → HasReadVolume (copy_kind tells filed contents) device after (copy_ends p f o) (copy_ends r f' o') (Err fault)
-  through_part p q r f f' o o' replies fault x y =
-      let all = breaks_after (next_of device after) tells p q r [] replies y.later fault x y.reads in
+  pub through_part : (p q r : P) (s t : S) (replies : List PlainReply) (fault : ReadFault) → Extends (next_of device after false) tells p q [] replies
+      → IsGiven (next_of device after false) after false (sink_kind tells takes) replies (sink_ends q s) (sink_ends r t) (Err fault) → HasReadVolume (sink_kind tells takes) device after (sink_ends p s) (sink_ends r t) (Err fault)
+  through_part p q r s t replies fault x y =
+      let all = breaks_after (next_of device after false) tells p q r [] replies y.later fault x y.reads in
       record {
+        completed = false;
         replies = y.later;
         more = all.more;
-        named = y.named;
-        filled = y.filled;
+        end = [];
         logs = all.logs;
-        label = y.label;
-        records = y.records;
-        whole = y.whole;
+        reads = y.only;
+        took = subst (λ l. Takes takes s t l (is_whole (Err fault))) (sym (append-nil (calls_of (records_of y.later)))) y.took;
+        ending = unasked;
         ends = all.fails;
       }
 
   -- what comes after the records
-  pub through_end : (p q r s : P) (f f' : Counting F) (o o' : Counting W) (replies : List PlainReply) (n : ℕ) (goes : AfterVolume) (result : Result Unit ReadFault) → Extends (next_of device after) tells p q [] replies
-      → (y : IsCopied (next_of device after) after (copy_kind tells filed contents) replies (copy_ends q f o) (copy_ends r f' o') (Ok n)) → goes ≡ after_for_count after n
-      → Concludes (next_of device after) goes tells r s y.later result → HasReadVolume (copy_kind tells filed contents) device after (copy_ends p f o) (copy_ends s f' o') result
-  through_end p q r s f f' o o' replies n goes result x y e z =
-      let next = next_of device after in
+  pub through_end : (c : Bool) (p q r v : P) (s t u : S) (replies : List PlainReply) (n : ℕ) (goes : AfterVolume) (result : Result Unit ReadFault) → Extends (next_of device after c) tells p q [] replies
+      → (y : IsGiven (next_of device after c) after c (sink_kind tells takes) replies (sink_ends q s) (sink_ends r t) (Ok n)) → goes ≡ after_for_count after n
+      → HasConcluded (next_of device after c) goes c (sink_kind tells takes) y.later (sink_ends r t) (sink_ends v u) result → HasReadVolume (sink_kind tells takes) device after (sink_ends p s) (sink_ends v u) result
+  through_end c p q r v s t u replies n goes result x y e z =
+      let next = next_of device after c in
       let a = extends_both next tells p q r [] replies y.later x y.reads.0 in
       let goes_so : goes ≡ after_for_records after (records_of z.later) = e ∙ sym y.reads.2 ∙ ap (after_for_records after) (sym z.same) in
       record {
+        completed = c;
         replies = z.later;
         more = a.more ++ z.more;
-        named = y.named;
-        filled = y.filled;
-        logs = logs_both tells p r s a.more z.more a.logs z.logs;
-        label = subst (λ l. IsPrinted contents (label_text l) o o' y.named) (sym z.same) y.label;
-        records = subst (λ l. IsPrinted filed (file_bytes l) f f' y.filled) (sym z.same) y.records;
-        whole = y.whole ∙ sym z.whole;
-        ends = λ passed k. subst (λ g. ReadEnds next g z.later (passed ++ (a.more ++ z.more)) result) goes_so
-            (subst (λ l. ReadEnds next goes z.later l result) (append_assoc passed a.more z.more) (z.ends (passed ++ a.more) (a.follows passed k)));
+        end = z.end;
+        logs = logs_both tells p r v a.more z.more a.logs z.logs;
+        reads = subst OnlyTheLastIsEmpty (sym z.same) y.only;
+        took = subst (λ l. Takes takes s u (calls_of l ++ z.end) (is_whole result)) (sym z.same) (takes_both takes refl y.took z.took);
+        ending = subst (λ g. IsEnding next g z.later result z.end c) goes_so z.ending;
+        ends = λ passed k. subst (λ g. ReadEnds next g z.end z.later (passed ++ (a.more ++ z.more)) result) goes_so
+            (subst (λ l. ReadEnds next goes z.end z.later l result) (append_assoc passed a.more z.more) (z.ends (passed ++ a.more) (a.follows passed k)));
       }
 
 -- what is known of a record that came, or did not
@@ -452,18 +496,9 @@ pub record_failed : {P : Type 0} (next : List PlainReply → Option PlainRequest
     → result ≡ Err fault → IsRecordRead next tells p q replies result → CallSteps next tells p q replies (Err fault)
 record_failed next tells p q replies result fault is h = subst (IsRecordRead next tells p q replies) is h
 
--- what is known of a write
-pub write_made : {W : Type 0} (contents : W → Option (List ℕ)) (text : List ℕ) (o o' : Counting W) (result : Result Unit ReadFault) (u : Unit) → result ≡ Ok u → IsPrinted contents text o o' (is_whole result)
-    → IsPrinted contents text o o' true
-write_made contents text o o' result u is h = subst (λ r. IsPrinted contents text o o' (is_whole r)) is h
-
-pub write_failed : {W : Type 0} (contents : W → Option (List ℕ)) (text : List ℕ) (o o' : Counting W) (result : Result Unit ReadFault) (fault : ReadFault) → result ≡ Err fault → fault ≡ OutputFailed
-    → IsPrinted contents text o o' (is_whole result) → IsPrinted contents text o o' false
-write_failed contents text o o' result fault is cause h = subst (λ r. IsPrinted contents text o o' (is_whole r)) (is ∙ ap Err cause) h
-
-pub begun_as : {P : Type 0} (tells : P → List Passed → Type 0) (device : List ℕ) (after : AfterVolume) (p q : P) (result is : Result Unit ReadFault) → result ≡ is → IsBegun tells device after p q result
-    → IsBegun tells device after p q is
-begun_as tells device after p q result is e h = subst (IsBegun tells device after p q) e h
+pub begun_as : {P : Type 0} (tells : P → List Passed → Type 0) (device : List ℕ) (after : AfterVolume) (c : Bool) (p q : P) (result is : Result Unit ReadFault) → result ≡ is → IsBegun tells device after c p q result
+    → IsBegun tells device after c p q is
+begun_as tells device after c p q result is e h = subst (IsBegun tells device after c p q) e h
 
 -- what is known of a call that is to be done
 pub done_so : {P : Type 0} (next : List PlainReply → Option PlainRequest) (tells : P → List Passed → Type 0) (p q : P) (replies : List PlainReply) (result : Result Unit ReadFault) (u : Unit) → result ≡ Ok u
@@ -474,8 +509,8 @@ pub done_failed : {P : Type 0} (next : List PlainReply → Option PlainRequest) 
     → IsDone next tells p q replies result → CallSteps next tells p q replies (Err fault)
 done_failed next tells p q replies result fault is h = subst (IsDone next tells p q replies) is h
 
-pub rewind_next : (device : List ℕ) (after : AfterVolume) (opened : PlainReply) → is_done opened ≡ true → next_of device after (opened ∷ []) ≡ Some (Op MTREW 1)
-rewind_next device after opened met = ap (λ b. if b then Some (Op MTREW 1) else None) met
+pub rewind_next : (device : List ℕ) (after : AfterVolume) (c : Bool) (opened : PlainReply) → is_done opened ≡ true → next_of device after c (opened ∷ []) ≡ Some (Op MTREW 1)
+rewind_next device after c opened met = ap (λ b. if b then Some (Op MTREW 1) else None) met
 
 pub reading_begins : (opened rewound : PlainReply) → is_done rewound ≡ true → records_of (opened ∷ rewound ∷ []) ≡ [] → IsAtLabel (opened ∷ rewound ∷ [])
 reading_begins opened rewound met none = (opened, rewound, refl, met, none)
@@ -492,17 +527,18 @@ pub some_there : (items : List ℕ) (len : ℕ) (test : Bool) → len ≡ length
 some_there [] len test e h k = λ same. grind (arith, nat_tests)
 some_there (b ∷ items) len test e h k = λ same. cc
 
-pub copied_as : {P F W : Type 0} (next : List PlainReply → Option PlainRequest) (after : AfterVolume) (tells : P → List Passed → Type 0) (filed : F → Option (List ℕ)) (contents : W → Option (List ℕ)) (replies : List PlainReply) (p q : P)
-    (f f' : Counting F) (o o' : Counting W) (result is : Result ℕ ReadFault) → result ≡ is → IsCopied next after (copy_kind tells filed contents) replies (copy_ends p f o) (copy_ends q f' o') result → IsCopied next after (copy_kind tells filed contents) replies (copy_ends p f o) (copy_ends q f' o') is
-copied_as next after tells filed contents replies p q f f' o o' result is e h = subst (IsCopied next after (copy_kind tells filed contents) replies (copy_ends p f o) (copy_ends q f' o')) e h
+pub given_as : {P S : Type 0} (next : List PlainReply → Option PlainRequest) (after : AfterVolume) (c : Bool) (tells : P → List Passed → Type 0) (takes : S → S → SinkCall → Bool → Type 0) (replies : List PlainReply) (p q : P)
+    (s t : S) (result is : Result ℕ ReadFault) → result ≡ is → IsGiven next after c (sink_kind tells takes) replies (sink_ends p s) (sink_ends q t) result
+    → IsGiven next after c (sink_kind tells takes) replies (sink_ends p s) (sink_ends q t) is
+given_as next after c tells takes replies p q s t result is e h = subst (IsGiven next after c (sink_kind tells takes) replies (sink_ends p s) (sink_ends q t)) e h
 
 -- after the open the rewind, or why it was not done
-pub begun_both : {P : Type 0} (tells : P → List Passed → Type 0) (device : List ℕ) (after : AfterVolume) (p q r : P) (opened : PlainReply) (result : Result Unit ReadFault) → records_of (opened ∷ []) ≡ []
-    → Extends (next_of device after) tells p q [] (opened ∷ []) → IsDone (next_of device after) tells q r (opened ∷ []) result → IsBegun tells device after p r result
-begun_both tells device after p q r opened (Ok u) none x y =
-    (opened, y.0, y.1, no_records opened y.0 none y.2, extends_both (next_of device after) tells p q r [] (opened ∷ []) (opened ∷ y.0 ∷ []) x y.3)
-begun_both tells device after p q r opened (Err fault) none x y =
-    (y.0, breaks_after (next_of device after) tells p q r [] (opened ∷ []) y.0 fault x y.1, y.2 ∙ none, y.3)
+pub begun_both : {P : Type 0} (tells : P → List Passed → Type 0) (device : List ℕ) (after : AfterVolume) (c : Bool) (p q r : P) (opened : PlainReply) (result : Result Unit ReadFault) → records_of (opened ∷ []) ≡ []
+    → Extends (next_of device after c) tells p q [] (opened ∷ []) → IsDone (next_of device after c) tells q r (opened ∷ []) result → IsBegun tells device after c p r result
+begun_both tells device after c p q r opened (Ok u) none x y =
+    (opened, y.0, y.1, no_records opened y.0 none y.2, extends_both (next_of device after c) tells p q r [] (opened ∷ []) (opened ∷ y.0 ∷ []) x y.3)
+begun_both tells device after c p q r opened (Err fault) none x y =
+    (y.0, breaks_after (next_of device after c) tells p q r [] (opened ∷ []) y.0 fault x y.1, y.2 ∙ none, y.3, (y.0, refl))
 
 pub step_answered : {P : Type 0} (next : List PlainReply → Option PlainRequest) (tells : P → List Passed → Type 0) (p q : P) (replies : List PlainReply) (request : PlainRequest) (called : Result KeptReply CallFault)
     (answer : KeptReply) (named : VolumeRequest) (result : Result Unit ReadFault) → next replies ≡ Some request → EndsAtRefusal next replies → called ≡ Ok answer → wanted_by request ≡ Number → IsNamed named request → IsCalled tells request (plain_result called) p q

@@ -1,7 +1,8 @@
--- A peer with the streams that are written to, at one time, and their logs. A peer is the far end
+-- A peer with what is written to, at one time, and their logs. A peer is the far end
 -- of a connection: what is sent over it goes through that connection. Public contracts cite it.
-use Rattle.std.specs.Prelude.{ℕ, List, Option}
+use Rattle.std.specs.Prelude.{ℕ, Bool, List, Option}
 use Rattle.rmt_wire.specs.Counted.{Counting}
+use Rattle.rdump_net.specs.Sink.{SinkCall}
 use Rattle.rdump_net.specs.declared.peer.Passed.{Passed}
 
 -- a peer, and one output stream
@@ -41,3 +42,21 @@ pub record CopyKind (P F W : Type 0) : Type 1 where
 -- makes a `CopyKind`
 abbrev pub copy_kind : {P F W : Type 0} → (P → List Passed → Type 0) → (F → Option (List ℕ)) → (W → Option (List ℕ)) → CopyKind P F W
 copy_kind tells filed contents = record { tells = tells; filed = filed; contents = contents }
+
+-- a peer, and the sink of a volume
+pub record SinkEnds (P S : Type 0) : Type 0 where
+  pub peer : P
+  pub sink : S
+
+-- makes a `SinkEnds`
+abbrev pub sink_ends : {P S : Type 0} → P → S → SinkEnds P S
+sink_ends peer sink = record { peer = peer; sink = sink }
+
+-- what passed at the peer, and what the calls of the sink do to it
+pub record SinkKind (P S : Type 0) : Type 1 where
+  pub tells : P → List Passed → Type 0
+  pub takes : S → S → SinkCall → Bool → Type 0
+
+-- makes a `SinkKind`
+abbrev pub sink_kind : {P S : Type 0} → (P → List Passed → Type 0) → (S → S → SinkCall → Bool → Type 0) → SinkKind P S
+sink_kind tells takes = record { tells = tells; takes = takes }

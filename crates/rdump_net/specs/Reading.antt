@@ -1,10 +1,10 @@
--- Reading a volume over a peer: its requests, what is printed and written, and how it ends. A peer
--- is the far end of a connection: what is sent over it goes through that connection. `p` and `p'`
--- are the peer before and after, and `tells` relates a peer to what passed so far. `next` gives the
+-- Reading a volume over a peer: its requests, what the sink is given, and how it ends. A peer is
+-- the far end of a connection: what is sent over it goes through that connection. `p` and `p'` are
+-- the peer before and after, and `tells` relates a peer to what passed so far. `next` gives the
 -- request that follows some replies. `after` and `goes` say what to do with the reel once its
--- volume was read. `kind` gives what passed at the peer and what the outputs have. Public contracts
--- cite it.
-use Rattle.std.specs.Prelude.{◌≡◌, ◌⊎◌, ◌≤◌, ◌+◌, ◌-◌, ◌^◌, ◌&&◌, ℕ, Bool, true, false, List, [], ◌∷◌, ◌++◌, length, take, position, nat_eq, nat_lt, Option, Some, None, Result, Ok, Err, if◌then◌else◌, Vec}
+-- volume was read. `completed` says whether the sink accepted `Complete`. `kind` gives what passed
+-- at the peer and what the calls of the sink did. Public contracts cite it.
+use Rattle.std.specs.Prelude.{◌≡◌, ◌≢◌, ⊤, ◌⊎◌, ◌≤◌, ◌+◌, ◌-◌, ◌^◌, ◌&&◌, ℕ, Bool, true, false, List, [], ◌∷◌, ◌++◌, length, take, position, nat_eq, nat_lt, Option, Some, None, Result, Ok, Err, if◌then◌else◌, Vec}
 use Rattle.std.specs.Global.{Global}
 use Rattle.std.specs.List.{concat}
 use Rattle.exit_status.specs.declared.status.ExitStatus.{ExitStatus}
@@ -18,8 +18,10 @@ use Rattle.rmt_wire.specs.Reply.PlainReply.{Done, Data, Error}
 use Rattle.rmt_wire.specs.Request.{PlainRequest}
 use Rattle.rmt_wire.specs.Request.PlainRequest.{Open, Close, Read, Op}
 use Rattle.rdump_net.specs.Calls.{is_done, CallsFollow, Stops, Extends}
-use Rattle.rdump_net.specs.Ends.{StreamEnds, StreamKind, CopyEnds, CopyKind}
+use Rattle.rdump_net.specs.Ends.{CopyEnds, CopyKind, SinkEnds, SinkKind}
 use Rattle.rdump_net.specs.Peer.{Logs}
+use Rattle.rdump_net.specs.Sink.{SinkCall, Takes, blocks_from, calls_of}
+use Rattle.rdump_net.specs.Sink.SinkCall.{Mark, Complete}
 use Rattle.rmt_wire.specs.Print.{IsPrinted}
 use Rattle.rdump_net.specs.declared.kept_reply.KeptReply.{KeptReply}
 use Rattle.rdump_net.specs.declared.kept_reply.KeptReply.TheVariants as kept
@@ -28,7 +30,7 @@ use Rattle.rdump_net.specs.declared.fault.VolumeRequest.TheVariants as asked
 use Rattle.rdump_net.specs.declared.fault.CallFault.{CallFault}
 use Rattle.rdump_net.specs.declared.fault.CallFault.TheVariants as call
 use Rattle.rdump_net.specs.declared.fault.ReadFault.{ReadFault}
-use Rattle.rdump_net.specs.declared.fault.ReadFault.TheVariants.{Refused, ConnectionEnded, Botched, OutOfMemory, OutputFailed, NoMark, Undetermined}
+use Rattle.rdump_net.specs.declared.fault.ReadFault.TheVariants.{Refused, ConnectionEnded, Botched, OutOfMemory, Stopped, NoMark, Undetermined}
 use Rattle.rdump_net.specs.declared.peer.Passed.{Passed}
 use Rattle.rdump_net.specs.declared.volume.AfterVolume.{AfterVolume}
 use Rattle.rdump_net.specs.declared.volume.AfterVolume.TheVariants.{Stay, Check, Offline}
@@ -39,72 +41,74 @@ abbrev pub next_close : List PlainReply → Option PlainRequest
 next_close [] = Some Close
 next_close (closed ∷ more) = None
 
--- once the mark is found or not looked for: the close, with `Offline` after taking the reel offline
-abbrev pub next_end : AfterVolume → List PlainReply → Option PlainRequest
-next_end Stay replies = next_close replies
-next_end Check replies = next_close replies
-next_end Offline [] = Some (Op MTOFFL 1)
-next_end Offline (taken ∷ replies) = if is_done taken then next_close replies else None
+-- Once the mark is found and the sink was asked to complete: nothing if it refused. If it accepted:
+-- the close, with `Offline` after taking the reel offline.
+abbrev pub next_end : AfterVolume → Bool → List PlainReply → Option PlainRequest
+next_end goes false replies = None
+next_end Stay true replies = next_close replies
+next_end Check true replies = next_close replies
+next_end Offline true [] = Some (Op MTOFFL 1)
+next_end Offline true (taken ∷ replies) = if is_done taken then next_close replies else None
 
--- the next request, after these replies, when reading spaces over the mark behind the last record
--- and goes on as `goes` says; the close if the space is refused
-abbrev pub next_over : AfterVolume → List PlainReply → Option PlainRequest
-next_over goes [] = Some (Op MTFSF 1)
-next_over goes (Done k ∷ replies) = next_end goes replies
-next_over goes (Error k text ∷ replies) = next_close replies
-next_over goes (Data bytes ∷ replies) = None
+-- the next request, after these replies, when reading spaces over the mark behind the last record;
+-- `at_mark` gives what follows once that is done; the close if the space is refused
+abbrev pub next_over : (List PlainReply → Option PlainRequest) → List PlainReply → Option PlainRequest
+next_over at_mark [] = Some (Op MTFSF 1)
+next_over at_mark (Done k ∷ replies) = at_mark replies
+next_over at_mark (Error k text ∷ replies) = next_close replies
+next_over at_mark (Data bytes ∷ replies) = None
 
 -- the next request, after these replies, when reading spaces forward over the `n` records and then
--- over the mark, and goes on as `goes` says; the close if a space is refused; None at the end, or
--- if a reply does not fit
-abbrev pub next_forward : AfterVolume → ℕ → List PlainReply → Option PlainRequest
-next_forward goes n [] = Some (Op MTFSR n)
-next_forward goes n (Done k ∷ replies) = next_over goes replies
-next_forward goes n (Error k text ∷ replies) = next_close replies
-next_forward goes n (Data bytes ∷ replies) = None
+-- over the mark, where `at_mark` gives what follows; the close if a space is refused; None at the
+-- end, or if a reply does not fit
+abbrev pub next_forward : (List PlainReply → Option PlainRequest) → ℕ → List PlainReply → Option PlainRequest
+next_forward at_mark n [] = Some (Op MTFSR n)
+next_forward at_mark n (Done k ∷ replies) = next_over at_mark replies
+next_forward at_mark n (Error k text ∷ replies) = next_close replies
+next_forward at_mark n (Data bytes ∷ replies) = None
 
 -- the next request, after these replies, when reading rewinds and then spaces forward over the `n`
 -- records and the mark; the close if the rewind is refused, or if `n` records are too many for one
 -- request; None at the end, or if a reply does not fit
-abbrev pub next_again : AfterVolume → ℕ → List PlainReply → Option PlainRequest
-next_again goes n [] = Some (Op MTREW 1)
-next_again goes n (Done k ∷ replies) = if nat_lt NUMBER_LIMIT n then next_close replies else next_forward goes n replies
-next_again goes n (Error k text ∷ replies) = next_close replies
-next_again goes n (Data bytes ∷ replies) = None
+abbrev pub next_again : (List PlainReply → Option PlainRequest) → ℕ → List PlainReply → Option PlainRequest
+next_again at_mark n [] = Some (Op MTREW 1)
+next_again at_mark n (Done k ∷ replies) = if nat_lt NUMBER_LIMIT n then next_close replies else next_forward at_mark n replies
+next_again at_mark n (Error k text ∷ replies) = next_close replies
+next_again at_mark n (Data bytes ∷ replies) = None
 
 -- The next request, after these replies, when reading spaces back over one record. If that is done,
 -- there is no mark, and the close is next. If it is refused with EIO, as at a mark, reading rewinds
 -- and spaces forward over the `n` records and the mark.
-abbrev pub next_back : AfterVolume → ℕ → List PlainReply → Option PlainRequest
-next_back goes n [] = Some (Op MTBSR 1)
-next_back goes n (Done k ∷ replies) = next_close replies
-next_back goes n (Error k text ∷ replies) = if nat_eq k EIO then next_again goes n replies else next_close replies
-next_back goes n (Data bytes ∷ replies) = None
+abbrev pub next_back : (List PlainReply → Option PlainRequest) → ℕ → List PlainReply → Option PlainRequest
+next_back at_mark n [] = Some (Op MTBSR 1)
+next_back at_mark n (Done k ∷ replies) = next_close replies
+next_back at_mark n (Error k text ∷ replies) = if nat_eq k EIO then next_again at_mark n replies else next_close replies
+next_back at_mark n (Data bytes ∷ replies) = None
 
 -- after the last of `n` records: look for the mark, unless the reel stays unchecked
-abbrev pub next_mark : AfterVolume → ℕ → List PlainReply → Option PlainRequest
-next_mark Stay n replies = next_close replies
-next_mark Check n replies = next_back Check n replies
-next_mark Offline n replies = next_back Offline n replies
+abbrev pub next_mark : AfterVolume → Bool → ℕ → List PlainReply → Option PlainRequest
+next_mark Stay completed n replies = next_close replies
+next_mark Check completed n replies = next_back (next_end Check completed) n replies
+next_mark Offline completed n replies = next_back (next_end Offline completed) n replies
 
 -- a reel without records stays, and no mark is looked for
 abbrev pub after_for_count : AfterVolume → ℕ → AfterVolume
 after_for_count after n = if nat_eq n 0 then Stay else after
 
 -- reads until one returns nothing, after `n` records
-abbrev pub next_read : AfterVolume → ℕ → List PlainReply → Option PlainRequest
-next_read after n [] = Some (Read RECORD_LIMIT)
-next_read after n (Data (b ∷ bytes) ∷ reads) = next_read after (n + 1) reads
-next_read after n (Data [] ∷ replies) = next_mark (after_for_count after n) n replies
-next_read after n (Done k ∷ reads) = None
-next_read after n (Error k text ∷ reads) = None
+abbrev pub next_read : AfterVolume → Bool → ℕ → List PlainReply → Option PlainRequest
+next_read after completed n [] = Some (Read RECORD_LIMIT)
+next_read after completed n (Data (b ∷ bytes) ∷ reads) = next_read after completed (n + 1) reads
+next_read after completed n (Data [] ∷ replies) = next_mark (after_for_count after n) completed n replies
+next_read after completed n (Done k ∷ reads) = None
+next_read after completed n (Error k text ∷ reads) = None
 
 -- The open for reading, the rewind, the reads, and what follows them. After a refusal of one of
 -- these, nothing more.
-abbrev pub next_of : List ℕ → AfterVolume → List PlainReply → Option PlainRequest
-next_of device after [] = Some (Open device O_RDONLY)
-next_of device after (opened ∷ []) = if is_done opened then Some (Op MTREW 1) else None
-next_of device after (opened ∷ rewound ∷ reads) = if is_done rewound then next_read after 0 reads else None
+abbrev pub next_of : List ℕ → AfterVolume → Bool → List PlainReply → Option PlainRequest
+next_of device after completed [] = Some (Open device O_RDONLY)
+next_of device after completed (opened ∷ []) = if is_done opened then Some (Op MTREW 1) else None
+next_of device after completed (opened ∷ rewound ∷ reads) = if is_done rewound then next_read after completed 0 reads else None
 
 -- the records in the replies; the read at a mark adds an empty one
 abbrev pub records_of : List PlainReply → List (List ℕ)
@@ -112,6 +116,12 @@ records_of [] = []
 records_of (Data bytes ∷ replies) = bytes ∷ records_of replies
 records_of (Done n ∷ replies) = records_of replies
 records_of (Error n text ∷ replies) = records_of replies
+
+-- no record but the last is empty
+abbrev pub OnlyTheLastIsEmpty : List (List ℕ) → Type 0
+OnlyTheLastIsEmpty [] = ⊤
+OnlyTheLastIsEmpty ([] ∷ records) = records ≡ []
+OnlyTheLastIsEmpty ((b ∷ bytes) ∷ records) = OnlyTheLastIsEmpty records
 
 -- the bytes before this index, or all of them
 abbrev pub cut_at : Option ℕ → List ℕ → List ℕ
@@ -148,11 +158,12 @@ HasReply next replies request reply =
 abbrev pub IsMarkFound : (List PlainReply → Option PlainRequest) → List PlainReply → Type 0
 IsMarkFound next replies = (number : ℕ) × HasReply next replies (Op MTFSF 1) (Done number)
 
--- a mark was found behind the records, unless `Stay` asks for no check
-abbrev pub IsMarkKnown : (List PlainReply → Option PlainRequest) → AfterVolume → List PlainReply → Type 0
-IsMarkKnown next Stay replies = Unit {0}
-IsMarkKnown next Check replies = IsMarkFound next replies
-IsMarkKnown next Offline replies = IsMarkFound next replies
+-- what is known at success, when the sink was given `end` after the records: a mark was found and
+-- the sink was asked to complete; or with `Stay` neither
+abbrev pub IsEndKnown : (List PlainReply → Option PlainRequest) → AfterVolume → List PlainReply → List SinkCall → Type 0
+IsEndKnown next Stay replies end = end ≡ []
+IsEndKnown next Check replies end = IsMarkFound next replies × (end ≡ Mark ∷ Complete ∷ [])
+IsEndKnown next Offline replies end = IsMarkFound next replies × (end ≡ Mark ∷ Complete ∷ [])
 
 -- no mark ends the records: spacing back over a record was done
 abbrev pub IsMarkMissing : (List PlainReply → Option PlainRequest) → List PlainReply → Type 0
@@ -180,26 +191,34 @@ IsNamed asked.Read request = request ≡ Read RECORD_LIMIT
 IsNamed asked.Offline request = request ≡ Op MTOFFL 1
 IsNamed asked.Close request = request ≡ Close
 
--- Why a volume was not read whole, given the replies so far and what passed. After `Refused` no
--- request follows. `OutputFailed` occurs while records come. With `NoMark` and `Undetermined` all
--- requests were made; the reply to the close, if any, does not matter.
-abbrev pub ReadFails : (List PlainReply → Option PlainRequest) → List PlainReply → List Passed → ReadFault → Type 0
-ReadFails next replies passed (Refused named number) =
+-- Where a sink can stop the read, when it was given `end` after the records. While it is given the
+-- records, a read would be next. Once it is asked to complete, a mark was found, and nothing is
+-- next.
+abbrev pub IsStopped : (List PlainReply → Option PlainRequest) → List PlainReply → List SinkCall → Type 0
+IsStopped next replies [] = next replies ≡ Some (Read RECORD_LIMIT)
+IsStopped next replies (call ∷ calls) = IsMarkFound next replies × (next replies ≡ None)
+
+-- Why a volume was not read whole, given the replies so far, what the sink was given after the
+-- records (`end`), and what passed. After `Refused` no request follows. With `NoMark` and
+-- `Undetermined` all requests were made; the reply to the close, if any, does not matter.
+abbrev pub ReadFails : (List PlainReply → Option PlainRequest) → List SinkCall → List PlainReply → List Passed → ReadFault → Type 0
+ReadFails next end replies passed (Refused named number) =
     CallsFollow next replies passed
     × ((before : List PlainReply) × (text : List ℕ) × (request : PlainRequest) × (replies ≡ before ++ Error number text ∷ [])
     × (next before ≡ Some request) × IsNamed named request × (next replies ≡ None))
-ReadFails next replies passed ConnectionEnded = Stops next (Some call.ConnectionEnded) replies passed
-ReadFails next replies passed Botched =
+ReadFails next end replies passed ConnectionEnded = Stops next (Some call.ConnectionEnded) replies passed
+ReadFails next end replies passed Botched =
     Stops next (Some call.Botched) replies passed ⊎ (CallsFollow next replies passed × (2 ^ 64 - 1 ≤ length replies))
-ReadFails next replies passed OutOfMemory = Stops next (Some call.OutOfMemory) replies passed
-ReadFails next replies passed OutputFailed = CallsFollow next replies passed × (next replies ≡ Some (Read RECORD_LIMIT))
-ReadFails next replies passed NoMark = (closing : Option CallFault) × Stops next closing replies passed × IsMarkMissing next replies
-ReadFails next replies passed Undetermined = (closing : Option CallFault) × Stops next closing replies passed × IsUndetermined next replies
+ReadFails next end replies passed OutOfMemory = Stops next (Some call.OutOfMemory) replies passed
+ReadFails next end replies passed Stopped = CallsFollow next replies passed × IsStopped next replies end
+ReadFails next end replies passed NoMark = (closing : Option CallFault) × Stops next closing replies passed × IsMarkMissing next replies
+ReadFails next end replies passed Undetermined =
+    (closing : Option CallFault) × Stops next closing replies passed × IsUndetermined next replies
 
--- whether everything that came was printed and written, as it was unless the output failed
+-- whether the sink accepted all that it was given, as it did unless it stopped the read
 abbrev pub is_whole : Result Unit ReadFault → Bool
 is_whole (Ok x) = true
-is_whole (Err OutputFailed) = false
+is_whole (Err Stopped) = false
 is_whole (Err (Refused named number)) = true
 is_whole (Err ConnectionEnded) = true
 is_whole (Err Botched) = true
@@ -207,19 +226,56 @@ is_whole (Err OutOfMemory) = true
 is_whole (Err NoMark) = true
 is_whole (Err Undetermined) = true
 
--- how reading ends; on success the last reply says that the close was done, and a mark was found if
--- it was looked for
-abbrev pub ReadEnds : (List PlainReply → Option PlainRequest) → AfterVolume → List PlainReply → List Passed → Result Unit ReadFault → Type 0
-ReadEnds next goes replies passed (Ok x) =
+-- how reading ends, when the sink was given `end` after the records; on success the last reply says
+-- that the close was done, and a mark was found if it was looked for
+abbrev pub ReadEnds : (List PlainReply → Option PlainRequest) → AfterVolume → List SinkCall → List PlainReply → List Passed → Result Unit ReadFault → Type 0
+ReadEnds next goes end replies passed (Ok x) =
     CallsFollow next replies passed
     × ((before : List PlainReply) × (closed : PlainReply) × (replies ≡ before ++ closed ∷ []) × (next before ≡ Some Close)
     × (is_done closed ≡ true))
-    × IsMarkKnown next goes replies
-ReadEnds next goes replies passed (Err fault) = ReadFails next replies passed fault
+    × IsEndKnown next goes replies end
+ReadEnds next goes end replies passed (Err fault) = ReadFails next end replies passed fault
 
--- What reading a volume does over a peer, what it prints and writes, and its result. The result is
--- `OutputFailed` exactly if not all was printed and written.
-pub record IsRead {P F W : Type 0} (kind : CopyKind P F W) (device : List ℕ) (after : AfterVolume) (old new : CopyEnds P F W)
+-- What the sink is given after the records, and whether it completed. The cases:
+--
+-- - `unasked`: it is given nothing more.
+-- - `refused`: a mark was found, and the sink was given it. Then it was asked to complete, and
+--   refused, which stopped the read.
+-- - `accepted`: a mark was found, and the sink was given it. Then it was asked to complete, and
+--   completed.
+pub data IsEnding (next : List PlainReply → Option PlainRequest) (goes : AfterVolume) (replies : List PlainReply)
+    (result : Result Unit ReadFault) : List SinkCall → Bool → Type 0 where
+  unasked : IsEnding next goes replies result [] false
+  refused : IsMarkFound next replies → goes ≢ Stay → result ≡ Err Stopped → IsEnding next goes replies result (Mark ∷ Complete ∷ []) false
+  accepted : IsMarkFound next replies → goes ≢ Stay → is_whole result ≡ true → IsEnding next goes replies result (Mark ∷ Complete ∷ []) true
+
+-- What reading a volume does over a peer, what the sink is given, and the result. `end` is what the
+-- sink is given after the records, and `completed` says whether it accepted `Complete` there. The
+-- result is `Stopped` exactly if the sink did not accept the last that it was given.
+pub record IsRead {P S : Type 0} (kind : SinkKind P S) (device : List ℕ) (after : AfterVolume) (old new : SinkEnds P S)
+    (result : Result Unit ReadFault) : Type 0 where
+  pub completed : Bool
+  pub replies : List PlainReply
+  pub passed : List Passed
+  pub end : List SinkCall
+  pub logs : Logs kind.tells old.peer new.peer passed
+  pub reads : OnlyTheLastIsEmpty (records_of replies)
+  pub took : Takes kind.takes old.sink new.sink (calls_of (records_of replies) ++ end) (is_whole result)
+  pub ending : IsEnding (next_of device after completed) (after_for_records after (records_of replies)) replies result end completed
+  pub ends : ReadEnds (next_of device after completed) (after_for_records after (records_of replies)) end replies passed result
+
+-- If MTOFFL is the next request after some replies, be they those that came or others, then the
+-- sink was given all records, the mark and `Complete`, and accepted each.
+abbrev pub IsTakenAwayOnlyIfKept : {P S : Type 0} → SinkKind P S → List ℕ → AfterVolume → SinkEnds P S → SinkEnds P S → Result Unit ReadFault → Type 0
+IsTakenAwayOnlyIfKept kind device after old new result =
+    (read : IsRead kind device after old new result) (before : List PlainReply)
+    → next_of device after read.completed before ≡ Some (Op MTOFFL 1)
+    → Takes kind.takes old.sink new.sink (calls_of (records_of read.replies) ++ Mark ∷ Complete ∷ []) true
+
+-- What reading a volume that stays in the drive does over a peer, and its result: the text of the
+-- label is printed to the output, and the records after it are written to the file. The result is
+-- `Stopped` exactly if not all was printed and written.
+pub record IsVolumeCopied {P F W : Type 0} (kind : CopyKind P F W) (device : List ℕ) (old new : CopyEnds P F W)
     (result : Result Unit ReadFault) : Type 0 where
   pub replies : List PlainReply
   pub passed : List Passed
@@ -229,7 +285,7 @@ pub record IsRead {P F W : Type 0} (kind : CopyKind P F W) (device : List ℕ) (
   pub label : IsPrinted kind.contents (label_text (records_of replies)) old.out new.out named
   pub records : IsPrinted kind.filed (file_bytes (records_of replies)) old.file new.file filled
   pub whole : named && filled ≡ is_whole result
-  pub ends : ReadEnds (next_of device after) (after_for_records after (records_of replies)) replies passed result
+  pub ends : ReadEnds (next_of device Stay false) Stay [] replies passed result
 
 -- the exit status: `Success` if the volume was read whole, else `Abnormal`
 abbrev pub status_of : Result Unit ReadFault → ExitStatus
@@ -239,7 +295,7 @@ status_of (Err fault) = Abnormal
 -- the exit status of `read_volume`, which leaves the reel in the drive
 abbrev pub IsReadStatus : {P F W : Type 0} → CopyKind P F W → List ℕ → CopyEnds P F W → CopyEnds P F W → ExitStatus → Type 0
 IsReadStatus kind device old new status =
-    (read : Result Unit ReadFault) × (status ≡ status_of read) × IsRead kind device Stay old new read
+    (read : Result Unit ReadFault) × (status ≡ status_of read) × IsVolumeCopied kind device old new read
 
 -- the replies are records, none empty; with the `m` before them there are `n`
 abbrev pub AreRecords : ℕ → ℕ → List PlainReply → Type 0
@@ -266,13 +322,17 @@ IsVolumeReading n replies =
 abbrev pub IsVolumeRead : ℕ → List PlainReply → Type 0
 IsVolumeRead n replies = (before : List PlainReply) × IsVolumeReading n before × (replies ≡ before ++ Data [] ∷ [])
 
--- Further calls follow these replies, until one fails with `fault`. Then `later` are all replies
--- that came.
+-- `b` begins with `a`
+abbrev pub IsBeginningOf : List PlainReply → List PlainReply → Type 0
+IsBeginningOf a b = (more : List PlainReply) × (b ≡ a ++ more)
+
+-- Further calls follow these replies, until one fails with `fault`, or the sink stops the read.
+-- Then `later` are all replies that came.
 pub record Breaks {P : Type 0} (next : List PlainReply → Option PlainRequest) (tells : P → List Passed → Type 0) (p p' : P)
     (replies : List PlainReply) (fault : ReadFault) (later : List PlainReply) : Type 0 where
   pub more : List Passed
   pub logs : Logs tells p p' more
-  pub fails : (passed : List Passed) → CallsFollow next replies passed → ReadFails next later (passed ++ more) fault
+  pub fails : (passed : List Passed) → CallsFollow next replies passed → ReadFails next [] later (passed ++ more) fault
 
 -- one more call is made; the result is its reply, or why it gets none
 abbrev pub CallSteps : {P : Type 0} → (List PlainReply → Option PlainRequest) → (P → List Passed → Type 0) → P → P → List PlainReply
@@ -280,7 +340,7 @@ abbrev pub CallSteps : {P : Type 0} → (List PlainReply → Option PlainRequest
 CallSteps next tells p p' replies (Ok reply) = Extends next tells p p' replies (replies ++ reply ∷ [])
 CallSteps next tells p p' replies (Err fault) =
     (later : List PlainReply) × Breaks next tells p p' replies fault later × (records_of later ≡ records_of replies)
-    × (is_whole (Err fault) ≡ true)
+    × (is_whole (Err fault) ≡ true) × IsBeginningOf replies later
 
 -- One more call is made after `replies`. Ok: its reply says that the request was done. Err: it was
 -- refused, or got no reply.
@@ -310,11 +370,11 @@ IsDoneBy answer named (Err fault) =
 
 -- The first two calls of reading a volume. Ok: `device` was opened and rewound. Err: why it was
 -- not.
-abbrev pub IsBegun : {P : Type 0} → (P → List Passed → Type 0) → List ℕ → AfterVolume → P → P → Result Unit ReadFault → Type 0
-IsBegun tells device after p p' (Ok x) =
+abbrev pub IsBegun : {P : Type 0} → (P → List Passed → Type 0) → List ℕ → AfterVolume → Bool → P → P → Result Unit ReadFault → Type 0
+IsBegun tells device after completed p p' (Ok x) =
     (opened : PlainReply) × (rewound : PlainReply) × (is_done rewound ≡ true) × (records_of (opened ∷ rewound ∷ []) ≡ [])
-    × Extends (next_of device after) tells p p' [] (opened ∷ rewound ∷ [])
-IsBegun tells device after p p' (Err fault) = CallSteps (next_of device after) tells p p' [] (Err fault)
+    × Extends (next_of device after completed) tells p p' [] (opened ∷ rewound ∷ [])
+IsBegun tells device after completed p p' (Err fault) = CallSteps (next_of device after completed) tells p p' [] (Err fault)
 
 -- calls up to a read that returns nothing, after `n` records
 abbrev pub Reads : {P : Type 0} → (List PlainReply → Option PlainRequest) → (P → List Passed → Type 0) → P → P → List PlainReply
@@ -322,26 +382,27 @@ abbrev pub Reads : {P : Type 0} → (List PlainReply → Option PlainRequest) �
 Reads next tells p p' replies (Ok n) later = Extends next tells p p' replies later × IsVolumeRead n later
 Reads next tells p p' replies (Err fault) later = Breaks next tells p p' replies fault later
 
--- whether everything that came was printed and written; the number of records does not matter
-abbrev pub is_copied : Result ℕ ReadFault → Bool
-is_copied (Ok n) = true
-is_copied (Err fault) = is_whole (Err fault)
+-- whether the sink accepted all that it was given; the number of records does not matter
+abbrev pub is_taken : Result ℕ ReadFault → Bool
+is_taken (Ok n) = true
+is_taken (Err fault) = is_whole (Err fault)
 
--- the records that come after these replies are read and written to the output, up to the result
-pub record AreRecordsWritten {P F : Type 0} (next : List PlainReply → Option PlainRequest) (kind : StreamKind P F)
-    (replies : List PlainReply) (old new : StreamEnds P F) (result : Result ℕ ReadFault) : Type 0 where
+-- the records that come after these replies are read and given to the sink, up to the result
+pub record AreRecordsGiven {P S : Type 0} (next : List PlainReply → Option PlainRequest) (kind : SinkKind P S)
+    (replies : List PlainReply) (old new : SinkEnds P S) (result : Result ℕ ReadFault) : Type 0 where
   pub later : List PlainReply
   pub more : List (List ℕ)
   pub adds : records_of later ≡ records_of replies ++ more
-  pub written : IsPrinted kind.contents (concat more) old.out new.out (is_copied result)
+  pub only : OnlyTheLastIsEmpty more
+  pub took : Takes kind.takes old.sink new.sink (blocks_from 0 more) (is_taken result)
   pub reads : Reads next kind.tells old.peer new.peer replies result later
 
--- whenever exactly the label was read before, the records after it are read and written to the
--- output, up to the result
-abbrev pub AreFurtherRecordsWritten : {P F : Type 0} → StreamKind P F → StreamEnds P F → StreamEnds P F → Result ℕ ReadFault → Type 0
-AreFurtherRecordsWritten kind old new result =
-    (device : List ℕ) (after : AfterVolume) (replies : List PlainReply) → IsVolumeReading 1 replies
-    → AreRecordsWritten (next_of device after) kind replies old new result
+-- whenever exactly the label was read before, the records after it are read and given to the sink,
+-- up to the result
+abbrev pub AreFurtherRecordsGiven : {P S : Type 0} → SinkKind P S → SinkEnds P S → SinkEnds P S → Result ℕ ReadFault → Type 0
+AreFurtherRecordsGiven kind old new result =
+    (device : List ℕ) (after : AfterVolume) (completed : Bool) (replies : List PlainReply) → IsVolumeReading 1 replies
+    → AreRecordsGiven (next_of device after completed) kind replies old new result
 
 -- after `replies`, `next` gives the same requests as `step`, which sees only the replies that come
 -- from then on
@@ -350,33 +411,28 @@ GoesOnBy next step replies = (ends : List PlainReply) → next (replies ++ ends)
 
 -- calls up to the end of the records, of which there are `n`; from there `next_mark` gives the next
 -- requests
-abbrev pub ReadsVolume : {P : Type 0} → (List PlainReply → Option PlainRequest) → AfterVolume → (P → List Passed → Type 0) → P → P
+abbrev pub ReadsVolume : {P : Type 0} → (List PlainReply → Option PlainRequest) → AfterVolume → Bool → (P → List Passed → Type 0) → P → P
     → List PlainReply → Result ℕ ReadFault → List PlainReply → Type 0
-ReadsVolume next after tells p p' replies (Ok n) later =
-    Extends next tells p p' replies later × GoesOnBy next (next_mark (after_for_count after n) n) later
+ReadsVolume next after completed tells p p' replies (Ok n) later =
+    Extends next tells p p' replies later × GoesOnBy next (next_mark (after_for_count after n) completed n) later
     × (after_for_records after (records_of later) ≡ after_for_count after n)
-ReadsVolume next after tells p p' replies (Err fault) later = Breaks next tells p p' replies fault later
+ReadsVolume next after completed tells p p' replies (Err fault) later = Breaks next tells p p' replies fault later
 
--- The calls after `replies`, until the reads end with `result`: the text of the label is printed,
--- and the records after it are written to the file. `later` are all replies that came until then.
--- `named` says whether the label's text was printed whole, and `filled` whether the records were
--- written whole.
-pub record IsCopied {P F W : Type 0} (next : List PlainReply → Option PlainRequest) (after : AfterVolume) (kind : CopyKind P F W)
-    (replies : List PlainReply) (old new : CopyEnds P F W) (result : Result ℕ ReadFault) : Type 0 where
+-- The calls after `replies`, until the reads end with `result`: the sink is given the records.
+-- `later` are all replies that came until then.
+pub record IsGiven {P S : Type 0} (next : List PlainReply → Option PlainRequest) (after : AfterVolume) (completed : Bool) (kind : SinkKind P S)
+    (replies : List PlainReply) (old new : SinkEnds P S) (result : Result ℕ ReadFault) : Type 0 where
   pub later : List PlainReply
-  pub named : Bool
-  pub filled : Bool
-  pub label : IsPrinted kind.contents (label_text (records_of later)) old.out new.out named
-  pub records : IsPrinted kind.filed (file_bytes (records_of later)) old.file new.file filled
-  pub whole : named && filled ≡ is_copied result
-  pub reads : ReadsVolume next after kind.tells old.peer new.peer replies result later
+  pub only : OnlyTheLastIsEmpty (records_of later)
+  pub took : Takes kind.takes old.sink new.sink (calls_of (records_of later)) (is_taken result)
+  pub reads : ReadsVolume next after completed kind.tells old.peer new.peer replies result later
 
--- Whenever the device was opened and rewound, and nothing was read, the text of the label is
--- printed, and the records after it are written to the file, until the reads end with `result`.
-abbrev pub IsCopiedAtLabel : {P F W : Type 0} → CopyKind P F W → CopyEnds P F W → CopyEnds P F W → Result ℕ ReadFault → Type 0
-IsCopiedAtLabel kind old new result =
-    (device : List ℕ) (after : AfterVolume) (seen : List PlainReply) → IsAtLabel seen
-    → IsCopied (next_of device after) after kind seen old new result
+-- Whenever the device was opened and rewound, and nothing was read, the sink is given the records,
+-- until the reads end with `result`.
+abbrev pub IsGivenAtLabel : {P S : Type 0} → SinkKind P S → SinkEnds P S → SinkEnds P S → Result ℕ ReadFault → Type 0
+IsGivenAtLabel kind old new result =
+    (device : List ℕ) (after : AfterVolume) (completed : Bool) (seen : List PlainReply) → IsAtLabel seen
+    → IsGiven (next_of device after completed) after completed kind seen old new result
 
 -- One more call is made after `replies`, an operation. Ok None: it was done. Ok (Some number): it
 -- was refused with this error number. Err: it got no reply.
@@ -391,42 +447,34 @@ IsAnswered next tells p p' replies (Err fault) = CallSteps next tells p p' repli
 abbrev pub IsUnmarked : (List PlainReply → Option PlainRequest) → List PlainReply → ReadFault → Type 0
 IsUnmarked next replies NoMark = IsMarkMissing next replies
 IsUnmarked next replies Undetermined = IsUndetermined next replies
-IsUnmarked next replies OutputFailed = ⊥
+IsUnmarked next replies Stopped = ⊥
 IsUnmarked next replies (Refused named number) = ⊥
 IsUnmarked next replies ConnectionEnded = ⊥
 IsUnmarked next replies Botched = ⊥
 IsUnmarked next replies OutOfMemory = ⊥
 
 -- The result of looking for the mark after `replies`; `next` gives the request that follows some
--- replies. Ok None: the mark was found, or not looked for, and reading goes on as `goes` says. Ok
--- (Some fault): it was not found, for this reason, and the close is next. Err: a call got no reply.
--- `later` are all replies that came until then; those of the search have no record.
-abbrev pub HasSoughtMark : {P : Type 0} → (List PlainReply → Option PlainRequest) → AfterVolume → (P → List Passed → Type 0) → P → P
-    → List PlainReply → Result (Option ReadFault) ReadFault → Type 0
-HasSoughtMark next goes tells p p' replies (Ok None) =
+-- replies. Ok None: the mark was found, and `at_mark` gives the next requests. Ok (Some fault): it
+-- was not found, for this reason, and the close is next. Err: a call got no reply. `later` are all
+-- replies that came until then; those of the search have no record.
+abbrev pub HasSoughtMark : {P : Type 0} → (List PlainReply → Option PlainRequest) → (List PlainReply → Option PlainRequest) → (P → List Passed → Type 0)
+    → P → P → List PlainReply → Result (Option ReadFault) ReadFault → Type 0
+HasSoughtMark next at_mark tells p p' replies (Ok None) =
     (later : List PlainReply) × Extends next tells p p' replies later × (records_of later ≡ records_of replies)
-    × GoesOnBy next (next_end goes) later × IsMarkKnown next goes later
-HasSoughtMark next goes tells p p' replies (Ok (Some fault)) =
+    × GoesOnBy next at_mark later × IsMarkFound next later
+HasSoughtMark next at_mark tells p p' replies (Ok (Some fault)) =
     (later : List PlainReply) × Extends next tells p p' replies later × (records_of later ≡ records_of replies)
     × GoesOnBy next next_close later × IsUnmarked next later fault
-HasSoughtMark next goes tells p p' replies (Err fault) = CallSteps next tells p p' replies (Err fault)
+HasSoughtMark next at_mark tells p p' replies (Err fault) = CallSteps next tells p p' replies (Err fault)
 
--- Whenever `step` gives the next requests, this is the result of looking for the mark. Ok None: the
--- mark was found, or not looked for. Ok (Some fault): it was not found, for this reason. Err: a
--- call got no reply.
-abbrev pub IsLookedBy : {P : Type 0} → (AfterVolume → List PlainReply → Option PlainRequest) → (P → List Passed → Type 0) → P → P
-    → Result (Option ReadFault) ReadFault → Type 0
-IsLookedBy step tells p p' result =
-    (goes : AfterVolume) (next : List PlainReply → Option PlainRequest) (replies : List PlainReply)
-    → GoesOnBy next (step goes) replies → HasSoughtMark next goes tells p p' replies result
-
--- After the last of `n` records, this is the result of looking for the mark, if `goes` asks for
--- that. Ok None: the mark was found, or not looked for. Ok (Some fault): it was not found, for this
+-- Whenever `step` gives the next requests, and `at_mark` those after the mark, this is the result
+-- of looking for the mark. Ok None: it was found. Ok (Some fault): it was not found, for this
 -- reason. Err: a call got no reply.
-abbrev pub IsLookedAtEnd : {P : Type 0} → (P → List Passed → Type 0) → AfterVolume → ℕ → P → P → Result (Option ReadFault) ReadFault → Type 0
-IsLookedAtEnd tells goes n p p' result =
-    (next : List PlainReply → Option PlainRequest) (replies : List PlainReply) → GoesOnBy next (next_mark goes n) replies
-    → HasSoughtMark next goes tells p p' replies result
+abbrev pub IsLookedBy : {P : Type 0} → ((List PlainReply → Option PlainRequest) → List PlainReply → Option PlainRequest)
+    → (P → List Passed → Type 0) → P → P → Result (Option ReadFault) ReadFault → Type 0
+IsLookedBy step tells p p' result =
+    (at_mark : List PlainReply → Option PlainRequest) (next : List PlainReply → Option PlainRequest) (replies : List PlainReply)
+    → GoesOnBy next (step at_mark) replies → HasSoughtMark next at_mark tells p p' replies result
 
 -- the reel was taken offline, if `Offline` asks for it, and the close is next; or a call failed
 -- with the fault
@@ -437,61 +485,81 @@ IsTakenAway next tells p p' replies (Ok x) =
     × GoesOnBy next next_close (replies ++ taken)
 IsTakenAway next tells p p' replies (Err fault) = CallSteps next tells p p' replies (Err fault)
 
--- whenever the mark was found or not looked for, the reel is taken offline if `goes` is `Offline`,
--- and the close is next; or a call fails with the fault
+-- whenever the sink completed at the mark, the reel is taken offline if `goes` is `Offline`, and
+-- the close is next; or a call fails with the fault
 abbrev pub IsTakenAwayAtMark : {P : Type 0} → (P → List Passed → Type 0) → AfterVolume → P → P → Result Unit ReadFault → Type 0
 IsTakenAwayAtMark tells goes p p' result =
-    (next : List PlainReply → Option PlainRequest) (replies : List PlainReply) → GoesOnBy next (next_end goes) replies
+    (next : List PlainReply → Option PlainRequest) (replies : List PlainReply) → GoesOnBy next (next_end goes true) replies
     → IsTakenAway next tells p p' replies result
 
--- Further calls, from these replies on to the end of the read. They read no record, and the read
--- ends with this result.
-pub record Concludes {P : Type 0} (next : List PlainReply → Option PlainRequest) (goes : AfterVolume) (tells : P → List Passed → Type 0)
-    (p p' : P) (replies : List PlainReply) (result : Result Unit ReadFault) : Type 0 where
+-- Further calls, from these replies on to the end of the read, which has this result. They read no
+-- record, and the sink is given nothing. `end` is what it was given since the records.
+pub record Concludes {P : Type 0} (next : List PlainReply → Option PlainRequest) (goes : AfterVolume) (end : List SinkCall)
+    (tells : P → List Passed → Type 0) (p p' : P) (replies : List PlainReply) (result : Result Unit ReadFault) : Type 0 where
   pub later : List PlainReply
   pub more : List Passed
   pub logs : Logs tells p p' more
   pub same : records_of later ≡ records_of replies
+  pub adds : IsBeginningOf replies later
   pub whole : is_whole result ≡ true
-  pub ends : (passed : List Passed) → CallsFollow next replies passed → ReadEnds next goes later (passed ++ more) result
+  pub ends : (passed : List Passed) → CallsFollow next replies passed → ReadEnds next goes end later (passed ++ more) result
 
 -- Whenever no mark was found, for the reason `fault`, and the close is next, further calls are made
 -- to the end of the read, which has this result.
 abbrev pub IsClosedUnmarked : {P : Type 0} → (P → List Passed → Type 0) → ReadFault → P → P → Result Unit ReadFault → Type 0
 IsClosedUnmarked tells fault p p' result =
     (goes : AfterVolume) (next : List PlainReply → Option PlainRequest) (replies : List PlainReply) → GoesOnBy next next_close replies
-    → IsUnmarked next replies fault → Concludes next goes tells p p' replies result
+    → IsUnmarked next replies fault → Concludes next goes [] tells p p' replies result
 
--- Whenever a mark was found or not looked for, further calls are made to the end of the read, which
--- has this result.
-abbrev pub IsConcludedAtMark : {P : Type 0} → (P → List Passed → Type 0) → AfterVolume → P → P → Result Unit ReadFault → Type 0
-IsConcludedAtMark tells goes p p' result =
-    (next : List PlainReply → Option PlainRequest) (replies : List PlainReply) → GoesOnBy next (next_end goes) replies
-    → IsMarkKnown next goes replies → Concludes next goes tells p p' replies result
+-- Further calls, and what the sink is given, from these replies on to the end of the read, which
+-- has this result. The calls read no record. `completed` says whether the sink accepted `Complete`.
+pub record HasConcluded {P S : Type 0} (next : List PlainReply → Option PlainRequest) (goes : AfterVolume) (completed : Bool)
+    (kind : SinkKind P S) (replies : List PlainReply) (old new : SinkEnds P S) (result : Result Unit ReadFault) : Type 0 where
+  pub later : List PlainReply
+  pub more : List Passed
+  pub end : List SinkCall
+  pub logs : Logs kind.tells old.peer new.peer more
+  pub same : records_of later ≡ records_of replies
+  pub took : Takes kind.takes old.sink new.sink end (is_whole result)
+  pub ending : IsEnding next goes later result end completed
+  pub ends : (passed : List Passed) → CallsFollow next replies passed → ReadEnds next goes end later (passed ++ more) result
+
+-- Whenever a mark was found, the sink is given it and asked to complete, and further calls are made
+-- to the end of the read, which has this result.
+abbrev pub IsConcludedAtMark : {P S : Type 0} → SinkKind P S → AfterVolume → SinkEnds P S → SinkEnds P S → Result Unit ReadFault → Type 0
+IsConcludedAtMark kind goes old new result =
+    (completed : Bool) × ((next : List PlainReply → Option PlainRequest) (replies : List PlainReply) → goes ≢ Stay
+    → GoesOnBy next (next_end goes completed) replies → IsMarkFound next replies → HasConcluded next goes completed kind replies old new result)
+
+-- After the last of `n` records, whenever a mark is looked for, further calls are made to the end
+-- of the read, which has this result.
+abbrev pub IsConcludedBySearch : {P S : Type 0} → SinkKind P S → AfterVolume → ℕ → SinkEnds P S → SinkEnds P S → Result Unit ReadFault → Type 0
+IsConcludedBySearch kind goes n old new result =
+    (completed : Bool) × ((next : List PlainReply → Option PlainRequest) (replies : List PlainReply) → goes ≢ Stay
+    → GoesOnBy next (next_back (next_end goes completed) n) replies → HasConcluded next goes completed kind replies old new result)
 
 -- After the last of `n` records, further calls are made to the end of the read, which has this
 -- result. They look for the mark if `goes` asks for it.
-abbrev pub IsConcludedAtEnd : {P : Type 0} → (P → List Passed → Type 0) → AfterVolume → ℕ → P → P → Result Unit ReadFault → Type 0
-IsConcludedAtEnd tells goes n p p' result =
-    (next : List PlainReply → Option PlainRequest) (replies : List PlainReply) → GoesOnBy next (next_mark goes n) replies
-    → Concludes next goes tells p p' replies result
+abbrev pub IsConcludedAtEnd : {P S : Type 0} → SinkKind P S → AfterVolume → ℕ → SinkEnds P S → SinkEnds P S → Result Unit ReadFault → Type 0
+IsConcludedAtEnd kind goes n old new result =
+    (completed : Bool) × ((next : List PlainReply → Option PlainRequest) (replies : List PlainReply)
+    → GoesOnBy next (next_mark goes completed n) replies → HasConcluded next goes completed kind replies old new result)
 
--- All calls of reading a volume over a peer that is connected: what they do over it, what they
--- print and write, and the result. `replies` are all replies, and `more` is what passed. `named`
--- says whether the label's text was printed whole, and `filled` whether the records were written to
--- the file whole. The result is `OutputFailed` exactly if one of the two is false.
-pub record HasReadVolume {P F W : Type 0} (kind : CopyKind P F W) (device : List ℕ) (after : AfterVolume) (old new : CopyEnds P F W)
+-- All calls of reading a volume over a peer that is connected: what they do over it, what the sink
+-- is given, and the result. `replies` are all replies, and `more` is what passed. `end` and
+-- `completed` are as in `IsRead`.
+pub record HasReadVolume {P S : Type 0} (kind : SinkKind P S) (device : List ℕ) (after : AfterVolume) (old new : SinkEnds P S)
     (result : Result Unit ReadFault) : Type 0 where
+  pub completed : Bool
   pub replies : List PlainReply
   pub more : List Passed
-  pub named : Bool
-  pub filled : Bool
+  pub end : List SinkCall
   pub logs : Logs kind.tells old.peer new.peer more
-  pub label : IsPrinted kind.contents (label_text (records_of replies)) old.out new.out named
-  pub records : IsPrinted kind.filed (file_bytes (records_of replies)) old.file new.file filled
-  pub whole : named && filled ≡ is_whole result
-  pub ends : (passed : List Passed) → CallsFollow (next_of device after) [] passed
-      → ReadEnds (next_of device after) (after_for_records after (records_of replies)) replies (passed ++ more) result
+  pub reads : OnlyTheLastIsEmpty (records_of replies)
+  pub took : Takes kind.takes old.sink new.sink (calls_of (records_of replies) ++ end) (is_whole result)
+  pub ending : IsEnding (next_of device after completed) (after_for_records after (records_of replies)) replies result end completed
+  pub ends : (passed : List Passed) → CallsFollow (next_of device after completed) [] passed
+      → ReadEnds (next_of device after completed) (after_for_records after (records_of replies)) end replies (passed ++ more) result
 
 -- one call reads a record, or fails with the reason
 abbrev pub IsRecordRead : {P : Type 0} → (List PlainReply → Option PlainRequest) → (P → List Passed → Type 0) → P → P → List PlainReply

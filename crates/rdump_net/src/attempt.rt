@@ -135,7 +135,7 @@ fn ask<B: Blocks, P: Peer>(client: &mut Client<B>, peer: &mut P, text: &mut Vec<
 }
 
 /// Receives bytes from the peer and feeds them to the client. At the end of the connection, the
-/// client's attempt ends.
+/// client's attempt ends. If the attempt is about to overwrite a label, `Peer::overwrites` is called.
 fn hear<B: Blocks, P: Peer>(client: &mut Client<B>, peer: &mut P) -> Progress
     ensures { TalksOver B.holds FromNone P.tells client.old client.new peer.old peer.new }
 {
@@ -144,5 +144,9 @@ fn hear<B: Blocks, P: Peer>(client: &mut Client<B>, peer: &mut P) -> Progress
     if count == NO_BYTES {
         return client.ended();
     }
-    client.feed(&piece[..count])
+    let (progress, found) = client.feed_finding_label(&piece[..count]);
+    if let Some(label) = found {
+        peer.overwrites(&label);
+    }
+    progress
 }

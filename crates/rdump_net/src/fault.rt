@@ -1,4 +1,5 @@
 //! Why calls to a peer fail.
+use crate::sink::SinkStopped;
 use thiserror::Error;
 
 /// Why a request got no reply.
@@ -50,9 +51,9 @@ pub enum ReadFault {
     /// An allocation for a request or its reply failed.
     #[error("out of memory")]
     OutOfMemory,
-    /// The label could not be printed, or a record could not be written.
-    #[error("a write failed")]
-    OutputFailed,
+    /// The sink stopped the read. It keeps why.
+    #[error("the read was stopped")]
+    Stopped,
     /// No mark ends the volume: its records reach to the end of the reel.
     #[error("no mark")]
     NoMark,
@@ -75,5 +76,19 @@ impl From<CallFault> for ReadFault {
             CallFault::Botched => ReadFault::Botched,
             CallFault::OutOfMemory => ReadFault::OutOfMemory,
         }
+    }
+}
+
+impl From<SinkStopped> for ReadFault {
+    // from_gives: Gives `Stopped`.
+
+    ghost use Rattle.std.specs.Prelude.{◌≡◌};
+    ghost use Rattle.rdump_net.specs.declared.fault.ReadFault.TheVariants.{Stopped};
+
+    ghost from_gives = { λ fault e. e ≡ Stopped };
+
+    fn from(fault: SinkStopped) -> ReadFault {
+        let _ = fault;
+        ReadFault::Stopped
     }
 }

@@ -5,10 +5,11 @@
 //! write its volumes to a tape server, asks the operator after a failure, and prints each counted
 //! volume. `dump_kept` also keeps the checkpoint with a `Keeper`.
 //!
-//! `copy_volume` reads a volume back, `mt` does one operation, and `look_at_reel` finds out what a
-//! reel begins with. Each uses a connection of its own and makes its calls with a `PeerCaller`: one
-//! request at a time, each with a `KeptReply`. `find_protection` decides from that beginning
-//! whether a dump may write on the reel.
+//! `copy_volume` reads a volume back into a `VolumeSink`, and `read_volume` reads one into two
+//! streams. `mt` does one operation, and `look_at_reel` finds out what a reel begins with. Each uses
+//! a connection of its own and makes its calls with a `PeerCaller`: one request at a time, each with
+//! a `KeptReply`. `find_protection` decides from that beginning whether a dump may write on the
+//! reel.
 //!
 //! # Contracts
 //!
@@ -17,6 +18,11 @@
 //! The contract of `SocketPeer`, which uses a socket of the system, does not give the log. So no
 //! clause says what passed through a socket. No clause says which error `SocketPeer::failure`
 //! returns, or how long a call waits.
+//!
+//! A *sink* receives a volume that is read: the first record as the label, each record after it as a
+//! *block* with a number, and the mark that ends them. The sink *accepts* a label or a block, or it
+//! stops the read. After the mark the sink is asked to *complete*. It completes if the volume is
+//! kept. The promises about a sink hold only if the sink's contract says what its calls do.
 //!
 //! A *keeper* stores the text of the client's checkpoint. Each new text replaces the previous one.
 #![tactic(auto)]
@@ -33,8 +39,10 @@ mod look;
 mod operation;
 mod operator;
 mod peer;
+mod printing_sink;
 mod protection;
 mod rounds;
+mod sink;
 mod socket;
 mod volume;
 
@@ -49,5 +57,6 @@ pub use look::{LookFault, LookRequest, ReelFront, look_at_reel};
 pub use operation::mt;
 pub use peer::{Passed, Peer};
 pub use protection::{Protection, find_protection};
+pub use sink::{SinkStopped, Verdict, VolumeSink};
 pub use socket::SocketPeer;
 pub use volume::{AfterVolume, copy_volume, read_volume};

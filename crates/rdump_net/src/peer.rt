@@ -3,7 +3,7 @@ ghost use Rattle.std.specs.Prelude.{◌≤◌, List, [], length, take};
 ghost use Rattle.rdump_net.specs.Peer.{AreBytesSent, Logs, connected, given};
 ghost use Rattle.rdump_net.specs.declared.peer.Passed.{Passed};
 
-use dump_client::AttemptFault;
+use dump_client::{AttemptFault, VolumeLabel};
 
 /// One event between a caller and a peer.
 #[derive(Clone, Copy, Debug, PartialEq, Eq)]
@@ -79,5 +79,15 @@ pub trait Peer {
         ensures { Logs tells self.old self.new [] }
     {
         let _ = fault;
+    }
+
+    /// Reports to the peer that an attempt is about to write over a reel that begins with this
+    /// label. The connection is open, and nothing passes. An implementation may print the label.
+    fn overwrites(&mut self, label: &VolumeLabel)
+        // The call reports to the peer which label an attempt is about to overwrite, and adds
+        // nothing to the log. No clause says that `dump` makes this call.
+        ensures { Logs tells self.old self.new [] }
+    {
+        let _ = label;
     }
 }

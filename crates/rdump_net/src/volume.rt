@@ -1,29 +1,29 @@
 //! Reading a volume back over a peer.
 //!
 //! A peer is the far end of a connection: what is sent over it goes through that connection.
-ghost use Rattle.std.specs.Prelude.{◌≡◌, ◌≤◌, IfSome, IfErr, length, nat_eq, position};
+ghost use Rattle.std.specs.Prelude.{◌≡◌, ◌≤◌, Bool};
 ghost use Rattle.rmt_wire.specs.Lent.{plain_request};
 ghost use Rattle.rmt_wire.specs.declared.limits.TheConstants.{NUMBER_LIMIT};
 ghost use Rattle.rmt_wire.specs.Number.{IsLine};
 ghost use Rattle.rmt_wire.specs.Reply.Wanted.{Number};
 ghost use Rattle.rmt_wire.specs.Request as requests;
 ghost use Rattle.rdump_net.specs.Call.{wanted_by};
-ghost use Rattle.rdump_net.specs.Ends.{copy_ends, copy_kind, stream_ends, stream_kind};
-ghost use Rattle.rmt_wire.specs.Print.{IsPrinted};
+ghost use Rattle.rdump_net.specs.Ends.{copy_ends, copy_kind, sink_ends, sink_kind};
 ghost use Rattle.rdump_net.specs.Reading as spec;
-ghost use Rattle.rdump_net.specs.declared.fault.ReadFault.TheVariants as faults;
-ghost use Rattle.rdump_net.specs.Reading.{AreFurtherRecordsWritten, IsBegun, IsClosedUnmarked, IsConcludedAtEnd, IsConcludedAtMark, IsCopiedAtLabel, IsDoneBy, IsDoneNext, IsLookedAtEnd, IsLookedBy, IsNamed, IsRead, IsReadStatus, IsTakenAwayAtMark, HasReadVolume, is_whole};
+ghost use Rattle.rdump_net.specs.Reading.{AreFurtherRecordsGiven, IsBegun, IsClosedUnmarked, IsConcludedAtEnd, IsConcludedAtMark, IsConcludedBySearch, IsDoneBy, IsDoneNext, IsGivenAtLabel, IsLookedBy, IsNamed, IsRead, IsReadStatus, IsTakenAwayAtMark, IsTakenAwayOnlyIfKept, IsVolumeCopied, HasReadVolume};
 ghost use Rattle.rdump_net.specs.declared.volume.AfterVolume.{AfterVolume};
 
 use crate::Peer;
 use crate::caller::PeerCaller;
 use crate::fault::{ReadFault, VolumeRequest};
 use crate::kept_reply::KeptReply;
+use crate::printing_sink::Outputs;
+use crate::sink::{Verdict, VolumeSink};
 use exit_status::ExitStatus;
 use rmt_wire::errno::EIO;
 use rmt_wire::fcntl::O_RDONLY;
 use rmt_wire::mtio::{MTBSR, MTFSF, MTFSR, MTOFFL, MTREW};
-use rmt_wire::{Counted, NUMBER_LIMIT, Request, print_text};
+use rmt_wire::{Counted, NUMBER_LIMIT, Request};
 use std::alloc::Global;
 use std::io::Write;
 
@@ -34,16 +34,18 @@ pub enum AfterVolume {
     Stay,
     /// Leave the reel in the drive. If a label was read, check whether a mark ends the volume.
     Check,
-    /// Check, and if a mark ends the volume, move the reel to the bin (`MTOFFL`). A reel without a
-    /// label stays.
+    /// Check, and if a mark ends the volume and the sink completes, move the reel to the bin
+    /// (`MTOFFL`). A reel without a label stays.
     Offline,
 }
 
 /// Reads the first volume of a reel, and leaves the reel in the drive. It calls `copy_volume` with
-/// `AfterVolume::Stay`.
+/// `AfterVolume::Stay`. It prints the label to `out`, up to its first zero byte. It writes the
+/// records after the label to `file`.
 ///
 /// Returns the exit status: `Success` if the volume was read whole, else `Abnormal`. The device is
-/// one line of at most `LINE_LIMIT` bytes.
+/// one line of at most `LINE_LIMIT` bytes. After a write that failed nothing more is sent. If the
+/// reel begins with a mark, or is empty, nothing is printed or written.
 pub fn read_volume<P: Peer, F: Write, W: Write>(
     alloc: Global,
     peer: &mut P,
@@ -52,24 +54,45 @@ pub fn read_volume<P: Peer, F: Write, W: Write>(
     out: &mut Counted<W>,
 ) -> ExitStatus
     requires { IsLine device.now }
-    // Does what `copy_volume` promises with `AfterVolume::Stay`. The status is `Success` if the
+    // The requests are those that `copy_volume` promises with `AfterVolume::Stay`. The call prints
+    // the text of the label, and writes the records after the label to the file. If a write failed,
+    // only a beginning of this text or of these records was written. No clause says that the call
+    // stops reading after the failed write. The status is `Success` if the
     // volume was read whole and the close was done, and `Abnormal` if not.
     ensures { IsReadStatus (copy_kind P.tells F.contents W.contents) device.now
         (copy_ends peer.old file.old out.old) (copy_ends peer.new file.new out.new) result }
 {
-    match copy_volume(alloc, peer, device, AfterVolume::Stay, file, out) {
+    let mut outputs = Outputs { file, out };
+    match copy_out(alloc, peer, device, &mut outputs) {
         Ok(()) => ExitStatus::Success,
         Err(_) => ExitStatus::Abnormal,
     }
 }
 
-/// Reads the first volume of a reel over a new connection. It prints the label to `out`, up to its
-/// first zero byte. It writes the records after the label to `file`, up to the first mark or the
-/// end of the reel.
+/// Reads the first volume of a reel into these outputs, and leaves the reel in the drive.
+fn copy_out<P: Peer, F: Write, W: Write>(
+    alloc: Global,
+    peer: &mut P,
+    device: &[u8],
+    outputs: &mut Outputs<'_, F, W>,
+) -> Result<(), ReadFault>
+    requires { IsLine device.now }
+    ensures same_file { outputs.new.file.ghost_name ≡ outputs.old.file.ghost_name }
+    ensures same_out { outputs.new.out.ghost_name ≡ outputs.old.out.ghost_name }
+    ensures copied { IsVolumeCopied (copy_kind P.tells F.contents W.contents) device.now
+        (copy_ends peer.old outputs.old.file.now outputs.old.out.now)
+        (copy_ends peer.new outputs.new.file.now outputs.new.out.now) result }
+{
+    copy_volume(alloc, peer, device, AfterVolume::Stay, outputs)
+}
+
+/// Reads the first volume of a reel over a new connection, and gives it to `sink`. The sink gets the
+/// first record whole, as the label. It gets each record after it as a block, numbered from 0, up
+/// to the first mark or the end of the reel.
 ///
 /// It opens the device for reading, rewinds, reads record after record, and closes the device.
 /// After an error reply to one of these or to MTOFFL it sends nothing more. The same holds after
-/// bytes that are no reply, and after a write that failed.
+/// bytes that are no reply. If the sink stops the read, it sends nothing more and hangs up.
 ///
 /// A read returns nothing at a mark, and also at the end of a reel. With `AfterVolume::Check` and
 /// `Offline` the function finds out which it was, after the last record:
@@ -82,20 +105,20 @@ pub fn read_volume<P: Peer, F: Write, W: Write>(
 ///
 /// After `NoMark` or `Undetermined` it closes the device, and the reel stays.
 ///
-/// With `Offline` it takes the reel offline before the close, once it found a mark and wrote
-/// everything. A reel that begins with a mark, or is empty, has no label: it stays, nothing is
-/// printed or written, and the close follows. If the connection ends before the reply to MTOFFL
-/// comes, the reel may be in the bin.
+/// If it finds a mark, it gives that to the sink and asks the sink to complete. If the sink
+/// completes, then with `Offline` it takes the reel offline, and then it closes the device. A reel
+/// that begins with a mark, or is empty, has no label: it stays, the sink is given nothing, and the
+/// close follows. If the connection ends before the reply to MTOFFL comes, the reel may be in the
+/// bin.
 ///
 /// The device is one line of at most `LINE_LIMIT` bytes. The function allocates for one record at a
 /// time. `ReadFault` lists the errors.
-pub fn copy_volume<P: Peer, F: Write, W: Write>(
+pub fn copy_volume<P: Peer, S: VolumeSink>(
     alloc: Global,
     peer: &mut P,
     device: &[u8],
     after: AfterVolume,
-    file: &mut Counted<F>,
-    out: &mut Counted<W>,
+    sink: &mut S,
 ) -> Result<(), ReadFault>
     requires { IsLine device.now }
     // If the peer's contract gives the log, the call sends the open for reading and the rewind.
@@ -117,27 +140,35 @@ pub fn copy_volume<P: Peer, F: Write, W: Write>(
     // the search for the mark. The call gives up if MTBSR is refused with an error other than EIO,
     // if one of the three requests is refused, or if there are too many records for MTFSR. Before
     // the call returns `NoMark` or `Undetermined`, it sends the close, and the reply to the close
-    // does not matter. If the call has searched for the mark, it succeeds only if MTFSF was done.
+    // does not matter. If the call has searched for the mark, it succeeds only if MTFSF was done
+    // and the sink completed.
     //
-    // If the argument is `Offline` and MTFSF was done, the call sends MTOFFL once, before the
-    // close. MTOFFL moves the reel to the bin. In all other cases the call does not send MTOFFL.
+    // If the sink's contract says what its calls do, the call gives the first record to the sink as
+    // the label, and each record after it as a block. The blocks have the numbers 0, 1 and so on.
+    // If MTFSF was done, the call gives the sink the mark, and then asks the sink to complete. In
+    // all other cases the sink gets neither of these two calls.
+    //
+    // If the argument is `Offline`, MTFSF was done and the sink completed, the call sends MTOFFL
+    // once, before the close. MTOFFL moves the reel to the bin. In all other cases the call does
+    // not send MTOFFL.
     //
     // Suppose that the first read returns no bytes. Then there is no label, and the call neither
-    // looks for a mark nor sends MTOFFL. The call sends the close next. It prints and writes
-    // nothing. The result is the one that the argument `Stay` would give.
+    // looks for a mark nor sends MTOFFL. The call sends the close next. It gives the sink nothing.
+    // The result is the one that the argument `Stay` would give.
     //
-    // Suppose that a write failed. Then each read that the call made has returned a record. MTOFFL
-    // and the close follow only after a read that returns no bytes. So the call sends neither of
-    // them. No clause says that the call stops reading after the failed write.
-    //
-    // The call prints the text of the label, and writes the records after the label to the file. If
-    // a write failed, only a beginning of this text or of these records was written.
+    // Suppose that the sink does not accept the label or a block, or does not complete. Then the
+    // call sends nothing more, neither MTOFFL nor the close, and gives the sink nothing more. The
+    // result is `Stopped` in this case, and only then.
     //
     // If the call fails, and the result is neither `NoMark` nor `Undetermined`, the result says one
-    // of three things: which request was refused, why the next request has no reply, or that a
-    // write failed. The result says that a write failed if one failed, and only then.
-    ensures { IsRead (copy_kind P.tells F.contents W.contents) device.now after
-        (copy_ends peer.old file.old out.old) (copy_ends peer.new file.new out.new) result }
+    // of three things: which request was refused, why the next request has no reply, or that the
+    // sink stopped the read.
+    ensures read { IsRead (sink_kind P.tells S.takes) device.now after
+        (sink_ends peer.old sink.old) (sink_ends peer.new sink.new) result }
+    // Suppose that the call sent MTOFFL. Then it gave the sink each record and the mark, and asked
+    // the sink to complete. The sink accepted all of them. This follows from `read`.
+    ensures kept { IsTakenAwayOnlyIfKept (sink_kind P.tells S.takes) device.now after
+        (sink_ends peer.old sink.old) (sink_ends peer.new sink.new) result }
 {
     let Ok(mut caller) = PeerCaller::new(alloc) else {
         return Err(ReadFault::OutOfMemory);
@@ -145,34 +176,33 @@ pub fn copy_volume<P: Peer, F: Write, W: Write>(
     if !peer.connect() {
         return Err(ReadFault::ConnectionEnded);
     }
-    let result = go_through(&mut caller, peer, device, after, file, out);
+    let result = go_through(&mut caller, peer, device, after, sink);
     peer.hang_up();
     result
 }
 
 /// Makes all calls of reading a volume, over the open connection. `after` says what to do with the
 /// reel once its volume was read whole.
-fn go_through<P: Peer, F: Write, W: Write>(
+fn go_through<P: Peer, S: VolumeSink>(
     caller: &mut PeerCaller,
     peer: &mut P,
     device: &[u8],
     after: AfterVolume,
-    file: &mut Counted<F>,
-    out: &mut Counted<W>,
+    sink: &mut S,
 ) -> Result<(), ReadFault>
     requires { IsLine device.now }
-    ensures { HasReadVolume (copy_kind P.tells F.contents W.contents) device.now after
-        (copy_ends peer.old file.old out.old) (copy_ends peer.new file.new out.new) result }
+    ensures { HasReadVolume (sink_kind P.tells S.takes) device.now after
+        (sink_ends peer.old sink.old) (sink_ends peer.new sink.new) result }
 {
     begin(caller, peer, device)?;
-    let records = copy_records(caller, peer, file, out)?;
-    conclude(caller, peer, after_for_count(after, records), records)
+    let records = give_volume(caller, peer, sink)?;
+    conclude(caller, peer, after_for_count(after, records), records, sink)
 }
 
 /// Opens the device and rewinds it.
 fn begin<P: Peer>(caller: &mut PeerCaller, peer: &mut P, device: &[u8]) -> Result<(), ReadFault>
     requires { IsLine device.now }
-    ensures { (after : AfterVolume) → IsBegun P.tells device.now after peer.old peer.new result }
+    ensures { (after : AfterVolume) (completed : Bool) → IsBegun P.tells device.now after completed peer.old peer.new result }
 {
     let open = Request::Open {
         device,
@@ -198,31 +228,55 @@ fn after_for_count(after: AfterVolume, records: u64) -> AfterVolume
     }
 }
 
-/// Ends the read after `records` records: looks for the mark unless `goes` is `Stay`, takes the
-/// reel offline if `goes` is `Offline`, and closes the device.
-fn conclude<P: Peer>(
+/// Ends the read after `records` records: looks for the mark unless `goes` is `Stay`, and closes the
+/// device.
+fn conclude<P: Peer, S: VolumeSink>(
     caller: &mut PeerCaller,
     peer: &mut P,
     goes: AfterVolume,
     records: u64,
+    sink: &mut S,
 ) -> Result<(), ReadFault>
-    ensures { IsConcludedAtEnd P.tells goes records peer.old peer.new result }
+    ensures { IsConcludedAtEnd (sink_kind P.tells S.takes) goes records
+        (sink_ends peer.old sink.old) (sink_ends peer.new sink.new) result }
 {
-    match look(caller, peer, goes, records) {
-        Ok(None) => conclude_at_mark(caller, peer, goes),
+    match goes {
+        AfterVolume::Stay => ask(caller, peer, VolumeRequest::Close, &Request::Close),
+        AfterVolume::Check | AfterVolume::Offline => search(caller, peer, goes, records, sink),
+    }
+}
+
+/// Looks for the mark after `records` records, and ends the read with or without it.
+fn search<P: Peer, S: VolumeSink>(
+    caller: &mut PeerCaller,
+    peer: &mut P,
+    goes: AfterVolume,
+    records: u64,
+    sink: &mut S,
+) -> Result<(), ReadFault>
+    ensures { IsConcludedBySearch (sink_kind P.tells S.takes) goes records
+        (sink_ends peer.old sink.old) (sink_ends peer.new sink.new) result }
+{
+    match look_back(caller, peer, records) {
+        Ok(None) => conclude_at_mark(caller, peer, goes, sink),
         Ok(Some(fault)) => close_unmarked(caller, peer, fault),
         Err(fault) => Err(fault),
     }
 }
 
-/// Takes the reel offline, if `goes` is `Offline`, and closes the device.
-fn conclude_at_mark<P: Peer>(
+/// Gives the sink the mark and asks it to complete. Then takes the reel offline, if `goes` is
+/// `Offline`, and closes the device.
+fn conclude_at_mark<P: Peer, S: VolumeSink>(
     caller: &mut PeerCaller,
     peer: &mut P,
     goes: AfterVolume,
+    sink: &mut S,
 ) -> Result<(), ReadFault>
-    ensures { IsConcludedAtMark P.tells goes peer.old peer.new result }
+    ensures { IsConcludedAtMark (sink_kind P.tells S.takes) goes
+        (sink_ends peer.old sink.old) (sink_ends peer.new sink.new) result }
 {
+    sink.mark();
+    sink.complete()?;
     take_away(caller, peer, goes)?;
     ask(caller, peer, VolumeRequest::Close, &Request::Close)
 }
@@ -239,32 +293,17 @@ fn close_unmarked<P: Peer>(
     Err(fault)
 }
 
-/// Looks for the mark after `records` records, unless `goes` is `Stay`.
-///
-/// Returns None if the mark was found or not looked for, else why it was not found: `NoMark` or
-/// `Undetermined`. Fails if a request gets no valid reply.
-fn look<P: Peer>(
-    caller: &mut PeerCaller,
-    peer: &mut P,
-    goes: AfterVolume,
-    records: u64,
-) -> Result<Option<ReadFault>, ReadFault>
-    ensures { IsLookedAtEnd P.tells goes records peer.old peer.new result }
-{
-    match goes {
-        AfterVolume::Stay => Ok(None),
-        AfterVolume::Check | AfterVolume::Offline => look_back(caller, peer, records),
-    }
-}
-
 /// Spaces back over one record. This succeeds only if the last read met the end of the reel: then a
 /// record is right before this place.
+///
+/// Returns None if the mark was found, else why it was not found: `NoMark` or `Undetermined`. Fails
+/// if a request gets no valid reply.
 fn look_back<P: Peer>(
     caller: &mut PeerCaller,
     peer: &mut P,
     records: u64,
 ) -> Result<Option<ReadFault>, ReadFault>
-    ensures { IsLookedBy (λ goes. spec.next_back goes records) P.tells peer.old peer.new result }
+    ensures { IsLookedBy (λ at_mark. spec.next_back at_mark records) P.tells peer.old peer.new result }
 {
     match caller.operate(peer, MTBSR, 1) {
         Ok(None) => Ok(Some(ReadFault::NoMark)),
@@ -286,7 +325,7 @@ fn look_again<P: Peer>(
     peer: &mut P,
     records: u64,
 ) -> Result<Option<ReadFault>, ReadFault>
-    ensures { IsLookedBy (λ goes. spec.next_again goes records) P.tells peer.old peer.new result }
+    ensures { IsLookedBy (λ at_mark. spec.next_again at_mark records) P.tells peer.old peer.new result }
 {
     match caller.operate(peer, MTREW, 1) {
         Ok(None) => {
@@ -308,7 +347,7 @@ fn look_forward<P: Peer>(
     records: u32,
 ) -> Result<Option<ReadFault>, ReadFault>
     requires { records ≤ NUMBER_LIMIT }
-    ensures { IsLookedBy (λ goes. spec.next_forward goes records) P.tells peer.old peer.new result }
+    ensures { IsLookedBy (λ at_mark. spec.next_forward at_mark records) P.tells peer.old peer.new result }
 {
     match caller.operate(peer, MTFSR, records) {
         Ok(None) => look_over(caller, peer),
@@ -379,71 +418,42 @@ fn done(answer: &KeptReply, asked: VolumeRequest) -> Result<(), ReadFault>
     }
 }
 
-/// Prints the label, and writes the records after it until a read returns nothing. Returns the
+/// Gives the sink the label and the records after it, until a read returns nothing. Returns the
 /// number of records, the label included; 0 if there is no label.
-fn copy_records<P: Peer, F: Write, W: Write>(
+fn give_volume<P: Peer, S: VolumeSink>(
     caller: &mut PeerCaller,
     peer: &mut P,
-    file: &mut Counted<F>,
-    out: &mut Counted<W>,
+    sink: &mut S,
 ) -> Result<u64, ReadFault>
-    ensures { IsCopiedAtLabel (copy_kind P.tells F.contents W.contents)
-        (copy_ends peer.old file.old out.old) (copy_ends peer.new file.new out.new) result }
+    ensures { IsGivenAtLabel (sink_kind P.tells S.takes)
+        (sink_ends peer.old sink.old) (sink_ends peer.new sink.new) result }
 {
     let label = caller.next_record(peer)?;
     if label.is_empty() {
         return Ok(0);
     }
-    write_whole(out, label_text(&label))?;
-    write_records(caller, peer, file)
+    match sink.label(&label) {
+        Verdict::GoOn => give_records(caller, peer, sink),
+        Verdict::Stop => Err(ReadFault::Stopped),
+    }
 }
 
-/// Writes record after record until a read returns nothing. Returns the number of records that were
-/// read, the label included.
-fn write_records<P: Peer, F: Write>(
+/// Gives the sink record after record until a read returns nothing. Returns the number of records
+/// that were read, the label included.
+fn give_records<P: Peer, S: VolumeSink>(
     caller: &mut PeerCaller,
     peer: &mut P,
-    file: &mut Counted<F>,
+    sink: &mut S,
 ) -> Result<u64, ReadFault>
-    ensures { AreFurtherRecordsWritten (stream_kind P.tells F.contents)
-        (stream_ends peer.old file.old) (stream_ends peer.new file.new) result }
+    ensures { AreFurtherRecordsGiven (sink_kind P.tells S.takes)
+        (sink_ends peer.old sink.old) (sink_ends peer.new sink.new) result }
 {
     for records in 1..u64::MAX {
         let bytes = caller.next_record(peer)?;
         if bytes.is_empty() {
             return Ok(records);
         }
-        write_whole(file, &bytes)?;
+        sink.block(records - 1, &bytes)?;
     }
     Err(ReadFault::Botched)
-}
-
-/// Writes all of these bytes. Fails with `OutputFailed` if it cannot.
-fn write_whole<W: Write>(out: &mut Counted<W>, bytes: &[u8]) -> Result<(), ReadFault>
-    ensures written { IsPrinted W.contents bytes.now out.old out.new (is_whole result) }
-    ensures fault { IfErr result (λ e. e ≡ faults.OutputFailed) }
-{
-    if print_text(out, bytes) {
-        Ok(())
-    } else {
-        Err(ReadFault::OutputFailed)
-    }
-}
-
-/// Returns the text of a label: the bytes before its first zero byte.
-fn label_text(label: &[u8]) -> &[u8]
-    ensures { result.now ≡ spec.text_of label.now }
-{
-    match first_zero(label) {
-        Some(at) => &label[..at],
-        None => label,
-    }
-}
-
-/// Returns the index of the first zero byte.
-fn first_zero(bytes: &[u8]) -> Option<usize>
-    ensures within { IfSome result (λ n. n ≤ length bytes.now) }
-    ensures found { result ≡ position (λ b. nat_eq b 0) bytes.now }
-{
-    bytes.iter().position(|byte| *byte == 0)
 }

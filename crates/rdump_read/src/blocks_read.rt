@@ -10,6 +10,17 @@ pub(crate) struct BlockRange {
     pub end: u64,
 }
 
+impl BlockRange {
+    /// The range of `count` blocks from block `first` on.
+    pub(crate) fn new(first: u32, count: u64) -> Self {
+        let first = u64::from(first);
+        BlockRange {
+            first,
+            end: first.saturating_add(count),
+        }
+    }
+}
+
 /// The blocks that were read, one range for each volume.
 #[derive(Drop)]
 pub(crate) struct BlocksRead {
@@ -24,12 +35,9 @@ impl BlocksRead {
         }
     }
 
-    /// Adds `count` blocks, from block `first` of a volume on. Uses 16 bytes a volume. Fails if an
-    /// allocation fails.
-    pub(crate) fn add(&mut self, first: u32, count: u64) -> Result<(), AllocError> {
-        let first = u64::from(first);
-        let end = first.saturating_add(count);
-        self.ranges.push(BlockRange { first, end })?;
+    /// Adds the blocks of a volume. Uses 16 bytes. Fails if an allocation fails.
+    pub(crate) fn add(&mut self, blocks: BlockRange) -> Result<(), AllocError> {
+        self.ranges.push(blocks)?;
         Ok(())
     }
 

@@ -6,12 +6,11 @@
 #![tactic(auto)]
 
 mod blocks_read;
-mod label_text;
 mod out_file;
+mod progress;
 mod read_command;
-mod reel_peer;
+mod read_sink;
 mod stack;
 mod volume;
-mod volume_blocks;
 
 pub use read_command::run_read;

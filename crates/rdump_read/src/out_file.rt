@@ -2,9 +2,8 @@
 //!
 //! In comments, `line` is the parsed command line.
 use rdump_args::ReadLine;
-use rdump_files::named_file;
+use rdump_files::{RestoredFile, named_file};
 use std::alloc::Global;
-use std::cell::Cell;
 use std::fs::{self, File, Metadata, OpenOptions, TryLockError};
 use std::io::{self, ErrorKind, Write};
 use std::os::unix::fs::{FileExt, FileTypeExt, MetadataExt};
@@ -13,17 +12,6 @@ use std::rt::Files;
 
 /// How many times to try to open the file while others keep removing it before it is locked.
 const MOST_TRIES: u32 = 100;
-
-/// Why a block was not written, or is not on disk.
-#[derive(Drop)]
-pub(crate) enum BlockFault {
-    /// The file could not be emptied, written or synced.
-    Failed(io::Error),
-    /// The volume has no label, which would give the place of its blocks.
-    NoPlace,
-    /// The block has `bytes` bytes, and the blocks before it have `before`.
-    OtherLength { bytes: usize, before: usize },
-}
 
 /// The kinds of files.
 #[derive(Clone, Copy, PartialEq, Eq)]
@@ -36,38 +24,24 @@ enum FileKind {
     Stream,
 }
 
-/// The file to which the blocks of volumes are written. A regular file is locked, so that no other
-/// run writes or removes it meanwhile.
-///
-/// The file of a single volume gets its blocks one after the other. It keeps its old contents until
-/// the volume begins, with the label or a block. A file with places gets each block at its place,
-/// and is never emptied.
-///
-/// It is shared by the writer of the blocks and by the peer that has it synced before a reel is
-/// moved to the bin.
+/// The file to which volumes are read back. A regular file is locked, so that no other run writes
+/// or removes it meanwhile. What it contains is not known to contracts.
 #[derive(Drop)]
-pub(crate) struct OutFile {
+pub(crate) struct OutFile<'a, R> {
+    rt: &'a R,
     file: File,
     made: Option<PathBuf>,
     kind: FileKind,
     was_empty: bool,
-    has_places: bool,
-    has_begun: Cell<bool>,
-    block: Cell<Option<usize>>,
-    fault: Cell<Option<BlockFault>>,
 }
 
-impl OutFile {
+impl<'a, R: Files<File = File>> OutFile<'a, R> {
     /// Opens the file of `line`, and creates it if it does not exist. Its contents are unchanged.
     ///
     /// Fails with the system's error, with `OutOfMemory`, or with `WouldBlock` if another run has
     /// it. Fails with `InvalidInput` if places or a length require a regular file, and it is not
     /// one.
-    pub(crate) fn open<R: Files<File = File>>(
-        rt: &R,
-        alloc: Global,
-        line: &ReadLine<'_>,
-    ) -> io::Result<OutFile> {
+    pub(crate) fn open(rt: &'a R, alloc: Global, line: &ReadLine<'_>) -> io::Result<Self> {
         let must_be_plain = line.place || line.length.is_some();
         for _ in 0..MOST_TRIES {
             if must_be_plain {
@@ -81,29 +55,21 @@ impl OutFile {
                 return Err(no_plain_file());
             }
             if kind != FileKind::Plain || lock(rt, line.out, &file)? {
-                return OutFile::of(file, made, kind, line.place);
+                return OutFile::of(rt, file, made, kind);
             }
         }
         Err(taken())
     }
 
     /// Makes the `OutFile` of a file that was opened, and locked if it is a regular one.
-    fn of(
-        file: File,
-        made: Option<PathBuf>,
-        kind: FileKind,
-        has_places: bool,
-    ) -> io::Result<OutFile> {
+    fn of(rt: &'a R, file: File, made: Option<PathBuf>, kind: FileKind) -> io::Result<Self> {
         let was_empty = kind == FileKind::Plain && file.metadata()?.len() == 0;
         Ok(OutFile {
+            rt,
             file,
             made,
             kind,
             was_empty,
-            has_places,
-            has_begun: Cell::new(false),
-            block: Cell::new(None),
-            fault: Cell::new(None),
         })
     }
 
@@ -113,112 +79,66 @@ impl OutFile {
         self.was_empty
     }
 
-    /// Whether each block is written at its place in the file.
-    pub(crate) fn has_places(&self) -> bool {
-        self.has_places
+    /// Returns how many bytes the file has.
+    pub(crate) fn len(&self) -> io::Result<u64> {
+        Ok(self.file.metadata()?.len())
     }
 
-    /// Takes the fault that was kept last: why a block was not written, or why the file could not
-    /// be emptied or synced.
-    pub(crate) fn take_fault(&self) -> Option<BlockFault> {
-        self.fault.take()
-    }
-
-    /// Keeps why a block was not written, or is not on disk.
-    pub(crate) fn fail(&self, fault: BlockFault) {
-        self.fault.set(Some(fault));
-    }
-
-    /// Returns how many bytes each block has, if one was written at its place.
-    pub(crate) fn block(&self) -> Option<usize> {
-        self.block.get()
-    }
-
-    /// Whether a volume has begun.
-    pub(crate) fn has_begun(&self) -> bool {
-        self.has_begun.get()
-    }
-
-    /// Begins a volume. Empties the file if it is a regular one for a single volume and no volume
-    /// has begun. Keeps the error if that fails.
-    pub(crate) fn begin(&self) {
-        if let Err(error) = self.empty() {
-            self.fail(BlockFault::Failed(error));
-        }
-    }
-
-    /// Writes the next block.
-    pub(crate) fn append(&self, block: &[u8]) -> Result<(), BlockFault> {
-        self.empty().map_err(BlockFault::Failed)?;
-        let mut file = &self.file;
-        file.write_all(block).map_err(BlockFault::Failed)
-    }
-
-    /// Writes the block of this number, counted from 0, at its place. All blocks must have the
-    /// length of the first one.
-    ///
-    /// Fails with `OtherLength` if the length differs, and with `Failed` if the write fails.
-    pub(crate) fn put(&self, block: &[u8], number: u64) -> Result<(), BlockFault> {
-        let bytes = block.len();
-        let before = self.block.get().unwrap_or(bytes);
-        if bytes != before {
-            return Err(BlockFault::OtherLength { bytes, before });
-        }
-        self.block.set(Some(bytes));
-        self.has_begun.set(true);
-        let written = match number.checked_mul(bytes as u64) {
-            Some(at) => self.file.write_all_at(block, at),
-            None => Err(ErrorKind::FileTooLarge.into()),
+    /// Removes the file if this run created it and it is still at its path.
+    pub(crate) fn remove_made(self) {
+        let Some(path) = &self.made else {
+            return;
         };
-        written.map_err(BlockFault::Failed)
+        let path = path.as_path().as_str();
+        if is_at(self.rt, path, &self.file).unwrap_or(false) {
+            let _ = fs::remove_file(self.rt, path);
+        }
+    }
+}
+
+impl<'a, R: Files<File = File>> RestoredFile for OutFile<'a, R> {
+    ghost holds = { λ _ _. ⊥ };
+
+    ghost kept = { λ _ _. ⊥ };
+
+    ghost single = { λ _ _ _ held. absurd held };
+
+    fn write_at(&mut self, bytes: &[u8], at: u64) -> io::Result<()> {
+        self.file.write_all_at(bytes, at)
     }
 
-    /// Cuts the file to `length` bytes, if it has more.
-    pub(crate) fn cut(&self, length: u64) -> io::Result<()> {
+    fn append(&mut self, bytes: &[u8]) -> io::Result<()> {
+        let mut file = &self.file;
+        file.write_all(bytes)
+    }
+
+    /// Truncates a regular file to zero length. Other files have nothing to clear.
+    fn clear(&mut self) -> io::Result<()> {
+        if self.kind == FileKind::Plain {
+            self.file.set_len(0)?;
+        }
+        Ok(())
+    }
+
+    fn cut(&mut self, length: u64) -> io::Result<()> {
         if self.len()? > length {
             self.file.set_len(length)?;
         }
         Ok(())
     }
 
-    /// Returns how many bytes the file has.
-    pub(crate) fn len(&self) -> io::Result<u64> {
-        Ok(self.file.metadata()?.len())
-    }
-
     /// Waits until everything written is on disk and, if this run created the file, also its name
     /// in the folder. A pipe or a terminal has no disk, so there is nothing to wait for. A file
     /// system that cannot sync folders is not waited for either.
-    pub(crate) fn sync<R: Files<File = File>>(&self, rt: &R) -> io::Result<()> {
+    fn sync(&mut self) -> io::Result<()> {
         if self.kind == FileKind::Stream {
             return Ok(());
         }
         self.file.sync_all()?;
         match &self.made {
-            Some(named) => sync_folder(rt, named),
+            Some(named) => sync_folder(self.rt, named),
             None => Ok(()),
         }
-    }
-
-    /// Removes the file if this run created it, no volume has begun, and it is still at its path.
-    pub(crate) fn end<R: Files<File = File>>(self, rt: &R) {
-        let Some(path) = &self.made else {
-            return;
-        };
-        let path = path.as_path().as_str();
-        if !self.has_begun() && is_at(rt, path, &self.file).unwrap_or(false) {
-            let _ = fs::remove_file(rt, path);
-        }
-    }
-
-    /// Truncates a regular file to zero length before the first volume, unless blocks are written
-    /// at their places. From then on a volume has begun.
-    fn empty(&self) -> io::Result<()> {
-        if self.kind == FileKind::Plain && !self.has_places && !self.has_begun() {
-            self.file.set_len(0)?;
-        }
-        self.has_begun.set(true);
-        Ok(())
     }
 }
 

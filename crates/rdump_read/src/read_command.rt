@@ -5,14 +5,16 @@ ghost use Rattle.rdump_read.specs.Status.{IsReadStatus};
 ghost use Rattle.rdump_args.specs.Rdump.{IsReadLine};
 
 use crate::out_file::OutFile;
+use crate::read_sink::ReadSink;
 use crate::stack::read_stack;
 use crate::volume::{ReadEnd, read_volume};
 use exit_status::ExitStatus;
 use rdump_args::ReadLine;
 use rdump_system::{ClientSystem, report, report_failed};
-use std::io;
+use std::io::Write;
 
-/// Reads a volume back into a file, as `rdump read` does, and prints its label.
+/// Reads a volume back into a file, as `rdump read` does, and prints its label. `terminal` is standard
+/// error, if that is a terminal: it shows how far the read is.
 ///
 /// The file is opened first, and emptied once the label was read. A file that is created here and
 /// gets no label is removed. Standard error reports how many blocks were read, and whether the
@@ -42,61 +44,67 @@ use std::io;
 /// Returns the exit status: `Success` if everything was read and synced, and nothing is known to be
 /// missing. Returns `StartupError` if the file could not be opened, or if `place` or a length
 /// requires a regular file and it is not one. Returns `Abnormal` otherwise.
-pub fn run_read<R: ClientSystem>(rt: &R, line: ReadLine<'_>) -> ExitStatus
+pub fn run_read<R: ClientSystem, T: Write + Drop>(
+    rt: &R,
+    line: ReadLine<'_>,
+    terminal: Option<T>,
+) -> ExitStatus
     requires { IsReadLine line }
 {
     match OutFile::open(rt, rt.alloc(), &line) {
-        Ok(file) => read_into(rt, &line, file),
+        Ok(file) => read_into(rt, &line, file, terminal),
         Err(error) => report(rt, line.out, error),
     }
 }
 
 /// Reads what `line` asks for into this file, and returns the exit status.
-fn read_into<R: ClientSystem>(rt: &R, line: &ReadLine<'_>, file: OutFile) -> ExitStatus
+fn read_into<'a, R: ClientSystem, T: Write + Drop>(
+    rt: &'a R,
+    line: &ReadLine<'_>,
+    file: OutFile<'a, R>,
+    terminal: Option<T>,
+) -> ExitStatus
     requires { IsReadLine line.now }
     ensures { IsReadStatus result }
 {
+    let mut sink = ReadSink::new(rt, file, line.place, terminal);
     let status = if line.all {
-        read_stack(rt, line, &file)
+        read_stack(rt, line, &mut sink)
     } else {
-        read_one(rt, line, &file)
+        read_one(rt, line, &mut sink)
     };
-    file.end(rt);
+    sink.end();
     status
 }
 
 /// Reads one volume into a file, and returns the exit status.
-fn read_one<R: ClientSystem>(rt: &R, line: &ReadLine<'_>, file: &OutFile) -> ExitStatus
+fn read_one<R: ClientSystem, T: Write + Drop>(
+    rt: &R,
+    line: &ReadLine<'_>,
+    sink: &mut ReadSink<'_, R, T>,
+) -> ExitStatus
     requires { IsReadLine line.now }
     ensures { IsReadStatus result }
 {
-    match read_volume(rt, line, None, file).end {
-        ReadEnd::Whole if file.has_begun() => finish_file(rt, line, file),
+    match read_volume(rt, line, true, sink).end {
+        ReadEnd::Whole if sink.has_begun() => finish_file(rt, line, sink),
         ReadEnd::Whole => ExitStatus::Success,
         _ => ExitStatus::Abnormal,
     }
 }
 
-/// Cuts a file to the length in `line`, if `line` has one, and then syncs the file. Returns the
+/// Cuts the file to the length in `line`, if `line` has one, and then syncs the file. Returns the
 /// exit status.
-pub(crate) fn finish_file<R: ClientSystem>(
+pub(crate) fn finish_file<R: ClientSystem, T: Write + Drop>(
     rt: &R,
     line: &ReadLine<'_>,
-    file: &OutFile,
+    sink: &mut ReadSink<'_, R, T>,
 ) -> ExitStatus
     // The status is `Success` or `Abnormal`.
     ensures { IsReadStatus result }
 {
-    match cut_and_sync(rt, line, file) {
+    match sink.finish(line.length) {
         Ok(()) => ExitStatus::Success,
         Err(error) => report_failed(rt, line.out, &error, ExitStatus::Abnormal),
     }
-}
-
-/// Cuts a file to the length in `line`, if there is one, and syncs it.
-fn cut_and_sync<R: ClientSystem>(rt: &R, line: &ReadLine<'_>, file: &OutFile) -> io::Result<()> {
-    if let Some(length) = line.length {
-        file.cut(length)?;
-    }
-    file.sync(rt)
 }

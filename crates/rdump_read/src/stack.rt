@@ -7,42 +7,48 @@ ghost use Rattle.rdump_args.specs.Rdump.{IsReadLine};
 use crate::blocks_read::{BlockRange, BlocksRead};
 use crate::out_file::OutFile;
 use crate::read_command::finish_file;
+use crate::read_sink::ReadSink;
 use crate::volume::{ReadEnd, VolumeRead, read_volume};
-use dump_run::VolumeLabel;
 use exit_status::ExitStatus;
 use printable::plain;
 use rdump_args::ReadLine;
 use rdump_system::{ClientSystem, report_no_memory};
+use std::io::Write;
 
 /// Reads the volumes of a stack into a file, each to its place, as `rdump read --all` does. Returns
 /// the exit status.
-pub(crate) fn read_stack<R: ClientSystem>(rt: &R, line: &ReadLine<'_>, file: &OutFile) -> ExitStatus
+pub(crate) fn read_stack<R: ClientSystem, T: Write + Drop>(
+    rt: &R,
+    line: &ReadLine<'_>,
+    sink: &mut ReadSink<'_, R, T>,
+) -> ExitStatus
     requires { IsReadLine line.now }
     ensures { IsReadStatus result }
 {
     let mut blocks_read = BlocksRead::new(rt.alloc());
-    let end = read_volumes(rt, line, file, &mut blocks_read);
-    let below = end_of_length(line.length, file.block());
-    let has_gap = report_blocks_read(rt, blocks_read.sorted(), file.was_empty(), below);
+    let end = read_volumes(rt, line, sink, &mut blocks_read);
+    let below = end_of_length(line.length, sink.block_bytes());
+    let was_empty = sink.file().was_empty();
+    let has_gap = report_blocks_read(rt, blocks_read.sorted(), was_empty, below);
     match end {
         ReadEnd::Whole | ReadEnd::Failed => ExitStatus::Abnormal,
-        ReadEnd::NoReel => end_stack(rt, line, file, has_gap),
-        ReadEnd::NoRecord | ReadEnd::OtherDump => end_dump(rt, line, file, has_gap),
+        ReadEnd::NoReel => end_stack(rt, line, sink, has_gap),
+        ReadEnd::NoRecord | ReadEnd::OtherDump => end_dump(rt, line, sink, has_gap),
     }
 }
 
 /// Ends the read of a stack that has no more reels: cuts and syncs the file, and returns the exit
 /// status.
-fn end_stack<R: ClientSystem>(
+fn end_stack<R: ClientSystem, T: Write + Drop>(
     rt: &R,
     line: &ReadLine<'_>,
-    file: &OutFile,
+    sink: &mut ReadSink<'_, R, T>,
     has_gap: bool,
 ) -> ExitStatus
     ensures { IsReadStatus result }
 {
-    let status = finish_file(rt, line, file);
-    let is_short = report_short(rt, line, file);
+    let status = finish_file(rt, line, sink);
+    let is_short = report_short(rt, line, sink.file());
     if has_gap || is_short {
         ExitStatus::Abnormal
     } else {
@@ -53,20 +59,20 @@ fn end_stack<R: ClientSystem>(
 /// Ends the read of a dump when the next reel does not belong to the dump. Cuts and syncs the file
 /// if nothing is missing below the length in `line`. Without a length, the dump may continue on
 /// further reels. Returns the exit status.
-fn end_dump<R: ClientSystem>(
+fn end_dump<R: ClientSystem, T: Write + Drop>(
     rt: &R,
     line: &ReadLine<'_>,
-    file: &OutFile,
+    sink: &mut ReadSink<'_, R, T>,
     has_gap: bool,
 ) -> ExitStatus
     // The status is `Success` or `Abnormal`.
     ensures { IsReadStatus result }
 {
-    let is_short = report_short(rt, line, file);
+    let is_short = report_short(rt, line, sink.file());
     if line.length.is_none() || has_gap || is_short {
         ExitStatus::Abnormal
     } else {
-        finish_file(rt, line, file)
+        finish_file(rt, line, sink)
     }
 }
 
@@ -82,7 +88,7 @@ fn end_of_length(length: Option<u64>, block: Option<usize>) -> u64 {
 
 /// Prints that the file has fewer bytes than the length in `line`, if so: the last volumes are
 /// missing. Returns whether it has fewer. Without a length, prints that this is not known.
-fn report_short<R: ClientSystem>(rt: &R, line: &ReadLine<'_>, file: &OutFile) -> bool {
+fn report_short<R: ClientSystem>(rt: &R, line: &ReadLine<'_>, file: &OutFile<'_, R>) -> bool {
     let Some(length) = line.length else {
         let _ = eprintln!(rt;
             "the end of the dump is not known: without --length the last volumes may be missing"
@@ -101,44 +107,33 @@ fn report_short<R: ClientSystem>(rt: &R, line: &ReadLine<'_>, file: &OutFile) ->
 
 /// Reads volume after volume, until the stack ends or a volume is not read whole. Returns how that
 /// ended.
-fn read_volumes<R: ClientSystem>(
+fn read_volumes<R: ClientSystem, T: Write + Drop>(
     rt: &R,
     line: &ReadLine<'_>,
-    file: &OutFile,
+    sink: &mut ReadSink<'_, R, T>,
     blocks_read: &mut BlocksRead,
 ) -> ReadEnd
     requires { IsReadLine line.now }
 {
-    let mut dump = None;
-    for _ in 0..u64::MAX {
-        let read = read_volume(rt, line, dump.as_ref(), file);
-        if !count(rt, &read, blocks_read) {
+    for volumes in 0..u64::MAX {
+        let read = read_volume(rt, line, volumes == 0, sink);
+        if !count(rt, read, blocks_read) {
             return ReadEnd::Failed;
         }
         if read.end != ReadEnd::Whole {
             return read.end;
         }
-        dump = first_of(dump, read.label);
     }
     ReadEnd::Failed
 }
 
-/// Returns the label of the first volume of the dump: `dump` if a volume was read before, and
-/// otherwise `label`, that of the volume just read.
-fn first_of(dump: Option<VolumeLabel>, label: Option<VolumeLabel>) -> Option<VolumeLabel> {
-    match dump {
-        Some(first) => Some(first),
-        None => label,
-    }
-}
-
-/// Counts the blocks of a volume that were written. Returns false only if an allocation fails,
-/// which is printed.
-fn count<R: ClientSystem>(rt: &R, read: &VolumeRead, blocks_read: &mut BlocksRead) -> bool {
-    let Some(label) = &read.label else {
+/// Adds the blocks of a volume that were written. Returns false only if an allocation fails, which
+/// is printed.
+fn count<R: ClientSystem>(rt: &R, read: VolumeRead, blocks_read: &mut BlocksRead) -> bool {
+    let Some(blocks) = read.blocks else {
         return true;
     };
-    if blocks_read.add(label.first(), read.count).is_err() {
+    if blocks_read.add(blocks).is_err() {
         report_no_memory(rt);
         return false;
     }

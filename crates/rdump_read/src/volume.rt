@@ -2,22 +2,19 @@
 ghost use Rattle.std.specs.Prelude.{◌≡◌};
 ghost use Rattle.rdump_args.specs.Rdump.{IsReadLine};
 
-use crate::label_text::{LabelFilter, LabelKind, LabelPrinter};
-use crate::out_file::{BlockFault, OutFile};
-use crate::reel_peer::{ReelPeer, ReelState};
-use crate::volume_blocks::{BlockSizes, VolumeBlocks};
+use crate::blocks_read::BlockRange;
+use crate::read_sink::ReadSink;
 use dump_run::VolumeLabel;
 use exit_status::ExitStatus;
 use printable::plain;
 use rdump_args::ReadLine;
+use rdump_files::{BlockSizes, Found, SinkFault};
 use rdump_net::{
     AfterVolume, ReadFault, ReelFront, SocketPeer, VolumeRequest, copy_volume, look_at_reel,
 };
-use rdump_system::{ClientSystem, may_be_terminal, report_failed, report_unwritten};
-use rmt_wire::Counted;
+use rdump_system::{ClientSystem, report_failed, report_unwritten};
 use rmt_wire::errno::ENXIO;
-use std::cell::Cell;
-use std::io;
+use std::io::{self, Write};
 
 /// How the read of a volume ended.
 #[derive(Clone, Copy, PartialEq, Eq)]
@@ -35,67 +32,45 @@ pub(crate) enum ReadEnd {
 }
 
 /// The result of the read of a volume.
-#[derive(Drop)]
+#[derive(Clone, Copy)]
 pub(crate) struct VolumeRead {
-    /// Its label, if that was read and was wanted.
-    pub label: Option<VolumeLabel>,
-    /// How many of its blocks were written.
-    pub count: u64,
+    /// Its blocks that were written, if its label was read and was wanted.
+    pub blocks: Option<BlockRange>,
     /// How the read ended.
     pub end: ReadEnd,
 }
 
-/// The result of one connection.
-#[derive(Drop)]
-struct VolumeOutcome {
-    read: Result<(), ReadFault>,
-    found: LabelKind,
-    sizes: BlockSizes,
-    reel: ReelState,
-}
-
-/// Reads the volume on the first reel of the stack into a file, prints its label, and reports the
-/// result. If `dump` is given, it is the label of a volume that was read before, and volumes of
-/// other dumps are not read.
-pub(crate) fn read_volume<R: ClientSystem>(
+/// Reads the volume on the first reel of the stack into a sink, and reports the result. `is_first`
+/// is whether no volume was read before.
+pub(crate) fn read_volume<R: ClientSystem, T: Write + Drop>(
     rt: &R,
     line: &ReadLine<'_>,
-    dump: Option<&VolumeLabel>,
-    file: &OutFile,
+    is_first: bool,
+    sink: &mut ReadSink<'_, R, T>,
 ) -> VolumeRead
     requires { IsReadLine line.now }
 {
-    let first = Cell::new(None);
-    let mut peer = ReelPeer::new(rt, line.to, file, &first);
-    let mut blocks = Counted::new(VolumeBlocks::new(file, &first));
-    let (is_shown, wanted) = (may_be_terminal(rt), wanted_of(line, dump));
-    let mut out = Counted::new(LabelPrinter::new(io::writer(rt), is_shown, wanted, &first));
+    let mut peer = SocketPeer::new(rt, line.to);
     let device = line.device.as_bytes();
-    let after = after_of(line);
-    let read = copy_volume(rt.alloc(), &mut peer, device, after, &mut blocks, &mut out);
-    let blocks_read = VolumeOutcome {
-        read,
-        found: out.into_inner().into_found(),
-        sizes: blocks.into_inner().sizes(),
-        reel: peer.reel(),
-    };
-    let end = match end_behind(rt, line, dump, &blocks_read) {
-        Some(end) => end,
-        None => report_volume(rt, line, &blocks_read, file, peer.failure()),
+    sink.begin();
+    let read = copy_volume(rt.alloc(), &mut peer, device, after_of(line), sink);
+    sink.clear();
+    let end = if is_first {
+        None
+    } else {
+        end_behind(rt, line, read, sink.found())
     };
     VolumeRead {
-        count: blocks_read.sizes.count,
-        label: into_label(blocks_read.found),
-        end,
+        blocks: blocks_of(sink),
+        end: end.unwrap_or_else(|| report_volume(rt, line, read, sink, peer.failure())),
     }
 }
 
-/// Returns which labels are wanted.
-fn wanted_of<'a>(line: &ReadLine<'_>, dump: Option<&'a VolumeLabel>) -> LabelFilter<'a> {
-    match dump {
-        Some(label) => LabelFilter::DumpOf(label),
-        None if line.place => LabelFilter::Label,
-        None => LabelFilter::Any,
+/// Returns the blocks of the volume that were written, if its label was read and was wanted.
+fn blocks_of<R: ClientSystem, T: Write + Drop>(sink: &ReadSink<'_, R, T>) -> Option<BlockRange> {
+    match sink.found() {
+        Some(Found::Volume(label)) => Some(BlockRange::new(label.first(), sink.sizes().count)),
+        _ => None,
     }
 }
 
@@ -110,36 +85,24 @@ fn after_of(line: &ReadLine<'_>) -> AfterVolume {
     }
 }
 
-/// Returns how the stack ended after a volume that was read, if it did. Either the drive has no
-/// more reels, or the next reel is empty, which is printed.
+/// Returns how the stack ended behind a volume, if it did. Either the drive has no more reels, or
+/// the next reel is empty, which is printed. `found` is what the next reel begins with.
 fn end_behind<R: ClientSystem>(
     rt: &R,
     line: &ReadLine<'_>,
-    dump: Option<&VolumeLabel>,
-    blocks_read: &VolumeOutcome,
+    read: Result<(), ReadFault>,
+    found: Option<&Found>,
 ) -> Option<ReadEnd>
     requires { IsReadLine line.now }
 {
-    if dump.is_none() {
-        return None;
-    }
-    if has_no_reel(blocks_read.read) {
+    if has_no_reel(read) {
         return Some(ReadEnd::NoReel);
     }
-    if has_no_record(blocks_read) && is_blank(rt, line) {
+    if read.is_ok() && found.is_none() && is_blank(rt, line) {
         let _ = eprintln!(rt; "the next reel gives no record");
         return Some(ReadEnd::NoRecord);
     }
     None
-}
-
-/// Whether the read succeeded without a record. After a record with an empty text the read failed,
-/// since the reel was to be moved to the bin and was kept.
-fn has_no_record(blocks_read: &VolumeOutcome) -> bool {
-    match (&blocks_read.found, blocks_read.read) {
-        (LabelKind::Nothing, Ok(())) => true,
-        _ => false,
-    }
 }
 
 /// Whether the first reel of the stack is empty. False if the look does not find out.
@@ -166,66 +129,55 @@ fn has_no_reel(read: Result<(), ReadFault>) -> bool {
     }
 }
 
-/// Returns the label that was found, if it is a wanted one.
-fn into_label(found: LabelKind) -> Option<VolumeLabel> {
-    match found {
-        LabelKind::Label(label) => Some(label),
-        _ => None,
-    }
-}
-
-/// Reports what was received, and returns how the read ended. If a text was printed, or was to be,
-/// first begins the volume in `file`. `failure` is the system's error, if the connection failed
-/// with one.
-fn report_volume<R: ClientSystem>(
+/// Reports what was received, and returns how the read ended. `failure` is the system's error, if
+/// the connection failed with one.
+fn report_volume<R: ClientSystem, T: Write + Drop>(
     rt: &R,
     line: &ReadLine<'_>,
-    blocks_read: &VolumeOutcome,
-    file: &OutFile,
+    read: Result<(), ReadFault>,
+    sink: &mut ReadSink<'_, R, T>,
     failure: Option<&io::Error>,
 ) -> ReadEnd {
-    if has_come(line, &blocks_read.found) {
-        file.begin();
+    if has_come(line, sink.found()) {
+        report_sizes(rt, sink.sizes());
     }
-    let has_begun = has_come(line, &blocks_read.found) || (!line.place && file.has_begun());
-    if has_begun {
-        report_sizes(rt, blocks_read.sizes);
-    }
-    let is_foreign = is_foreign(blocks_read, has_begun);
+    let is_foreign = is_foreign(sink.found(), read);
     if is_foreign {
         let _ = eprintln!(rt; "not a volume of rdump");
     }
-    if let LabelKind::OtherDump(label) = &blocks_read.found {
+    if let Some(Found::OtherDump(label)) = sink.found() {
         return report_other(rt, line.to, label);
     }
     if is_foreign && line.place {
         return ReadEnd::Failed;
     }
-    let fault = file.take_fault();
-    let end = end_of(rt, line, blocks_read.read, fault.as_ref(), failure);
-    if line.all {
-        report_reel(rt, blocks_read);
+    let fault = sink.take_fault();
+    if sink.is_unprinted() {
+        report_unwritten(rt, ExitStatus::Abnormal);
+        return ReadEnd::Failed;
+    }
+    let end = end_of(rt, line, read, fault.as_ref(), failure);
+    if line.all && sink.is_complete() {
+        report_reel(rt, read);
     }
     end
 }
 
-/// Whether a text was received that was printed, or was to be.
-fn has_come(line: &ReadLine<'_>, found: &LabelKind) -> bool {
+/// Whether a first record was received whose text was printed, or was to be.
+fn has_come(line: &ReadLine<'_>, found: Option<&Found>) -> bool {
     match found {
-        LabelKind::Nothing | LabelKind::OtherDump(_) => false,
-        LabelKind::Foreign => !line.place,
-        LabelKind::Label(_) => true,
+        None | Some(Found::OtherDump(_)) => false,
+        Some(Found::Foreign) => !line.place,
+        Some(Found::Volume(_)) => true,
     }
 }
 
-/// Whether the reel was read, and does not begin with a label of `rdump`. A missing mark also shows
-/// that there was a record, since a mark is only looked for after one.
-fn is_foreign(blocks_read: &VolumeOutcome, has_begun: bool) -> bool {
-    match (&blocks_read.found, blocks_read.read) {
-        (LabelKind::Label(_) | LabelKind::OtherDump(_), _) => false,
-        (LabelKind::Foreign, _) | (_, Ok(())) => true,
-        (_, Err(ReadFault::OutputFailed | ReadFault::NoMark | ReadFault::Undetermined)) => true,
-        _ => has_begun || blocks_read.reel == ReelState::Kept,
+/// Whether the reel was read, and does not begin with a label of `rdump`.
+fn is_foreign(found: Option<&Found>, read: Result<(), ReadFault>) -> bool {
+    match found {
+        Some(Found::Foreign) => true,
+        Some(_) => false,
+        None => read.is_ok(),
     }
 }
 
@@ -261,28 +213,29 @@ fn end_of<R: ClientSystem>(
     rt: &R,
     line: &ReadLine<'_>,
     read: Result<(), ReadFault>,
-    fault: Option<&BlockFault>,
+    fault: Option<&SinkFault>,
     failure: Option<&io::Error>,
 ) -> ReadEnd {
     match (read, fault) {
         (Ok(()), None) => return ReadEnd::Whole,
-        (_, Some(fault)) => report_block_fault(rt, line, fault),
+        (_, Some(fault)) => report_sink_fault(rt, line, fault),
         (Err(fault), None) => report_read(rt, line.to, fault, failure),
     }
     ReadEnd::Failed
 }
 
 /// Prints why a block was not written, or is not on disk.
-fn report_block_fault<R: ClientSystem>(rt: &R, line: &ReadLine<'_>, fault: &BlockFault) {
+fn report_sink_fault<R: ClientSystem>(rt: &R, line: &ReadLine<'_>, fault: &SinkFault) {
     match fault {
-        BlockFault::Failed(error) => {
+        SinkFault::Failed(error) => {
             report_failed(rt, line.out, error, ExitStatus::Abnormal);
         }
-        BlockFault::OtherLength { bytes, before } => {
+        SinkFault::OtherLength { bytes, before } => {
             let to = plain(line.to);
             let _ = eprintln!(rt; "rdump: {to}: a block of {bytes} bytes after one of {before}");
         }
-        BlockFault::NoPlace => {}
+        // What the reel begins with is printed by then.
+        SinkFault::NoLabel | SinkFault::OtherDump(_) => {}
     }
 }
 
@@ -290,9 +243,6 @@ fn report_block_fault<R: ClientSystem>(rt: &R, line: &ReadLine<'_>, fault: &Bloc
 /// error `failure` if there is one.
 fn report_read<R: ClientSystem>(rt: &R, to: &str, fault: ReadFault, failure: Option<&io::Error>) {
     match (fault, failure) {
-        (ReadFault::OutputFailed, _) => {
-            report_unwritten(rt, ExitStatus::Abnormal);
-        }
         (ReadFault::ConnectionEnded, Some(error)) => {
             report_failed(rt, to, error, ExitStatus::Abnormal);
         }
@@ -303,12 +253,9 @@ fn report_read<R: ClientSystem>(rt: &R, to: &str, fault: ReadFault, failure: Opt
     }
 }
 
-/// Prints where the reel is, if the server was asked to move it to the bin.
-fn report_reel<R: ClientSystem>(rt: &R, blocks_read: &VolumeOutcome) {
-    if blocks_read.reel != ReelState::Asked {
-        return;
-    }
-    let _ = match blocks_read.read {
+/// Prints where a reel is that the server was asked to move to the bin.
+fn report_reel<R: ClientSystem>(rt: &R, read: Result<(), ReadFault>) {
+    let _ = match read {
         Ok(()) => eprintln!(rt; "the reel is in the bin"),
         Err(
             ReadFault::Refused {

@@ -1,40 +1,123 @@
-//! Exports most of the public items of the crates that `rmtd`, `rdump` and `rsim` consist of. This
-//! crate's `dump`, `read_volume`, `mt`, `dates` and `schedule` return the number of their exit
-//! status. It adds a peer in memory, which tests use in place of a connection.
+//! Exports most of the public items of the crates of `rmtd`, `rdump` and `rsim`. This crate's
+//! `dump`, `read_volume`, `mt`, `dates` and `schedule` return the number of their exit status. It
+//! adds a peer in memory, which tests use in place of a connection.
 //!
 //! # Contracts
 //!
-//! This crate exports the names that other crates define for the programs. `MemoryPeer` is a peer
+//! This crate exports names that other crates define for the programs. It adds `MemoryPeer`: a peer
 //! whose server and drives are in memory.
 #![tactic(auto)]
 
 mod exit_codes;
 mod memory_peer;
 
-pub use exit_codes::{dates, dump, mt, read_volume, schedule};
-pub use hold_table::{HoldSeat, HoldTable, TableHand};
+pub use exit_codes::dates;
+pub use exit_codes::dump;
+pub use exit_codes::mt;
+pub use exit_codes::read_volume;
+pub use exit_codes::schedule;
+pub use hold_table::HoldSeat;
+pub use hold_table::HoldTable;
+pub use hold_table::TableHand;
 pub use memory_peer::MemoryPeer;
-pub use rdump_args::{DumpLine, ListLine, ListedReels, MtLine, RdumpLine, ReadLine, rdump_args};
-pub use rdump_commands::{rdump, run_arguments, run_client, run_dates, run_dump, run_mt, run_read};
-pub use rdump_files::{
-    Clearing, DumpEnd, DumperFault, FileFailed, Gauge, PayloadFile, ProgressLine, ReplacedFile,
-    ResumedDumpFault, Shown, UpdateFault, WholeFile, base_date, date_text, dump_and_update, dumper,
-    dumper_of, enter_dump, named_file, read_or_empty, read_steady, resume_dump, run_of,
-    seconds_now, update,
-};
-pub use rdump_list::{ListSystem, is_whole, push_verdict, run_ls};
-pub use rdump_net::{
-    AfterVolume, CallFault, Conclusion, Keeper, KeptReply, Passed, Peer, PeerCaller, ReadFault,
-    SocketPeer, VolumeRequest, copy_volume, dump_kept, failure_line,
-};
-pub use reel_check::{
-    Holding, ReelContents, ReelTally, Volume, VolumeEnd, check_reel, dumped_volume, one_holding,
-    one_volume,
-};
-pub use reel_files::{FileMedium, FolderDrive, FolderFault, FolderStacks};
-pub use rmtd_args::{DriveArgument, LineFault, ServerLine, server_line, server_words};
-pub use rmtd_serve::{
-    Begun, Connections, ExitStatus, Incoming, ListenerSetup, MemoryServer, TapeServer, begin,
-    folder_stacks, run_stdio, seat_stacks, serve_at, serve_connections, serve_many, start,
-};
+pub use rdump_args::DumpLine;
+pub use rdump_args::ListLine;
+pub use rdump_args::ListedReels;
+pub use rdump_args::MtLine;
+pub use rdump_args::RdumpLine;
+pub use rdump_args::ReadLine;
+pub use rdump_args::rdump_args;
+pub use rdump_commands::rdump;
+pub use rdump_commands::run_arguments;
+pub use rdump_commands::run_client;
+pub use rdump_commands::run_dates;
+pub use rdump_commands::run_dump;
+pub use rdump_commands::run_mt;
+pub use rdump_commands::run_read;
+pub use rdump_files::BlockSizes;
+pub use rdump_files::Clearing;
+pub use rdump_files::DumpEnd;
+pub use rdump_files::DumperFault;
+pub use rdump_files::FileFailed;
+pub use rdump_files::FileSink;
+pub use rdump_files::Found;
+pub use rdump_files::Gauge;
+pub use rdump_files::MemoryFile;
+pub use rdump_files::PayloadFile;
+pub use rdump_files::ProgressLine;
+pub use rdump_files::ReplacedFile;
+pub use rdump_files::RestoredFile;
+pub use rdump_files::ResumedDumpFault;
+pub use rdump_files::Shown;
+pub use rdump_files::SinkFault;
+pub use rdump_files::UpdateFault;
+pub use rdump_files::WholeFile;
+pub use rdump_files::base_date;
+pub use rdump_files::date_text;
+pub use rdump_files::dump_and_update;
+pub use rdump_files::dumper;
+pub use rdump_files::dumper_of;
+pub use rdump_files::enter_dump;
+pub use rdump_files::named_file;
+pub use rdump_files::read_or_empty;
+pub use rdump_files::read_steady;
+pub use rdump_files::restore_stack;
+pub use rdump_files::resume_dump;
+pub use rdump_files::run_of;
+pub use rdump_files::seconds_now;
+pub use rdump_files::update;
+pub use rdump_list::ListSystem;
+pub use rdump_list::is_whole;
+pub use rdump_list::push_verdict;
+pub use rdump_list::run_ls;
+pub use rdump_net::AfterVolume;
+pub use rdump_net::CallFault;
+pub use rdump_net::Conclusion;
+pub use rdump_net::Keeper;
+pub use rdump_net::KeptReply;
+pub use rdump_net::Passed;
+pub use rdump_net::Peer;
+pub use rdump_net::PeerCaller;
+pub use rdump_net::ReadFault;
+pub use rdump_net::SinkStopped;
+pub use rdump_net::SocketPeer;
+pub use rdump_net::Verdict;
+pub use rdump_net::VolumeRequest;
+pub use rdump_net::VolumeSink;
+pub use rdump_net::copy_volume;
+pub use rdump_net::dump_kept;
+pub use rdump_net::failure_line;
+pub use reel_check::Holding;
+pub use reel_check::ReelContents;
+pub use reel_check::ReelTally;
+pub use reel_check::Volume;
+pub use reel_check::VolumeEnd;
+pub use reel_check::check_reel;
+pub use reel_check::dumped_volume;
+pub use reel_check::one_holding;
+pub use reel_check::one_volume;
+pub use reel_files::FileMedium;
+pub use reel_files::FolderDrive;
+pub use reel_files::FolderFault;
+pub use reel_files::FolderStacks;
+pub use rmtd_args::DriveArgument;
+pub use rmtd_args::LineFault;
+pub use rmtd_args::ServerLine;
+pub use rmtd_args::server_line;
+pub use rmtd_args::server_words;
+pub use rmtd_serve::Begun;
+pub use rmtd_serve::Connections;
+pub use rmtd_serve::ExitStatus;
+pub use rmtd_serve::Incoming;
+pub use rmtd_serve::ListenerSetup;
+pub use rmtd_serve::MemoryServer;
+pub use rmtd_serve::TapeServer;
+pub use rmtd_serve::begin;
+pub use rmtd_serve::folder_stacks;
+pub use rmtd_serve::run_stdio;
+pub use rmtd_serve::seat_stacks;
+pub use rmtd_serve::serve_at;
+pub use rmtd_serve::serve_connections;
+pub use rmtd_serve::serve_many;
+pub use rmtd_serve::start;
 pub use rsim_schedule::rsim;

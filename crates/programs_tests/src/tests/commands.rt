@@ -96,7 +96,7 @@ fn a_volume_of_no_server(rt: HostRuntime) {
         all: false,
         length: None,
     };
-    assert!(rt; run_read(&rt, line) == ExitStatus::Abnormal);
+    assert!(rt; run_read(&rt, line, NO_TERMINAL) == ExitStatus::Abnormal);
     assert!(rt; fs::remove_file(&rt, "volume").is_err());
 }
 
@@ -112,7 +112,7 @@ fn a_volume_of_no_server_by_a_link(rt: HostRuntime) -> Result<(), Fail> {
         length: None,
     };
     symlink(&rt, "far", "led")?;
-    let status = run_read(&rt, line);
+    let status = run_read(&rt, line, NO_TERMINAL);
     fs::remove_file(&rt, "led")?;
     assert!(rt; status == ExitStatus::Abnormal);
     assert!(rt; fs::remove_file(&rt, "far").is_err());

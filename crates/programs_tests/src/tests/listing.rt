@@ -6,8 +6,12 @@ use rdump_args::{ListLine, ListedReels};
 use rmt_tools::{check_reel, is_whole, push_verdict, run_ls};
 use std::alloc::{AllocError, Global};
 use std::fs;
+use std::io::Stderr;
 use std::test::Fail;
 use tape::MemoryMedium;
+
+/// No terminal, so no progress is shown.
+const NO_TERMINAL: Option<Stderr> = None;
 
 /// The lines of a label. Zero bytes follow them, up to 1,024 bytes.
 const LINES: &[u8] = b"name /usr\nlevel 0\ndate 951782400\nsince 0\nvolume 1\nfirst 0\n";
@@ -89,7 +93,7 @@ fn listed(rt: &HostRuntime, path: &'static str) -> Result<u8, AllocError> {
         dumpdates: None,
         blocks: None,
     };
-    Ok(run_ls(rt, line).code())
+    Ok(run_ls(rt, line, NO_TERMINAL).code())
 }
 
 /// `rdump ls` returns 0 for a whole volume, 3 for one that has only a label, and 1 for a missing

@@ -1,9 +1,12 @@
 //! Volumes that are read over a peer with given replies.
+ghost use Rattle.std.specs.Prelude.{⊤};
 
 use super::check_row;
 use super::fake::{FakePeer, Replies};
 use super::fixture::DEVICE;
-use rdump_net::{AfterVolume, CallFault, ReadFault, VolumeRequest, copy_volume};
+use rdump_net::{
+    AfterVolume, CallFault, ReadFault, SinkStopped, Verdict, VolumeRequest, VolumeSink, copy_volume,
+};
 use rmt_tools::read_volume;
 use rmt_wire::Counted;
 use std::alloc::Global;
@@ -39,8 +42,65 @@ fn is_read_whole(alloc: Global) -> bool {
     is_read(alloc, &mut peer) && peer.sent.as_slice() == ALL_SENT
 }
 
-/// The replies of a peer on its one connection, and the result of copying a volume. Only two bytes
-/// can be printed, and two written.
+/// A sink that accepts labels and blocks of at most two bytes.
+///
+/// It keeps a line for each call: `L` with the label, `B` with the number and the bytes of a block,
+/// `M` for the mark and `C` for the question whether the volume is kept.
+#[derive(Drop)]
+struct ShortSink {
+    given: Vec<u8>,
+    /// What it answers to `complete`.
+    completes: bool,
+}
+
+impl ShortSink {
+    /// Adds a line, and returns whether there was memory for it.
+    fn add(&mut self, head: &[u8], bytes: &[u8]) -> bool {
+        self.given.extend_from_slice(head).is_ok()
+            && self.given.extend_from_slice(bytes).is_ok()
+            && self.given.extend_from_slice(b"\n").is_ok()
+    }
+}
+
+impl VolumeSink for ShortSink {
+    ghost takes = { λ _ _ _ _. ⊤ };
+
+    fn label(&mut self, record: &[u8]) -> Verdict {
+        if self.add(b"L", record) && record.len() <= 2 {
+            Verdict::GoOn
+        } else {
+            Verdict::Stop
+        }
+    }
+
+    fn block(&mut self, number: u64, bytes: &[u8]) -> Result<(), SinkStopped> {
+        let head = match number {
+            0 => b"B0",
+            1 => b"B1",
+            _ => b"B?",
+        };
+        if self.add(head, bytes) && bytes.len() <= 2 {
+            Ok(())
+        } else {
+            Err(SinkStopped)
+        }
+    }
+
+    fn mark(&mut self) {
+        self.add(b"M", b"");
+    }
+
+    fn complete(&mut self) -> Result<(), SinkStopped> {
+        if self.add(b"C", b"") && self.completes {
+            Ok(())
+        } else {
+            Err(SinkStopped)
+        }
+    }
+}
+
+/// The replies of a peer on its one connection, and the result of copying a volume into a
+/// `ShortSink`.
 type Row = (&'static [Replies], Result<(), ReadFault>);
 
 /// A label alone, and faults.
@@ -75,10 +135,7 @@ static COPIES: [Row; 7] = [
         &[&[b"A0\n", b"A1\n", b"A262145\n"]],
         Err(ReadFault::Botched),
     ),
-    (
-        &[&[b"A0\n", b"A1\n", b"A3\nabc"]],
-        Err(ReadFault::OutputFailed),
-    ),
+    (&[&[b"A0\n", b"A1\n", b"A3\nabc"]], Err(ReadFault::Stopped)),
 ];
 
 /// Like `Row`, for a volume whose reel is taken offline afterwards. The second field is what is
@@ -204,24 +261,143 @@ static OFFLINES: [OfflineRow; 11] = [
     (
         &[&[b"A0\n", b"A1\n", b"A3\nabc", b"A0\n", b"A1\n", b"A0\n"]],
         b"O/dev/st0\n0\nI5\n1\nR262144\n",
-        Err(ReadFault::OutputFailed),
+        Err(ReadFault::Stopped),
     ),
     (
         &[&[
             b"A0\n", b"A1\n", b"A1\na", b"A3\nbcd", b"A0\n", b"A1\n", b"A0\n",
         ]],
         b"O/dev/st0\n0\nI5\n1\nR262144\nR262144\n",
-        Err(ReadFault::OutputFailed),
+        Err(ReadFault::Stopped),
     ),
 ];
 
-/// Returns the result of copying a volume over this peer, if two bytes can be printed and two
-/// written.
+/// What to do with the reel, whether the sink completes, the replies of a peer, what is sent, what
+/// the sink is given, and the result of copying a volume.
+type SinkRow = (
+    AfterVolume,
+    bool,
+    &'static [Replies],
+    &'static [u8],
+    &'static [u8],
+    Result<(), ReadFault>,
+);
+
+/// The replies for a label, two blocks, and the mark that ends them.
+const MARKED: &[Replies] = &[&[
+    b"A0\n",
+    b"A1\n",
+    b"A1\na",
+    b"A2\nbc",
+    b"A1\nd",
+    b"A0\n",
+    b"E5\nInput/output error\n",
+    b"A1\n",
+    b"A3\n",
+    b"A1\n",
+    b"A1\n",
+    b"A0\n",
+]];
+
+/// In order:
+/// - a label, and a block, that the sink does not accept.
+/// - a sink that does not complete, and one that does.
+/// - a volume without a mark, a reel without a label, and a reel that is not checked.
+static SINKS: [SinkRow; 9] = [
+    (
+        AfterVolume::Offline,
+        true,
+        &[&[b"A0\n", b"A1\n", b"A3\nabc", b"A0\n", b"A0\n"]],
+        b"O/dev/st0\n0\nI5\n1\nR262144\n",
+        b"Labc\n",
+        Err(ReadFault::Stopped),
+    ),
+    (
+        AfterVolume::Offline,
+        true,
+        &[&[
+            b"A0\n", b"A1\n", b"A1\na", b"A2\nbc", b"A3\ndef", b"A0\n", b"A0\n",
+        ]],
+        b"O/dev/st0\n0\nI5\n1\nR262144\nR262144\nR262144\n",
+        b"La\nB0bc\nB1def\n",
+        Err(ReadFault::Stopped),
+    ),
+    (
+        AfterVolume::Check,
+        false,
+        MARKED,
+        b"O/dev/st0\n0\nI5\n1\nR262144\nR262144\nR262144\nR262144\nI4\n1\nI5\n1\nI3\n3\nI1\n1\n",
+        b"La\nB0bc\nB1d\nM\nC\n",
+        Err(ReadFault::Stopped),
+    ),
+    (
+        AfterVolume::Offline,
+        false,
+        MARKED,
+        b"O/dev/st0\n0\nI5\n1\nR262144\nR262144\nR262144\nR262144\nI4\n1\nI5\n1\nI3\n3\nI1\n1\n",
+        b"La\nB0bc\nB1d\nM\nC\n",
+        Err(ReadFault::Stopped),
+    ),
+    (
+        AfterVolume::Check,
+        true,
+        MARKED,
+        b"O/dev/st0\n0\nI5\n1\nR262144\nR262144\nR262144\nR262144\nI4\n1\nI5\n1\nI3\n3\nI1\n1\nC\n",
+        b"La\nB0bc\nB1d\nM\nC\n",
+        Ok(()),
+    ),
+    (
+        AfterVolume::Offline,
+        true,
+        MARKED,
+        b"O/dev/st0\n0\nI5\n1\nR262144\nR262144\nR262144\nR262144\nI4\n1\nI5\n1\nI3\n3\nI1\n1\nI6\n1\nC\n",
+        b"La\nB0bc\nB1d\nM\nC\n",
+        Ok(()),
+    ),
+    (
+        AfterVolume::Offline,
+        true,
+        &[&[b"A0\n", b"A1\n", b"A1\na", b"A0\n", b"A1\n", b"A0\n"]],
+        b"O/dev/st0\n0\nI5\n1\nR262144\nR262144\nI4\n1\nC\n",
+        b"La\n",
+        Err(ReadFault::NoMark),
+    ),
+    (
+        AfterVolume::Offline,
+        false,
+        &[&[b"A0\n", b"A1\n", b"A0\n", b"A0\n"]],
+        b"O/dev/st0\n0\nI5\n1\nR262144\nC\n",
+        b"",
+        Ok(()),
+    ),
+    (
+        AfterVolume::Stay,
+        false,
+        &[&[b"A0\n", b"A1\n", b"A1\na", b"A2\nbc", b"A0\n", b"A0\n"]],
+        b"O/dev/st0\n0\nI5\n1\nR262144\nR262144\nR262144\nC\n",
+        b"La\nB0bc\n",
+        Ok(()),
+    ),
+];
+
+/// Returns the result of copying a volume over this peer into a sink that completes.
 fn copied(alloc: Global, peer: &mut FakePeer, after: AfterVolume) -> Result<(), ReadFault> {
-    let (mut file, mut text) = ([0; 2], [0; 2]);
-    let mut written = Counted::new(file.as_mut_slice());
-    let mut printed = Counted::new(text.as_mut_slice());
-    copy_volume(alloc, peer, DEVICE, after, &mut written, &mut printed)
+    let mut sink = ShortSink {
+        given: Vec::new(alloc),
+        completes: true,
+    };
+    copy_volume(alloc, peer, DEVICE, after, &mut sink)
+}
+
+/// Whether copying a volume gives the row's result, requests and calls of the sink.
+fn gives(alloc: Global, row: &SinkRow) -> bool {
+    let mut peer = FakePeer::new(alloc, row.2);
+    let mut sink = ShortSink {
+        given: Vec::new(alloc),
+        completes: row.1,
+    };
+    let result = copy_volume(alloc, &mut peer, DEVICE, row.0, &mut sink);
+    result == row.5 && peer.sent.as_slice() == row.3 && sink.given.as_slice() == row.4
 }
 
 /// Whether copying a volume gives the row's result.
@@ -249,6 +425,13 @@ fn volumes(rt: HostRuntime) {
 fn volumes_whose_reels_are_taken_away(rt: HostRuntime) {
     for (at, row) in OFFLINES.iter().enumerate() {
         check_row(&rt, at, goes_offline(rt.alloc(), row));
+    }
+}
+
+#[test]
+fn volumes_are_given_to_a_sink(rt: HostRuntime) {
+    for (at, row) in SINKS.iter().enumerate() {
+        check_row(&rt, at, gives(rt.alloc(), row));
     }
 }
 

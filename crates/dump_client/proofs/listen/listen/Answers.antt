@@ -1,7 +1,9 @@
 use Rattle.std.proofs.Common.{Ok, ◌∙◌, ap, sym, subst, arith, ◌++◌, ◌+◌, ◌-◌, drop, length}
 use Rattle.std.proofs.lemmas.List.{append-nil, take_all, take_rest, length-drop, length-take}
-use Rattle.dump_client.specs.Listening.{IsReaderWaiting}
+use Rattle.dump_client.specs.Listening.{IsReaderWaiting, IsFeedResult}
+use Rattle.dump_client.specs.declared.listen.FeedResult.TheVariants as feed_result
 use Rattle.dump_client.proofs.Listening.{push_some, so_far, none_yet, reply_then, reply_last, noise}
+use Rattle.dump_client.proofs.listen.listen.Goals.{then-not-is_empty, else-not-is_empty}
 use Rattle.dump_client.proofs.listen.listen.Goals as goal
 
 pub overflow_add-at : goal.overflow_add-at
@@ -35,22 +37,22 @@ loop-at-preserved c =
           (c.hear.ensures.heard wanted _ (c.push-at.ensures.unread _ _ (c.loop-at.invariant.2 wanted bytes u).unread))) at_none,
     )
 
-pub returns-then-not-is_empty : goal.returns-then-not-is_empty
-returns-then-not-is_empty c = record {
+pub returns-in-Ok-Some : goal.returns-in-Ok-Some
+returns-in-Ok-Some c = record {
   feed_result = λ wanted bytes u.
-      reply_then c.args.run.now c.args.counts.now wanted bytes c.args.piece.now (c.loop-at.at + c.push-at.result) c.hear.result c.in-Ok-Some.summary c.hear.new.reader c.is_empty.result
-      (so_far c.args.run.now c.args.counts.now wanted bytes c.args.piece.now _ c.loop-at.at c.push-at.result c.hear.result c.hear.new.reader (take_rest c.args.piece.now c.loop-at.at)
-      (c.hear.ensures.heard wanted _ (c.push-at.ensures.unread _ _ (c.loop-at.invariant.2 wanted bytes u).unread)))
-      (c.in-Ok-Some.is ∙ ap Ok c.in-Ok-Some.field-0-is) (λ rest held. c.is_empty.ensures.value _ rest held) c.if-not-is_empty.true;
-}
-
-pub returns-else-not-is_empty : goal.returns-else-not-is_empty
-returns-else-not-is_empty c = record {
-  feed_result = λ wanted bytes u.
-      reply_last c.args.run.now c.args.counts.now wanted bytes c.args.piece.now (c.loop-at.at + c.push-at.result) c.hear.result c.in-Ok-Some.summary c.hear.new.reader c.is_empty.result
-      (so_far c.args.run.now c.args.counts.now wanted bytes c.args.piece.now _ c.loop-at.at c.push-at.result c.hear.result c.hear.new.reader (take_rest c.args.piece.now c.loop-at.at)
-      (c.hear.ensures.heard wanted _ (c.push-at.ensures.unread _ _ (c.loop-at.invariant.2 wanted bytes u).unread)))
-      (c.in-Ok-Some.is ∙ ap Ok c.in-Ok-Some.field-0-is) (λ rest held. c.is_empty.ensures.value _ rest held) c.if-not-is_empty.false;
+      let heard =
+      so_far c.args.run.now c.args.counts.now wanted bytes c.args.piece.now _ c.loop-at.at c.push-at.result c.hear.result c.hear.new.reader (take_rest c.args.piece.now c.loop-at.at)
+      (c.hear.ensures.heard wanted _ (c.push-at.ensures.unread _ _ (c.loop-at.invariant.2 wanted bytes u).unread)) in
+      elim c.if-not-is_empty.branch [
+        | then-not-is_empty w ↦
+            subst (λ m. IsFeedResult c.args.run.now c.args.counts.now wanted (bytes ++ c.args.piece.now) (feed_result.Reply c.in-Ok-Some.heard m) c.hear.new.reader) (sym w.more-is)
+            (reply_then c.args.run.now c.args.counts.now wanted bytes c.args.piece.now (c.loop-at.at + c.push-at.result) c.hear.result c.in-Ok-Some.heard c.hear.new.reader c.is_empty.result
+            heard (c.in-Ok-Some.is ∙ ap Ok c.in-Ok-Some.field-0-is) (λ rest held. c.is_empty.ensures.value _ rest held) w.if-not-is_empty.true)
+        | else-not-is_empty w ↦
+            subst (λ m. IsFeedResult c.args.run.now c.args.counts.now wanted (bytes ++ c.args.piece.now) (feed_result.Reply c.in-Ok-Some.heard m) c.hear.new.reader) (sym w.more-is)
+            (reply_last c.args.run.now c.args.counts.now wanted bytes c.args.piece.now (c.loop-at.at + c.push-at.result) c.hear.result c.in-Ok-Some.heard c.hear.new.reader c.is_empty.result
+            heard (c.in-Ok-Some.is ∙ ap Ok c.in-Ok-Some.field-0-is) (λ rest held. c.is_empty.ensures.value _ rest held) w.if-not-is_empty.false)
+      ];
 }
 
 pub returns-in-Err : goal.returns-in-Err

@@ -1,12 +1,12 @@
 //! Whole attempts and runs, with the client's state at each step.
 
-use super::play::Move::{Asks, AsksNot, Goes, Hears, Stands, Starts, Takes, Tells, Writes};
+use super::play::Move::{Asks, AsksNot, Finds, Goes, Hears, Stands, Starts, Takes, Tells, Writes};
 use super::play::{Case, Dumped, Move, USR, check_cases};
 use super::script::Volume::{
     FirstBlock, FirstTwo, GreatestBlocks, LastBlock, NoBlocks, SmallBlocks,
 };
 use super::script::{EMPTY, TWO, TWO_AND_ONE};
-use dump_client::Progress::{Ended, Failed, Send};
+use dump_client::Progress::{Ended, Failed, Send, Waiting};
 use dump_client::{Answer, AttemptFault, StartFault, State};
 use std::test::Fail;
 
@@ -126,6 +126,35 @@ const TWO_VOLUMES: &[Move] = &[
     Tells("/usr", 0, 951782400),
 ];
 
+/// The zero bytes of a label whose lines have 68 bytes.
+const ZEROS: &[u8] = &[0; 956];
+
+/// The reel begins with the label of another dump. Its last piece finds the label, and no other
+/// piece finds one. A record that is no label has none.
+const OVERWRITES: &[Move] = &[
+    Writes(FirstBlock),
+    Starts(Ok(())),
+    Goes(0, 2),
+    Asks(2),
+    Finds(
+        b"A1024\nname /home\nlevel 3\ndate 1795132800\n",
+        Waiting,
+        None,
+    ),
+    Finds(b"since 951782400\nvolume 2\nfirst 7\n", Waiting, None),
+    Finds(ZEROS, Send, Some(("/home", 3, 1795132800, 2))),
+    Asks(3),
+    Finds(b"A1\n", Send, None),
+    Goes(4, 5),
+    Asks(5),
+    Finds(b"A0\n", Failed(AttemptFault::ReelTooSmall), None),
+    Takes(Answer::Retry, Ok(())),
+    Starts(Ok(())),
+    Goes(0, 2),
+    Asks(2),
+    Finds(b"A4\nname", Send, None),
+];
+
 /// Blocks smaller than the label. A write succeeds only if the reply is the number of its bytes.
 const SMALL: &[Move] = &[
     Writes(SmallBlocks),
@@ -174,7 +203,7 @@ const GREATEST_RUN: &Dumped = &Dumped {
     block_bytes: 262144,
 };
 
-static CASES: [Case; 7] = [
+static CASES: [Case; 8] = [
     Case {
         name: "a run without blocks",
         dumped: USR,
@@ -204,6 +233,12 @@ static CASES: [Case; 7] = [
         dumped: USR,
         blocks: 3,
         moves: TWO_VOLUMES,
+    },
+    Case {
+        name: "the label of another dump",
+        dumped: USR,
+        blocks: 1,
+        moves: OVERWRITES,
     },
     Case {
         name: "small blocks",

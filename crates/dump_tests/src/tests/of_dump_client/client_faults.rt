@@ -1,7 +1,9 @@
 //! Replies at each step of a first volume, which gets two of three blocks, and the end of the
 //! connection in a second volume.
 
-use super::play::Move::{Asks, AsksNot, At, Ends, Goes, Hears, Stands, Starts, Takes, Writes};
+use super::play::Move::{
+    Asks, AsksNot, At, Ends, Finds, Goes, Hears, Stands, Starts, Takes, Writes,
+};
 use super::play::{Case, Move, USR, check_cases};
 use super::script::Volume::{FirstBlock, FirstTwo, LastBlock, LastTwo};
 use super::script::{ONE, TWO, TWO_AND_ONE};
@@ -125,7 +127,7 @@ const COUNTED_LABELS: &[Move] = &[
         b"A1024\nname /usr\nlevel 0\ndate 951782400\nsince 0\nvolume 1\nfirst 0\n",
         Waiting,
     ),
-    Hears(ZEROS, Failed(AttemptFault::CountedReel(1))),
+    Finds(ZEROS, Failed(AttemptFault::CountedReel(1)), None),
     Stands(State::Asking, &[TWO], (2, 2)),
     AsksNot(Ok(false)),
     Takes(Answer::Retry, Ok(())),

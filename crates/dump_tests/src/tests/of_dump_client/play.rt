@@ -23,6 +23,9 @@ pub(crate) enum Move {
     AsksNot(Result<bool, AttemptFault>),
     /// The client is fed a piece of a reply, and returns this.
     Hears(&'static [u8], Progress),
+    /// The client is fed a piece of a reply, and returns this with the label of this name, level,
+    /// date and volume, or with none.
+    Finds(&'static [u8], Progress, Option<(&'static str, u8, u64, u32)>),
     /// An attempt is started, goes up to this step, and is fed a piece, with this result. Then the
     /// connection ends and the operator retries, and nothing is counted.
     At(usize, &'static [u8], Progress),
@@ -173,6 +176,21 @@ impl Play {
             && self.client.feed(piece) == progress
     }
 
+    /// Whether the client is fed a piece, with this result and this label, or none.
+    fn finds(
+        &mut self,
+        piece: &[u8],
+        progress: Progress,
+        label: Option<(&str, u8, u64, u32)>,
+    ) -> bool {
+        let (told, found) = self.client.feed_finding_label(piece);
+        told == progress
+            && match &found {
+                Some(it) => label == Some((it.name(), it.level(), it.date(), it.volume())),
+                None => label.is_none(),
+            }
+    }
+
     /// Ends the connection and has the operator retry. Returns whether nothing was counted.
     fn tries_anew(&mut self) -> bool {
         self.client.ended();
@@ -231,7 +249,7 @@ impl Play {
         }
     }
 
-    /// Makes a move in which no bytes are sent or received.
+    /// Makes a move of the other kinds.
     fn makes_other(&mut self, next: &Move) -> bool {
         match next {
             Move::Writes(volume) => self.turns_to(volume),
@@ -240,6 +258,7 @@ impl Play {
             Move::Trouble(fails) => self.has_trouble(*fails),
             Move::Stands(state, counts, next) => self.stands(*state, counts, *next),
             Move::Saves(text) => self.saves(text),
+            Move::Finds(piece, progress, label) => self.finds(piece, *progress, *label),
             Move::Tells(name, level, date) => self.tells(name, *level, *date),
             _ => false,
         }

@@ -8,20 +8,20 @@ use Rattle.rdump_net.proofs.Marks.{on_first, answered_as, look_on, look_refused}
 use Rattle.rdump_net.proofs.volume.look_forward.Goals as goal
 
 pub returns-in-Ok-None : goal.returns-in-Ok-None
-returns-in-Ok-None g c = λ goes next replies at.
+returns-in-Ok-None g c = λ at_mark next replies at.
     let a = answered_as next g.P.Peer.tells c.args.peer.now c.operate.new.peer replies c.operate.result (Ok None) (c.in-Ok-None.is ∙ ap Ok c.in-Ok-None.field-0-is)
-    (operation_step next g.P.Peer.tells c.args.peer.now c.operate.new.peer replies MTFSR c.args.records c.operate.result (on_first next (next_forward goes c.args.records) replies at) c.operate.ensures) in
-    look_on next g.P.Peer.tells goes c.args.peer.now c.operate.new.peer c.look_over.new.peer replies (next_forward goes c.args.records) (next_over goes) a.0 c.look_over.result at (λ ends. refl) a.1
-    (c.look_over.ensures goes next (replies ++ Done a.0 ∷ []))
+    (operation_step next g.P.Peer.tells c.args.peer.now c.operate.new.peer replies MTFSR c.args.records c.operate.result (on_first next (next_forward at_mark c.args.records) replies at) c.operate.ensures) in
+    look_on next g.P.Peer.tells at_mark c.args.peer.now c.operate.new.peer c.look_over.new.peer replies (next_forward at_mark c.args.records) (next_over at_mark) a.0 c.look_over.result at (λ ends. refl) a.1
+    (c.look_over.ensures at_mark next (replies ++ Done a.0 ∷ []))
 
 pub returns-in-Ok-Some : goal.returns-in-Ok-Some
-returns-in-Ok-Some g c = λ goes next replies at.
+returns-in-Ok-Some g c = λ at_mark next replies at.
     let k = c.in-Ok-Some.field-0-0 in
     let a = answered_as next g.P.Peer.tells c.args.peer.now c.operate.new.peer replies c.operate.result (Ok (Some k)) (c.in-Ok-Some.is ∙ ap Ok c.in-Ok-Some.field-0-is)
-    (operation_step next g.P.Peer.tells c.args.peer.now c.operate.new.peer replies MTFSR c.args.records c.operate.result (on_first next (next_forward goes c.args.records) replies at) c.operate.ensures) in
-    look_refused next g.P.Peer.tells goes c.args.peer.now c.operate.new.peer replies (next_forward goes c.args.records) (Op MTFSR c.args.records) k a.0 at refl (λ ends. refl) a.1
+    (operation_step next g.P.Peer.tells c.args.peer.now c.operate.new.peer replies MTFSR c.args.records c.operate.result (on_first next (next_forward at_mark c.args.records) replies at) c.operate.ensures) in
+    look_refused next g.P.Peer.tells at_mark c.args.peer.now c.operate.new.peer replies (next_forward at_mark c.args.records) (Op MTFSR c.args.records) k a.0 at refl (λ ends. refl) a.1
 
 pub returns-in-Err : goal.returns-in-Err
-returns-in-Err g c = λ goes next replies at.
+returns-in-Err g c = λ at_mark next replies at.
     answered_as next g.P.Peer.tells c.args.peer.now c.operate.new.peer replies c.operate.result (Err c.in-Err.fault) c.in-Err.is
-    (operation_step next g.P.Peer.tells c.args.peer.now c.operate.new.peer replies MTFSR c.args.records c.operate.result (on_first next (next_forward goes c.args.records) replies at) c.operate.ensures)
+    (operation_step next g.P.Peer.tells c.args.peer.now c.operate.new.peer replies MTFSR c.args.records c.operate.result (on_first next (next_forward at_mark c.args.records) replies at) c.operate.ensures)

@@ -7,18 +7,18 @@ use Rattle.rdump_net.proofs.Marks.{on_first, answered_as, look_found, look_refus
 use Rattle.rdump_net.proofs.volume.look_over.Goals as goal
 
 pub returns-in-Ok-None : goal.returns-in-Ok-None
-returns-in-Ok-None g c = λ goes next replies at.
+returns-in-Ok-None g c = λ at_mark next replies at.
     let a = answered_as next g.P.Peer.tells c.args.peer.now c.operate.new.peer replies c.operate.result (Ok None) (c.in-Ok-None.is ∙ ap Ok c.in-Ok-None.field-0-is)
-    (operation_step next g.P.Peer.tells c.args.peer.now c.operate.new.peer replies MTFSF 1 c.operate.result (on_first next (next_over goes) replies at) c.operate.ensures) in
-    look_found next g.P.Peer.tells goes c.args.peer.now c.operate.new.peer replies a.0 at a.1
+    (operation_step next g.P.Peer.tells c.args.peer.now c.operate.new.peer replies MTFSF 1 c.operate.result (on_first next (next_over at_mark) replies at) c.operate.ensures) in
+    look_found next g.P.Peer.tells at_mark c.args.peer.now c.operate.new.peer replies a.0 at a.1
 
 pub returns-in-Ok-Some : goal.returns-in-Ok-Some
-returns-in-Ok-Some g c = λ goes next replies at.
+returns-in-Ok-Some g c = λ at_mark next replies at.
     let k = c.in-Ok-Some.field-0-0 in
     let a = answered_as next g.P.Peer.tells c.args.peer.now c.operate.new.peer replies c.operate.result (Ok (Some k)) (c.in-Ok-Some.is ∙ ap Ok c.in-Ok-Some.field-0-is)
-    (operation_step next g.P.Peer.tells c.args.peer.now c.operate.new.peer replies MTFSF 1 c.operate.result (on_first next (next_over goes) replies at) c.operate.ensures) in
-    look_refused next g.P.Peer.tells goes c.args.peer.now c.operate.new.peer replies (next_over goes) (Op MTFSF 1) k a.0 at refl (λ ends. refl) a.1
+    (operation_step next g.P.Peer.tells c.args.peer.now c.operate.new.peer replies MTFSF 1 c.operate.result (on_first next (next_over at_mark) replies at) c.operate.ensures) in
+    look_refused next g.P.Peer.tells at_mark c.args.peer.now c.operate.new.peer replies (next_over at_mark) (Op MTFSF 1) k a.0 at refl (λ ends. refl) a.1
 
 pub returns-in-Err : goal.returns-in-Err
-returns-in-Err g c = λ goes next replies at.
-    answered_as next g.P.Peer.tells c.args.peer.now c.operate.new.peer replies c.operate.result (Err c.in-Err.fault) c.in-Err.is (operation_step next g.P.Peer.tells c.args.peer.now c.operate.new.peer replies MTFSF 1 c.operate.result (on_first next (next_over goes) replies at) c.operate.ensures)
+returns-in-Err g c = λ at_mark next replies at.
+    answered_as next g.P.Peer.tells c.args.peer.now c.operate.new.peer replies c.operate.result (Err c.in-Err.fault) c.in-Err.is (operation_step next g.P.Peer.tells c.args.peer.now c.operate.new.peer replies MTFSF 1 c.operate.result (on_first next (next_over at_mark) replies at) c.operate.ensures)

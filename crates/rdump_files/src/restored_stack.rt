@@ -1,0 +1,55 @@
+//! The volumes of a stack, read back into a file.
+ghost use Rattle.std.specs.Prelude.{◌≡◌, List, ◌++◌, Bool, true};
+ghost use Rattle.rmt_wire.specs.Number.{IsLine};
+ghost use Rattle.rdump_net.specs.Ends.{sink_ends, sink_kind};
+ghost use Rattle.rdump_net.specs.Sink.{SinkCall};
+ghost use Rattle.rdump_files.specs.FileSink.{FileStep};
+ghost use Rattle.rdump_files.specs.Restored.{Restores};
+ghost use Rattle.rdump_files.specs.RestoredFile.{restored_kind};
+ghost use Rattle.rdump_files.specs.RestoredStack.{IsStackRead};
+
+use crate::{FileSink, RestoredFile};
+use rdump_net::{AfterVolume, Peer, ReadFault, copy_volume};
+use std::alloc::Global;
+
+/// Reads this many volumes of a drive's stack into a file, each over a connection of its own, and
+/// has each reel taken to the bin once its blocks are on the disk.
+///
+/// It stops at the first volume that is not read whole, and fails as `copy_volume` does. At the end
+/// of a stack that is the refusal of the open with `ENXIO`. At a volume of another dump, or a first
+/// record that is no label, a sink with places stops the read, and the error is `Stopped`. The reel
+/// stays then, as does one whose volume has no mark.
+///
+/// A reel without a record gives nothing and stays. It counts as read, and is read again in place
+/// of the next volume.
+///
+/// The device is one line of at most `LINE_LIMIT` bytes. The call allocates for one record at a
+/// time.
+pub fn restore_stack<P: Peer, F: RestoredFile>(
+    alloc: Global,
+    peer: &mut P,
+    device: &[u8],
+    volumes: u32,
+    sink: &mut FileSink<F>,
+) -> Result<(), ReadFault>
+    requires { IsLine device.now }
+    // Reads the given number of volumes one after the other, up to one that fails. Each read does
+    // what `copy_volume` promises with `AfterVolume::Offline`. If one fails, the call returns why.
+    //
+    // Suppose that the sink has places, and that the peer's log and the bytes of the sink's file
+    // are known. Then the file has its old bytes, with each block of each volume that was read
+    // written at its place, in order. These volumes are all of one dump: that of the first label
+    // that the sink accepted. A gap between the old end and a block is zero bytes. If the sink
+    // stopped at a block, a beginning of this block may be at its place.
+    ensures { (earlier last : List SinkCall) × (whole : Bool)
+        × IsStackRead (sink_kind P.tells (FileStep (restored_kind F.holds F.kept))) device.now volumes
+        (sink_ends peer.old sink.old) (sink_ends peer.new sink.new) result earlier last whole
+        × (sink.old.places ≡ true → Restores (restored_kind F.holds F.kept) sink.old sink.new (earlier ++ last) whole) }
+{
+    for _count in 0..volumes {
+        if let Err(fault) = copy_volume(alloc, peer, device, AfterVolume::Offline, sink) {
+            return Err(fault);
+        }
+    }
+    Ok(())
+}

@@ -1,0 +1,11 @@
+use Rattle.std.proofs.Common.{ℕ, List, Bool}
+use Rattle.rmt_wire.specs.Reply.{PlainReply}
+use Rattle.rdump_net.specs.Reading.{IsVolumeReading}
+use Rattle.rdump_net.specs.declared.volume.AfterVolume.{AfterVolume}
+use Rattle.rdump_net.proofs.Reading.{GivenTo}
+use Rattle.rdump_net.proofs.volume.give_records.Given as goal
+
+abbrev pub invariant-loop-records : goal.invariant-loop-records
+invariant-loop-records g l =
+    (device : List ℕ) (after : AfterVolume) (completed : Bool) (replies : List PlainReply) → IsVolumeReading 1 replies
+    → GivenTo g.P.Peer.tells g.S.VolumeSink.takes device after completed replies l.fn.peer l.peer l.fn.sink l.sink l.records

@@ -1,0 +1,60 @@
+//! What receives a volume that is read.
+ghost use Rattle.std.specs.Prelude.{true};
+ghost use Rattle.rdump_net.specs.Sink.{goes_on, has_accepted};
+ghost use Rattle.rdump_net.specs.Sink.SinkCall.{Label, Block, Mark, Complete};
+
+use thiserror::Error;
+
+/// Whether the read of a volume goes on after its first record.
+#[derive(Clone, Copy, Debug, PartialEq, Eq)]
+pub enum Verdict {
+    /// The read goes on.
+    GoOn,
+    /// The read stops: the reel stays where it is, and nothing more of it is read.
+    Stop,
+}
+
+/// A sink stopped the read of a volume. The sink keeps why.
+#[derive(Clone, Copy, Debug, PartialEq, Eq, Error)]
+#[error("SinkStopped")]
+pub struct SinkStopped;
+
+/// What receives a volume that is read: the records one by one, each whole.
+///
+/// An implementation may say what a call does to it (the ghost `takes`). Clauses about the sink
+/// hold only if it does. It keeps the fault because of which it stopped a read.
+pub trait VolumeSink {
+    ghost use Rattle.std.specs.Prelude.{Bool};
+    ghost use Rattle.rdump_net.specs.Sink.{SinkCall};
+
+    /// Relates the sink before and after a call to that call, and to whether the sink accepted it.
+    ghost takes: { Self → Self → SinkCall → Bool → Type 0 };
+
+    /// Takes the first record of a volume: a label with the zero bytes after its text, or what
+    /// stands in its place. The record has at least one byte.
+    fn label(&mut self, record: &[u8]) -> Verdict
+        // The sink takes the first record, and accepts it if and only if the call returns `GoOn`.
+        ensures { takes self.old self.new (Label record.now) (goes_on result) };
+
+    /// Takes the next record after the first one. `number` counts these records from 0. The record
+    /// has at least one byte.
+    ///
+    /// Fails with `SinkStopped` if the sink does not accept the record. The read then stops.
+    fn block(&mut self, number: u64, bytes: &[u8]) -> Result<(), SinkStopped>
+        // The sink takes the record with its number, and accepts it if and only if the call
+        // succeeds.
+        ensures { takes self.old self.new (Block number bytes.now) (has_accepted result) };
+
+    /// Takes the mark that was found where the records ended.
+    fn mark(&mut self)
+        // The sink takes the mark.
+        ensures { takes self.old self.new Mark true };
+
+    /// Says whether the volume is kept: all that the sink was given is written and synced, and the
+    /// sink has nothing against the reel. Called after the mark, and only then.
+    ///
+    /// Fails with `SinkStopped` if the volume is not kept. The reel then stays where it is.
+    fn complete(&mut self) -> Result<(), SinkStopped>
+        // The sink answers whether the volume is kept.
+        ensures { takes self.old self.new Complete (has_accepted result) };
+}
