@@ -67,7 +67,7 @@ pub record IsStacksCall {S R : Type 0} (s : StacksKind S R) (r : ReelPromise R) 
   -- Even if the contents are unknown, the call fails only with a fault that a call of this kind can
   -- return.
   pub can : CanStacksAnswer call
-  -- If the call latched a reel at a drive, that drive has a latched reel afterwards. A reel that
+  -- If the call latched a reel of a drive, that drive has a latched reel afterwards. A reel that
   -- was latched before stays latched, unless the call laid it back or moved it.
   pub latched : (d : ℕ) → drive_latched call ≡ Some d → HasLatched s.holds new d
   pub elsewhere : (d : ℕ) → drive_left call ≢ Some d → HasLatched s.holds old d → HasLatched s.holds new d
@@ -76,8 +76,8 @@ pub record IsStacksCall {S R : Type 0} (s : StacksKind S R) (r : ReelPromise R) 
   -- If the device failed during the call, the call returns `Device`.
   pub failed : (s.failures new ≡ s.failures old) ⊎ (fault_of call ≡ Some Device)
   -- Suppose that no device could fail before the call. Then the call does not return `Device`, and
-  -- takes no reel whose device can fail. After the call no device can fail, unless the call added a
-  -- reel whose device can fail.
+  -- takes no reel whose device can fail. After the call a device can fail only if the call was
+  -- given a reel whose device can fail.
   pub able : fault_of call ≡ Some Device → s.can_fail old
   pub quiet : s.can_fail new → s.can_fail old ⊎ ReelCanFail r (reel_brought call)
   pub quiet_reel : ReelCanFail r (reel_taken call) → s.can_fail old

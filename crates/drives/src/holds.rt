@@ -49,9 +49,10 @@ pub trait Holds {
     fn take(&mut self, seat: &mut Self::Seat, drive: usize) -> Taken
         requires seat { belongs self.old seat.old }
         requires drive { drive < drives self.old }
-        // A take is one step of the seat. The take finds a number at the drive. If the number is 0,
-        // the seat did not hold the drive before the take, and holds the drive afterwards. If the
-        // number is not 0, `take` returns it, and the seat holds what it held before.
+        // A take is one step of the seat. The take finds the number that the hold record has for
+        // the drive. If this number is 0, the seat did not hold the drive before the take, and
+        // holds the drive afterwards. If this number is not 0, `take` returns the number, and the
+        // seat holds the same drives as before.
         ensures step { shows seat.new ≡ taken (shows seat.old) drive (found_by result) }
         ensures answer { TakeAnswers result (shows seat.old) (shows seat.new) drive }
         // The number that a take finds is 0 or was assigned to a seat.
@@ -59,9 +60,9 @@ pub trait Holds {
         // If the holder of the drive is known, the take finds the holder's number, or 0 if there is
         // no holder.
         ensures found { (n : ℕ) → tells self.old drive n → found_by result ≡ n }
-        // If the holder of a drive was known before the take, the holder is known afterwards. If
-        // the drive that is taken was known to be free, the seat is now its known holder. Every
-        // other known holder is as before.
+        // If the holder of a drive was known before the take, that drive's holder is known
+        // afterwards. If the drive that is taken was known to be free, the seat is now its known
+        // holder. No other known holder changes.
         ensures told { (d n : ℕ) → tells self.old d n → tells self.new d (holder_after_take (shows seat.old).number drive d n) }
         // The seat still belongs to the hold record, and so does each seat with another number. The
         // number of drives does not change.
@@ -77,10 +78,11 @@ pub trait Holds {
         requires seat { belongs self.old seat.old }
         requires drive { drive < drives self.old }
         requires held { IsTrue (has (shows seat.old) drive) }
-        // A give is one step of the seat. The seat does not hold the drive afterwards.
+        // A give is one step of the seat. After the give the seat does not hold the drive.
         ensures step { shows seat.new ≡ given (shows seat.old) drive }
-        // If the holder of a drive was known before the give, the holder is known afterwards. The
-        // drive that was given back is now known to be free. Every other known holder is as before.
+        // If the holder of a drive was known before the give, that drive's holder is known
+        // afterwards. If the drive that is given back had a known holder, the drive is now known to
+        // be free. No other known holder changes.
         ensures told { (d n : ℕ) → tells self.old d n → tells self.new d (holder_after_give drive d n) }
         // The seat still belongs to the hold record, and so does each seat with another number. The
         // number of drives does not change.
@@ -96,8 +98,9 @@ pub trait Holds {
     fn holder(&self, seat: &mut Self::Seat, drive: usize) -> u64
         requires seat { belongs self.now seat.old }
         requires drive { drive < drives self.now }
-        // `holder` is one step of the seat. In this step the seat only looks at the drive. `holder`
-        // returns the number that it found at the drive. The seat holds what it held before.
+        // `holder` is one step of the seat. In this step the seat only looks at the number that the
+        // hold record has for the drive. `holder` returns this number. The seat holds the same
+        // drives as before.
         ensures step { shows seat.new ≡ looked (shows seat.old) drive result }
         // The number that `holder` returns is 0 or was assigned to a seat.
         ensures known { result ≤ seated self.now }

@@ -11,17 +11,17 @@ ghost use Rattle.drives.specs.Arranging.{may_arrange};
 ghost use Rattle.drives.specs.Calls.{StacksCall};
 ghost use Rattle.drives.specs.Calls.StacksCall.{Latch, LayBack, Move};
 
-/// Law: how each call of stacks in memory changes the number of reels that have a trouble (an
-/// injected fault). It counts the reels on the stacks and in the bin. A latch removes its reel
-/// along with the reel's trouble. Laying a reel back, or moving it to the bin, adds the trouble of
-/// that reel. A call that fails changes nothing here. No call changes the number of drives.
+/// Law: how each call of stacks in memory changes the number of reels with a trouble (an injected
+/// fault). It counts the reels on the stacks and in the bin. A latch removes its reel along with
+/// the reel's trouble. Laying a reel back, or moving it to the bin, adds the trouble of that reel.
+/// A call that fails changes nothing here. No call changes the number of drives.
 ///
 /// It does nothing: its contract is a law of the definitions.
 pub fn lying_troubles()
-    // Some reels on the stacks in memory and in their bin may have a trouble. These clauses say how
-    // each call changes the number of reels with a trouble. A latch takes the reel's trouble away
-    // with the reel. A reel that is laid back, or moved to the bin, brings its trouble back. A
-    // failed call leaves the number unchanged.
+    // These clauses count the reels that have a trouble, on the stacks in memory and in their bin.
+    // A latch of a reel with a trouble lowers the count by one. If a reel with a trouble is laid
+    // back, or moved to the bin, the count rises by one. Other calls and failed calls do not change
+    // the count.
     ensures latched { (old new : ListLibrary) (d : ℕ) (result : Result TroubledTape DriveFault) →
         d < length old.library.drives → MovesTroubles old (Latch d result) new }
     ensures laid_back { (old new : ListLibrary) (d : ℕ) (reel : TroubledTape) →
@@ -33,11 +33,12 @@ pub fn lying_troubles()
         IsListStacksCall old new call → length new.library.drives ≡ length old.library.drives }
 {}
 
-/// Law: `may_arrange` gives the same result for stacks in memory as for their library, in which the
-/// reels are at rest.
+/// Law: `may_arrange` gives the same result for stacks in memory as for the library of these
+/// stacks.
 ///
 /// It does nothing: its contract is a law of the definitions.
 pub fn arranged_at_rest()
-    // An arrangement of a stack in memory is allowed if and only if the library allows it.
+    // Stacks in memory allow an arrangement if and only if their library allows the same
+    // arrangement. In the library the reels are at rest.
     ensures { (s : ListLibrary) (d : ℕ) (names : List (List ℕ)) → may_arrange s.library d names ≡ may_arrange (library_of s) d names }
 {}

@@ -70,7 +70,8 @@ impl ListStacks {
     /// then.
     pub fn add_drive(&mut self, name: &[u8]) -> Result<usize, DriveFault>
         // The new drive has an empty stack and the next number. `add_drive` fails only if an older
-        // drive has the same name or an allocation fails. If `add_drive` fails, nothing changed.
+        // drive has the same name, or if an allocation fails. If `add_drive` fails, nothing
+        // changes.
         ensures added { IsDriveAdded self.old name.now result self.new }
         // Each reel name still occurs only once. If no device could fail before `add_drive`, none
         // can fail after it.
@@ -92,7 +93,7 @@ impl ListStacks {
         requires { drive < length self.old.library.drives }
         // The new reel is empty, has the given capacity and no trouble, and is last on its stack.
         // `add_reel` fails only if an older reel (latched, on a stack or in the bin) has the same
-        // name or an allocation fails. If `add_reel` fails, nothing changed.
+        // name, or if an allocation fails. If `add_reel` fails, nothing changes.
         ensures added { IsReelAdded self.old drive name.now capacity result self.new }
         // Each reel name still occurs only once. If no device could fail before `add_reel`, none
         // can fail after it.
@@ -109,8 +110,8 @@ impl ListStacks {
     /// latched next. `drive` is a number that `add_drive` returned.
     pub fn stack(&self, drive: usize) -> &[ListedReel]
         requires { drive < length self.now.library.drives }
-        // `stack` returns one item for each reel of the drive's stack, in the order of the stacks'
-        // library. The item of a latched reel does not contain the reel.
+        // `stack` returns one item for each reel of the drive's stack, in the same order as in the
+        // stacks' library. The item of a latched reel has only the reel's name.
         ensures lying { result.now ≡ (drive_at self.now.library drive).stack }
         ensures told { map rest_slot result.now ≡ (drive_at (library_of self.now) drive).stack }
     {
@@ -120,7 +121,7 @@ impl ListStacks {
 
     /// Returns the reels in the bin, in the order in which they were moved there.
     pub fn bin(&self) -> &[ListedReel]
-        // `bin` returns the reels of the bin, in the order of the stacks' library.
+        // `bin` returns the reels of the bin, in the same order as in the stacks' library.
         ensures lying { result.now ≡ self.now.library.bin }
         ensures told { map rest_slot result.now ≡ (library_of self.now).bin }
     {
@@ -149,15 +150,14 @@ impl ListStacks {
         requires { drive < length self.now.library.drives }
         // `can_arrange` returns true if and only if three conditions hold. The names are distinct.
         // Each name is that of a reel on the drive's stack or in the bin. No reel of the drive is
-        // latched. `can_arrange` returns the same result as a check of the three conditions in the
-        // stacks' library.
+        // latched. A check of these three conditions in the stacks' library gives the same result.
         ensures may { result ≡ may_arrange self.now.library drive (map (λ n. n.now) names.now) }
         ensures told { result ≡ may_arrange (library_of self.now) drive (map (λ n. n.now) names.now) }
     {
         self.can_put_stack(drive, names)
     }
 
-    /// Rearranges the drive's stack, as an operator does: the stack then has the reels with these
+    /// Rearranges the drive's stack, as an operator does. The stack then has the reels with these
     /// names, in that order. Reels named from the bin leave it. The stack's other reels go to the
     /// end of the bin, in their order. No reel itself changes. Call it only if `can_arrange`
     /// returns true.
@@ -166,18 +166,18 @@ impl ListStacks {
     pub fn arrange(&mut self, drive: usize, names: &[&[u8]]) -> Result<(), DriveFault>
         requires drive { drive < length self.old.library.drives }
         requires may { IsTrue (may_arrange self.old.library drive (map (λ n. n.now) names.now)) }
-        // After `arrange` the drive's stack has the named reels, in the given order. The bin keeps
-        // its reels that were not named. Behind these, the bin has the reels of the old stack that
-        // were not named. No reel itself changes. If an allocation failed, nothing changed.
+        // After `arrange` the drive's stack has the named reels, in the given order. Reels of the
+        // bin that were not named stay in the bin. Reels of the old stack that were not named are
+        // now last in the bin. The reels themselves do not change. If an allocation failed, nothing
+        // changed.
         ensures arranged { IsArranged self.old drive (map (λ n. n.now) names.now) result self.new }
-        // `arrange` arranges the stacks' library in the same order. In the library the reels are at
-        // rest.
+        // `arrange` rearranges the stacks' library in the same way.
         ensures told_order { MatchResult result
             (λ _. library_of self.new ≡ arranged (library_of self.old) drive (map (λ n. n.now) names.now))
             (λ _. library_of self.new ≡ library_of self.old) }
         // After `arrange` the names on the drive's stack are the given names, in the given order.
         ensures order { IfOk result (λ _. names_of (drive_at self.new.library drive).stack ≡ map (λ n. n.now) names.now) }
-        // Each reel name occurs as often as before: once.
+        // After `arrange` each reel name still occurs exactly once.
         ensures told { IsLibrary self.new (library_of self.new) }
         ensures names { (name : List ℕ) → times name (names_in self.new.library) ≡ times name (names_in self.old.library) }
         // Reels that are latched in other drives stay latched. If no device could fail before
@@ -192,8 +192,8 @@ impl ListStacks {
         self.put_stack(drive, names)
     }
 
-    /// Sets whether the next latch or move to the bin fails with a device failure. A latch that
-    /// finds no reel, and an `unlatch`, do not call the device and leave the setting.
+    /// Sets whether the next latch or move to the bin fails with `Device`. A latch that finds no
+    /// reel, and an `unlatch`, do not call the device and leave the setting.
     pub fn trouble(&mut self, on: bool)
         // `trouble` sets or clears the trouble of the stacks. Nothing else changes.
         ensures { self.new ≡ record self.old { trouble = on } }
@@ -357,21 +357,22 @@ impl ListStacks {
 impl Stacks for ListStacks {
     // drive, below, named, found: `drive` returns the first drive with the given name.
     //
-    // latch, made: A latch takes the first reel of the stack and rewinds it (`IsReelLatched`). The
-    // reel keeps its trouble and its count of failures. A reel that is latched already is not
-    // taken. A latch never fails with `OutOfMemory`.
+    // latch, made: A latch takes the first reel of the stack and rewinds this reel
+    // (`IsReelLatched`). The reel keeps its trouble and its count of failures. If the first reel is
+    // latched already, the latch takes no reel. A latch never fails with `OutOfMemory`.
     //
     // unlatch, made: A reel that is laid back is first on its stack again, unchanged
     // (`IsReelLaidBack`).
     //
-    // offline, made: A reel that is moved leaves its stack and becomes the last one in the bin
+    // offline, made: A reel that is moved leaves its stack and becomes the last reel in the bin
     // (`IsReelMoved`). A move never fails with `OutOfMemory`.
     //
     // made: A move fails if and only if the trouble of the stacks was set. A latch that finds a
-    // reel fails under the same condition. The failed move or latch is counted, moves no reel, and
-    // clears the trouble. A latch that finds no reel leaves the trouble set.
+    // reel also fails if and only if this trouble was set. Such a failed move or latch is counted
+    // as a failure, moves no reel, and clears the trouble. A latch that finds no reel leaves the
+    // trouble set.
     //
-    // back: A move that failed hands the reel back.
+    // back: If a move fails, it returns the reel.
     //
     // failures: `failures` returns the count of device failures.
 

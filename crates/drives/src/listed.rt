@@ -52,7 +52,7 @@ impl ListedReel {
 
     /// Returns the reel, or `None` while it is latched.
     pub fn reel(&self) -> Option<&TroubledReel>
-        // `reel` lends the reel. While the reel is latched, `reel` returns `None`.
+        // `reel` returns a reference to the reel. While the reel is latched, `reel` returns `None`.
         ensures { MatchOption result (self.now.reel ≡ None) (λ reel. self.now.reel ≡ Some reel.now) }
     {
         self.reel.as_ref()

@@ -58,7 +58,7 @@ impl LocalHolds {
     pub fn new(alloc: Global, drives: usize) -> Result<LocalHolds, AllocError>
         requires some { 1 ≤ drives }
         requires few { drives ≤ DRIVE_LIMIT }
-        // In the new hold record every drive is free, and no number is assigned to a seat.
+        // In the new hold record every drive is free. No number has been assigned to a seat.
         ensures { IfOk result (λ all. all ≡ holders (replicate drives 0) 0) }
     {
         let numbers = Vec::from_elem(alloc, 0u64, drives)?;
@@ -69,7 +69,7 @@ impl LocalHolds {
     /// once `u64::MAX` was assigned. It allocates nothing.
     pub fn seat(&mut self) -> Option<LocalSeat>
         // `seat` returns a seat with the next number, beginning with 1. `seat` returns `None` if
-        // and only if the greatest `u64` was assigned already.
+        // and only if the greatest `u64` has been assigned.
         ensures next { IsSeatGiven self.old result self.new }
         // The new seat belongs to this hold record and holds no drive. The other seats still belong
         // to the record.
@@ -90,8 +90,8 @@ impl LocalHolds {
         Some(LocalSeat { view })
     }
 
-    /// Returns the number of the seat that holds the drive, or 0. The drive must exist. It does not
-    /// count as a step of a seat.
+    /// Returns the number of the seat that holds the drive, or 0 if no seat does. The drive must
+    /// exist. It does not count as a step of a seat.
     pub fn number_at(&self, drive: usize) -> u64
         requires { drive < length self.now.numbers }
         // `number_at` returns the number of the drive's holder, or 0 if there is no holder. No seat
@@ -104,8 +104,8 @@ impl LocalHolds {
 }
 
 impl Holds for LocalHolds {
-    // take: A take of a free drive makes the seat the drive's holder. A take of a held drive finds
-    // the holder's number. A take assigns no number to a seat.
+    // take: If the drive is free, a take makes the seat the drive's holder. If the drive is held, a
+    // take finds the holder's number. A take assigns no number to a seat.
     //
     // give: A give frees the drive, in one step. A give assigns no number to a seat.
     //

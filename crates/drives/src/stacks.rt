@@ -17,11 +17,10 @@ use tape::Reel;
 /// An implementation may leave its contents unspecified, as std's readers may with their bytes.
 /// Clauses about a `TapeLibrary` apply only if the contents are specified.
 pub trait Stacks {
-    // single, sized: If the library of the stacks is known, the stacks have only this library. It
-    // has as many drives as the stacks.
+    // single, sized: If the library of the stacks is known, only one library is possible. The
+    // library and the stacks have the same number of drives.
     //
-    // once: If the library is known, each reel name occurs only once in the library's stacks and
-    // bin.
+    // once: If the library of the stacks is known, each reel name occurs only once in the library.
     //
     // can_fail: For stacks in memory, a device can fail only if a trouble is set for the stacks or
     // for a reel that is not latched.
@@ -49,12 +48,12 @@ pub trait Stacks {
     fn drive(&self, name: &[u8]) -> Option<usize>
         // If `drive` returns a number, a drive with that number exists.
         ensures below { IfSome result (λ d. d < drives self.now) }
-        // Suppose that the stacks' library is known. Then `drive` returns the first drive with the
-        // given name. `drive` returns `None` only if no drive has the name.
+        // If the stacks' library is known, `drive` returns the number of the first drive with the
+        // given name. In this case `drive` returns `None` only if no drive has the name.
         ensures named { (s : TapeLibrary) → holds self.now s → IsDriveNamed name.now s result };
 
-    /// Mounts, or latches, the first reel of the drive's stack and returns it, at its beginning.
-    /// Drives are numbered from 0.
+    /// Latches (mounts) the first reel of the drive's stack and returns this reel, at its
+    /// beginning. Drives are numbered from 0.
     ///
     /// Until `unlatch` or `offline` gets the reel back, it keeps its place in the stack and cannot
     /// be latched again.
@@ -83,7 +82,7 @@ pub trait Stacks {
         requires drive { drive < drives self.old }
         requires latched { HasLatched holds self.old drive }
         // `offline` keeps the promises that every call of stacks keeps (`IsStacksCall`). If
-        // `offline` fails, it hands the reel back.
+        // `offline` fails, it returns the reel.
         ensures call { IsMoveCall (stacks_kind holds drives failures can_fail makes) Self.Reel.Reel self.old drive reel result self.new }
         ensures back { IfErr result (λ refused. refused.0 ≡ reel) };
 

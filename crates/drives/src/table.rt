@@ -33,33 +33,34 @@ impl<H: Holds, S: Stacks> DriveTable<H, S> {
     pub fn open(&mut self, seat: &mut H::Seat, name: &[u8]) -> Result<(usize, S::Reel), DriveFault>
         requires seat { H.belongs self.old.holds seat.old }
         requires drives { S.drives self.old.stacks ≤ H.drives self.old.holds }
-        // If an open fails, it returns the first fault that applies (field `step`). The faults are,
-        // in this order: no such drive, a busy drive, and the fault of the latch. A busy drive is
-        // reported with the number that the take found. The latch may fail because there is no
-        // reel, because the device failed, or because an allocation failed.
+        // If an open fails, it returns the first of these faults that applies (field `step`): no
+        // such drive, a busy drive, and the fault of the latch. The fault of a busy drive contains
+        // the number that the take found. The latch may fail because there is no reel, because the
+        // device failed, or because an allocation failed.
         //
         // If the named drive does not exist, the seat makes no step (field `view`). An open that
         // succeeds, or that finds the drive busy, makes one take. If the latch failed, the open
         // makes a take and a give.
         //
-        // If the holder of the drive is known, the take finds the holder's number, or 0 for no
-        // holder (field `found`). After an open that succeeded, the seat is the known holder of the
-        // drive. A failed open does not change the known holders (field `told`).
+        // If the holder of the drive is known before the open, the take finds the holder's number,
+        // or 0 if there is no holder (field `found`). If the open succeeds, the seat is then the
+        // known holder of the drive. A failed open does not change the known holders (field
+        // `told`).
         //
-        // The seat and each seat with another number still belong to the hold record (fields `own`
-        // and `others`). An open assigns no number to a seat (field `same_seats`).
+        // The seat, and each seat with another number, still belongs to the hold record (fields
+        // `own` and `others`). An open assigns no number to a seat (field `same_seats`).
         //
         // If the named drive does not exist or is busy, an open makes no call of the stacks.
         // Otherwise an open makes one latch (field `call`).
         //
-        // Suppose that an open fails with `Device`. Then a device could fail before the open, and
-        // the open counted a failure (field `call`). A count that is already the greatest `u64`
-        // does not change. If a failure is counted, the open fails with `Device`. If no device
+        // An open fails with `Device` only if a device could fail before the open. If an open fails
+        // with `Device`, it counted a failure (field `call`). A count that is already the greatest
+        // `u64` does not change. If an open counted a failure, it fails with `Device`. If no device
         // could fail before an open, none can fail after it.
         //
         // Reels that are latched in other drives stay latched (field `call`).
         ensures opens { IsOpening (kinds H.Holds S.Stacks S.Reel.Reel) self.old seat.old name.now result self.new seat.new }
-        // After a failed open the seat holds what it held before.
+        // After a failed open the seat holds the same drives as before.
         ensures held { OnErr result ((H.shows seat.new).held ≡ (H.shows seat.old).held) }
         // The drive that was opened is one of the stacks' drives.
         ensures below { IfOk result (λ opened. opened.0 < S.drives self.new.stacks) }

@@ -105,8 +105,8 @@ impl<B: Blocks + Drop> Client<B> {
         // Returns a client with the run and the counts of the given checkpoint text, and with the
         // given source.
         ensures spelled { IfOk result (λ c. SpellsCheckpoint bytes.now c.at.run c.at.counts) }
-        // The client is finished exactly if its counts cover the whole run. Otherwise the client is
-        // ready.
+        // The client is finished if and only if its counts cover the whole run. Otherwise the
+        // client is ready.
         ensures over { IfOk result (λ c. IsOver c.at.run c.at.counts c.at) }
         // If the call returns a client, this client has the given source.
         ensures given { IfOk result (λ c. c.source ≡ source) }
@@ -137,8 +137,8 @@ impl<B: Blocks + Drop> Client<B> {
         source: B,
     ) -> Result<Client<B>, AllocError>
         requires { (payload : List (List ℕ)) → B.holds source payload → IsPayload checkpoint.run payload }
-        // The client is finished exactly if its counts cover the whole run. Otherwise the client is
-        // ready.
+        // The client is finished if and only if its counts cover the whole run. Otherwise the
+        // client is ready.
         ensures over { IfOk result (λ c. IsOver checkpoint.run checkpoint.counts c.at) }
         // Returns a client with the run and the counts of the checkpoint, and with the given
         // source.
@@ -202,10 +202,10 @@ impl<B: Blocks> Client<B> {
         push_checkpoint(self.ledger.run(), self.ledger.counted(), out)
     }
 
-    /// Returns the run's entry for dumpdates if the run is finished, else None.
+    /// Returns the run's entry for dumpdates, if the run is finished.
     pub fn finished(&self) -> Option<Entry<'_>>
         // If the run is finished, returns the run's entry for dumpdates. Otherwise the call returns
-        // none.
+        // `None`.
         ensures { TellsEntry self.now.at.stage self.now.at.run result }
     {
         match self.ledger.stage() {
@@ -262,15 +262,15 @@ impl<B: Blocks> Client<B> {
     /// The close comes after the count, so there a failed allocation is no error. It returns false
     /// then, and the attempt is over.
     pub fn next_request(&mut self, out: &mut Vec<u8>) -> Result<bool, AttemptFault>
-        // Appends the text of the attempt's next request, if the client is to send one. The client
-        // then waits for the reply. If the client is not to send a request, the call does nothing.
+        // If the client is in state `ToSend`, appends the text of the attempt's next request. The
+        // client then waits for the reply. In any other state, the call does nothing.
         //
         // If the call returns an error, it appends nothing, and the attempt has failed.
         //
         // The only errors of the call are the source's error and `OutOfMemory`. The call returns
         // `OutOfMemory` only if the buffer's spare room is smaller than the text of the request. If
-        // the request is the close, and an allocation for it fails, the call returns no error, and
-        // the attempt is over.
+        // the request is the close, and an allocation for the close fails, the call returns no
+        // error, and the attempt is over.
         ensures asked { NextRequestAt self.old.at.stage (B.holds self.old.source) self.old.at (vec_capacity out.old) out.old.items
             result out.new.items self.new.at }
         // If the request writes a block, the call reads this block once from the source, by its
@@ -278,7 +278,7 @@ impl<B: Blocks> Client<B> {
         // and the source's blocks stay as they were. If an allocation for the request fails, the
         // call does not read the source.
         //
-        // The call returns the source's error exactly if the read of the block failed.
+        // The call returns the source's error if and only if the read of the block failed.
         ensures read { ReadAt self.old.at.stage self.old.at.run.block_bytes B.reads self.old.source out.old.items
             result self.new.source out.new.items }
         // The blocks of the source stay as they were.
@@ -289,10 +289,10 @@ impl<B: Blocks> Client<B> {
         ensures counted { B.failures self.new.source ≡ failures_after result (B.failures self.old.source) }
         ensures able { is_source_fault result ≡ true → B.can_fail self.old.source }
         ensures quiet { B.can_fail self.new.source → B.can_fail self.old.source }
-        // Appends the text of the attempt's next request, if the client is to send one. The client
-        // then waits for the reply. If the client is not to send a request, the call does nothing.
+        // If the client is in state `ToSend`, appends the text of the attempt's next request. The
+        // client then waits for the reply. In any other state, the call does nothing.
         ensures fed { (bytes : List ℕ) → HasFed self.old bytes → HasFed self.new bytes }
-        // The total room for counts, used and free, stays the same.
+        // The number of places for counts, used and free together, stays the same.
         ensures slots { self.new.room + length self.new.at.counts ≡ self.old.room + length self.old.at.counts }
     {
         let Stage::ToSend(step) = self.ledger.stage() else {
@@ -323,7 +323,7 @@ impl<B: Blocks> Client<B> {
     pub fn feed(&mut self, piece: &[u8]) -> Progress
         // Takes a piece of the server's reply. The effect depends on all bytes that arrived after
         // the last request, this piece included. If the reply is not complete, the client keeps
-        // waiting. After a wanted reply, the client is to send the next request. If no attempt is
+        // waiting. After a wanted reply, the client can send the next request. If no attempt is
         // under way, the piece has no effect.
         //
         // When the wanted reply to MTOFFL is complete, the client counts the volume, with the
@@ -331,30 +331,31 @@ impl<B: Blocks> Client<B> {
         //
         // Before the client writes the label, it rewinds the reel, reads the first record, and
         // rewinds again. If the record is the label of a volume that this run has counted, the
-        // attempt fails, and the failure has the number of this volume. If the record is anything
+        // attempt fails. The fault contains the number of this volume. If the record is anything
         // else, the attempt continues.
         //
         // If the reel becomes full after at least one block was written, the volume ends after the
         // last written block. If the reel becomes full before a block was written, the attempt
         // fails, because the reel is too small.
         //
-        // Before the client has counted the volume, every reply that is not wanted makes the
-        // attempt fail, with the fault for this reply. The attempt also fails if bytes arrive that
-        // are not a reply, or that the client is not waiting for. After the client has counted the
-        // volume, any of these ends the attempt without a failure.
+        // Until the client has counted the volume, every reply that is not wanted makes the attempt
+        // fail, with the fault for this reply. The attempt also fails if bytes arrive that are not
+        // a reply, or if bytes arrive while the client waits for no reply. Once the client has
+        // counted the volume, such replies and bytes end the attempt without a failure.
         //
         // If the attempt fails, the counts stay as they were, and the client then asks the operator
         // what to do.
         //
-        // When an attempt ends without a failure, the run is finished exactly if the counts cover
-        // all its blocks. Otherwise another attempt can start.
+        // When an attempt ends without a failure, the run is finished if and only if the counts
+        // cover all its blocks. Otherwise another attempt can start.
         ensures moved { (bytes : List ℕ) → HasFed self.old bytes → FedAt self.old.at.stage self.old.at bytes piece.now result self.new.at }
         // Takes a piece of the server's reply. The effect depends on all bytes that arrived after
         // the last request, this piece included. If the reply is not complete, the client keeps
-        // waiting. After a wanted reply, the client is to send the next request. If no attempt is
+        // waiting. After a wanted reply, the client can send the next request. If no attempt is
         // under way, the piece has no effect.
         ensures fed { (bytes : List ℕ) → HasFed self.old bytes → HasFed self.new (unanswered self.new.at.stage (bytes ++ piece.now)) }
-        // The total room for counts, used and free, stays the same. The source stays as it was.
+        // The number of places for counts, used and free together, stays the same. The source stays
+        // as it was.
         ensures same_source { self.new.source ≡ self.old.source }
         ensures slots { self.new.room + length self.new.at.counts ≡ self.old.room + length self.old.at.counts }
     {
@@ -362,24 +363,25 @@ impl<B: Blocks> Client<B> {
         progress
     }
 
-    /// Takes a piece of the bytes that the server sends, like `feed`, and also returns the label
-    /// that the attempt is about to overwrite.
+    /// Does what `feed` does, and also returns the label that the attempt is about to overwrite.
     ///
     /// The look is the read of the reel's first record, before anything is written. The label is
     /// returned once, with the piece that completes the reply to the look. It is None if the record
     /// is no label, if the attempt fails at it, and at any other piece. It allocates nothing.
     pub fn feed_finding_label(&mut self, piece: &[u8]) -> (Progress, Option<VolumeLabel>)
-        // Takes a piece of the server's reply, with the effect and the progress of `feed`.
+        // Takes a piece of the server's reply. The effect and the returned `Progress` are those of
+        // `feed`.
         ensures moved { (bytes : List ℕ) → HasFed self.old bytes → FedAt self.old.at.stage self.old.at bytes piece.now result.0 self.new.at }
-        // If the client waits for the reply to the look, and the attempt continues after this
-        // piece, the reply is complete and contains the reel's first record. The call then returns
-        // the label that this record contains, or none if the record is not a label.
+        // Suppose that the client waits for the reply to the look, and that the attempt continues
+        // after this piece. Then the reply is complete, and contains the reel's first record. The
+        // call returns the label that this record contains, or `None` if the record is not a label.
         //
         // In every other case the call returns no label.
         ensures found { (bytes : List ℕ) → HasFed self.old bytes → FindsLabel self.old.at.stage (bytes ++ piece.now) result.0 result.1 }
         // The client keeps the bytes of the awaited reply, as `feed` does.
         ensures fed { (bytes : List ℕ) → HasFed self.old bytes → HasFed self.new (unanswered self.new.at.stage (bytes ++ piece.now)) }
-        // The total room for counts, used and free, stays the same. The source stays as it was.
+        // The number of places for counts, used and free together, stays the same. The source stays
+        // as it was.
         ensures same_source { self.new.source ≡ self.old.source }
         ensures slots { self.new.room + length self.new.at.counts ≡ self.old.room + length self.old.at.counts }
     {
@@ -409,12 +411,12 @@ impl<B: Blocks> Client<B> {
         // client asks the operator what to do. If the client has counted the volume, the attempt is
         // over without a failure.
         //
-        // When an attempt ends without a failure, the run is finished exactly if the counts cover
-        // all its blocks. Otherwise another attempt can start. If no attempt is under way, nothing
-        // changes.
+        // When an attempt ends without a failure, the run is finished if and only if the counts
+        // cover all its blocks. Otherwise another attempt can start. If no attempt is under way,
+        // nothing changes.
         ensures moved { CutAt self.old.at.stage self.old.at result self.new.at }
-        // After the call, the client holds no reply bytes. The total room for counts, used and
-        // free, stays the same. The source stays as it was.
+        // After the call, the client holds no reply bytes. The number of places for counts, used
+        // and free together, stays the same. The source stays as it was.
         ensures fed { HasFed self.new [] }
         ensures same_source { self.new.source ≡ self.old.source }
         ensures slots { self.new.room + length self.new.at.counts ≡ self.old.room + length self.old.at.counts }
@@ -433,8 +435,8 @@ impl<B: Blocks> Client<B> {
         // start, or the run is abandoned. The counts stay as they were. If the client does not ask
         // for an answer, the call changes nothing.
         ensures answered { AnsweredAt self.old.at.stage self.old.at answer result self.new.at }
-        // The reply bytes that the client holds stay as they were. The total room for counts, used
-        // and free, stays the same. The source stays as it was.
+        // The reply bytes that the client holds stay as they were. The number of places for counts,
+        // used and free together, stays the same. The source stays as it was.
         ensures fed { (bytes : List ℕ) → HasFed self.old bytes → HasFed self.new bytes }
         ensures same_source { self.new.source ≡ self.old.source }
         ensures slots { self.new.room + length self.new.at.counts ≡ self.old.room + length self.old.at.counts }

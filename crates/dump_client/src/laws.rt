@@ -52,25 +52,25 @@ pub fn wanted_replies()
     // Each reply that the script does not want makes the attempt fail.
     ensures others { (run : PlainRun) (counts : List VolumeCount) (first : ℕ) (step : Step) (reply : PlainReply) →
         IsWantedAt run counts first step reply ⊎ IsFailure (after_reply run counts first step reply) }
-    // At each step, the client waits for one kind of reply: a number, or data up to a certain
-    // length. A wanted reply is of this kind if its data is no longer than a label. A reply whose
-    // data is longer than a label is never of this kind.
+    // At each step, the client waits for one kind of reply: a number, or data that is no longer
+    // than a label. So no reply of this kind has data longer than a label. Before the close, each
+    // wanted reply is of this kind, except one whose data is longer than a label.
     ensures heard { (run : PlainRun) (counts : List VolumeCount) (first : ℕ) (step : Step) (reply : PlainReply) →
         CanBeHeard run counts first step reply }
     ensures brief { (step : Step) (reply : PlainReply) → AnswersTo reply (wanted_of step) → data_length reply ≤ label_bytes }
 {}
 
-/// The law that an attempt fails with `CountedReel` exactly if the look reads the label of a volume
-/// that this run has counted. After the label of a counted volume an attempt never continues,
-/// whatever else is counted. An error in reply to the look fails the attempt with `Refused`. No
-/// other step fails with `CountedReel`.
+/// The law that an attempt fails with `CountedReel` if and only if the look reads the label of a
+/// volume that this run has counted. After the label of a counted volume an attempt never
+/// continues, whatever else is counted. An error in reply to the look fails the attempt with
+/// `Refused`. No other step fails with `CountedReel`.
 ///
 /// The function does nothing: its contract is a law of the definitions.
 pub fn counted_reels()
     // Suppose that the run is within its limits and its counts are in order, as is always true for
-    // a client. Then an attempt fails with `CountedReel` exactly if the look reads the label of a
-    // volume that this run has counted. The fault has the number of this volume. An attempt fails
-    // with `CountedReel` at no other step than the look.
+    // a client. Then an attempt fails with `CountedReel` if and only if the look reads the label of
+    // a volume that this run has counted. The fault contains the number of this volume. An attempt
+    // fails with `CountedReel` at no other step than the look.
     ensures exactly { (run : PlainRun) (counts : List VolumeCount) (first volume : ℕ) (reply : PlainReply) → IsRun run →
         AreVolumes run 1 0 counts → FailsAsCounted run counts first volume reply ↔ ShowsCounted run counts volume reply }
     // If the look reads the label of a counted volume, the attempt does not continue, whatever
@@ -86,37 +86,38 @@ pub fn counted_reels()
         outcome run counts first step heard ≢ Fails (CountedReel volume) }
 {}
 
-/// The law that some script of a volume wants all replies that led an attempt from the open to a
-/// later step. There is one reply to each step before that step. The script is that of a volume
-/// with some number of blocks, and the step is its next. From the mark on the volume has the blocks
-/// from `first` up to, but not including, the block that the mark carries. These are counted at the
-/// reply to MTOFFL.
+/// The law that some script of the volume wants all replies that let an attempt continue. There is
+/// one reply to each step before the attempt's step. The script is that of a volume with some
+/// number of blocks, and the attempt's step is the script's next. From the mark on the volume has
+/// the blocks from `first` up to, but not including, the block that the mark carries. These are
+/// counted at the reply to MTOFFL.
 ///
 /// The function does nothing: its contract is a law of the definitions.
 pub fn granted_replies()
-    // Suppose that some replies have led the client from the open to a later step. Then some script
-    // of the volume wants these replies. There is one reply to each of the script's requests before
-    // that step, and the script's next request is the request of that step.
+    // Suppose that a list of replies leads an attempt from the open to a later step. Then some
+    // script of the volume wants these replies, in this order. The list has one reply for each
+    // request of the script before the later step. The script's next request is the request of the
+    // later step.
     ensures on_the_way { (run : PlainRun) (had : List VolumeCount) (first : ℕ) (step : Step) (replies : List PlainReply) →
         GrantedOnTheWay run had first step replies }
-    // If the replies lead the client to count the volume, the script writes exactly the counted
-    // blocks.
+    // If the replies lead the client to count the volume, the script that wants them writes exactly
+    // the counted blocks.
     ensures counted { (run : PlainRun) (had : List VolumeCount) (first next : ℕ) (replies : List PlainReply) →
         GrantedAtTheCount run had first next replies }
 {}
 
-/// The law that a client's state determines its position in the script of its volume, and the
-/// request at this position. First: the position is which first part of the volume's request script
-/// was sent, and how many replies came. The reply to MTOFFL is among them only at the close, when
-/// the last count is that volume's. Second: the request of a step is the same whether it is taken
-/// from the checkpoint now or from the one at the attempt's start.
+/// The law that a client's state determines its position in the script of its volume. It also
+/// determines the request at this position. First: the position is which first part of the volume's
+/// request script was sent, and how many replies came. The reply to MTOFFL is among them only at
+/// the close, when the last count is that volume's. Second: the request of a step is the same
+/// whether it is taken from the checkpoint now or from the one at the attempt's start.
 ///
 /// The function does nothing: its contract is a law of the definitions.
 pub fn lawful_positions()
     // During an attempt, the state of a client determines its position in the script of its volume.
-    // The client has sent the script's requests before the current step, and has got one reply to
-    // each of them. If the client has got the reply to MTOFFL, it is at the close, and its last
-    // count is the count of the volume.
+    // The client has sent the script's requests before the current step, and has received one reply
+    // to each of these requests. If the client has received the reply to MTOFFL, the client is at
+    // the close, and its last count is the count of the volume.
     ensures stands { (s : Standing) (payload : List (List ℕ)) → IsLawful s → StandsAt s.run payload s.counts s.stage }
     // The request of the client's current step is the script's request at the client's position.
     ensures asked { (run : PlainRun) (payload : List (List ℕ)) (counts : List VolumeCount) → AsksAtCheckpoint run payload counts }
@@ -133,66 +134,63 @@ pub fn short_requests()
         IsTextOf (request_text request) request → length (request_text request) ≤ READER_LIMIT }
 {}
 
-/// The law that the requests that a client has appended before a step are the script's requests
-/// before this step, in the same order. At the start of an attempt there are none. When a reply
-/// continues the attempt, one more was sent: the request that the reply answers. The same holds if
-/// the reply counts the volume.
+/// The law that a client appends the requests of the script, in the script's order. At the start of
+/// an attempt it has appended none. When a reply continues the attempt, one more was sent: the
+/// request that the reply answers. The same holds if the reply counts the volume.
 ///
 /// The function does nothing: its contract is a law of the definitions.
 pub fn sent_in_order()
-    // The script's requests before a step are exactly the requests whose text the client has
-    // appended before that step. At the start of an attempt, there are no such requests. Each step
-    // that the client completes adds one request.
+    // When an attempt reaches a step, the client has appended, in this attempt, exactly the
+    // script's requests before this step, in order. At the start of an attempt, the client has
+    // appended no request. Each step that the client completes adds one request.
     ensures none { (run : PlainRun) (payload : List (List ℕ)) (counts : List VolumeCount) → sent_before run payload counts Open ≡ [] }
     ensures next { (run : PlainRun) (payload : List (List ℕ)) (counts : List VolumeCount) → SendsNext run payload counts }
     ensures counted { (run : PlainRun) (payload : List (List ℕ)) (counts : List VolumeCount) → SendsLast run payload counts }
 {}
 
-/// The law that an attempt cannot fail from the close on, because anything that the client receives
-/// then ends the attempt without a failure. Before the close, bytes that are no reply fail the
-/// attempt, and so does the end of the connection.
+/// The law that an attempt cannot fail once it has reached the close. Anything that the client
+/// receives then ends the attempt without a failure. Before the close, bytes that are no reply fail
+/// the attempt, and so does the end of the connection.
 ///
 /// The function does nothing: its contract is a law of the definitions.
 pub fn after_the_count()
-    // From the close on, the attempt cannot fail.
+    // At the close, anything that the client receives ends the attempt without a failure.
     ensures close { (run : PlainRun) (counts : List VolumeCount) (first : ℕ) (heard : Received) →
         outcome run counts first Close heard ≡ Ended }
-    // At each step before the close, the attempt fails if bytes arrive that are not a reply. The
-    // attempt also fails if the connection ends.
+    // At each step before the close, the attempt fails if bytes arrive that are not a reply, or if
+    // the connection ends.
     ensures noise { (run : PlainRun) (counts : List VolumeCount) (first : ℕ) (step : Step) → step ≢ Close →
         outcome run counts first step Noise ≡ Fails Botched }
     ensures cut { (run : PlainRun) (counts : List VolumeCount) (first : ℕ) (step : Step) → step ≢ Close →
         outcome run counts first step End ≡ Fails ConnectionEnded }
 {}
 
-/// Bytes may come in any pieces: feeding one piece and then another has the same effect as feeding
-/// both as one. An attempt that fails, by bytes or by the end of the connection, leaves the counts
-/// as they were.
+/// The law that the effect of arriving bytes does not depend on how they are cut into pieces. An
+/// attempt that fails, by bytes or by the end of the connection, leaves the counts as they were.
 ///
 /// The function does nothing: its contract is a law of the definitions.
 pub fn fed_in_pieces()
-    // Feeding a client two pieces, one after the other, has the same effect as feeding both as one
+    // Two pieces, fed to a client one after the other, have the same effect as both fed as one
     // piece.
     ensures pieces { (old middle new : Standing) (bytes p q : List ℕ) (a b : Progress) → Feeds old bytes p a middle →
         FeedsNext middle bytes p q b new → (c : Progress) × Feeds old bytes (p ++ q) c new }
-    // If an attempt fails because of bytes that arrived or because the connection ended, the counts
-    // stay as they were.
+    // If arriving bytes or the end of the connection make an attempt fail, the counts stay as they
+    // were.
     ensures failed { (old new : Standing) (bytes p : List ℕ) (fault : AttemptFault) →
         Feeds old bytes p (Failed fault) new → new.counts ≡ old.counts }
     ensures cut { (old new : Standing) (fault : AttemptFault) → CutAt old.stage old (Failed fault) new → new.counts ≡ old.counts }
 {}
 
-/// The law that a client keeps its run, and loses no count, when bytes arrive or the connection
-/// ends. Bytes add at most one count, and the end adds none. A finished client stays finished, and
-/// a lawful one stays lawful. The progress that is returned agrees with the stage that the client
-/// is then in. Between attempts a client is lawful if its run is within its limits and its counts
-/// are in order.
+/// The law that a client keeps its run and its counts when bytes arrive or the connection ends.
+/// Bytes add at most one count, and the end adds none. A finished client stays finished, and a
+/// lawful one stays lawful. The progress that is returned agrees with the stage that the client is
+/// then in. Between attempts a client is lawful if its run is within its limits and its counts are
+/// in order.
 ///
 /// The function does nothing: its contract is a law of the definitions.
 pub fn same_run()
     // Bytes that arrive do not change the client's run and do not remove a count. The end of a
-    // connection does not change the client's run, and does not add or remove a count. A finished
-    // client stays finished.
+    // connection changes neither the client's run nor its counts. A finished client stays finished.
     ensures fed { (old new : Standing) (bytes piece : List ℕ) (progress : Progress) → Feeds old bytes piece progress new →
         (more : List VolumeCount) × GoesOnWith old new more }
     // When a piece of bytes arrives, the client adds at most one count.
@@ -216,15 +214,14 @@ pub fn same_run()
         IsOver run counts at → IsLawful at }
 {}
 
-/// The checkpoint text of a lawful client describes its run and its counts, and no other run or
-/// counts.
-/// No line of it is bad. A client that is resumed from it has that run and those counts, and
-/// resuming fails only if out of memory.
+/// The checkpoint text of a lawful client describes only its own run and its own counts. No line of
+/// it is bad. A client that is resumed from it has that run and those counts, and resuming fails
+/// only if out of memory.
 ///
 /// The function does nothing: its contract is a law of the definitions.
 pub fn resumes()
-    // The checkpoint text of a lawful client is the checkpoint of its run and its counts. It is not
-    // the checkpoint of any other run or other counts.
+    // The checkpoint text of a lawful client is the checkpoint of its run and its counts. This text
+    // is not the checkpoint of any other run or any other counts.
     ensures spelled { (at : Standing) → IsLawful at → SpellsCheckpoint (checkpoint_text at.run at.counts) at.run at.counts }
     ensures alone { (at : Standing) (run : PlainRun) (counts : List VolumeCount) → IsLawful at →
         SpellsCheckpoint (checkpoint_text at.run at.counts) run counts → (run ≡ at.run) × (counts ≡ at.counts) }

@@ -10,10 +10,13 @@
 //!
 //! # Contracts
 //!
-//! For the steps of an attempt, see docs/DUMP.md. The *look* is the step that reads the first
-//! record of the reel. A *script* is the list of an attempt's requests, each with the replies that
-//! let the attempt continue: the *wanted* replies. The client *counts* a volume when the wanted
-//! reply to MTOFFL arrives.
+//! An *attempt* is the client's work on one volume, over one connection. A *step* of an attempt is
+//! one request with its reply. docs/DUMP.md lists the steps. The *open* is the first step, and the
+//! *close* is the last. The *look* is the step that reads the first record of the reel. A *script*
+//! is the list of an attempt's requests, each with the replies that let the attempt continue: the
+//! *wanted* replies. A volume has one script for each number of blocks that the volume can have.
+//! The client *counts* a volume when the wanted reply to MTOFFL arrives. The *stage* of a client
+//! says whether an attempt is under way, and at which step the attempt is.
 #![tactic(auto)]
 
 mod client;

@@ -31,9 +31,9 @@ pub trait Blocks {
     /// the source and the bytes of `into`.
     ghost reads: { Self → ℕ → List ℕ → Result Unit SourceFailed → Self → List ℕ → Type 0 };
 
-    /// Tells the source that an attempt begins volume `volume`, counted from 1. The volume's first
-    /// block is `first`, counted from 0. A source may show this. The default does nothing. The
-    /// source does not change.
+    /// Tells the source that an attempt to write volume `volume` begins. Volume numbers start at 1.
+    /// The volume's first block is `first`, counted from 0. A source may show this. The default
+    /// does nothing. The source does not change.
     fn begin_volume(&mut self, volume: u32, first: u32)
         // Tells the source which volume begins. The source does not change.
         ensures { self.new ≡ self.old }
@@ -52,9 +52,9 @@ pub trait Blocks {
         // If the source's contract gives the blocks, a read that succeeds returns the block with
         // the given number.
         ensures given { (blocks : List (List ℕ)) → holds self.old blocks → GivesBlock result blocks block into.new }
-        // Each failed read adds 1 to the number that `failures` returns, and no other read changes
-        // this number. A read fails only if the source can fail. If a source cannot fail before a
-        // read, it cannot fail after the read.
+        // Each failed read adds 1 to the number that `failures` returns. A read that succeeds does
+        // not change this number. A read fails only if the source can fail. If a source cannot fail
+        // before a read, the source cannot fail after the read.
         ensures counted { failures self.new ≡ counted_after result (failures self.old) }
         ensures able { IsErr result → can_fail self.old }
         ensures quiet { can_fail self.new → can_fail self.old }

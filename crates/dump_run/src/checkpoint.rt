@@ -51,11 +51,11 @@ impl Checkpoint {
     /// - `OutOfMemory`: an allocation for the counts fails.
     pub fn read(alloc: Global, bytes: &[u8]) -> Result<Checkpoint, ResumeFault>
         // Returns the run and the counts of a checkpoint's text. All values are within their
-        // limits, the counts are in order, and the bytes are exactly the text of this run and these
-        // counts.
+        // limits, and the counts are in order. The given bytes are exactly the text of this run and
+        // these counts.
         ensures spelled { IfOk result (λ c. SpellsCheckpoint bytes.now c.run c.counts) }
         // If a line is bad, the call returns the number of the first bad line. A line is bad if its
-        // form is wrong, if a value exceeds a limit, or if the line is missing. If no line is bad,
+        // form is wrong or a value exceeds a limit. A missing line is bad too. If no line is bad,
         // but the counts are not in order, the call returns the line number of the first count that
         // breaks the order. The only other error is `OutOfMemory`.
         ensures refused { IfErr result (HasResumeFault bytes.now) }
@@ -100,16 +100,16 @@ impl Checkpoint {
 }
 
 impl Run {
-    /// Returns the run that the text of a checkpoint spells, without the counts.
+    /// Returns the run of a checkpoint's text, without the counts.
     ///
     /// It reads the counts too and frees them. Its errors are those of `Checkpoint::read`, under
     /// the same conditions.
     pub fn spelled(alloc: Global, bytes: &[u8]) -> Result<Run, ResumeFault>
-        // Returns the run that a checkpoint's text describes. The call also checks that the counts
-        // in the text are in order.
+        // Returns the run of a checkpoint's text. The call also checks that the counts in the text
+        // are in order.
         ensures spelled { IfOk result (λ run. (counts : List VolumeCount) × SpellsCheckpoint bytes.now run counts) }
-        // If a line is bad or the counts are out of order, the call returns the same line number as
-        // `Checkpoint::read`. If an allocation fails, it returns `OutOfMemory`.
+        // If a line is bad or the counts are not in order, the call returns the same line number as
+        // `Checkpoint::read`. The only other error is `OutOfMemory`.
         ensures refused { IfErr result (HasResumeFault bytes.now) }
     {
         let checkpoint = Checkpoint::read(alloc, bytes)?;

@@ -19,7 +19,7 @@ pub fn one_checkpoint()
         SpellsCheckpoint bytes s others → r ≡ s }
     ensures counts { (bytes : List ℕ) (r s : PlainRun) (counts others : List VolumeCount) → SpellsCheckpoint bytes r counts →
         SpellsCheckpoint bytes s others → counts ≡ others }
-    // If a text is the checkpoint of a run and its counts, no line of it is bad.
+    // If a text is the checkpoint of a run and its counts, no line of this text is bad.
     ensures fault { (bytes : List ℕ) (r : PlainRun) (counts : List VolumeCount) (fault : ResumeFault) →
         SpellsCheckpoint bytes r counts → HasResumeFault bytes fault → fault ≡ OutOfMemory }
 {}
@@ -31,7 +31,8 @@ pub fn one_checkpoint()
 pub fn one_label()
     // A record is the label of at most one volume.
     ensures one { (l m : PlainLabel) → IsLabel l → IsLabel m → label_record l ≡ label_record m → l ≡ m }
-    // The label of a volume is a valid label. It contains the values of the volume and of its run.
+    // The label of a volume is a valid label. The label contains the values of the volume and of
+    // its run.
     ensures lawful { (run : PlainRun) (volume first : ℕ) → IsRun run → IsInRange 1 blocks_limit volume → first ≤ blocks_limit →
         IsLabel (label_of run volume first) }
     ensures same { (run : PlainRun) (volume first : ℕ) → label run volume first ≡ label_record (label_of run volume first) }

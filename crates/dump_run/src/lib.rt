@@ -8,10 +8,11 @@
 //!
 //! # Contracts
 //!
-//! A *run* is one dump of a file system. A *source* has the blocks that a run dumps. Its type
-//! implements `Blocks`. A *count* consists of the number of a counted volume, the first block of
-//! this volume, and how many blocks the volume has. A *checkpoint* is a run with its counts, and
-//! can be written as a text.
+//! A *run* is one dump of a file system. A *source* has the blocks that a run dumps. The type of a
+//! source implements `Blocks`. A *count* records one counted volume: the volume's number, its first
+//! block and its number of blocks. Counts that are *in order* have the volume numbers 1, 2, 3 and
+//! so on, and each volume begins where the volume before ended. A *checkpoint* is a run with its
+//! counts. A checkpoint can be written as a text.
 #![tactic(auto)]
 
 mod blocks;

@@ -73,8 +73,8 @@ impl ListBlocks {
 }
 
 impl Clone for ListBlocks {
-    // Returns a copy with the same blocks, the same injected fault, if any, and the same number of
-    // failures. The call fails only if an allocation fails.
+    // Returns a copy with the same blocks and the same number of failures. If a fault is injected,
+    // the copy has this fault too. The call fails only if an allocation fails.
 
     /// Returns a copy with the same payload, the same injected fault and the same number of
     /// failures.
@@ -94,8 +94,8 @@ impl Clone for ListBlocks {
 }
 
 impl Blocks for ListBlocks {
-    // read: A read fails exactly if a fault is injected. A failed read changes only the number of
-    // failures.
+    // read: A read fails if and only if a fault is injected. A failed read changes only the number
+    // of failures.
     //
     // same_blocks, failures: The blocks stay as they are. `failures` returns how many reads have
     // failed.

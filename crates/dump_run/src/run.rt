@@ -110,8 +110,8 @@ impl Run {
         block_bytes: u64,
         blocks: u64,
     ) -> Result<Run, RunFault>
-        // Returns a run with the given values if all values are within their limits. Otherwise the
-        // call returns the fault of the first broken limit, in the order of `RunFault`.
+        // If all given values are within their limits, returns a run with these values. Otherwise
+        // the call returns the fault for the first broken limit, in the order of `RunFault`.
         ensures run { IsRunOf (plain_run device.now fs.now level date since block_bytes blocks) result }
         ensures limits { IfOk result IsRun }
     {
@@ -191,8 +191,8 @@ impl Run {
         self.id.date()
     }
 
-    /// Returns the date of the dump that this dump builds on, in seconds since 1970 began, UTC, or
-    /// 0 if there is none.
+    /// Returns the date of the earlier dump that this dump builds on: seconds since 1970 began,
+    /// UTC, or 0 if there is no earlier dump.
     pub fn since(&self) -> u64
         // Returns the date of the earlier dump that the run builds on, 253402300799 at most.
         ensures told { result ≡ self.now.since }

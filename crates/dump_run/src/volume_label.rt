@@ -43,8 +43,8 @@ impl VolumeLabel {
     /// and dates are within the limits of a run. The volume is 1 to `BLOCKS_LIMIT`, and its first
     /// block 0 to `BLOCKS_LIMIT`.
     pub fn read(bytes: &[u8]) -> Option<VolumeLabel>
-        // Returns the label that a record contains, or none if the record is not a label. The
-        // label's values are within the limits of a run, and its volume is 1 or more.
+        // Returns the label that a record contains, or `None` if the record is not a label. The
+        // label's values are within the limits of a run, and the number of its volume is 1 or more.
         ensures { ReadsLabel bytes.now result }
     {
         if bytes.len() != LABEL_BYTES {
@@ -106,10 +106,11 @@ impl VolumeLabel {
         self.id.date()
     }
 
-    /// Returns the date of the dump that this dump builds on, in seconds since 1970 began, UTC, or
-    /// 0 if there is none.
+    /// Returns the date of the earlier dump that this dump builds on: seconds since 1970 began,
+    /// UTC, or 0 if there is no earlier dump.
     pub fn since(&self) -> u64
-        // Returns the date of the earlier dump that the dump builds on, 253402300799 at most.
+        // Returns the label's date of the earlier dump that the dump builds on, 253402300799 at
+        // most.
         ensures told { result ≡ self.now.since }
         ensures limit { self.now.since ≤ last_second }
     {

@@ -20,8 +20,9 @@ pub const DATE_TEXT_BYTES: usize = 24;
 /// nothing.
 pub fn date_text(date: u64) -> Option<ArrayString<DATE_TEXT_BYTES>>
     // Returns the text of a date, as ctime(3) prints it, without the line feed. Each date up to
-    // `LAST_SECOND` has a text, and no later date has one. The dates in the lines of the file are
-    // written in the same way. Tests: `dates_as_texts` in `dump_tests`.
+    // `LAST_SECOND` (253402300799) has a text. For a later date the call returns `None`. The dates
+    // in the lines of the file are written in the same way. Tests: `dates_as_texts` in
+    // `dump_tests`.
     ensures given { IsSome result ↔ (date ≤ last_second) }
     ensures text { IfSome result (λ text. text.bytes ≡ spec.ctime_text date) }
 {

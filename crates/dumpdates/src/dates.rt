@@ -47,8 +47,7 @@ impl Dates {
         }
     }
 
-    /// Reads the entries of a file (dump(8)): one for each line that is not blank, in the order of
-    /// the lines.
+    /// Reads the entries of a file (dump(8)). Each line that is not blank has one entry.
     ///
     /// Each line ends with a line feed, but the last one need not. A line with only spaces and
     /// tabs, or nothing, is blank. Any other line has seven words with spaces or tabs between them,
@@ -63,13 +62,13 @@ impl Dates {
         // Returns one entry for each line that is not blank, in the order of the lines. The call
         // keeps duplicates.
         ensures spelled { IfOk result (λ dates. SpellsDates bytes.now dates) }
-        // If the bytes are the text of a list of entries, the call returns exactly these entries,
-        // or `OutOfMemory`.
+        // If the bytes spell a list of entries, the call returns exactly these entries, or
+        // `OutOfMemory`.
         ensures only { (entries : List DatesEntry) → SpellsDates bytes.now entries →
             MatchResult result (λ dates. dates ≡ entries) (λ fault. fault ≡ OutOfMemory) }
         // If a line is bad, the call returns the number and the kind of the first bad line. There
-        // are two kinds of bad lines. A line of the first kind does not have the form of an entry.
-        // A line of the second kind has this form, but its date is invalid.
+        // are two kinds of bad lines. A `BadLine` does not have the form of an entry. A `BadDate`
+        // has this form, but its date is invalid.
         //
         // If an allocation fails, the call returns `OutOfMemory`. The call allocates only when it
         // reaches a line with an entry.
@@ -95,10 +94,11 @@ impl Dates {
     ///
     /// Fails with `OutOfMemory` if an allocation fails. Without entries it allocates nothing.
     pub fn text(&self) -> Result<Vec<u8>, DatesFault>
-        // Returns the text of the file with these entries. Reading this text gives the list back.
+        // Returns the text of a file with the entries of the list. Reading this text returns the
+        // same list.
         ensures written { IfOk result (λ text. text.items ≡ written self.now) }
         ensures spelled { IfOk result (λ text. SpellsDates text.items self.now) }
-        // The call fails only if an allocation fails, and never for an empty list.
+        // The call fails only if an allocation fails. For an empty list the call never fails.
         ensures fault { IfErr result (λ fault. fault ≡ OutOfMemory) }
         ensures empty { self.now ≡ [] → IsOk result }
     {
@@ -112,29 +112,30 @@ impl Dates {
     pub fn len(&self) -> usize
         // Returns the number of entries.
         ensures value { result ≡ length self.now }
-        // The entries of a list are within their limits.
+        // Each name, level and date in the list is within its limits (see `Entry::new`).
         ensures within { AreEntries self.now }
     {
         self.entries.len()
     }
 
-    /// Returns the entry at an index, counted from 0, or None if the index is past the last entry.
+    /// Returns the entry at an index, counted from 0. Returns None if the index is past the last
+    /// entry.
     pub fn get(&self, at: usize) -> Option<Entry<'_>>
-        // Returns the entry at an index, counted from 0, or none if the index is past the last
-        // entry.
+        // Returns the entry at an index, counted from 0. If the index is past the last entry, the
+        // call returns `None`.
         ensures { option_map plain_entry result ≡ slice_get self.now at }
     {
         Some(self.entries.get(at)?.entry())
     }
 
-    /// Returns the base date of a dump of this name and level, in seconds since 1970 began, UTC
-    /// (dump(8)). It is the date of the latest dump of the name at any lower level. It is 0 if no
-    /// lower level was dumped, and at most `LAST_SECOND`.
+    /// Returns the base date of a dump (dump(8)), in seconds since 1970 began, UTC. It is the date
+    /// of the latest dump of the name at any level below the given one. It is 0 if no lower level
+    /// was dumped, and at most `LAST_SECOND`.
     pub fn base(&self, name: &str, level: u8) -> u64
         // Returns the date of the latest dump of the given name at a level below the given level.
         // If there is no such dump, the call returns 0.
         ensures value { result ≡ spec.base_of self.now name.now level }
-        // The returned date is at most 253402300799.
+        // The returned date is at most `LAST_SECOND` (253402300799).
         ensures bound { result ≤ last_second }
     {
         let mut greatest = 0;
@@ -155,8 +156,8 @@ impl Dates {
     /// Then the list is unchanged.
     pub fn enter(&mut self, entry: Entry<'_>) -> Result<(), DatesFault>
         // Suppose that the list has entries with the dump's name and level. Then the new entry
-        // replaces the first of them, and the call removes the others. If the list has none, the
-        // call appends the new entry. All entries of other names or levels stay.
+        // replaces the first of them, and the call removes the others. If the list has no such
+        // entry, the call appends the new entry. All entries with other names or levels stay.
         ensures entered { OnOk result (self.new ≡ spec.entered self.old (plain_entry entry.entry)) }
         // The call fails only if an allocation fails. If the list has an entry with the dump's name
         // and level, the call never fails.

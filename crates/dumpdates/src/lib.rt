@@ -3,6 +3,11 @@
 //! `Dates` is the list of its entries. It reads and writes the file exactly, and returns the base
 //! date of a dump. Entering a dump changes no entry of another name or level. `date_text` returns a
 //! date as the file has it.
+//!
+//! # Contracts
+//!
+//! Suppose that each line of a text is blank or has an entry. Then the text *spells* the list of
+//! these entries, in the order of the lines.
 #![tactic(auto)]
 
 mod ctime;

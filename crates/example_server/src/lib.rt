@@ -1,4 +1,4 @@
-//! An example to copy: a tape server that keeps nothing of what is written to its tape. The server
+//! An example to copy: a tape server that does not store the bytes written to its tape. The server
 //! reads requests from any stream and replies to each.
 //!
 //! `answer` returns the reply of such a tape to a request. `serve` is the loop around it. It needs

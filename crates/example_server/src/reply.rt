@@ -14,10 +14,9 @@ use rmt_wire::{Reply, Request};
 /// an operation is its count. The reply to a write whose bytes were dropped is the error `EINVAL`.
 pub fn answer(request: &Request<'_>) -> Reply<'static>
     requires { (text : List ℕ) × SpellsRequest text (plain_request request.now) }
-    // Returns the reply to a request. The reply to a write is the number of the bytes that it
-    // writes or, if these bytes were dropped, E22. The reply to a read has no bytes. The reply to
-    // an operation is its count, and the reply to an open or a close is 0. Each reply can be
-    // written as bytes.
+    // Returns the reply to a request. The reply to a write is the number of its bytes or, if the
+    // bytes were dropped, E22. The reply to a read has no bytes. The reply to an operation is its
+    // count, and the reply to an open or a close is 0. Each reply can be written as bytes.
     ensures value { plain_reply result ≡ answer_to (plain_request request.now) }
     ensures spelling { ReplyHasSpelling (plain_reply result) }
 {

@@ -14,8 +14,8 @@ pub enum ExitStatus {
 }
 
 impl ExitStatus {
-    /// Returns the number that the program exits with: 0 for `Success`, 1 for `StartupError` and 3
-    /// for `Abnormal`, as in dump(8).
+    /// Returns the number that the program exits with. The numbers are those of dump(8): 0 for
+    /// `Success`, 1 for `StartupError` and 3 for `Abnormal`.
     pub fn code(self) -> u8
         // `code` returns 0 for `Success`, 1 for `StartupError` and 3 for `Abnormal`, as dump(8)
         // does.

@@ -86,8 +86,8 @@ impl FileMedium {
     /// and the reason is `PermissionDenied`.
     pub fn read_only(file: File) -> FileMedium
         // The new medium has counted no failure and no cut to length 0. `is_written` of the new
-        // medium returns false. A test shows that a write to the medium fails without a call of the
-        // system. Tests: `tests/moves.py`.
+        // medium returns false. A test shows that a write to the medium fails without a system
+        // call. Tests: `tests/moves.py`.
         ensures count { result.failures ≡ 0 }
         ensures begun { result.truncations ≡ 0 }
         ensures unwritten { result.written ≡ false }
@@ -97,8 +97,8 @@ impl FileMedium {
         medium
     }
 
-    /// Returns the file, so that the caller can do what no call of a medium does: lock the file or
-    /// read its metadata.
+    /// Returns the file, so that the caller can lock the file or read its metadata. No call of a
+    /// medium does this.
     pub fn file(&self) -> &File {
         &self.file
     }
@@ -112,9 +112,9 @@ impl FileMedium {
         self.truncations
     }
 
-    /// Returns whether an append or a cut was called, even if that call failed.
+    /// Returns whether an append or a cut was called. A call that failed counts too.
     pub fn is_written(&self) -> bool
-        // `is_written` returns whether an append or a cut was called.
+        // `is_written` returns whether an append or a cut was called, including calls that failed.
         ensures { result ≡ self.now.written }
     {
         self.is_written
@@ -129,10 +129,10 @@ impl FileMedium {
         self.file.sync_all()
     }
 
-    /// Returns the reason of the last call that failed. Returns `None` if no call has failed.
+    /// Returns the error of the last call that failed. Returns `None` if no call has failed.
     pub fn last_error(&self) -> Option<io::Error>
-        // `last_error` returns a reason if and only if a call has failed. A test shows that this is
-        // the reason of the last call that failed. Tests: `tests/log.py`.
+        // `last_error` returns an error if and only if a call has failed. A test shows that this is
+        // the error of the last call that failed. Tests: `tests/log.py`.
         ensures { result ≡ None ↔ self.now.failures ≡ 0 }
     {
         match &self.failed {
@@ -243,9 +243,9 @@ impl FileMedium {
 impl Medium for FileMedium {
     // The bytes of a file are not known.
     //
-    // call, same: Each call keeps the promises that the trait `Medium` makes for it.
+    // call, same: Each call keeps the promises that the trait `Medium` makes for this call.
     //
-    // failed, failures: Each call that failed is counted, and no other call is counted.
+    // failed, failures: Each failed call is counted as a failure. No other call is counted.
     //
     // begun, same: Each successful cut to length 0 is counted as a truncation, up to the greatest
     // `u64`. No other call counts as a truncation.

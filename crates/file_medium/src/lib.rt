@@ -2,6 +2,11 @@
 //!
 //! The contracts promise nothing about the file's content. Failed calls are counted.
 //! `reserve_std_fds` makes sure that no file gets the descriptor of a standard stream.
+//!
+//! # Contracts
+//!
+//! A medium holds bytes (see the crate `tape`). A *cut* is a call of `cut`, which shortens the
+//! medium to a given length.
 #![tactic(auto)]
 
 mod file_medium;

@@ -15,19 +15,19 @@ pub struct TableHand<'a> {
 
 impl<'a> Holds for TableHand<'a> {
     // A `TableHand` is a shared reference to a table, and implements the trait `Holds` of the crate
-    // `drives`. The holder of a drive is not known from the hand, because other threads may make
-    // steps at any time. After each call the seat still belongs to the table, and the hand still
-    // refers to the table.
+    // `drives`. The contracts of a `TableHand` do not say who holds a drive, because other threads
+    // may make steps at any time. After each call the seat still belongs to the table, and the
+    // `TableHand` still refers to the table.
     //
-    // take, step, answer, known, own, same, rule: The hand's `take` calls the table's `take`. The
-    // hold rule is true before and after the step, and the number found is at most 32.
+    // take, step, answer, known, own, same, rule: `take` calls the table's `take`. The hold rule is
+    // true before and after the step. The number found in the drive's word is at most 32.
     //
-    // give, step, own, same, rule: The hand's `give` calls the table's `give`. The hold rule is
-    // true before and after the step.
+    // give, step, own, same, rule: `give` calls the table's `give`. The hold rule is true before
+    // and after the step.
     //
-    // holder, step, known, mine, own, rule: The hand's `holder` calls the table's `holder`. The
-    // hold rule is true before and after the step. The number returned is the seat's own if and
-    // only if the seat holds the drive.
+    // holder, step, known, mine, own, rule: `holder` calls the table's `holder`. The hold rule is
+    // true before and after the step. `holder` returns the seat's own number if and only if the
+    // seat holds the drive.
 
     ghost use Rattle.std.specs.Prelude.{◌≡◌, ◌<◌, ◌≤◌, ◌↔◌, ◌==◌, cond, IsTrue};
     ghost use Rattle.drives.specs.Holding.{has, taken, given, looked, found_by, TakeAnswers};

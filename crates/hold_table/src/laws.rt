@@ -9,7 +9,7 @@ ghost use Rattle.hold_table.specs.declared.table.TheConstants.{SEAT_LIMIT};
 ghost use Rattle.hold_table.specs.Moves.{StepMoves};
 ghost use Rattle.hold_table.specs.Rule.{IsHeldAt, IsHolder, HoldRule};
 
-/// If the hold rule is true, no two seats hold the same drive.
+/// The law that no two seats hold the same drive.
 ///
 /// The function does nothing: its contract is a law of the definitions.
 pub fn one_holder()
@@ -19,25 +19,25 @@ pub fn one_holder()
         IsHeldAt seats j d → IsHeldAt seats k d → j ≡ k }
 {}
 
-/// The law of how each kind of atomic step (a take, a give or a look) changes the holder of a
-/// drive. A take moves its drive from nobody to the seat, a give moves it from the seat to nobody,
-/// and a look leaves it. A take leaves a drive that is held, and each step leaves all other drives.
-/// If the hold rule is true, a drive's word is the number of its holder, which is at most
-/// `SEAT_LIMIT`, or 0 if nobody holds it.
+/// The law of how a step changes the holder of a drive. A step is a take, a give or a look. A take
+/// moves its drive from nobody to the seat, a give moves it from the seat to nobody, and a look
+/// leaves it. A take leaves a drive that is held, and each step leaves all other drives. If the
+/// hold rule is true, a drive's word is the number of its holder, which is at most `SEAT_LIMIT`, or
+/// 0 if nobody holds it.
 ///
 /// The function does nothing: its contract is a law of the definitions.
 pub fn holders_move()
-    // If the hold rule is true, the word of a held drive is its holder's number, at most 32, and
-    // the word of a free drive is 0.
+    // Suppose that the hold rule is true. Then the word of a held drive is the number of the
+    // drive's holder, which is at most 32. The word of a free drive is 0.
     ensures known { (words : List ℕ) (seats : List Seated) (d n : ℕ) → HoldRule words seats → d < length words → IsHolder seats d n →
         (n ≤ SEAT_LIMIT) × (slice_index words d ≡ n) }
     // A take of a free drive makes the seat the drive's holder. A take of a held drive does not
-    // change its holder.
+    // change the drive's holder.
     ensures takes { (d made found : ℕ) (old new : View) →
         StepMoves Take d old made found (cond (found == 0) old.number found) new }
     // Before a give the seat holds the drive. After the give nobody holds the drive.
     ensures gives { (d made : ℕ) (old new : View) → StepMoves Give d old made old.number 0 new }
-    // A look (a call of `holder`) changes no holder. A step of any kind at one drive does not
-    // change the holder of another drive.
+    // A look (a call of `holder`) changes no holder. A step at one drive does not change the holder
+    // of another drive.
     ensures looks { (d made found : ℕ) (old new : View) → StepMoves Look d old made found found new }
 {}

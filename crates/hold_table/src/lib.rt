@@ -6,24 +6,25 @@
 //!
 //! # Contracts
 //!
-//! A table has 32 seats, and one word (an atomic integer) for each drive. Between any two steps the
-//! *hold rule* is true:
+//! A table has 32 seats, and one word (an atomic integer) for each drive. Drives are counted from
+//! 0. The crate `drives` explains what a seat is. Each call of `take`, `give` or `holder` is one
+//! atomic *step* of a seat. Between any two steps the *hold rule* is true:
 //!
 //! - The numbers of the seats are distinct and from 1 to 32.
 //! - A drive's word is 0 while no seat holds the drive.
 //! - A drive's word is n while the seat with number n, and no other seat, holds the drive.
 //!
-//! Each call of `take`, `give` or `holder` is one atomic step. It gets a shared reference to the
-//! table, a seat, and a drive. No call of the table waits. A call can take a lock only if it gets
-//! the Rattle kit's handle for waiting. No call gets this handle, so code that locks the table does
-//! not compile. docs/THREADS.md says what a table without locks means for a server.
+//! Each call of `take`, `give` or `holder` gets a shared reference to the table, a seat, and a
+//! drive. No call of the table waits. A call can take a lock only if it gets the Rattle kit's
+//! handle for waiting. No call gets this handle, so code that locks the table does not compile.
+//! docs/THREADS.md says what a table without locks means for a server.
 //!
-//! Each of `take`, `give` and `holder` gets only one seat, so its clause `rule` cannot name the
-//! table's words or the other seats. The clause only says that there are some words and some other
-//! seats with which the hold rule is true before and after the step. A wrong body could meet this
-//! clause with words and seats that it made up. But `apart` and `close` get several seats of one
-//! table at once, so their clauses are about the table itself. If a body of `take`, `give` or
-//! `holder` made up words, the clauses of `apart` and `close` would be false.
+//! Each of `take`, `give` and `holder` gets only one seat. So the clause `rule` of these calls
+//! cannot name the table's words or the other seats. The clause only says: with some words and some
+//! other seats, the hold rule is true before and after the step. A wrong body could invent words
+//! and seats, and so meet this clause. But `apart` and `close` get several seats of one table at
+//! once, so their clauses are about the table itself. If a body of `take`, `give` or `holder`
+//! invented words, the clauses of `apart` and `close` would be false.
 #![tactic(auto)]
 
 mod hand;

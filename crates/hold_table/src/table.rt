@@ -42,7 +42,7 @@ impl Model for HoldTable {
 }
 
 impl HoldTable {
-    /// Makes a table of the given number of drives (1 to `DRIVE_LIMIT`), none of which is held.
+    /// Makes a table of the given number of drives, from 1 to `DRIVE_LIMIT`. No seat holds a drive.
     /// Returns the table with its `SEAT_LIMIT` seats in the order of their numbers, from 1. Fails
     /// only if an allocation fails.
     pub fn new(alloc: Global, drives: usize) -> Result<(HoldTable, Vec<HoldSeat>), AllocError>
@@ -101,16 +101,16 @@ impl HoldTable {
         Ok(seats)
     }
 
-    /// Takes drive `drive`, counted from 0, for the given seat, if no seat holds the drive. This is
-    /// one atomic step: if the drive's word is 0, it becomes the seat's number. The seat must be
-    /// one of this table. Returns `Held`, or `Busy` with the number of the seat that holds the
-    /// drive, which may be this one. It does not wait.
+    /// Takes drive `drive` for the given seat, if no seat holds the drive. Drives are counted from
+    /// 0. This is one atomic step: if the drive's word is 0, it becomes the seat's number. The seat
+    /// must be one of this table. Returns `Held`, or `Busy` with the number of the seat that holds
+    /// the drive, which may be this one. It does not wait.
     pub fn take(&self, seat: &mut HoldSeat, drive: usize) -> Taken
         requires seat { IsSeatAt self.now seat.old }
         requires drive { drive < self.now.words }
         // A take is one step. If the drive's word is 0, the word becomes the seat's number.
-        // Otherwise `take` returns the number found, which is at most 32. The hold rule is true
-        // before and after the step.
+        // Otherwise `take` returns the number in the word, which is at most 32. The hold rule is
+        // true before and after the step.
         ensures step { seat.new ≡ next seat.old (taken seat.old.view drive (found_by result)) }
         ensures answer { TakeAnswers result seat.old.view seat.new.view drive }
         ensures known { found_by result ≤ SEAT_LIMIT }
@@ -125,8 +125,9 @@ impl HoldTable {
         }
     }
 
-    /// Gives back drive `drive`, counted from 0, which the seat must hold. This is one atomic step,
-    /// which sets the drive's word to 0. The seat must be one of this table. It does not wait.
+    /// Gives back drive `drive`, which the seat must hold. Drives are counted from 0. This is one
+    /// atomic step, which sets the drive's word to 0. The seat must be one of this table. It does
+    /// not wait.
     pub fn give(&self, seat: &mut HoldSeat, drive: usize)
         requires seat { IsSeatAt self.now seat.old }
         requires drive { drive < self.now.words }
@@ -139,9 +140,9 @@ impl HoldTable {
         self.clear(seat, drive);
     }
 
-    /// Returns the number of the seat that holds drive `drive`, or 0 if none does. Drives are
-    /// counted from 0. This is one atomic step, which reads the drive's word. The seat must be one
-    /// of this table. It does not wait.
+    /// Returns the number of the seat that holds drive `drive`, or 0 if no seat holds the drive.
+    /// Drives are counted from 0. This is one atomic step, which reads the drive's word. The seat
+    /// must be one of this table. It does not wait.
     pub fn holder(&self, seat: &mut HoldSeat, drive: usize) -> u64
         requires seat { IsSeatAt self.now seat.old }
         requires drive { drive < self.now.words }

@@ -3,8 +3,8 @@ ghost use Rattle.std.specs.Prelude.{◌≡◌, false};
 ghost use Rattle.std.specs.Char.{is_control};
 ghost use Rattle.printable.specs.Printing.{plain_char, plain_line_char};
 
-/// Returns a character that is safe to print: `?` for a control character (U+0000 to U+001F, U+007F
-/// to U+009F), else the character itself.
+/// Returns a character that is safe to print. For a control character (U+0000 to U+001F, U+007F to
+/// U+009F) this is `?`, for every other character the character itself.
 pub fn plain_char(letter: char) -> char
     // The result is never a control character (U+0000 to U+001F, U+007F to U+009F). For a control
     // character `plain_char` returns `?`.

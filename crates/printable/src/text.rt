@@ -14,7 +14,7 @@ pub struct PlainBytes<'a>(pub &'a [u8]);
 
 /// Wraps the bytes of a text from outside the program, so that the text can be printed safely.
 pub fn plain(text: &str) -> PlainBytes<'_>
-    // The result of `plain` holds the bytes of the given text.
+    // `plain` returns a value that holds the bytes of the given text.
     ensures { result.0.now ≡ text.now }
 {
     PlainBytes(text.as_bytes())

@@ -53,19 +53,20 @@ pub enum RdumpLine<'a> {
 /// Fails if the arguments are bad, if they ask for help or the version, or if an allocation fails.
 /// The error's kind says which, and its text is for the user.
 pub fn rdump_args<'a, S: AsStr>(alloc: Global, arguments: &'a [S]) -> Result<RdumpLine<'a>, Error>
-    // The arguments of `dump`, `read` and `mt` contain an address. The arguments of `ls` contain an
-    // address if it lists a drive. `is_address` of the crate `address` returns true for this
-    // address.
+    // The arguments of `dump`, `read` and `mt` contain an address. If `ls` lists a drive, its
+    // arguments contain an address too. `is_address` of the crate `address` returns true for each
+    // of these addresses.
     //
-    // For `mt`, the operation is one of the eight operations of mtio, and its count is a number
-    // that the protocol allows. For `mt` and `read`, and for `ls` if it lists a drive, the device
-    // is one that a run can have.
+    // For `mt`, the operation is one of the eight operations of mtio, and the protocol allows its
+    // count. For `mt`, for `read`, and for an `ls` that lists a drive, the device is a valid device
+    // of a run.
     //
     // For `read`, the length is at most 9223372036854775807. `--all` implies `--place`: each block
     // is written at the offset that it has in the dump.
     //
     // For `ls`, the arguments name either at least one path and no drive, or a drive and no path.
-    // If a number of blocks is given, it is at most 2147483647, and a dumpdates file is given too.
+    // If the arguments contain a number of blocks, the number is at most 2147483647, and the
+    // arguments name a dumpdates file.
     //
     // For `dump`, the level, the block size and the date are at most 9223372036854775807.
     //
@@ -112,8 +113,8 @@ fn name_in<'a>(matches: &ArgMatches<'a>) -> &'a str {
     }
 }
 
-/// Returns the error for a value of `rdump dump` that parsing accepts but that exceeds a limit. It
-/// shows this text and the usage of the command.
+/// Returns the error for a parsed value of `rdump dump` that exceeds a limit. The error shows this
+/// text and the usage of the command.
 ///
 /// The error's kind is `ValueValidation`. Fails if an allocation fails.
 pub fn dump_error(alloc: Global, text: &str) -> Result<Error, AllocError>

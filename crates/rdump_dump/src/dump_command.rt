@@ -113,7 +113,7 @@ fn since_of<R: ClientSystem>(
     }
 }
 
-/// Returns the base date of the dump, taken from the bytes `file` of the dumpdates file. If that
+/// Returns the base date of the dump, taken from the bytes of the dumpdates file, `file`. If that
 /// file is at fault or could not be replaced, prints why and returns the exit status.
 fn since_in<R: ClientSystem>(
     rt: &R,

@@ -26,8 +26,8 @@ impl BlockSizes {
 
     /// Counts a block of `bytes` bytes.
     pub fn add(&mut self, bytes: usize)
-        // Counts one more block with the given number of bytes, and updates the bytes of the
-        // shortest block, of the longest block, and of all blocks.
+        // Counts one more block with the given number of bytes. The call updates the sizes of the
+        // shortest and the longest block, and the number of bytes of all blocks.
         ensures { self.new ≡ sizes_after self.old bytes }
     {
         self.shortest = if self.count == 0 {

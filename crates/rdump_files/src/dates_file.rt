@@ -17,7 +17,7 @@ use std::io::Write;
 /// Room for a line with a number, in bytes.
 const LINE_ROOM: usize = 64;
 
-/// Prints on `out` what `rdump dates` prints for a dumpdates file (dump(8)) with the bytes `file`.
+/// Prints on `out` the output of `rdump dates` for a dumpdates file (dump(8)) with these bytes.
 ///
 /// Without `asked`, it prints the text of the file again, each entry as `Dates::text` writes it.
 /// For a name and a level in `asked`, it prints the base date of that dump, as a decimal number and
@@ -38,15 +38,15 @@ pub fn dates<W: Write>(
     out: &mut Counted<W>,
 ) -> ExitStatus
     // Suppose that the file is the text of a list of entries. Then the call prints this text or, if
-    // the arguments ask for a base date, that date. The status is `Success`.
+    // the arguments ask for a base date, the base date. The status is `Success`.
     //
     // For any other file, the call prints the number of the first bad line, and whether the line or
-    // its date is bad. If an allocation fails, the call prints this failure instead. This can
-    // happen only after the call has found an entry in the file. After a bad line and after a
-    // failed allocation, the status is `StartupError`.
+    // its date is bad. If an allocation fails, the call prints this failure instead. An allocation
+    // can fail only after the call has found an entry in the file. After a bad line or a failed
+    // allocation, the status is `StartupError`.
     //
-    // If a write failed, only a beginning of the text was printed. The failure was counted, unless
-    // the count is at its greatest value. The status is `StartupError`.
+    // If a write fails, only a beginning of the text is printed. The failure is counted, unless the
+    // count has its greatest value already. The status is `StartupError`.
     ensures { IsDates W.contents file.now (plain_asked asked.entry) out.old out.new result }
 {
     let dates = match Dates::read(alloc, file) {
@@ -72,8 +72,8 @@ pub fn base_date<W: Write>(
     out: &mut Counted<W>,
 ) -> Result<u64, DatesFault>
     // Returns the base date from the entries of the file, and prints nothing. If the file is bad or
-    // an allocation fails, the call prints this fault and returns it. If a write failed, only a
-    // beginning of the fault's text was printed.
+    // an allocation fails, the call prints this fault and returns it. If a write fails, only a
+    // beginning of the fault's text is printed.
     ensures { IsBaseDate W.contents file.now (asked_dump name.now level) out.old out.new result }
 {
     match Dates::read(alloc, file) {

@@ -36,13 +36,14 @@ pub fn dump_and_update<B: Blocks, P: Peer, R: Read, W: Write, F: WholeFile>(
     out: &mut Counted<W>,
     file: &mut F,
 ) -> DumpEnd
-    // While it dumps, the call exchanges with the peer what `dump` of `rdump_net` promises. Later,
-    // while it enters the dump in dumpdates, it exchanges nothing with the peer.
+    // During the dump, the call exchanges with the peer what `dump` of `rdump_net` promises. After
+    // the dump, the call exchanges nothing with the peer.
     ensures talks { TalksOver B.holds FromAny P.tells client.old client.new peer.old peer.new }
     // The call prints what `dump` prints. If the dump is complete but could not be entered, the
     // call prints one more line.
     //
-    // The dumpdates file is left alone until the run is finished and `dump complete` is printed.
+    // The call leaves the dumpdates file alone until the run is finished and `dump complete` is
+    // printed.
     //
     // The status is 0 exactly if `update` entered the dump.
     //
@@ -69,10 +70,10 @@ pub fn enter_dump<B: Blocks, W: Write, F: WholeFile>(
     out: &mut Counted<W>,
     file: &mut F,
 ) -> DumpEnd
-    // If the client's run is finished, the call tries to enter the run, with `update`. The status
-    // is `Success` if `update` entered the run, and `Abnormal` if not. If `update` did not enter
-    // the run, the call prints one line and returns the cause. If the run is not finished, the
-    // status is `Abnormal`, and the file is left alone.
+    // If the client's run is finished, the call uses `update` to enter the run. The status is
+    // `Success` if `update` entered the run, and `Abnormal` if not. If `update` did not enter the
+    // run, the call prints one line and returns the cause. If the run is not finished, the status
+    // is `Abnormal`, and the call leaves the file alone.
     ensures { IsEntered W.contents (whole_file F.gives F.takes) client.now.at (sinks out.old file.old) (sinks out.new file.new) result }
 {
     let Some(entry) = client.finished() else {

@@ -16,11 +16,12 @@ use std::marker::Model;
 /// A sink that writes the volumes of a dump to a file.
 ///
 /// With places, each block is written at its place in the file, and the volumes may come in any
-/// order. A volume goes on only with a label, and every volume must be of the first one's dump. All
-/// blocks must have the length of the first one. The file keeps its other bytes.
+/// order. The sink accepts a volume only with a label, and every volume must be of the first
+/// volume's dump. All blocks must have the length of the first block. The file keeps its other
+/// bytes.
 ///
-/// Without places, any record goes on as a label. The first one clears the file, and each block is
-/// appended.
+/// Without places, the sink accepts any record as a label. The first record clears the file, and
+/// each block is appended.
 #[derive(Drop)]
 pub struct FileSink<F> {
     file: F,
@@ -51,10 +52,10 @@ impl<F> Model for FileSink<F> {
 }
 
 impl<F: RestoredFile> FileSink<F> {
-    /// Makes a sink that writes to this file: each block at its place if `places`, and otherwise
-    /// one block after the other. It makes no call of the file.
+    /// Makes a sink that writes to this file: each block at its place if `places` is true, and
+    /// otherwise one block after the other. It makes no call of the file.
     pub fn new(file: F, places: bool) -> FileSink<F>
-        // The new sink has the given file, unchanged, and was given no volume.
+        // The new sink has the given file, unchanged, and has received no volume.
         ensures { result ≡ new_sink file places }
     {
         FileSink {
@@ -77,12 +78,13 @@ impl<F: RestoredFile> FileSink<F> {
         &self.file
     }
 
-    /// Returns the file, to be changed. The sink does not see what the caller writes to it.
+    /// Returns the file, so that the caller can change it. The sink does not see what the caller
+    /// writes to it.
     pub fn file_mut(&mut self) -> &mut F
         // Returns the sink's file. The types allow only this body, so there is no edit.
         ensures value { result.now ≡ self.old.file }
-        // Once the file is given back, the sink has it as the caller left it. Nothing else of the
-        // sink changes.
+        // Once the caller has given the file back, the sink has the file as the caller left it.
+        // Nothing else of the sink changes.
         ensures* writes_back { sem 𝓛 (lends_file F.row self.entry result) }
     {
         &mut self.file
@@ -99,46 +101,49 @@ impl<F: RestoredFile> FileSink<F> {
         file
     }
 
-    /// Takes the fault because of which the sink stopped last, if it stopped since the last call.
+    /// Takes the fault that made the sink stop, if the sink has stopped since the last call of
+    /// `take_fault`.
     pub fn take_fault(&mut self) -> Option<SinkFault>
-        // Returns the fault that the sink keeps, if any. The sink keeps none afterwards, and
-        // nothing else changes.
+        // Returns the fault that the sink keeps, if any. After the call the sink keeps no fault,
+        // and nothing else has changed.
         ensures fault { result ≡ self.old.fault }
         ensures taken { self.new ≡ record self.old { fault = None } }
     {
         self.fault.take()
     }
 
-    /// Returns how many blocks of the current volume were written, and of how many bytes.
+    /// Returns how many blocks of the current volume were written, and how many bytes they have.
     pub fn sizes(&self) -> BlockSizes
-        // Returns the sizes of the current volume's blocks. A label starts them anew.
+        // Returns the number and the sizes of the current volume's blocks. Each label resets both.
         ensures { result ≡ self.now.sizes }
     {
         self.sizes
     }
 
-    /// Returns how many bytes each block has, once one was written at its place.
+    /// Returns how many bytes each block has, if the sink has written a block at its place.
     pub fn block_bytes(&self) -> Option<usize>
-        // Returns the length of the blocks, if one was written at its place.
+        // Returns the length of the blocks, if the sink has written a block at its place.
         ensures { result ≡ self.now.block }
     {
         self.block
     }
 
-    /// Whether a label or a block went on.
+    /// Whether the sink has accepted a label or a block.
     pub fn has_begun(&self) -> bool
-        // Returns whether a label or a block went on.
+        // Returns whether the sink has accepted a label or a block.
         ensures { result ≡ self.now.begun }
     {
         self.begun
     }
 
-    /// Returns what the first record of a volume is to this sink. With places, `label` goes on only
-    /// for a record that is found to be a `Volume`. Without places, it is never an `OtherDump`.
+    /// Finds out whether the first record of a volume is a label of the dump that is restored. With
+    /// places, `label` accepts only a record that is found to be a `Volume`. Without places, the
+    /// result is never `OtherDump`.
     pub fn look(&self, record: &[u8]) -> Found
-        // Returns the label in the record if the record is a label. The label is a `Volume` if it
-        // is of the first volume's dump, or if no label went on before. Otherwise it is an
-        // `OtherDump`. A record that is no label is `Foreign`.
+        // If the record is a label of the dump that is restored, the call returns `Volume` with
+        // this label. As long as the sink has accepted no label, every label counts as a label of
+        // this dump. For a label of another dump, the call returns `OtherDump` with the label. For
+        // a record that is not a label, the call returns `Foreign`.
         ensures { IsFound self.now.dump «record».now result }
     {
         let Some(label) = VolumeLabel::read(record) else {
@@ -166,8 +171,9 @@ impl<F: RestoredFile> FileSink<F> {
     ///
     /// Fails with the system's error. The file may have been cut then.
     pub fn finish(&mut self, length: Option<u64>) -> io::Result<()>
-        // The file has its first `length` bytes, or all if there were fewer, or if no length is
-        // given. If the call fails, the file has its old bytes, or it is cut.
+        // If a length is given, the file keeps its first `length` bytes, or all its bytes if it has
+        // fewer. If no length is given, the file keeps all its bytes. If the call fails, the file
+        // either has its old bytes or has been cut.
         ensures cut { Steps F.holds self.old.file self.new.file (IsCutIf length (is_ok result)) }
         // If the call succeeds, the file's bytes are on the disk.
         ensures synced { IsOk result → IsSynced (restored_kind F.holds F.kept) self.new.file }

@@ -15,6 +15,16 @@
 //! memory. `Found` is what the sink makes of the first record of a volume, `SinkFault` why it
 //! stopped, and `BlockSizes` how many blocks it wrote. `restored_volumes`, `appended_volumes` and
 //! `restored_bytes` are laws of what is then in the file.
+//!
+//! # Contracts
+//!
+//! A *sink* receives a volume that is read, as in `rdump_net`: a label, and then blocks. The sink
+//! *accepts* each of them, or it stops the read. `FileSink` is a sink that writes to a file. *With
+//! places*, the sink writes each block at its *place*: the offset that the block has in the dump.
+//! *Without places*, the sink appends each block to the file.
+//!
+//! A `ReplacedFile` is a file of the system. To replace the file, `ReplacedFile` writes a *new
+//! file* beside the old one, and renames the new file.
 #![tactic(auto)]
 
 mod block_sizes;

@@ -59,18 +59,18 @@ impl<'a, R: Clock, W: Write> LiveLine<'a, R, W> {
         }
     }
 
-    /// Counts the rate anew, from the next `due` on.
+    /// Restarts the measurement of the rate at the next call of `due`.
     pub fn begin(&mut self) {
         self.began = None;
         self.bytes = 0;
     }
 
-    /// Counts `bytes` bytes for the rate.
+    /// Adds `bytes` bytes to the measurement of the rate.
     pub fn add(&mut self, bytes: usize) {
         self.bytes = self.bytes.saturating_add(bytes as u64);
     }
 
-    /// Returns the rate since the first call after `begin`, if it is time for an update.
+    /// Returns the rate since the first call of `due` after `begin`, if it is time for an update.
     pub fn due(&mut self) -> Option<Rate> {
         let now = Instant::now(self.clock).ok()?;
         let began = self.began.unwrap_or(now);
@@ -82,7 +82,7 @@ impl<'a, R: Clock, W: Write> LiveLine<'a, R, W> {
         Some(self.rate(began, now))
     }
 
-    /// Shows a text in place of the one before.
+    /// Shows a text in place of the previous text.
     pub fn print(&mut self, text: &LiveText) {
         let mut line = ArrayString::<136>::new();
         line.push_str("\r");

@@ -44,7 +44,7 @@ impl From<AllocError> for DumperFault {
     }
 }
 
-/// Makes the client of the run that the arguments describe. `date` is the date of the dump and
+/// Makes the client for the run that the arguments describe. `date` is the date of the dump and
 /// `since` the date of the dump that it builds on, both in seconds since 1970, UTC. The payload
 /// must have been opened in blocks of the size that the arguments give. The gauge gets the number
 /// of blocks, and shows each block that is read.
@@ -93,7 +93,7 @@ pub fn run_of<M: Medium + Drop>(
     Run::new(device, line.fs, line.level, date, since, line.block, blocks)
 }
 
-/// Makes the client of a given run, as `dumper` makes the client of the run in the arguments. The
+/// Makes the client for a given run, as `dumper` does for the run that the arguments describe. The
 /// client dumps the payload of the run, and has counted no volume.
 ///
 /// Fails if an allocation fails.

@@ -37,12 +37,12 @@ impl<M: Medium + Drop> PayloadFile<M> {
     ///
     /// Returns `MediumFailed` if the medium fails.
     pub fn open(mut medium: M, block_bytes: u64) -> Result<PayloadFile<M>, MediumFailed>
-        // Opens a payload, and asks the medium for its length once. The payload's blocks have the
-        // given size, and no read has failed. If the medium fails, the call returns an error and no
-        // payload.
+        // Opens a payload, and asks the medium once for its length. The payload's blocks have the
+        // given size, and no read has failed yet. If the medium fails, the call returns an error
+        // and no payload.
         ensures opened { IsOpened (medium_kind M.holds M.failures M.can_fail M.spare) medium block_bytes result }
-        // If the medium's contract gives the bytes, the payload's blocks are those bytes. The last
-        // block is padded with zero bytes.
+        // If the medium's contract gives the bytes of the medium, the payload's blocks consist of
+        // these bytes. The last block is padded with zero bytes.
         ensures told { (bytes : List ℕ) → M.holds medium bytes →
             IfOk result (λ p. HasPayloadBlocks M.holds p (payload_blocks block_bytes bytes)) }
     {
@@ -69,12 +69,13 @@ impl<M: Medium> PayloadFile<M> {
 impl<M: Medium> Blocks for PayloadFile<M> {
     // read, given: A read of a block makes one call of the medium, at the position where the block
     // begins (`IsPayloadRead`). The read asks for the bytes of the payload from this position on,
-    // but for no more than the size of the block. The result is these bytes, followed by zero
+    // but for no more than the size of the block. The result is these bytes, padded with zero
     // bytes. The clause holds even if the medium's contract does not give the medium's bytes.
     //
-    // read, able, quiet: A read fails exactly if the medium failed, or returned fewer bytes than
-    // were asked for. Suppose that the medium cannot fail. Suppose also that its contract gives its
-    // bytes, and that there are as many of them as when the payload was opened. Then no read fails.
+    // read, able, quiet: A read fails exactly if the medium fails, or returns fewer bytes than the
+    // read asks for. Suppose that the medium cannot fail, and that its contract gives its bytes.
+    // Suppose also that the medium has as many bytes as when the payload was opened. Then no read
+    // fails.
     //
     // counted, failures: `failures` returns the number of failed reads. Each failed read adds 1 to
     // this number, and no other read changes it.

@@ -83,10 +83,9 @@ impl<'a, R: Files<File = File> + Clock> ReplacedFile<'a, R> {
         }
     }
 
-    /// Returns the path of the new file if this file cannot be created because another regular file
-    /// has its name and was not left by a run. Returns none if another run has locked that file,
-    /// which is then not read. Also returns none if the system reports an error, which then appears
-    /// when the new file is created.
+    /// Returns the path of the new file, if a regular file that no run left is at this path.
+    /// Returns none if another run has locked that file, which is then not read. Also returns none
+    /// if the system reports an error, which then appears when the new file is created.
     ///
     /// Fails only if an allocation fails.
     pub fn find_unknown_new(&self) -> io::Result<Option<String>> {
@@ -96,15 +95,15 @@ impl<'a, R: Files<File = File> + Clock> ReplacedFile<'a, R> {
         }
     }
 
-    /// Returns the time of the last write to the checkpoint file that this value has locked.
-    /// Returns none if no file is locked, if that was before 1970, or if the system does not report
-    /// it.
+    /// Returns the time of the last write to the checkpoint file that this `ReplacedFile` has
+    /// locked. Returns none if no file is locked, if that was before 1970, or if the system does
+    /// not report it.
     pub fn modified(&self) -> Option<SystemTime> {
         self.placed.as_ref()?.modified()
     }
 
-    /// Removes the checkpoint file that this value has locked, and releases its lock. Does nothing
-    /// if no file is locked, or if it is gone.
+    /// Removes the checkpoint file that this `ReplacedFile` has locked, and releases the lock. Does
+    /// nothing if no file is locked, or if it is gone.
     ///
     /// Returns `FileFailed` if it cannot be removed, or if another file has its name by now.
     pub fn remove(&mut self) -> Result<(), FileFailed> {

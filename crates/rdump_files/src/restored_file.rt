@@ -13,7 +13,7 @@ use std::marker::Model;
 /// `holds` relates a file to its bytes, and `kept` to the bytes that are on the disk. If the bytes
 /// are unknown, each relates the file to nothing, and the clauses about bytes say nothing.
 pub trait RestoredFile {
-    // single: If a file's bytes are known, they are one list.
+    // single: A file has at most one list of known bytes.
 
     ghost use Rattle.std.specs.Prelude.{ℕ, List};
 
@@ -27,39 +27,40 @@ pub trait RestoredFile {
     ///
     /// Fails with the system's error. A beginning of the bytes may have been written then.
     fn write_at(&mut self, bytes: &[u8], at: u64) -> io::Result<()>
-        // The bytes are at the given offset, and no other byte of the file has changed. A gap
-        // behind the old end is zero bytes. If the call fails, a beginning of the bytes is there,
-        // or none of them, and nothing else has changed.
+        // Writes the bytes at the given offset, and changes no other byte of the file. If the
+        // offset is behind the old end of the file, zero bytes fill the gap. A call that fails has
+        // written a beginning of the bytes there, or nothing, and has changed nothing else.
         ensures { Steps holds self.old self.new (IsWrittenAt bytes.now at (is_ok result)) };
 
     /// Appends these bytes.
     ///
     /// Fails with the system's error. A beginning of the bytes may have been appended then.
     fn append(&mut self, bytes: &[u8]) -> io::Result<()>
-        // The bytes are at the end of the file. If the call fails, a beginning of the bytes is
-        // there, or none of them, and nothing else has changed.
+        // Adds the bytes to the end of the file. A call that fails has added a beginning of the
+        // bytes, or nothing, and has changed nothing else.
         ensures { Steps holds self.old self.new (IsAppended bytes.now (is_ok result)) };
 
     /// Removes all bytes of the file.
     ///
     /// Fails with the system's error. The file is unchanged then, or cleared.
     fn clear(&mut self) -> io::Result<()>
-        // The file has no bytes. If the call fails, the file has its old bytes, or none.
+        // Leaves the file without bytes. If the call fails, the file has either its old bytes or no
+        // bytes.
         ensures { Steps holds self.old self.new (IsCleared (is_ok result)) };
 
     /// Cuts the file to `len` bytes, if it has more.
     ///
     /// Fails with the system's error. The file is unchanged then, or cut.
     fn cut(&mut self, len: u64) -> io::Result<()>
-        // The file has its first `len` bytes, or all if there were fewer. If the call fails, the
-        // file has its old bytes, or the first `len` of them.
+        // The file keeps its first `len` bytes, or all its bytes if it has fewer. If the call
+        // fails, the file has either its old bytes or the first `len` bytes.
         ensures { Steps holds self.old self.new (IsCutTo len (is_ok result)) };
 
     /// Waits until all bytes of the file are on the disk.
     ///
     /// Fails with the system's error.
     fn sync(&mut self) -> io::Result<()>
-        // The bytes are unchanged. If the call succeeds, they are on the disk.
+        // The bytes of the file are unchanged. If the call succeeds, these bytes are on the disk.
         ensures same { Steps holds self.old self.new IsSame }
         ensures synced { IsOk result → (bytes : List ℕ) → holds self.new bytes → kept self.new bytes };
 
@@ -131,7 +132,7 @@ impl RestoredFile for MemoryFile {
     //
     // write_at, append, memory: A call fails only with `OutOfMemory`.
     //
-    // clear, cut, sync, done: The call never fails.
+    // clear, cut, sync, done: These three calls never fail.
 
     ghost use Rattle.std.proofs.Common.{sym, ◌∙◌};
 

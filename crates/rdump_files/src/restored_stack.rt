@@ -12,8 +12,8 @@ use crate::{FileSink, RestoredFile};
 use rdump_net::{AfterVolume, Peer, ReadFault, copy_volume};
 use std::alloc::Global;
 
-/// Reads this many volumes of a drive's stack into a file, each over a connection of its own, and
-/// has each reel taken to the bin once its blocks are on the disk.
+/// Reads `volumes` volumes of a drive's stack into a file, and moves each reel to the bin once its
+/// blocks are on the disk. Each volume is read over a connection of its own.
 ///
 /// It stops at the first volume that is not read whole, and fails as `copy_volume` does. At the end
 /// of a stack that is the refusal of the open with `ENXIO`. At a volume of another dump, or a first
@@ -33,14 +33,17 @@ pub fn restore_stack<P: Peer, F: RestoredFile>(
     sink: &mut FileSink<F>,
 ) -> Result<(), ReadFault>
     requires { IsLine device.now }
-    // Reads the given number of volumes one after the other, up to one that fails. Each read does
-    // what `copy_volume` promises with `AfterVolume::Offline`. If one fails, the call returns why.
+    // Reads the given number of volumes, one after the other. Each read does what `copy_volume`
+    // promises with `AfterVolume::Offline`. If a read fails, the call reads no further volume, and
+    // returns why.
     //
     // Suppose that the sink has places, and that the peer's log and the bytes of the sink's file
-    // are known. Then the file has its old bytes, with each block of each volume that was read
-    // written at its place, in order. These volumes are all of one dump: that of the first label
-    // that the sink accepted. A gap between the old end and a block is zero bytes. If the sink
-    // stopped at a block, a beginning of this block may be at its place.
+    // are known. Then each block that the sink accepted is written at its place in the file, in
+    // order. These are all blocks of the volumes that were read, and perhaps some blocks of a
+    // volume whose read failed. All these volumes are of one dump: the dump of the first label that
+    // the sink accepted. Zero bytes fill a gap between the old end of the file and a block. If the
+    // sink stopped at a block, a beginning of this block may be at its place. Nothing else of the
+    // file changes.
     ensures { (earlier last : List SinkCall) × (whole : Bool)
         × IsStackRead (sink_kind P.tells (FileStep (restored_kind F.holds F.kept))) device.now volumes
         (sink_ends peer.old sink.old) (sink_ends peer.new sink.new) result earlier last whole

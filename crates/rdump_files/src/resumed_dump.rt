@@ -39,7 +39,7 @@ pub fn resume_dump<M: Medium + Drop, G: Gauge + Drop>(
 ) -> Result<Client<Shown<PayloadFile<M>, G>>, ResumedDumpFault>
     requires { IsRunsPayload run.now payload }
     // Returns a client with the run and the counts of the checkpoint. So the date and base date of
-    // the run are also those of the checkpoint.
+    // this run come from the checkpoint too.
     ensures resumes { IfOk result (λ c. (c.at.run ≡ checkpoint.run) × (c.at.counts ≡ checkpoint.counts)) }
     // The device, name, level, block size and number of blocks are the same in the client's run and
     // in the given run.

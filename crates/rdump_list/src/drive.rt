@@ -10,8 +10,8 @@ use reel_check::{ReelContents, ReelTally};
 use std::alloc::AllocError;
 use std::io::Write;
 
-/// Reads the first reel on the stack of this drive. `terminal` shows how far that is,
-/// if there is one. If there is no session, it prints why and returns None. Fails if an allocation fails.
+/// Reads the first reel on the stack of this drive. `terminal` shows how far that is, if there is
+/// one. If there is no session, it prints why and returns None. Fails if an allocation fails.
 pub(crate) fn drive_reel<R: ListSystem, T: Write + Drop>(
     rt: &R,
     to: &str,

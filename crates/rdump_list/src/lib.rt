@@ -1,5 +1,5 @@
-//! The command `rdump ls`: lists what reels contain, and which volumes of the dumps in a dumpdates
-//! file are on them.
+//! The command `rdump ls`: lists the contents of reels, and the volumes that the reels have of the
+//! dumps in a dumpdates file.
 //!
 //! `run_ls` is the whole command; it uses the runtime through `ListSystem`. It reads record files
 //! in place, and the first reel of a drive's stack over a connection. It writes to neither.

@@ -7,8 +7,8 @@ use exit_status::ExitStatus;
 /// Returns the exit status of `rdump ls`. It depends on whether everything was read and printed,
 /// and on whether everything is whole. A failure to read or print takes precedence.
 pub(crate) fn status_of(is_done: bool, is_whole: bool) -> ExitStatus
-    // The status is `StartupError` if something could not be read or printed. Otherwise the status
-    // is `Abnormal` if something is not whole, and `Success` if everything is whole.
+    // If something could not be read or printed, the status is `StartupError`. Otherwise the status
+    // is `Success` if everything is whole, and `Abnormal` if not.
     ensures { result ≡ list_status is_done is_whole }
 {
     match (is_done, is_whole) {

@@ -135,7 +135,8 @@ fn ask<B: Blocks, P: Peer>(client: &mut Client<B>, peer: &mut P, text: &mut Vec<
 }
 
 /// Receives bytes from the peer and feeds them to the client. At the end of the connection, the
-/// client's attempt ends. If the attempt is about to overwrite a label, `Peer::overwrites` is called.
+/// client's attempt ends. If the attempt is about to overwrite a label, it calls
+/// `Peer::overwrites`.
 fn hear<B: Blocks, P: Peer>(client: &mut Client<B>, peer: &mut P) -> Progress
     ensures { TalksOver B.holds FromNone P.tells client.old client.new peer.old peer.new }
 {

@@ -77,10 +77,10 @@ impl PeerCaller {
         // reply is either an error or a success. A success contains data if the request is a read,
         // and a number if not.
         //
-        // If the call returns no reply, it returns one of three reasons. The first is that the
-        // connection ended during the request or the reply. The second is that the bytes that came
-        // are not a reply, or are more than one reply. The third is that an allocation failed, for
-        // the request or for a reply that came.
+        // If the call returns no reply, it returns the reason. `ConnectionEnded` means that the
+        // connection ended during the request or the reply. `Botched` means that the received bytes
+        // are not a reply, or that more bytes follow the reply. `OutOfMemory` means that an
+        // allocation failed, for the request or for a received reply.
         ensures { IsCalled P.tells (plain_request request.now) (plain_result result) peer.old peer.new }
     {
         self.text.clear();
@@ -106,7 +106,7 @@ impl PeerCaller {
     pub fn next_record<P: Peer>(&mut self, peer: &mut P) -> Result<Vec<u8>, ReadFault>
         // If the peer's contract gives the log, the call makes one read of `RECORD_LIMIT` bytes,
         // and returns the bytes of the reply. If the reply is an error, the call returns `Refused`
-        // with the number of the error. If there is no reply, it returns why.
+        // with the number of the error. If the call gets no reply, it returns why.
         ensures { IsRecordCalled P.tells peer.old peer.new result }
     {
         let read = Request::Read {
@@ -136,8 +136,8 @@ impl PeerCaller {
         requires op { op ≤ MTNOP }
         requires count { count ≤ NUMBER_LIMIT }
         // If the peer's contract gives the log, the call sends the given operation once, with the
-        // given count. The call returns either that the operation was done or, if the reply is an
-        // error, the error's number. If there is no reply, the call returns why.
+        // given count. None means that the operation was done. A number means that the reply is the
+        // error with this number. If the call gets no reply, it returns why.
         ensures { IsOperationCalled P.tells op count peer.old peer.new result }
     {
         let reply = self.call(peer, &Request::Op { op, count })?;

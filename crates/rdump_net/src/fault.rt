@@ -80,7 +80,7 @@ impl From<CallFault> for ReadFault {
 }
 
 impl From<SinkStopped> for ReadFault {
-    // from_gives: Gives `Stopped`.
+    // from_gives: Turns a `SinkStopped` into `Stopped`.
 
     ghost use Rattle.std.specs.Prelude.{◌≡◌};
     ghost use Rattle.rdump_net.specs.declared.fault.ReadFault.TheVariants.{Stopped};

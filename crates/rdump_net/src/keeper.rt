@@ -21,8 +21,9 @@ pub trait Keeper {
     /// Stores the checkpoint of this run with these counted volumes, in place of the earlier
     /// checkpoint. Returns whether it could; if not, the earlier checkpoint stays.
     fn keep(&mut self, run: &Run, counts: &[VolumeCount]) -> bool
-        // Adds one checkpoint, that of the run and the counts, to the end of the list of kept
-        // checkpoints. If the call fails, no checkpoint is added.
+        // If the call succeeds, it adds one checkpoint to the end of the list of kept checkpoints.
+        // The checkpoint has the given run and counted volumes. If the call fails, it adds no
+        // checkpoint.
         ensures put { PutsOn puts self.old self.new (put_if (plain_checkpoint run.now counts.now) result) }
         // A call fails only if the keeper can fail. If the keeper cannot fail before a call, it
         // cannot fail after the call.

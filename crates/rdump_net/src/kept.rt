@@ -59,12 +59,12 @@ pub fn dump<B: Blocks, P: Peer, R: Read, W: Write>(
     // no other end.
     ensures talks { TalksOver B.holds FromAny P.tells client.old client.new peer.old peer.new }
     // The call prints exactly one line for each volume that was counted since the start, in order.
-    // The numbers in the line are those of the volume. The call prints no line for any other
-    // volume. Between the lines of volumes, the call prints failures and questions. At the end, the
+    // The line contains the numbers of this volume. For any other volume the call prints no such
+    // line. Between the lines of volumes, the call prints failures and questions. At the end, the
     // call prints one last line. The line of a failure contains the number of the first volume that
     // is not counted yet. The call can ask a question although no failure was printed. No clause
-    // says which failures and questions follow which attempts. If a write failed, what was printed
-    // is only a beginning of these lines, and the failure is counted.
+    // says which failures and questions follow which attempts. If a write fails, only a beginning
+    // of these lines is printed, and the failure is counted.
     //
     // The status is `Success` exactly if the run is finished and everything was printed, and
     // `Abnormal` otherwise.
@@ -96,22 +96,22 @@ pub fn dump_kept<B: Blocks, P: Peer, R: Read, W: Write, K: Keeper>(
     keeper: &mut K,
 ) -> Conclusion
     // The promises about kept checkpoints hold if the keeper's contract gives the checkpoints that
-    // were kept. The contract of `ReplacedFile` does not give them. No clause says that a keeper
-    // stores the text of the checkpoint. The private call `text_of` makes the text that
-    // `ReplacedFile` stores. The clause of `text_of` says that this call returns the text of the
-    // checkpoint. An attempt starts only if the last checkpoint that was kept has the client's run
-    // and counts. This holds for the first attempt and for each later attempt. After the keeper has
-    // failed, nothing is sent. Suppose that the dump is complete, and that a volume was counted
-    // since the start. Then the last checkpoint that was kept has the last count.
+    // were kept. The contract of `ReplacedFile` does not give these checkpoints. No clause says
+    // that a keeper stores the text of the checkpoint. `ReplacedFile` stores the text that the
+    // private call `text_of` returns. The clause of `text_of` promises that this text is the text
+    // of the checkpoint. Each attempt, even the first, starts only if the last kept checkpoint has
+    // the client's run and counted volumes. After the keeper has failed, the call sends nothing.
+    // Suppose that the dump is complete, and that a volume was counted since the start. Then the
+    // last kept checkpoint has all counted volumes.
     //
-    // The call gives a checkpoint to the keeper only after it has printed the whole line of each
-    // volume that was counted since the start.
+    // Before the call gives a checkpoint to the keeper, it prints the whole line of each volume
+    // that was counted since the start.
     //
     // The call prints the lines that `dump` prints. If the dump ends as `Unkept`, the last line is
     // `checkpoint not written`. The dump ends as `Complete` only if the run is finished. After the
-    // keeper has failed, no attempt starts. No clause forbids two things: that the call keeps the
-    // same checkpoint again although no volume was counted, and that the call prints other lines
-    // between the keeper's failure and the last line.
+    // keeper has failed, no attempt starts. No clause forbids the following. The call may keep the
+    // same checkpoint again, although no volume was counted. Between the keeper's failure and the
+    // last line, the call may print other lines.
     ensures kept { IsDumpKept (kept_kind B.holds P.tells W.contents K.puts) (kept_ends client.old peer.old out.old keeper.old)
         (kept_ends client.new peer.new out.new keeper.new) result }
     // `Unkept` means that a checkpoint could not be kept. If the keeper cannot fail, the dump does

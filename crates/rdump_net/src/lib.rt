@@ -19,10 +19,11 @@
 //! clause says what passed through a socket. No clause says which error `SocketPeer::failure`
 //! returns, or how long a call waits.
 //!
-//! A *sink* receives a volume that is read: the first record as the label, each record after it as a
-//! *block* with a number, and the mark that ends them. The sink *accepts* a label or a block, or it
-//! stops the read. After the mark the sink is asked to *complete*. It completes if the volume is
-//! kept. The promises about a sink hold only if the sink's contract says what its calls do.
+//! A *sink* receives a volume that is read: the first record as the label, each later record as a
+//! *block* with a number, and then the mark that ends the volume. The sink *accepts* a label or a
+//! block, or it stops the read. After the mark the sink is asked to *complete*. The sink completes
+//! if it has kept the volume. The promises about a sink hold only if the sink's contract says what
+//! its calls do.
 //!
 //! A *keeper* stores the text of the client's checkpoint. Each new text replaces the previous one.
 #![tactic(auto)]

@@ -96,12 +96,12 @@ pub fn look_at_reel<P: Peer>(
     // reply to the previous request. If the open is refused, the call sends nothing more. After any
     // other refusal, the call sends the close next.
     //
-    // Once the reply to the close has come, the call returns what the reel begins with: the record
-    // that was read or, if MTFSF was done, a mark. If MTFSF was refused with `EIO`, the call
-    // returns that the reel is empty. If there was any other refusal, even of the close, the call
-    // returns the first request that was refused.
+    // Once the reply to the close has come, the call returns what the reel begins with. This is the
+    // record that was read or, if MTFSF was done, a mark. If MTFSF was refused with `EIO`, the call
+    // returns that the reel is empty. After any other refusal, even of the close, the call returns
+    // the first request that was refused.
     //
-    // If a request has no reply, the call returns why.
+    // If a request gets no reply, the call returns why.
     ensures { IsLook P.tells device.now peer.old peer.new result }
 {
     let Ok(mut caller) = PeerCaller::new(alloc) else {

@@ -36,14 +36,15 @@ pub trait Peer {
     /// Connects to the peer. An earlier connection, if there is one, is dropped first. Returns true
     /// and logs `Connected` if the connection was made. Otherwise returns false and logs `Ended`.
     fn connect(&mut self) -> bool
-        // If a connection is made, the call adds a connection to the log. Otherwise it adds an end.
+        // If a connection is made, the call adds a connection to the log. Otherwise the call adds
+        // an end.
         ensures { Logs tells self.old self.new (connected result) };
 
     /// Sends all of these bytes. Returns whether it could. If not, some first part of them was
     /// sent, perhaps none, and the connection ended.
     fn send(&mut self, bytes: &[u8]) -> bool
-        // Adds the bytes to the log. If the connection ends during the call, it adds only a
-        // beginning of the bytes, and then an end.
+        // The call adds the bytes to the log. If the connection ends during the call, the call adds
+        // only a beginning of the bytes, and then an end.
         ensures { (passed : List Passed) × AreBytesSent bytes.now result passed × Logs tells self.old self.new passed };
 
     /// Waits for bytes from the peer, and puts them at the front of `into`. Returns how many came,
@@ -81,8 +82,8 @@ pub trait Peer {
         let _ = fault;
     }
 
-    /// Reports to the peer that an attempt is about to write over a reel that begins with this
-    /// label. The connection is open, and nothing passes. An implementation may print the label.
+    /// Reports to the peer the label of the reel that an attempt is about to overwrite. The
+    /// connection is open, and nothing passes. An implementation may print the label.
     fn overwrites(&mut self, label: &VolumeLabel)
         // The call reports to the peer which label an attempt is about to overwrite, and adds
         // nothing to the log. No clause says that `dump` makes this call.

@@ -45,8 +45,8 @@ pub(crate) fn round<B: Blocks, P: Peer, R: Read, W: Write>(
     }
 }
 
-/// Makes the client try its next volume or, if the argument `may` is false, asks the operator.
-/// Returns how the dump ended, if it did.
+/// Makes the client try its next volume if `may` is true, and otherwise asks the operator. Returns
+/// how the dump ended, if it did.
 fn begin_volume<B: Blocks, P: Peer, R: Read, W: Write>(
     client: &mut Client<B>,
     peer: &mut P,

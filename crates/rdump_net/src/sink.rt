@@ -30,8 +30,8 @@ pub trait VolumeSink {
     /// Relates the sink before and after a call to that call, and to whether the sink accepted it.
     ghost takes: { Self → Self → SinkCall → Bool → Type 0 };
 
-    /// Takes the first record of a volume: a label with the zero bytes after its text, or what
-    /// stands in its place. The record has at least one byte.
+    /// Takes the first record of a volume. This is a label with the zero bytes after its text, or
+    /// whatever record is there instead. The record has at least one byte.
     fn label(&mut self, record: &[u8]) -> Verdict
         // The sink takes the first record, and accepts it if and only if the call returns `GoOn`.
         ensures { takes self.old self.new (Label record.now) (goes_on result) };
@@ -45,16 +45,17 @@ pub trait VolumeSink {
         // succeeds.
         ensures { takes self.old self.new (Block number bytes.now) (has_accepted result) };
 
-    /// Takes the mark that was found where the records ended.
+    /// Takes the mark that follows the last record.
     fn mark(&mut self)
         // The sink takes the mark.
         ensures { takes self.old self.new Mark true };
 
-    /// Says whether the volume is kept: all that the sink was given is written and synced, and the
-    /// sink has nothing against the reel. Called after the mark, and only then.
+    /// Returns whether the sink has kept the volume. If so, the sink has written and synced
+    /// everything that it was given, and does not object to the reel. Called after the mark, and
+    /// only then.
     ///
     /// Fails with `SinkStopped` if the volume is not kept. The reel then stays where it is.
     fn complete(&mut self) -> Result<(), SinkStopped>
-        // The sink answers whether the volume is kept.
+        // The sink completes if and only if the call succeeds.
         ensures { takes self.old self.new Complete (has_accepted result) };
 }

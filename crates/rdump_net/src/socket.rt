@@ -45,7 +45,7 @@ impl<'a, R: Net + Clock> SocketPeer<'a, R> {
         }
     }
 
-    /// Returns the system's error if the latest connection could not be made or failed. None if it
+    /// Returns the system's error if the latest connection failed or could not be made. None if it
     /// did not fail, or if the far end closed it.
     pub fn failure(&self) -> Option<&io::Error> {
         self.failure.as_ref()

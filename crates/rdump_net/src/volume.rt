@@ -54,11 +54,11 @@ pub fn read_volume<P: Peer, F: Write, W: Write>(
     out: &mut Counted<W>,
 ) -> ExitStatus
     requires { IsLine device.now }
-    // The requests are those that `copy_volume` promises with `AfterVolume::Stay`. The call prints
-    // the text of the label, and writes the records after the label to the file. If a write failed,
-    // only a beginning of this text or of these records was written. No clause says that the call
-    // stops reading after the failed write. The status is `Success` if the
-    // volume was read whole and the close was done, and `Abnormal` if not.
+    // The call sends the requests that `copy_volume` promises with `AfterVolume::Stay`. The call
+    // prints the text of the label, and writes the records after the label to the file. If a write
+    // failed, only a beginning of this text or of these records was written. No clause says that
+    // the call stops reading after the failed write. The status is `Success` if the volume was read
+    // whole and the close was done, and `Abnormal` if not.
     ensures { IsReadStatus (copy_kind P.tells F.contents W.contents) device.now
         (copy_ends peer.old file.old out.old) (copy_ends peer.new file.new out.new) result }
 {
@@ -146,27 +146,26 @@ pub fn copy_volume<P: Peer, S: VolumeSink>(
     // If the sink's contract says what its calls do, the call gives the first record to the sink as
     // the label, and each record after it as a block. The blocks have the numbers 0, 1 and so on.
     // If MTFSF was done, the call gives the sink the mark, and then asks the sink to complete. In
-    // all other cases the sink gets neither of these two calls.
+    // all other cases the call gives the sink no mark, and does not ask it to complete.
     //
-    // If the argument is `Offline`, MTFSF was done and the sink completed, the call sends MTOFFL
-    // once, before the close. MTOFFL moves the reel to the bin. In all other cases the call does
-    // not send MTOFFL.
+    // MTOFFL moves the reel to the bin. The call sends MTOFFL only in the following case: the
+    // argument is `Offline`, MTFSF was done, and the sink completed. Then the call sends MTOFFL
+    // once, before the close.
     //
-    // Suppose that the first read returns no bytes. Then there is no label, and the call neither
-    // looks for a mark nor sends MTOFFL. The call sends the close next. It gives the sink nothing.
+    // Suppose that the first read returns no bytes. Then there is no label. The call gives the sink
+    // nothing, does not look for a mark, and does not send MTOFFL. The call sends the close next.
     // The result is the one that the argument `Stay` would give.
     //
     // Suppose that the sink does not accept the label or a block, or does not complete. Then the
-    // call sends nothing more, neither MTOFFL nor the close, and gives the sink nothing more. The
-    // result is `Stopped` in this case, and only then.
+    // call sends nothing more, not even the close, and gives the sink nothing more. The result is
+    // `Stopped` in this case, and only in this case.
     //
-    // If the call fails, and the result is neither `NoMark` nor `Undetermined`, the result says one
-    // of three things: which request was refused, why the next request has no reply, or that the
-    // sink stopped the read.
+    // Any failure other than `NoMark` and `Undetermined` says one of three things: which request
+    // was refused, why the next request has no reply, or that the sink stopped the read.
     ensures read { IsRead (sink_kind P.tells S.takes) device.now after
         (sink_ends peer.old sink.old) (sink_ends peer.new sink.new) result }
-    // Suppose that the call sent MTOFFL. Then it gave the sink each record and the mark, and asked
-    // the sink to complete. The sink accepted all of them. This follows from `read`.
+    // If the call sent MTOFFL, it had given each record and the mark to the sink before. The sink
+    // had accepted each record, and had completed. This follows from `read`.
     ensures kept { IsTakenAwayOnlyIfKept (sink_kind P.tells S.takes) device.now after
         (sink_ends peer.old sink.old) (sink_ends peer.new sink.new) result }
 {

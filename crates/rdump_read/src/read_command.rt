@@ -13,8 +13,8 @@ use rdump_args::ReadLine;
 use rdump_system::{ClientSystem, report, report_failed};
 use std::io::Write;
 
-/// Reads a volume back into a file, as `rdump read` does, and prints its label. `terminal` is standard
-/// error, if that is a terminal: it shows how far the read is.
+/// Reads a volume back into a file, as `rdump read` does, and prints its label. `terminal` is
+/// standard error, if that is a terminal: it shows how far the read is.
 ///
 /// The file is opened first, and emptied once the label was read. A file that is created here and
 /// gets no label is removed. Standard error reports how many blocks were read, and whether the

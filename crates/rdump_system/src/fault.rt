@@ -42,7 +42,7 @@ pub fn report_no_memory<R: Eprint + Print>(rt: &R) -> ExitStatus
 
 /// Prints that standard output could not be written, and returns `status`.
 pub fn report_unwritten<R: Eprint>(rt: &R, status: ExitStatus) -> ExitStatus
-    // Returns the exit status that it was given.
+    // Returns the given exit status.
     ensures { result ≡ status }
 {
     let _ = eprintln!(rt; "rdump: standard output could not be written");
@@ -52,7 +52,7 @@ pub fn report_unwritten<R: Eprint>(rt: &R, status: ExitStatus) -> ExitStatus
 /// If `failures` is not 0, prints that standard output could not be written. Returns `status` in
 /// any case.
 pub fn report_failures<R: Eprint>(rt: &R, failures: u64, status: ExitStatus) -> ExitStatus
-    // Returns the exit status that it was given, whether or not a write failed.
+    // Returns the given exit status, whether or not a write failed.
     ensures { result ≡ status }
 {
     if failures > 0 {
@@ -68,7 +68,7 @@ pub fn report_failed<R: Eprint>(
     error: &io::Error,
     status: ExitStatus,
 ) -> ExitStatus
-    // Returns the exit status that it was given.
+    // Returns the given exit status.
     ensures { result ≡ status }
 {
     let what = plain(what);

@@ -25,13 +25,13 @@ use tape::{LENGTH_BYTES, Medium, MediumFailed, entry_size, next_length};
 /// Fails with `MediumFailed` if a call of the medium failed.
 pub fn check_reel<M: Medium>(medium: &mut M, room: &mut [u8]) -> Result<ReelContents, MediumFailed>
     // If the medium's contract gives the bytes, the call returns the description of the reel's
-    // entries. The call also returns how many records, marks and bytes the reel has, and how many
-    // bytes follow the last readable entry.
+    // entries. The call also returns the number of records, the number of marks, the number of
+    // bytes, and the number of bytes after the last readable entry.
     ensures told { (bytes : List ℕ) (entries : List PlainEntry) → M.holds medium.old bytes → SpellsReel bytes entries →
         IfOk result (λ c. IsContents c bytes entries) }
     // The bytes of the medium stay as they were.
     ensures same { Steps M.holds medium.old medium.new (λ old new. new ≡ old) }
-    // The check fails exactly if a call of the medium fails during the check.
+    // The check fails if and only if a call of the medium fails during the check.
     ensures failed { OnErr result (HasRisen (M.failures medium.old) (M.failures medium.new)) }
     // If the medium cannot fail, the call succeeds.
     ensures able { OnErr result (M.can_fail medium.old) }

@@ -17,15 +17,15 @@ use dump_run::one_label;
 ///
 /// It does nothing: its contract is a law of the definitions.
 pub fn one_holding()
-    // For each list of entries, there is only one description that a check can return.
+    // A check can return at most one description of a list of entries.
     ensures { (h k : Holding) (entries : List PlainEntry) → IsHolding h entries → IsHolding k entries → h ≡ k }
 {
     one_label();
 }
 
-/// The law that two reels have the same description (`Holding`) if they have the same label, the
-/// same number of blocks, blocks of the same length, and the same end. The bytes of their blocks do
-/// not matter: a volume has no checksum.
+/// The law that the description (`Holding`) of a volume depends only on the label, the number and
+/// length of the blocks, and the end. The bytes of their blocks do not matter: a volume has no
+/// checksum.
 ///
 /// It does nothing: its contract is a law of the definitions.
 pub fn one_volume()
@@ -38,14 +38,14 @@ pub fn one_volume()
     one_label();
 }
 
-/// The law that each reel holds a whole volume if a dump has counted this reel. It has the label of
-/// a volume of a run, blocks of the run's size, and one mark. The same is true without blocks.
+/// The law that each counted reel holds a whole volume. The reel has the label of a volume of a
+/// run, blocks of the run's size, and one mark. The same is true without blocks.
 ///
 /// It does nothing: its contract is a law of the definitions.
 pub fn dumped_volume()
     // If a dump has counted a reel, this reel has the label of a volume of a run, blocks of the
-    // run's size, one mark, and nothing else. A check describes such a reel as a whole volume. This
-    // is also true if the volume has no blocks.
+    // run's size, one mark, and nothing else. A check describes the entries of this reel as a whole
+    // volume. If the volume has no blocks, the check describes it as whole too.
     ensures some { (run : PlainRun) (volume first : ℕ) (blocks : List (List ℕ)) → IsRun run → IsInRange 1 blocks_limit volume → first ≤ blocks_limit →
         All (λ block. length block ≡ run.block_bytes) blocks → blocks ≢ [] →
         IsVolume (label_of run volume first) (length blocks) run.block_bytes OneMark (Record (label run volume first) ∷ (map Record blocks ++ Mark ∷ [])) }

@@ -44,8 +44,8 @@ impl ReelTally {
     ///
     /// If it is the first entry, it is read as a label. Otherwise only its length counts.
     pub fn record(&mut self, bytes: &[u8])
-        // Adds a record to the tally. The tally then describes the earlier entries followed by this
-        // record, if there are fewer than 2^64 entries.
+        // Adds a record to the tally. If there are then fewer than 2^64 entries, the tally
+        // describes the earlier entries, followed by this record.
         ensures { (entries : List PlainEntry) → length entries + 1 < 2 ^ 64 → IsTally self.old entries →
             IsTally self.new (entries ++ Record bytes.now ∷ []) }
     {
@@ -56,8 +56,8 @@ impl ReelTally {
 
     /// Adds a mark.
     pub fn mark(&mut self)
-        // Adds a mark to the tally. The tally then describes the earlier entries followed by this
-        // mark, if there are fewer than 2^64 entries.
+        // Adds a mark to the tally. If there are then fewer than 2^64 entries, the tally describes
+        // the earlier entries, followed by this mark.
         ensures { (entries : List PlainEntry) → length entries + 1 < 2 ^ 64 → IsTally self.old entries →
             IsTally self.new (entries ++ Mark ∷ []) }
     {
@@ -75,7 +75,7 @@ impl ReelTally {
         &self.holding
     }
 
-    /// Returns how many records were added, including the label and those after a mark.
+    /// Returns how many records were added, including the label and any records after a mark.
     pub fn records(&self) -> u64
         // Returns how many of the added entries are records.
         ensures { result ≡ self.now.records }

@@ -79,7 +79,7 @@ impl<R: FolderSystem, L: Log + Drop> Model for FolderStacks<R, L> {
 }
 
 impl<R: FolderSystem> FolderStacks<R, NoLog> {
-    /// Returns stacks for 1 to `DRIVE_LIMIT` given drives, each of which has a name. `bin` is the
+    /// Returns stacks for 1 to `DRIVE_LIMIT` given drives. Each drive has a name. `bin` is the
     /// folder of the bin, and `capacity` is that of each reel in bytes. It reads no folder. If
     /// several drives have the same name, the first is used.
     ///
@@ -92,8 +92,8 @@ impl<R: FolderSystem> FolderStacks<R, NoLog> {
     ) -> Result<FolderStacks<R, NoLog>, AllocError>
         requires some { 1 ≤ length drives.now }
         requires few { length drives.now ≤ DRIVE_LIMIT }
-        // What is in the folders is not known. The new stacks have the given names and folders, no
-        // latched reel, and no failure.
+        // The content of the folders is not known. The new stacks have the given names and folders.
+        // No reel is latched, and no failure is counted.
         ensures drives { IfOk result (λ opened. opened
             ≡ folder_library (map (λ d. folder_row d.name.now d.folder.now false) drives.now) bin.now capacity 0) }
         ensures count { IfOk result (λ opened. length opened.rows ≡ length drives.now) }
@@ -103,8 +103,8 @@ impl<R: FolderSystem> FolderStacks<R, NoLog> {
 }
 
 impl<R: FolderSystem, L: Log + Drop> FolderStacks<R, L> {
-    /// Returns stacks as `open` does, but these stacks write to `log` what is done with their
-    /// reels.
+    /// Returns stacks that log what is done with their reels. Their log is `log`. All else is as in
+    /// `open`.
     pub fn with_log(
         rt: R,
         drives: &[FolderDrive<'_>],
@@ -114,8 +114,8 @@ impl<R: FolderSystem, L: Log + Drop> FolderStacks<R, L> {
     ) -> Result<FolderStacks<R, L>, AllocError>
         requires some { 1 ≤ length drives.now }
         requires few { length drives.now ≤ DRIVE_LIMIT }
-        // The new stacks have the given names and folders, no latched reel, and no failure,
-        // whatever the log is. `open` calls `with_log` with a log that keeps nothing.
+        // For every log, the new stacks have the given names and folders. No reel is latched, and
+        // no failure is counted. `open` calls `with_log` with a log that keeps nothing.
         ensures drives { IfOk result (λ opened. opened
             ≡ folder_library (map (λ d. folder_row d.name.now d.folder.now false) drives.now) bin.now capacity 0) }
         ensures count { IfOk result (λ opened. length opened.rows ≡ length drives.now) }
@@ -132,11 +132,11 @@ impl<R: FolderSystem, L: Log + Drop> FolderStacks<R, L> {
         })
     }
 
-    /// Checks the folders, and returns the first one that is missing, is not a folder, cannot be
-    /// read, or has permissions that do not allow new files. It checks the folders of the stacks in
-    /// the order of the drives, then the bin's. If the user owns the folder, the owner's permission
-    /// to write counts. For another user, that of the group or of others counts. For root, and for
-    /// an unknown user, anybody's counts.
+    /// Returns the first folder that is missing, is not a folder, cannot be read, or does not
+    /// permit new files. It checks the folders of the stacks in the order of the drives, then the
+    /// bin's. If the user owns the folder, the owner's permission to write counts. For another
+    /// user, that of the group or of others counts. For root, and for an unknown user, anybody's
+    /// counts.
     ///
     /// It then returns the first drive's folder that
     /// - is also the bin's,
@@ -253,18 +253,19 @@ impl<R: FolderSystem, L: Log + Drop> Stacks for FolderStacks<R, L> {
     // drive, below, named, found: `drive` returns the first drive with the given name.
     //
     // latch: A latch takes a reel only if no reel is latched at the drive (`IsFolderCall`). The
-    // latched reel is at its beginning, and its capacity is the one that the stacks were given. The
-    // latched reel's file has had no failed call, no cut to length 0 and no write.
+    // latched reel is at its beginning, and has the capacity that was given to the stacks. The
+    // latched reel's `FileMedium` has counted no failed call and no cut to length 0. `is_written`
+    // of this medium returns false.
     //
-    // latch: A latch that fails because the stack is empty, or because an allocation failed, is not
-    // counted as a failure. Every other failed latch is a device fault and is counted.
+    // latch: If a latch fails because the stack is empty or because an allocation failed, no
+    // failure is counted. Every other failed latch is a device fault and is counted.
     //
-    // unlatch: After a reel is laid back, no reel is latched at the drive.
+    // unlatch: After a reel is laid back on the stack, no reel is latched at the drive.
     //
     // offline: A move fails if no reel is latched. A move also fails if a sync of the reel's file
-    // has failed after the file's last cut to length 0. After a move that succeeded, no reel is
-    // latched at the drive. A move that failed hands the reel back. A failed move is counted as a
-    // device fault, unless the bin has a reel with the same name.
+    // has failed after the file's last cut to length 0. If a move succeeds, no reel is latched at
+    // the drive afterwards. If a move fails, the move hands the reel back. A failed move is counted
+    // as a device fault, unless it failed because the bin has a reel with the same name.
     //
     // failures: `failures` returns the count of device failures.
 

@@ -6,10 +6,11 @@
 //!
 //! # Contracts
 //!
-//! The trait `MovableFile` stands for a file that can be synced and moved. The *steps* of a file
-//! are its syncs and moves, in order. For every `MovableFile` whose steps are known, the contract
-//! of `take_offline` gives the order of sync and move. To move a reel, the call `offline` of
-//! `FolderStacks` calls `take_offline`.
+//! The crate `drives` explains stacks, latches and the bin. The trait `MovableFile` stands for a
+//! file that can be synced and moved. The *steps* of a file are its syncs and moves, in order. A
+//! *cut* shortens a file to a given length. For every `MovableFile` whose steps are known, the
+//! contract of `take_offline` gives the order of sync and move. To move a reel, the call `offline`
+//! of `FolderStacks` calls `take_offline`.
 #![tactic(auto)]
 
 mod folder;

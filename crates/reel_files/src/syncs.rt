@@ -27,13 +27,13 @@ pub trait MovableFile {
     /// Whether the file was written to or truncated since it was opened, even if that failed.
     ghost written: { Self → Bool };
 
-    /// Returns how many times the file was truncated to zero length.
+    /// Returns how often the file was cut to length 0.
     fn truncations(&self) -> u64
         // `truncations` returns how often the file was cut to length 0.
         ensures { result ≡ truncations self.now };
 
-    /// Whether the file was written to or truncated since it was opened. A write that failed counts
-    /// too.
+    /// Returns whether the file was written to or cut after it was opened. A write that failed
+    /// counts too.
     fn is_written(&self) -> bool
         // `is_written` returns whether the file was written to or cut, even if the write or the cut
         // failed.
@@ -41,15 +41,15 @@ pub trait MovableFile {
 
     /// Writes the file's cached data to the device.
     fn sync(&mut self) -> Result<(), Self::Refusal>
-        // If the file's steps are known, `sync` adds one step, which says that a sync was made and
-        // whether the sync succeeded. A sync does not change the count of cuts to length 0.
+        // If the file's steps are known, `sync` adds one step to them: a sync, with its result
+        // (success or failure). A sync does not change the count of cuts to length 0.
         ensures step { Makes told self.old self.new (Sync (is_ok result) ∷ []) }
         ensures same { truncations self.new ≡ truncations self.old };
 
     /// Moves the file to another folder. The result describes where the file is then.
     fn rename(&mut self) -> Result<Self::Moved, Self::Refusal>
-        // If the file's steps are known, `rename` adds one step, which says that a move was made
-        // and whether the move succeeded.
+        // If the file's steps are known, `rename` adds one step to them: a move, with its result
+        // (success or failure).
         ensures { Makes told self.old self.new (Move (is_ok result) ∷ []) };
 }
 
@@ -79,29 +79,28 @@ impl<E: Copy> Model for Syncs<E> {
 }
 
 impl<E: Copy> Syncs<E> {
-    /// Returns a state in which no sync has failed.
+    /// Returns a `Syncs` in which no failed sync is recorded.
     pub fn new() -> Syncs<E>
-        // In the new `Syncs` (a record of failed syncs) no sync has failed. The types allow only
-        // this body, so there is no edit.
+        // The new `Syncs` (a record of a file's failed syncs) records no failed sync. The types
+        // allow only this body, so there is no edit.
         ensures { result ≡ None }
     {
         Syncs { failed: None }
     }
 
-    /// Syncs the file, unless an earlier sync failed after the file was last truncated to zero
-    /// length.
+    /// Syncs the file, unless an earlier sync failed after the file's last cut to length 0.
     ///
     /// Fails with the reason of that earlier sync, or of this one. The system reports only once
     /// what it could not write, so a sync after a failed one would not report it again.
     pub fn sync<F: MovableFile<Refusal = E>>(&mut self, file: &mut F) -> Result<(), E>
-        // If an earlier sync failed after the file's last cut to length 0, this sync fails too.
+        // If an earlier sync failed after the file's last cut to length 0, `sync` fails too.
         ensures again { self.old ≡ Some (F.truncations file.old) → IsErr result }
         // A failed sync is recorded with a number: how often the file was cut to length 0 before
         // the sync. Nothing else is recorded.
         ensures noted { MatchResult result (λ _. self.new ≡ self.old) (λ _. self.new ≡ Some (F.truncations file.old)) }
-        // If `sync` succeeds, it asked the file once to sync, and that sync succeeded. `sync` fails
-        // in two cases only: the file was asked once and failed, or an earlier sync failed after
-        // the last cut to length 0. In the second case the file is not asked to sync.
+        // If `sync` succeeds, the file made one step: a sync that succeeded. `sync` fails in two
+        // cases only. In the first case the file made one step: a sync that failed. In the second
+        // case an earlier sync failed after the last cut to length 0, and the file makes no step.
         ensures done { IfOk result (λ _. Makes F.told file.old file.new (Sync true ∷ [])) }
         ensures refused { OnErr result (Steps F.told file.old file.new (IsUnsynced (F.truncations file.old) self.old self.new)) }
         ensures same { F.truncations file.new ≡ F.truncations file.old }
@@ -151,26 +150,26 @@ pub fn take_offline<F: MovableFile>(
     file.rename()
 }
 
-/// Syncs a file that is about to be closed, if a write or a truncation was tried after the file was
-/// opened. It syncs as `Syncs::sync` does. Returns whether the file was synced.
+/// Syncs a file before it is closed, if a write or a cut was tried after the file was opened. It
+/// syncs as `Syncs::sync` does. Returns whether the file was synced.
 ///
 /// Fails with the reason if the file cannot be synced.
 pub fn sync_at_close<F: MovableFile>(
     file: &mut F,
     syncs: &mut Syncs<F::Refusal>,
 ) -> Result<bool, F::Refusal>
-    // Suppose that the file was written to after it was opened, even by a failed write. Then
-    // `sync_at_close` syncs the file as `Syncs::sync` does. The call asks the file once to sync,
-    // and records a failed sync. If an earlier sync failed after the last cut to length 0, the call
-    // does not ask the file to sync.
+    // If the file's `is_written` returns true, `sync_at_close` syncs the file as `Syncs::sync`
+    // does. If `sync_at_close` succeeds, the file made one step: a sync that succeeded.
+    // `sync_at_close` fails only in the two cases in which `Syncs::sync` fails. In each case the
+    // file makes the same steps as in `Syncs::sync`.
     ensures written { F.written file.old ≡ true → MatchResult result
         (λ synced. (synced ≡ true) × Makes F.told file.old file.new (Sync true ∷ []))
         (λ _. Steps F.told file.old file.new (IsUnsynced (F.truncations file.old) syncs.old syncs.new)) }
-    // If the file was not written to after it was opened, `sync_at_close` leaves the file as it is
-    // and records nothing.
+    // If the file's `is_written` returns false, `sync_at_close` leaves the file as it is and
+    // records nothing.
     ensures unwritten { F.written file.old ≡ false → (result ≡ Ok false) × (file.new ≡ file.old) × (syncs.new ≡ syncs.old) }
-    // If the file was written to, and an earlier sync of it failed after the last cut to length 0,
-    // `sync_at_close` fails, as `Syncs::sync` does.
+    // Suppose that the file's `is_written` returns true, and that an earlier sync failed after the
+    // last cut to length 0. Then `sync_at_close` fails, as `Syncs::sync` does.
     ensures again { F.written file.old ≡ true → syncs.old ≡ Some (F.truncations file.old) → IsErr result }
     // `sync_at_close` records a failed sync, as `Syncs::sync` does.
     ensures noted { MatchResult result (λ _. syncs.new ≡ syncs.old) (λ _. syncs.new ≡ Some (F.truncations file.old)) }

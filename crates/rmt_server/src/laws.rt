@@ -21,9 +21,9 @@ ghost use Rattle.rmt_server.specs.Laws.{StaysAtUnderTrouble, TroublesAreServed, 
 use drives::{Holds, Stacks, lying_troubles};
 use tape::device_steps;
 
-/// The law that, at the drives of one thread, two sessions with different seats never have the same
-/// drive open. A drive counts as open even if its reel is in the bin. If one session acts, the
-/// drives still match each other session: its seat and its open drive.
+/// The law that two sessions never have the same drive open. The sessions have different seats, and
+/// the drives are those of one thread. A drive counts as open even if its reel is in the bin. If
+/// one session acts, the drives still match each other session: its seat and its open drive.
 ///
 /// It does nothing: its contract is a law of the definitions.
 pub fn one_holder<S: Stacks>()
@@ -42,7 +42,8 @@ pub fn open_is_held<S: Stacks>()
     // At the drives of one thread (`LocalHolds`), the session's seat holds the drive that the
     // session has open.
     ensures held { OpenIsHeld (kinds of_holds S.Stacks S.Reel.Reel) }
-    // At the drives of one thread (`LocalHolds`), a drive without a holder is open in no session.
+    // At the drives of one thread (`LocalHolds`), if no seat holds a drive, no session has this
+    // drive open.
     ensures free { FreeIsClosed (kinds of_holds S.Stacks S.Reel.Reel) }
 {}
 
@@ -53,14 +54,15 @@ pub fn open_is_held<S: Stacks>()
 ///
 /// It does nothing: its contract is a law of the definitions.
 pub fn still_at<H: Holds, S: Stacks>()
-    // Drives still match a session after others have acted, if three conditions hold. The session's
-    // seat belongs to the hold record. The hold record and the stacks have as many drives as
-    // before. The session's open reel is still latched.
+    // Drives still match a session after other sessions or an operator have acted, if three
+    // conditions hold. First, the session's seat belongs to the hold record. Second, the hold
+    // record and the stacks have as many drives as before. Third, the session's open reel is still
+    // latched.
     ensures at { StaysAt (kinds H.Holds S.Stacks S.Reel.Reel) }
-    // Two other conditions together can replace the third one (the open reel is still latched).
-    // First, at every drive but one, a reel that was latched is still latched. Second, the session
-    // does not have that one drive open. For example, an operator may rearrange the reels of a
-    // drive that the session does not have open.
+    // Another condition can replace the third condition (the open reel is still latched). This
+    // other condition has two parts. There is one drive that the session does not have open. At
+    // every other drive, a reel that was latched is still latched. For example, an operator may
+    // rearrange the reels of a drive that the session does not have open.
     ensures elsewhere { StaysAtElsewhere (kinds H.Holds S.Stacks S.Reel.Reel) }
 {}
 
@@ -74,8 +76,8 @@ pub fn more_seats<S: Stacks>()
     ensures { StaysAtWithMoreSeats (kinds of_holds S.Stacks S.Reel.Reel) }
 {}
 
-/// The law that drives with reels in memory still match a session after a trouble (an injected
-/// fault) of the stacks was set or cleared.
+/// The law that drives in memory still match a session after a trouble of the stacks was set or
+/// cleared.
 ///
 /// It does nothing: its contract is a law of the definitions.
 pub fn stacks_trouble<H: Holds>()
@@ -89,17 +91,15 @@ pub fn stacks_trouble<H: Holds>()
 ///
 /// It does nothing: its contract is a law of the definitions.
 pub fn one_session_view()
-    // If no two reels have the same name, the session view of stacks in memory and of the open reel
-    // is known.
+    // If no two reels have the same name, stacks in memory and the open reel have a session view.
     ensures told { (x : MemoryState) → IsLibrary x.drives.stacks (library_of x.drives.stacks) → HasView in_memory x (session_view_seen x) }
-    // Stacks in memory and the open reel have only one session view.
+    // Stacks in memory and the open reel have at most one session view.
     ensures one { (x : MemoryState) (v : SessionView) → HasView in_memory x v → v ≡ session_view_seen x }
 {}
 
-/// The law that gives the effect of one request on drives and reels in memory, if a trouble (an
-/// injected fault) is set before the request. The trouble is set on the stacks before an open and
-/// before operation 6 of mtio. Before other requests it is set on the open reel. No other trouble
-/// is set.
+/// The law that gives the effect of one request on drives in memory, if a trouble is set. The
+/// trouble is set on the stacks before an open and before operation 6 of mtio. Before other
+/// requests it is set on the open reel. No other trouble is set.
 ///
 /// Then `TroubledServe` gives the reply, drives, session and holders. No reel on the stacks or in
 /// the bin has a trouble afterwards. A trouble of the open reel or of the stacks is still set, or a
@@ -109,43 +109,43 @@ pub fn one_session_view()
 /// It does nothing: its contract is a law of the definitions.
 pub fn troubled_serve()
     // Suppose that drives and reels are in memory, and that a trouble is set for a request. Then
-    // this law gives the exact effect of the request. The effect says which call fails, which
-    // entries remain, and who holds each drive. No reel on a stack or in the bin has a trouble
-    // afterwards. Either the trouble that was set is still set, or the trouble is cleared and the
-    // reply is error 5.
+    // this law gives the exact effect of the request: which call fails, which records and marks
+    // remain, and who holds each drive. No reel on a stack or in the bin has a trouble afterwards.
+    // Either the trouble that was set is still set, or the trouble is cleared and the reply is
+    // error 5.
     ensures { TroublesAreServed }
 {
     lying_troubles();
 }
 
-/// The law that each effect that `troubled_serve` gives is a serve step. An open and operation 6 of
-/// mtio never run out of memory then, since stacks in memory allocate nothing for them.
+/// The law that `troubled_serve` gives only serve steps. An open and operation 6 of mtio never run
+/// out of memory then, since stacks in memory allocate nothing for them.
 ///
 /// It does nothing: its contract is a law of the definitions.
 pub fn troubled_is_served()
     // The effect that `troubled_serve` gives for a request is a serve step.
     ensures served { TroubledIsServed }
-    // If `troubled_serve` gives the effect of an open or an MTOFFL, this request never runs out of
-    // memory. Stacks in memory allocate nothing for these two requests.
+    // Suppose that `troubled_serve` gives the effect of an open or an MTOFFL. Then the request
+    // never runs out of memory, because stacks in memory allocate nothing for these two requests.
     ensures memory { NoMemoryIsWanted }
 {
     device_steps();
 }
 
-/// The law that troubles of the open reel and of the stacks can be set or cleared, and that the
-/// drives then still match the session. The view of both is unchanged. If no reel on the stacks or
-/// in the bin has a trouble, they are then set as `troubled_serve` requires.
+/// The law that drives still match a session after troubles of the open reel and of the stacks are
+/// set or cleared. The view of both is unchanged. If no reel on the stacks or in the bin has a
+/// trouble, they are then set as `troubled_serve` requires.
 ///
 /// It does nothing: its contract is a law of the definitions.
 pub fn troubles_set()
-    // If drives and reels are in memory, one trouble can be set for the open reel and one for the
-    // stacks. After troubles are set, the drives still match the session, and the session view is
-    // unchanged.
+    // Suppose that drives and reels are in memory. One trouble can be set for the open reel, and
+    // one for the stacks. After both are set, the drives still match the session, and the session
+    // view is unchanged.
     ensures at { (reel : Trouble) (stacks : Bool) (x : MemoryState) → IsAt in_memory x → IsAt in_memory (with_troubles reel stacks x) }
     ensures told { (reel : Trouble) (stacks : Bool) (x : MemoryState) (v : SessionView) →
         HasView in_memory x v → HasView in_memory (with_troubles reel stacks x) v }
-    // If no reel on a stack or in the bin has a trouble, these two troubles are the only ones that
-    // are set afterwards.
+    // If no reel on a stack or in the bin has a trouble, only these two troubles are set
+    // afterwards.
     ensures set { (reel : Trouble) (stacks : Bool) (x : MemoryState) → troubled_in x.drives.stacks.library ≡ 0 →
         IsTroubled reel stacks (with_troubles reel stacks x) }
     // For each request, a trouble can be set in the way that `troubled_serve` requires.
@@ -153,14 +153,14 @@ pub fn troubles_set()
         IsSetFor trouble request (set_for trouble request x) }
 {}
 
-/// The law that gives the state of drives and reels in memory after a session has ended, if no
-/// trouble is set for the session's open reel.
+/// The law that gives the state of drives in memory after a session has ended. No trouble is set
+/// for the session's open reel.
 ///
 /// It does nothing: its contract is a law of the definitions.
 pub fn untroubled_end()
     // Suppose that the drives and reels are in memory. Suppose also that no trouble is set for the
-    // open reel, for a reel on a stack, or for a reel in the bin. Then, after the session has
-    // ended, the reel that it had open is on the drive's stack, and the drive is free. No reel on a
+    // open reel, for a reel on a stack, or for a reel in the bin. After the session has ended, the
+    // reel that the session had open is on the drive's stack, and the drive is free. No reel on a
     // stack or in the bin has a trouble then.
     ensures { EndsUntroubled }
 {

@@ -3,11 +3,13 @@
 //!
 //! # Contracts
 //!
-//! A session carries out the requests of one client. A session has either nothing open, or an open
-//! drive that its seat holds. The *session view* is the known content of the stacks and of the
-//! session's open reel. A *serve step* is what one request and its reply may do to the session
-//! view. Drives *match* a session if the session's seat belongs to their hold record, and if the
-//! session has either one of these drives or nothing open.
+//! The crate `drives` explains seats, hold records, stacks and the bin. A *trouble* is an injected
+//! fault. A session has either nothing open, or an open drive that the session's seat holds. The
+//! *session view* is the known content of the stacks and of the session's open reel. A *serve step*
+//! is what one request and its reply may do to the session view. Drives *match* a session if two
+//! conditions hold. First, the session's seat belongs to the drives' hold record. Second, the
+//! session has nothing open, or has one of these drives open. A request or a reply has a *spelling*
+//! if some bytes of the protocol spell it.
 #![tactic(auto)]
 
 mod access;

@@ -59,8 +59,8 @@ impl<H: Holds, S: Stacks> Session<H, S> {
         // The new session has the given seat and nothing open. If an allocation fails, `new` hands
         // the seat back.
         ensures made { MatchResult result (λ s. s ≡ record { seat = seat; opened = None }) (λ refused. refused.0 ≡ seat) }
-        // Suppose that the seat belongs to the hold record of some drives, and that the stacks have
-        // no more drives than this record. Then these drives match the new session.
+        // Drives match the new session if two conditions hold. First, the seat belongs to the
+        // drives' hold record. Second, the stacks have no more drives than the hold record.
         ensures at { IfOk result (FitsItsDrives (kinds H.Holds S.Stacks S.Reel.Reel) seat) }
     {
         match Vec::from_elem(alloc, 0u8, RECORD_LIMIT) {
@@ -108,10 +108,9 @@ impl<H: Holds, S: Stacks> Session<H, S> {
     /// open is theirs. Its stacks must not have more drives than its holds.
     pub fn carry_out(&mut self, drives: &mut DriveTable<H, S>, request: Request<'_>) -> Reply<'_>
         requires { IsAt (kinds H.Holds S.Stacks S.Reel.Reel) (state drives.old self.old) }
-        // The session makes several checks of a request, and refuses the request at the first check
-        // that fails. If no check fails, the request has its effect (field `effect`). If the
-        // content of stacks and reel is known, the request and its reply are one serve step (field
-        // `step`).
+        // The session checks a request, and refuses the request at the first check that fails. If
+        // no check fails, the request has its effect (field `effect`). If the content of stacks and
+        // reel is known, the request and its reply are one serve step (field `step`).
         //
         // The reply says what was done, with the numbers and texts of the protocol.
         //
@@ -121,49 +120,49 @@ impl<H: Holds, S: Stacks> Session<H, S> {
         // Suppose that the reply reports a device fault. Then some device was able to fail before
         // the request, and a failure was counted during the request (field `step`: `trouble`,
         // `able`). A count of failures that is already the greatest `u64` does not change. If no
-        // device can fail before a request, none can fail after it (field `quiet`).
+        // device can fail before the request, no device can fail after the request (field `quiet`).
         //
-        // If a latch, a move or a call of the reel fails, the reply reports the failure. What
-        // failed is not tried again (field `effect`). A close does not change the stacks' number of
-        // failures.
+        // If a latch, a move or a call of the reel fails, the reply reports the failure. The
+        // session does not try the failed call again (field `effect`). A close does not change the
+        // stacks' count of failures.
         //
         // Operation 6 (MTOFFL) rewinds the reel and moves it to the bin (fields `effect` and
         // `step`). The drive stays open and held. If the move is refused, the reel stays open, at
         // its beginning.
         //
-        // A session holds the drive that it has open, and no other (fields `at` and `steps`). After
-        // an open that succeeded, the seat's last step is a take of the opened drive, and this take
-        // found 0 (no holder). After an open that found the drive busy, the seat's last step is a
-        // take that found a number above 0 (a holder). An open makes one step, or two steps if the
-        // open first gave a drive back. A close of a drive makes one step, a give. Other requests
-        // make no step.
+        // The session's seat holds the open drive and no other drive (fields `at` and `steps`).
+        // After an open that succeeded, the seat's last step is a take of the opened drive. This
+        // take found 0 (no holder). After an open that found the drive busy, the seat's last step
+        // is a take that found a number above 0 (a holder). An open makes one step of the seat, or
+        // two steps if the open first gave a drive back. A close of a drive makes one step, a give.
+        // Other requests make no step.
         //
         // If an open found a number above 0 at a drive, the last step of the session's seat is the
         // take that found this number (field `step`: `taken`).
         //
-        // Each seat whose number is not the session's still belongs to the hold record (field
-        // `kept`). The hold record and the stacks have as many drives after the request as before.
-        // The count of the stacks' failures never falls. A reel that is latched at a drive stays
-        // latched, if the session has this drive open neither before the request nor after it.
+        // Each seat with another number still belongs to the hold record (field `kept`). The hold
+        // record and the stacks have as many drives after the request as before. The count of the
+        // stacks' failures never falls. A reel that is latched at a drive stays latched, unless the
+        // session has this drive open before or after the request.
         //
         // No request assigns a number to a seat (field `same_seats`), and the seat keeps its number
-        // (field `kept`: `number`). A session calls only `take`, `give` and `holder` of its hold
-        // record, and these calls assign no number. The edits that are refused here change
-        // `LocalHolds`, so that its `take` or `give` assigns a number.
+        // (field `kept`: `number`). A session calls only `take`, `give` and `holder` of the hold
+        // record, and these calls assign no number. In the edits that are refused here, `take` or
+        // `give` of `LocalHolds` assigns a number.
         //
-        // Each kind of reel or stacks can make further promises for its calls (`makes`). These
-        // promises also hold for the calls of the reel and of the stacks that a request makes
-        // (field `effect`: `made`). For example, if stacks are in memory and a trouble is set, the
-        // next latch or move fails and clears the trouble.
+        // Each kind of reel or stacks can make further promises for its calls (`makes`). If a
+        // request makes such a call, these promises are kept too (field `effect`: `made`). For
+        // example, if stacks are in memory and a trouble is set, the next latch or move fails and
+        // clears the trouble.
         //
         // A close rewinds the open reel once, makes no other call of this reel, and lays the reel
-        // back (field `effect`: `IsClosed`, `laid`). If no reel is online, a close leaves the
-        // stacks unchanged.
+        // back on the stack (field `effect`: `IsClosed`, `laid`). If nothing is open or the reel is
+        // in the bin, a close leaves the stacks unchanged.
         ensures* rests { sem 𝓛 (LendsReply H.row S.row H.Seat.row S.Reel.row H.Holds S.Stacks S.Reel.Reel self.entry
             drives.old drives.new request.entry result) }
         // If the request has a spelling, the reply has a spelling.
         ensures spelling { IsSayable (plain_request request.entry) → ReplyHasSpelling (plain_reply result) }
-        // If the request has a spelling, its reply fits into a `ReplyReader`.
+        // If the request has a spelling, the reply fits into a `ReplyReader`.
         ensures short { IsSayable (plain_request request.entry) → length (reply_text (plain_reply result)) ≤ READER_LIMIT }
     {
         let outcome = dispatch(
@@ -181,13 +180,14 @@ impl<H: Holds, S: Stacks> Session<H, S> {
         }
     }
 
-    /// Ends the session: closes what it has open, so that its seat holds no drive.
+    /// Ends the session: closes what the session has open, so that the session's seat holds no
+    /// drive.
     ///
     /// `drives` must match this session: its seat belongs to them, and what is open is theirs.
     pub fn end(&mut self, drives: &mut DriveTable<H, S>)
         requires { IsAt (kinds H.Holds S.Stacks S.Reel.Reel) (state drives.old self.old) }
         // `end` closes what is open and frees the drive, as a close does. `end` assigns no number
-        // to a seat (field `same_seats`), and the seat keeps its number (field `number`).
+        // to a seat (field `same_seats`), and the session's seat keeps its number (field `number`).
         ensures { IsClosed (kinds H.Holds S.Stacks S.Reel.Reel) (state drives.old self.old) (state drives.new self.new) }
     {
         opening::close(drives, &mut self.session_state);
@@ -204,8 +204,8 @@ impl<H: Holds, S: Stacks> Session<H, S> {
         self.session_state.seat
     }
 
-    /// Returns the drive's number and the reel of the open device, or `None` if nothing is open or
-    /// the reel is in the bin.
+    /// Returns the number of the open drive, and the open reel. Returns `None` if nothing is open
+    /// or the reel is in the bin.
     pub fn reel(&self) -> Option<(usize, &S::Reel)>
         // `reel` lends the open reel, and returns the number of its drive. If nothing is open or
         // the reel is in the bin, `reel` returns `None`.

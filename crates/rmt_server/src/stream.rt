@@ -131,12 +131,12 @@ pub fn serve<R: Read, W: Write, H: Holds, S: Stacks>(
     // carried out.
     //
     // `serve` ends if the input ends, between two requests or inside a request. `serve` also ends
-    // at bytes that are no request, and at a failed read or write. The result of `serve` says in
-    // which of these ways it ended.
+    // at bytes that are no request, and at a failed read or write. The result of `serve` says which
+    // of these happened.
     //
-    // If the content of stacks and reel is known, the requests and replies are a run of serve steps
-    // (field `steps`). If no device can fail at the start, no device fails in this run. If no other
-    // seat can hold a drive, no drive is busy in this run.
+    // If the content of stacks and reel is known, the requests and replies are a sequence of serve
+    // steps (field `steps`). If no device can fail at the start, no device fails in these steps. If
+    // no other seat can hold a drive, no drive is busy in these steps.
     //
     // `serve` assigns no number to a seat (field `same_seats`), and the session's seat keeps its
     // number (field `number`).

@@ -71,9 +71,8 @@ pub fn mt<P: Peer, W: Write>(
     rdump_net::mt(alloc, peer, device, op, count, out).code()
 }
 
-/// Prints on `out` what `rdump dates` prints for the bytes of a dumpdates file, as
-/// `rdump_files::dates` does. Returns the exit status of `rdump dates`: 0 if the answer was
-/// printed, else 1.
+/// Prints on `out` the output of `rdump dates` for a dumpdates file, as `rdump_files::dates` does.
+/// Returns the exit status of `rdump dates`: 0 if the answer was printed, else 1.
 pub fn dates<W: Write>(
     alloc: Global,
     file: &[u8],

@@ -9,8 +9,8 @@ use crate::limits::LINE_LIMIT;
 /// The largest number that an argument may give: 2^63 - 1.
 pub const ARGUMENT_LIMIT: u64 = 9_223_372_036_854_775_807;
 
-/// Whether these bytes can be the name of a drive in an open request (rmt(8)): 1 to 255 bytes, none
-/// of them a line feed.
+/// Whether these bytes can be the name of a drive in an open request of rmt(8). Such a name has 1
+/// to 255 bytes, none of them a line feed.
 pub fn is_device(device: &[u8]) -> bool
     // `is_device` returns true if and only if it is given 1 to 255 bytes, none of them a line feed.
     ensures { IsTrue result ↔ IsInRange 1 255 (length device.now) × HasNoLineFeed device.now }
@@ -18,8 +18,8 @@ pub fn is_device(device: &[u8]) -> bool
     !device.is_empty() && device.len() <= LINE_LIMIT && device.iter().all(|b| *b != b'\n')
 }
 
-/// Returns the number, from 0 to 9223372036854775807, that a text of decimal digits spells. Returns
-/// None for any other text.
+/// Returns the number that a text of decimal digits spells. The number is at most
+/// 9223372036854775807. Returns None for any other text.
 pub fn number_of(text: &str) -> Option<u64>
     // If a text consists only of digits and their value is at most 9223372036854775807, `number_of`
     // returns the value. For every other text `number_of` returns `None`.

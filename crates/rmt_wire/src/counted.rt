@@ -70,8 +70,8 @@ impl<T> Counted<T> {
 
 impl<R: Read> Read for Counted<R> {
     // bound, bytes: A read returns the next bytes of the stream, and no more than fit into the
-    // buffer. If at least one byte fits, a read returns 0 bytes only at the end of the stream. A
-    // failed read takes no bytes from the stream.
+    // buffer. If the buffer has room for at least one byte, a read returns 0 bytes only at the end
+    // of the stream. A failed read takes no bytes from the stream.
     //
     // failures: A read counts a failure if and only if it failed.
     //
@@ -79,12 +79,12 @@ impl<R: Read> Read for Counted<R> {
     //
     // left, spent: If no reads are left, a read fails and leaves the stream untouched.
     //
-    // While reads are left, each read calls the wrapped stream once, asks the stream for as many
-    // bytes as fit, and returns the result of that call. No clause says this, because the contracts
-    // of the standard library's streams do not say how often a stream was called. The test
-    // `failed_reads_are_counted` of `rmt_wire_tests` wraps a stream that counts its calls. The test
-    // refuses a body that reports a failure without a call, makes a second call, or reads one byte
-    // where more fit.
+    // While reads are left, each read calls the wrapped stream once. The call asks for as many
+    // bytes as fit into the buffer, and the read returns the result of the call. No clause says so,
+    // because the contracts of the standard library's streams do not say how often a stream was
+    // called. The test `failed_reads_are_counted` of `rmt_wire_tests` wraps a stream that counts
+    // its calls. The test fails for a body that reports a failure without a call, makes a second
+    // call, or reads one byte where more fit.
 
     ghost remaining = { λ c. R.remaining c.inner };
 
@@ -114,21 +114,22 @@ impl<W: Write> Write for Counted<W> {
     // bound, bytes: A write appends a beginning of the given bytes, and returns how many bytes it
     // appended. A failed write appends nothing.
     //
-    // failed, took_none, took_some: A write counts a failure if it failed, or if it was given bytes
-    // and accepted none. A write that accepted at least one byte counts no failure.
+    // failed, took_none, took_some: A write counts a failure if it failed. A write also counts a
+    // failure if it was given bytes and accepted none of them. A write that accepted at least one
+    // byte counts no failure.
     //
-    // nothing_to_take: A write that was given no bytes and succeeded counts no failure.
+    // nothing_to_take: If a write is given no bytes and succeeds, it counts no failure.
     //
-    // left: A write and a flush do not change the number of reads left.
+    // left: Writes and flushes do not change the number of reads left.
     //
     // bytes, failures: A flush appends no bytes and counts no failure.
     //
-    // A write or a flush is passed on to the wrapped stream once, and a write is passed on whole.
-    // No clause says this, because no contract says how often a stream was called. Three tests of
-    // `rmt_wire_tests` wrap a stream that counts its calls. These tests are `numbers`,
-    // `data_of_few_bytes` and `nothing_is_written_after_a_failed_write`. The tests refuse a body
-    // that reports a failure without a call, writes one byte of many, or makes a call after a
-    // failed call. The tests also refuse a body that does not pass a flush on.
+    // Each write and each flush calls the wrapped stream once. A write passes on all of its bytes
+    // in this call. No clause says so, because no contract says how often a stream was called.
+    // Three tests of `rmt_wire_tests` wrap a stream that counts its calls. These tests are
+    // `numbers`, `data_of_few_bytes` and `nothing_is_written_after_a_failed_write`. The tests fail
+    // for a body that reports a failure without a call, writes one byte of many, or makes a call
+    // after a failed call. The tests also fail for a body that does not pass a flush on.
 
     ghost contents = { λ c. W.contents c.inner };
 

@@ -18,8 +18,9 @@ use crate::limits::{READER_LIMIT, RECORD_LIMIT};
 ///
 /// The function does nothing: its contract is a law of the definitions.
 pub fn one_reading()
-    // A stream of bytes divides into requests and a rest in exactly one way. The rest either is a
-    // beginning of a request or has a fault: a byte that rules out every request.
+    // A stream of bytes divides into requests and a rest in exactly one way. The rest is a
+    // beginning of a request, or the rest has a fault. The fault is at the first byte that rules
+    // out every request.
     ensures parts { (bytes rest other : List ℕ) (requests others : List PlainRequest) →
         Parts bytes requests rest → Parts bytes others other → (requests ≡ others) × (rest ≡ other) }
     ensures some_parts { (bytes : List ℕ) → (requests : List PlainRequest) × (rest : List ℕ) × Parts bytes requests rest
@@ -47,28 +48,27 @@ pub fn dropped_writes()
 ///
 /// The function does nothing: its contract is a law of the definitions.
 pub fn one_reply()
-    // A client waits for one kind of reply. Among the spellings of all replies of this kind, no
-    // spelling is the beginning of a longer one. Each of these spellings spells only one reply of
-    // this kind.
+    // A client waits for one kind of reply. Bytes that spell a reply of this kind spell no other
+    // reply of this kind. If more bytes follow them, all the bytes together spell no reply of this
+    // kind.
     ensures { (wanted : Wanted) (text more : List ℕ) (reply other : PlainReply) →
         SpellsReply text reply wanted → SpellsReply (text ++ more) other wanted → (more ≡ []) × (reply ≡ other) }
 {}
 
-/// The bytes that a reader got since it began to wait for a reply decide the reader's result: the
-/// reply, no reply yet, or a fault.
+/// The bytes that a reader gets while it waits for a reply decide the reader's result: the reply,
+/// no reply yet, or a fault.
 ///
 /// The function does nothing: its contract is a law of the definitions.
 pub fn one_reply_reading()
-    // A reader begins to wait for a reply. The bytes that come after this decide the reader's
+    // A reader begins to wait for a reply. The bytes that the reader gets from then on decide its
     // result. Exactly one result is possible.
     ensures answers { (wanted : Option Wanted) (bytes : List ℕ) → ReplyIsDecided wanted bytes }
     ensures some_answer { (wanted : Option Wanted) (bytes : List ℕ) →
         (answer : Result (Option PlainReply) WireFault) × (rest : List ℕ) × ReplyParsesAs wanted bytes answer rest }
 {}
 
-/// A reply with at most `RECORD_LIMIT` bytes of data, or with no data, is written as at most
-/// `READER_LIMIT` bytes. A reply has no more data than that if its client waits for at most
-/// `RECORD_LIMIT` bytes.
+/// A reply with at most `RECORD_LIMIT` bytes of data takes at most `READER_LIMIT` bytes. A reply
+/// has no more data than that if its client waits for at most `RECORD_LIMIT` bytes.
 ///
 /// The function does nothing: its contract is a law of the definitions.
 pub fn short_replies()
@@ -76,8 +76,8 @@ pub fn short_replies()
     // bytes. So the reply fits into a reader.
     ensures short { (reply : PlainReply) →
         ReplyHasSpelling reply → data_length reply ≤ RECORD_LIMIT → length (reply_text reply) ≤ READER_LIMIT }
-    // If a client waits for at most 262,144 bytes of data, each reply that the client can get has
-    // at most 262,144 bytes of data.
+    // If a client waits for at most 262,144 bytes of data, each possible reply has at most 262,144
+    // bytes of data.
     ensures answers { (reply : PlainReply) (wanted : Wanted) →
         AnswersTo reply wanted → IsWithin wanted → data_length reply ≤ RECORD_LIMIT }
 {}

@@ -1,5 +1,5 @@
-//! The wire format of the remote magtape protocol (rmt(8)): the grammar of requests and replies,
-//! writers for both, and readers that lend each request or reply from a fixed buffer.
+//! The wire format of the remote magtape protocol, rmt(8): how requests and replies are written and
+//! read.
 //!
 //! For a server: `RequestReader` splits a stream into requests, whatever pieces it comes in, and
 //! its `read_next` reads a stream up to the next request. `write_reply` writes a reply, and
@@ -15,9 +15,10 @@
 //! # Contracts
 //!
 //! The page docs/PROTOCOL.md says which bytes stand for a request or a reply. These bytes *spell*
-//! the request or reply. A reader keeps bytes that came from a stream. A kept byte is *unread*
-//! until `next` has returned the request or reply that contains the byte. A `Counted` is a stream
-//! that counts its failures and limits the number of its reads.
+//! the request or reply. A reader keeps bytes that came from a stream, in a buffer of fixed size. A
+//! kept byte is *unread* until `next` has returned the request or reply that contains the byte. A
+//! reader *lends* data or a text: it returns a reference to bytes in its buffer. A `Counted` is a
+//! stream that counts its failures and limits the number of its reads.
 #![tactic(auto)]
 
 mod append;

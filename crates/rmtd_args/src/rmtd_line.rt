@@ -64,14 +64,15 @@ pub fn server_words<'a>(
 ) -> Result<ServerLine<'a>, LineFault>
     // A *line* (`ServerLine`) contains the parsed arguments. If the call returns a line, clap (the
     // parser of arguments) accepts the arguments, and the line has the values that clap matched.
-    // The line says whether `--stdio` was given. Texts are in the line as they were given. Each
-    // number in the line is the value of the digits that were given, and is at most
+    // The line says whether `--stdio` was given. Each text in the line is the text that was given.
+    // Each number in the line is the value of the digits that were given, and is at most
     // 9223372036854775807. If no capacity is given, the capacity is 1,048,576. Exactly one of
     // `--stdio` and `--listen` was given.
     //
-    // The drives of the line are the arguments that are not options, in order. Each of these
-    // arguments is split at its first `=`. Each drive has a device of 1 to 255 bytes without a line
-    // feed, and a folder that is not empty (`KeepsDriveRules`). No two drives have the same device.
+    // Each argument that is not an option gives a drive of the line, in order. Each of these
+    // arguments is split at its first `=`. The text before the `=` is the device, and the text
+    // after the `=` is the folder. Each drive has a device of 1 to 255 bytes without a line feed,
+    // and a folder whose name is not empty (`KeepsDriveRules`). No two drives have the same device.
     // There are at most 64 drives. If there is a drive, `--bin` was given.
     ensures line { IfOk result (IsLineOf (map (λ s. s.now) arguments.entry.now)) }
     // The call returns `BadWords` (the arguments are bad) in two cases only. Either clap refuses
@@ -84,7 +85,7 @@ pub fn server_words<'a>(
     }
 }
 
-/// Parses the arguments as `server_words` does, and returns an error of clap if that fails. The
+/// Parses the arguments as `server_words` does, but returns clap's error if the parsing fails. The
 /// error's text is for the user: it says what is wrong with the arguments. It is the help or the
 /// version only if the arguments ask for that.
 ///
@@ -93,16 +94,16 @@ pub fn server_words<'a>(
 pub fn server_line<'a>(alloc: Global, arguments: &'a [&'a str]) -> Result<ServerLine<'a>, Error>
     // Returns the line that `server_words` promises.
     ensures line { IfOk result (IsLineOf (map (λ s. s.now) arguments.entry.now)) }
-    // The call returns an error whose kind is not `OutOfMemory` in two cases only. Either clap
+    // The call returns an error of another kind than `OutOfMemory` in two cases only. Either clap
     // refuses the arguments, or the values that clap matched break a rule of `server_words`. No
     // clause says which text an error has.
     ensures refused { IfErr result (λ e. ¬ (kind_of e ≡ ErrorKind.OutOfMemory) → AreBadArguments (map (λ s. s.now) arguments.entry.now)) }
-    // The error that the call returns is clap's help or version only if clap answers these
-    // arguments with its help or version.
+    // The returned error is clap's help or version only if clap answers the arguments with its help
+    // or version.
     ensures shown { IfErr result (λ e. IsShown (kind_of e) → AskToBeShown (map (λ s. s.now) arguments.entry.now)) }
     // Suppose that clap refuses the arguments, or answers them with its help or version. Then the
-    // error that the call returns has one of two kinds: a kind that clap gives for these arguments,
-    // or `OutOfMemory`.
+    // returned error has either a kind that clap gives for these arguments, or the kind
+    // `OutOfMemory`.
     ensures kinds { IfErr result (λ e. ¬ (faults_in (map (λ s. s.now) arguments.entry.now) ≡ [])
         → HasKind (faults_in (map (λ s. s.now) arguments.entry.now)) e) }
 {

@@ -34,10 +34,10 @@ pub fn serve_at<H: Holds + Drop, S: Stacks + Drop, I: Read, O: Write>(
     requires idle { HoldsJust (H.shows seat) None }
     requires enough { S.drives drives.stacks ≤ H.drives drives.holds }
     // If the seat holds no drive, a session serves the pair of streams, as the contract of `serve`
-    // in `rmt_server` says. When the session ends, it closes what it opened. `serve_at` returns the
-    // seat and its stacks. The seat holds no drive and keeps its number. Other seats hold what they
-    // held before. If an allocation failed before the first request was read, neither stream is
-    // touched.
+    // in `rmt_server` says. When the session ends, the session closes what it opened. `serve_at`
+    // returns the seat and its stacks. The returned seat holds no drive and has the same number as
+    // before. Other seats hold the same drives as before. If an allocation failed before the first
+    // request was read, neither stream is touched.
     ensures { GivesBack (kinds H.Holds S.Stacks S.Reel.Reel) I.Read O.Write (idle input.old output.old drives seat)
         (streams input.new output.new) result }
 {

@@ -6,8 +6,8 @@ ghost use Rattle.hold_table.specs.Seats.{IsSeatAt};
 use drives::DRIVE_LIMIT;
 use hold_table::{HoldSeat, HoldTable, SEAT_LIMIT};
 
-/// Closes the table of a server whose last connection has ended, and returns for each drive which
-/// seat holds it.
+/// Closes the table of a server whose last connection has ended, and returns which seat holds each
+/// drive.
 ///
 /// The seats are those that `serve_many` returned. The result has for each drive the number of the
 /// seat that holds the drive, or 0. If all seats of the table are given back, no drive is held. If

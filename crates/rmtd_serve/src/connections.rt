@@ -71,7 +71,7 @@ impl<'a, C: Clock, L: Log + Drop> Connections<'a, C, L> {
     /// `clock` measures the pause after a failed accept. At most `left` connections come. `log`
     /// gets the log lines.
     pub fn new(clock: &'a C, listener: &'a TcpListener, left: u64, log: L) -> Self
-        // The number of connections that may still come is the number given to `new`.
+        // The number of connections that may still come is the number that was given to `new`.
         ensures left { result.left ≡ left }
         // The allowed number of failed accepts is the greatest `u64`. The listener is not marked as
         // broken.
@@ -197,11 +197,11 @@ impl<'a, C: Clock, L: Log + Drop> Connections<'a, C, L> {
 }
 
 impl<C: Clock, L: Log + Drop> Incoming for Connections<'_, C, L> {
-    // is_over: The connections of a listener are over if all have come, or if the listener can
-    // never accept again. The connections are also over if the number of failed accepts has reached
-    // the greatest `u64`. A listener can never accept again after one of five errors of accept(2):
-    // EBADF, EFAULT, EINVAL, ENOTSOCK and EOPNOTSUPP. An accept that failed with another error does
-    // not count as a connection.
+    // is_over: The connections of a listener are over in three cases. All of them have come. Or the
+    // listener can never accept again. Or the number of failed accepts has reached the greatest
+    // `u64`. A listener can never accept again after one of five errors of
+    // accept(2): EBADF, EFAULT, EINVAL, ENOTSOCK and EOPNOTSUPP. An accept that failed with another
+    // error does not count as a connection.
 
     type In = TcpStream;
 

@@ -29,16 +29,16 @@ pub trait Incoming {
     /// Returns the next pair of streams, or None after the last pair. It may wait for a pair, as a
     /// read may.
     fn next(&mut self) -> Option<(Self::In, Self::Out)>
-        // `next` returns `None` only if it has returned the last pair of streams before.
+        // `next` returns `None` only if all pairs of streams have come.
         ensures { result ≡ None → is_over self.new };
 
-    /// Returns the number, for log lines, of the pair of streams that `next` returned last. No
+    /// Returns the number of the pair of streams that `next` returned last, for log lines. No
     /// contract speaks of it.
     fn number(&self) -> u64 {
         0
     }
 
-    /// Receives the reason why the pair of streams that `next` returned last was dropped without
-    /// being served. No contract speaks of it.
+    /// Receives the reason for which the last returned pair of streams was dropped without being
+    /// served. No contract speaks of it.
     fn dropped(&self, _why: DropReason) {}
 }

@@ -8,9 +8,11 @@
 //! other, or up to 32 streams in parallel. A *serve step* is one request with its reply and its
 //! effect, as the protocol allows them. `rmt_tools` exports the names of this crate too.
 //!
-//! A worker has a seat and stacks. The invariant of `Worker` says that the seat holds no drive and
-//! belongs to a table, and that the stacks have no more drives than this table. The invariant holds
-//! when a thread takes a worker, and when the thread puts the worker back.
+//! A *table* has 32 *seats*, and records which seat holds which drive. Each session has a seat.
+//! *Stacks* are all drives of the server with their reels, and the bin. A *worker* is a seat and
+//! stacks for one thread. The invariant of `Worker` says that the seat holds no drive and belongs
+//! to a table. It also says that the stacks have no more drives than this table. The invariant
+//! holds when a thread takes a worker, and when the thread puts the worker back.
 #![tactic(auto)]
 
 mod at;

@@ -28,8 +28,8 @@ pub fn serve_connections<'a, C: Clock, L: Log + Drop>(
     // `serve_connections` ends in three cases: all connections have come (`left`), the listener can
     // never accept again (`broken`), or the allowed number of failed accepts is used up (`tries`).
     // Only an accept changes `left`, `broken` and `tries`, and a failed accept lowers `tries` by
-    // one. Private clauses promise this of each accept. The crate `thread_tests` tests that accepts
-    // keep this promise.
+    // one. Private clauses promise this of each accept. The crate `thread_tests` tests that each
+    // accept keeps this promise.
     ensures over { AreOver result.left result.tries result.broken }
 {
     let mut connections = connections;

@@ -139,10 +139,10 @@ where
     S::Reel: Send,
     requires seats { (length seats.items ≡ SEAT_LIMIT) × All (λ s. IsSeatAt table.now s × HoldsJust s.view None) seats.items }
     requires stacks { (length stacks.items ≡ SEAT_LIMIT) × All (λ s. S.drives s ≤ table.now.words) stacks.items }
-    // `serve_many` serves pairs of streams in threads, and this is proved safe. The caller must
-    // pass 32 seats of one table, and stacks for each seat. The seats must hold no drive, and the
-    // stacks of a seat must have no more drives than the table. `serve_many` returns only after the
-    // last pair of streams has come.
+    // `serve_many` serves pairs of streams in threads, and its use of threads is proved safe. The
+    // caller must pass 32 seats of one table, and stacks for each seat. The seats must hold no
+    // drive, and the stacks of a seat must have no more drives than the table. `serve_many` returns
+    // only after the last pair of streams has come.
     ensures over { I.is_over result.0 }
     // Each seat that `serve_many` returns belongs to the table and holds no drive.
     ensures seats { All (λ s. IsSeatAt table.now s × HoldsJust s.view None) result.1.items }

@@ -79,8 +79,8 @@ pub fn start<R: ServerSystem, I: Read, O: Write>(
     output: &mut Counted<O>,
 ) -> io::Result<Begun<R>>
     // Either `start` does what `begin` promises for some list of arguments, or `start` returns
-    // `Failed` and touches neither stream. No clause says that the arguments of the program are
-    // this list.
+    // `Failed` and touches neither stream. No clause says that this list is the program's
+    // arguments.
     ensures started { IfOk result (IsStarted (streams_kind I.remaining O.contents)
         (streams input.old output.old) (streams input.new output.new)) }
     // If `start` returns an error, neither stream was touched.
@@ -184,8 +184,8 @@ pub fn begin<R: ServerSystem, I: Read, O: Write>(
     // Neither stream is touched.
     //
     // If the server cannot start, or the arguments are wrong, `begin` returns `Failed`. If the
-    // argument parser (clap) prints the help or the version, `begin` returns `Ended`. In each of
-    // these three cases neither stream is touched.
+    // argument parser (clap) prints the help or the version, `begin` returns `Ended`. In all these
+    // cases neither stream is touched.
     ensures begun { IfOk result
         (IsBegun (streams_kind I.remaining O.contents) (map (λ s. s.now) arguments.now)
         (streams input.old output.old) (streams input.new output.new)) }

@@ -23,9 +23,9 @@ impl ExitStatus {
     /// Returns the exit status of `rmtd --stdio` for this ending of the stream.
     pub fn of(ending: Result<Served, SessionFault>) -> ExitStatus
         // The exit status is `Ended` if the stream ended between two requests, and `CutOff` if the
-        // stream ended inside a request. The exit status is `Malformed` if the bytes that came are
-        // not a request. It is `Failed` if a read or a write failed, or if the server could not
-        // start.
+        // stream ended inside a request. The exit status is `Malformed` if the bytes that arrived
+        // are not a request. The exit status is `Failed` if a read or a write failed, or if the
+        // server could not start.
         ensures { result ≡ exit_status ending }
     {
         match ending {
@@ -36,7 +36,7 @@ impl ExitStatus {
         }
     }
 
-    /// Returns the number with which the program ends.
+    /// Returns the exit status of the program as a number.
     pub fn code(self) -> u8
         // `code` returns 0 for `Ended`, 1 for `Failed`, 2 for `CutOff` and 3 for `Malformed`.
         ensures { result ≡ exit_code self }

@@ -6,8 +6,9 @@
 //! # Contracts
 //!
 //! A *schedule* is a text with one command in each line. Most commands make one event happen in the
-//! world. The clauses below do not say which event a line makes, or at which line a schedule ends
-//! early. Tests check both.
+//! world. The world has a dump client, a tape server and *strangers*: any other programs that
+//! connect to the server. The clauses below do not say which event a line makes, or at which line a
+//! schedule ends early. Tests check both.
 #![tactic(auto)]
 
 mod arguments;

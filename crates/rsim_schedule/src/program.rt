@@ -12,8 +12,8 @@ use std::io::Write;
 use std::rt::Files;
 use std::{fs, io};
 
-/// Runs the program `rsim`: runs the schedule in the file that the arguments name, and prints on
-/// `out` as `schedule` does. The first argument is the name of the program itself.
+/// Runs the program `rsim`: runs the schedule in the file that the arguments name. The call prints
+/// on `out` as `schedule` does. The first argument is the name of the program itself.
 ///
 /// Returns the exit status of the schedule. If the arguments are wrong or the file cannot be read,
 /// it prints one line on standard error and returns `StartupError`. It does the same if parsing the

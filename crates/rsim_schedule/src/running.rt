@@ -30,9 +30,10 @@ use tape_world::World;
 pub fn schedule<W: Write>(alloc: Global, text: &[u8], out: &mut Counted<W>) -> ExitStatus
     // The call has three outcomes. In the first outcome, all events are made. The call prints one
     // line for each attempt that failed, then the report of the resulting world, and returns
-    // `Success`. For some list of events and some drives that `good_drives` accepts, a new world
-    // with these drives gives exactly these lines and this report. The report lists the reels with
-    // the lengths of their entries, the stacks, the bin, the counts, and dumpdates.
+    // `Success`. There is a list of events that gives exactly these lines and this report. The
+    // events happen in a new world, and `good_drives` accepts the drives of this world. The report
+    // lists the reels with the lengths of their entries, the stacks, the bin, the counts, and
+    // dumpdates.
     //
     // In the second outcome, the schedule ends early. The call first prints one line for each
     // attempt that failed. There is a list of events that gives exactly these lines. The call then
@@ -43,8 +44,8 @@ pub fn schedule<W: Write>(alloc: Global, text: &[u8], out: &mut Counted<W>) -> E
     // A private call prints why a schedule ended. It prints different words for each reason.
     //
     // In the third outcome, a write of the output fails. The call then prints nothing more. The
-    // text that it has printed so far is a beginning of the text of the first or of the second
-    // outcome. The status is `Abnormal`.
+    // text that was printed so far is a beginning of the text of the first or the second outcome.
+    // The status is `Abnormal`.
     ensures { IsScheduled W.contents out.old result out.new }
 {
     let mut lines = ScheduleLines::new(text);

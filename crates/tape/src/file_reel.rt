@@ -44,29 +44,30 @@ impl<M: Medium> Model for FileReel<M> {
 impl<M: Medium> FileReel<M> {
     /// Returns the medium that the reel is on.
     pub fn medium(&self) -> &M
-        // `medium` lends the reel's medium. The types allow only this body, so there is no edit.
+        // `medium` returns a reference to the reel's medium. The types allow only this body, so
+        // there is no edit.
         ensures { result.now ≡ self.now.medium }
     {
         &self.medium
     }
 
-    /// Returns the medium as it is, so that it can be opened again. Makes no call of the medium.
+    /// Returns the medium that the reel was on. Makes no call of the medium.
     pub fn into_medium(self) -> M
-        // `into_medium` returns the medium unchanged, so that it can be opened again.
+        // `into_medium` returns the medium unchanged, so that the reel can be opened again.
         ensures { result ≡ self.medium }
     {
         let FileReel { medium, .. } = self;
         medium
     }
 
-    /// Opens the reel that is on this medium, with a capacity in bytes. The reel stands at its
+    /// Opens the reel that is on this medium, with a capacity in bytes. The place is at the
     /// beginning. Makes no call of the medium.
     ///
     /// Ignores bytes after the last whole entry; the next write cuts them off. Entries beyond the
     /// capacity can be read like others.
     pub fn open(medium: M, capacity: u64) -> FileReel<M>
-        // The opened reel has the entries that the medium's bytes spell, and stands at the
-        // beginning of these entries. The reel has the given medium and capacity.
+        // The opened reel has the entries that the medium's bytes spell, and the place is at the
+        // beginning. The reel has the given medium and capacity.
         ensures told { (bytes : List ℕ) (entries : List PlainEntry) →
             M.holds medium bytes → SpellsReel bytes entries → HoldsTape M.holds result (tape [] entries) }
         ensures medium { result.medium ≡ medium }
@@ -200,11 +201,11 @@ impl<M: Medium> Reel for FileReel<M> {
     // that these bytes spell. No call allocates.
     //
     // failures: Each call keeps the promises that every reel keeps (`IsTapeCall`), even if the
-    // medium's bytes are not known. The reel's count of failures is the count of its medium.
+    // medium's bytes are not known. The reel's count of failures is that of its medium.
     //
     // makes: A call fails with `Device` only if the medium can fail, or has too little room for the
-    // bytes to be written (`IsFileCall`). If the medium cannot fail before a call, it cannot fail
-    // after the call. Only written bytes use up room.
+    // bytes that the call is to write (`IsFileCall`). If the medium cannot fail before a call, it
+    // cannot fail after the call. Only written bytes use up room.
 
     ghost holds = { HoldsTape M.holds };
 

@@ -41,14 +41,15 @@ impl<M: Medium> Model for FuseMedium<M> {
 }
 
 impl<M: Medium> FuseMedium<M> {
-    /// Wraps `inner` in a medium that counts its calls from 0 and makes call number `at` fail.
+    /// Wraps `inner` in a medium that makes call number `at` fail, counted from 0.
     ///
     /// If `once`, no later call is made to fail; else each later call fails too. An append that is
     /// due to fail adds its first `left` bytes.
     pub fn new(inner: M, at: u64, left: usize, once: bool) -> FuseMedium<M>
-        // The new medium wraps the given inner medium. One argument of `new` is the number of the
-        // call that is to fail. Another argument says whether all later calls are to fail too. A
-        // third argument says how many bytes an append adds to the inner medium before it fails.
+        // The new medium wraps the given inner medium. The argument `at` of `new` is the number of
+        // the call that is to fail. The argument `once` says whether only this call is to fail, or
+        // all later calls too. The argument `left` says how many bytes a failing append adds to the
+        // inner medium.
         ensures { result ≡ record { inner = inner; to_go = Some at; left = left; once = once; failures = 0 } }
     {
         FuseMedium {
@@ -60,9 +61,10 @@ impl<M: Medium> FuseMedium<M> {
         }
     }
 
-    /// Returns the inner medium as it is, so that it can be opened again. Makes no call of it.
+    /// Returns the inner medium. Makes no call of it.
     pub fn into_inner(self) -> M
-        // `into_inner` returns the inner medium unchanged, so that it can be opened again.
+        // `into_inner` returns the inner medium unchanged, so that a reel can be opened on this
+        // medium again.
         ensures { result ≡ self.inner }
     {
         let FuseMedium { inner, .. } = self;
@@ -105,31 +107,33 @@ impl<M: Medium> FuseMedium<M> {
 }
 
 impl<M: Medium> Medium for FuseMedium<M> {
-    // counted: The medium counts its calls, and an append with a frame is one call. The call whose
-    // number was given to `new` is *due to fail*. An argument of `new` says whether all later calls
-    // are due to fail too, or none of them.
+    // counted: The medium numbers its calls from 0. A call of `append_framed` is one call. The
+    // argument `at` of `new` is the number of the call that is *due to fail*. If the argument
+    // `once` is false, all later calls are due to fail too. If `once` is true, no later call is due
+    // to fail.
     //
     // stopped: A call that is due to fail does fail.
     //
-    // passed: A call that is not due to fail can still fail. It fails only if the inner medium can
-    // fail, or has too little room for the bytes that the call is to add.
+    // passed: A call that is not due to fail can still fail. Such a call fails only if the inner
+    // medium can fail, or has too little room for the bytes that the call is to add.
     //
     // append, append_framed, left: Suppose that an append, with a frame or without, is due to fail.
-    // Then it adds its bytes from the first one on, but at most the number of bytes that was given
-    // to `new`. If the inner medium cannot fail and has room, the append adds exactly this number
-    // of bytes, or all of its bytes if it has fewer.
+    // The append then adds only its first bytes: at most `left` bytes, where `left` is an argument
+    // of `new`. If the inner medium cannot fail and has room, the append adds exactly `left` bytes,
+    // or all of its bytes if it has fewer.
     //
-    // cut, kept, made: If a cut is due to fail, the number of bytes that was given to `new` decides
-    // what the cut does. If the number is 0, the cut changes nothing. If the number is at least 1
-    // and the inner medium cannot fail, the cut is made in the inner medium.
+    // cut, kept, made: If a cut is due to fail, the argument `left` of `new` decides what the cut
+    // does. If `left` is 0, the cut changes nothing. If `left` is at least 1 and the inner medium
+    // cannot fail, the inner medium is cut.
     //
     // len, read_at, kept, buffer: If `len` or `read_at` is due to fail, it makes no call of the
     // inner medium and leaves the buffer unchanged.
     //
-    // failures: Each call that fails is counted once, and no other call is counted.
+    // failures: Each call that fails raises the count of failures by one, up to the greatest `u64`.
+    // No other call changes this count.
     //
-    // unfailed: A call that is not due to fail makes calls of the inner medium. It succeeds only if
-    // none of these inner calls failed. So a failed inner call is not repeated.
+    // unfailed: A call that is not due to fail makes calls of the inner medium. The call succeeds
+    // only if none of these inner calls failed. So a failed inner call is not repeated.
     //
     // call, same: Each call keeps the promises that every medium keeps (`IsMediumCall`). The bytes
     // of a `FuseMedium` are those of the inner medium, if they are known.

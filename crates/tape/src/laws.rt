@@ -12,8 +12,8 @@ ghost use Rattle.tape.specs.declared.laws.TheConstants.{OLDER_RECORD_LIMIT};
 
 use rmt_wire::RECORD_LIMIT;
 
-/// Law: whatever trouble (injected fault) is set for a device, each step of the device
-/// (`DeviceStep`) is a step of its tape (`TapeStep`).
+/// Law: each step of a device (`DeviceStep`) is a step of its tape (`TapeStep`), whatever trouble
+/// (an injected fault) is set.
 ///
 /// With `Trouble::None`, no step fails with `Device`. Each step of a `TroubledReel` keeps the
 /// promises of every `Reel`.
@@ -30,16 +30,16 @@ pub fn device_steps()
         TroubledStep old new request answer → IsTroubledCall old new request answer }
 {}
 
-/// Law: each list of bytes spells one list of entries, and together with an offset it spells at
+/// Law: each list of bytes spells one list of entries. Together with an offset, the bytes spell at
 /// most one tape.
 ///
 /// It does nothing: its contract is a law of the definitions.
 pub fn one_spelling()
     // The *image* of an entry is its bytes in a record file. Each list of bytes spells exactly one
-    // list of entries. The bytes consist of the images of these entries, one after the other, and a
+    // list of entries. The bytes are the images of these entries, one after the other, and then a
     // tail that does not begin with an image.
     ensures entries { (bytes : List ℕ) (entries : List PlainEntry) → SpellsReel bytes entries ↔ (entries ≡ entries_in bytes) }
-    // With a given offset for the place, the bytes spell at most one tape.
+    // If the offset of the place is given too, the bytes spell at most one tape.
     ensures tape { (bytes : List ℕ) (offset : ℕ) (t : Tape) → IsFile bytes offset t → t ≡ tape_in offset bytes }
 {}
 
@@ -48,8 +48,8 @@ pub fn one_spelling()
 /// It is the only limit that servers of earlier versions wrote reels with.
 pub const OLDER_RECORD_LIMIT: usize = 65536;
 
-/// Law: if a reel was written under an older, smaller limit on the length of records, the reel
-/// spells the same entries under the new limit.
+/// Law: raising the limit on the length of records does not change which entries an older reel
+/// spells.
 ///
 /// The older limit is `OLDER_RECORD_LIMIT`, the new one `rmt_wire::RECORD_LIMIT`. The law also
 /// covers a reel whose last write was stopped halfway. It follows that raising the limit changes
@@ -58,8 +58,9 @@ pub const OLDER_RECORD_LIMIT: usize = 65536;
 /// It does nothing: its contract is a law of the definitions.
 pub fn older_reels()
     // Suppose that a record file was written with records of at most 65,536 bytes
-    // (`OLDER_RECORD_LIMIT`). The file's bytes spell the same entries under that limit and under
-    // `RECORD_LIMIT`, even if the last write stopped halfway.
+    // (`OLDER_RECORD_LIMIT`). Then the file's bytes spell the same entries under the limit
+    // `OLDER_RECORD_LIMIT` as under `RECORD_LIMIT`. This holds even if the last write stopped
+    // halfway.
     ensures { (bytes : List ℕ) (entries : List PlainEntry) →
         IsWrittenUpTo OLDER_RECORD_LIMIT bytes → SpellsReelUpTo OLDER_RECORD_LIMIT bytes entries ↔ SpellsReel bytes entries }
 {

@@ -42,7 +42,7 @@ impl Model for ListReel {
 impl ListReel {
     /// Makes an empty reel with this capacity, in bytes. Allocates nothing yet.
     pub fn new(alloc: Global, capacity: u64) -> ListReel
-        // The new reel is empty, stands at its beginning, and has the given capacity.
+        // The new reel is empty and has the given capacity. The place is at the beginning.
         ensures blank { result.tape ≡ tape [] [] }
         ensures capacity { result.capacity ≡ capacity }
     {
@@ -110,23 +110,23 @@ impl ListReel {
 }
 
 impl Reel for ListReel {
-    // write, step: A write puts one record at the place and removes all entries that stood after
-    // the place. A write fails with `Full` if and only if the record and a mark after it do not
-    // fit. A write fails with `OutOfMemory` only if the record and the mark fit.
+    // write, step: A write puts one record at the place and removes all entries that were after the
+    // place. A write fails with `Full` if and only if the record and a mark after it do not fit. A
+    // write fails with `OutOfMemory` only if the record and the mark fit.
     //
     // read, step, bound: A read returns the beginning of the record at the place and moves past the
     // record. At a mark, a read returns no bytes and moves past the mark. At the end, a read
     // returns no bytes and the place does not change.
     //
     // op, rewind, step: `op` writes marks, rewinds, or does nothing (`MTNOP`), as mtio says. `op`
-    // refuses a number that is not an operation of a reel.
+    // fails with `BadOperation` if its number is not an operation of a reel.
     //
     // op, step: Spacing moves over `count` marks or records, in either direction. If there are
-    // fewer than `count` of them, spacing stops where it met a mark, the end or the beginning, and
-    // fails with `EndOrMark`. Spacing does not change the entries.
+    // fewer than `count` marks or records, spacing stops at the mark, the end or the beginning that
+    // it met, and fails with `EndOrMark`. Spacing does not change the entries.
     //
-    // device, failures, GROWS: The device of a reel in memory never fails, and its count of
-    // failures is 0. The reel may allocate.
+    // device, failures, GROWS: The device of a reel in memory never fails, and the count of
+    // failures is always 0. A call of the reel may allocate.
     //
     // call: Each call keeps the promises that every reel keeps (`IsTapeCall`).
 

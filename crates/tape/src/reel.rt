@@ -64,7 +64,7 @@ pub trait Reel {
         ensures call { IsTapeCall (reel_kind holds capacity failures can_fail makes GROWS) self.old self.new
             (Read (length into.old)) (given_answer result into.new) };
 
-    /// Carries out an operation of rmt(8)'s `I` request, given by the operation's number in mtio.
+    /// Carries out the operation that has the number `op` in mtio, as for rmt(8)'s `I` request.
     ///
     /// - 0, `MTWEOF`: writes `count` marks, of 4 bytes each, at the place. All entries from there
     ///   on are lost. The place is then after the marks, at the end.

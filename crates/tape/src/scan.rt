@@ -11,9 +11,9 @@ use crate::Entry;
 use rmt_wire::RECORD_LIMIT;
 use std::alloc::{AllocError, Global};
 
-/// Reads the entries of a record file, from the first entry to the last whole one.
+/// Reads the entries of a record file, from the first entry to the last whole entry.
 ///
-/// Ignores the bytes after that one. Fails with `AllocError` if an allocation fails.
+/// Ignores the bytes after that entry. Fails with `AllocError` if an allocation fails.
 pub fn read_entries(alloc: Global, file: &[u8]) -> Result<Vec<Entry>, AllocError>
     // `read_entries` returns the list of entries that the bytes of a record file spell. The private
     // function `nth_entry` returns one entry, given by its number.

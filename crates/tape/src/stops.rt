@@ -13,8 +13,8 @@ use rmt_wire::mtio::MTWEOF;
 
 /// Opens the reel again on the inner medium of its `FuseMedium`, with a capacity in bytes.
 pub fn reopened<M: Medium>(reel: FileReel<FuseMedium<M>>, capacity: u64) -> FileReel<M>
-    // `reopened` takes a reel on a `FuseMedium` and opens the inner medium with the given capacity.
-    // The resulting reel has the same entries and stands at its beginning.
+    // `reopened` takes a reel on a `FuseMedium`, and opens a reel on the inner medium with the
+    // given capacity. The opened reel has the same entries, and the place is at the beginning.
     ensures stood { Reopens M.holds reel result (λ t u. u ≡ entries_of t) }
     ensures medium { result.medium ≡ reel.medium.inner }
     ensures capacity { result.capacity ≡ capacity }
@@ -35,13 +35,13 @@ pub fn write_and_reopen<M: Medium>(
 ) -> (Result<(), TapeFault>, FileReel<M>)
     requires { IsRecord bytes.now }
     // `write_and_reopen` writes a record to a reel on a `FuseMedium`, and then opens the reel
-    // again. The entries before the place never change. It does not matter which calls are due to
-    // fail, or how many bytes a failed call leaves on the medium. If the write succeeded, the
-    // entries before the place are followed by the record. If the device failed, they are followed
-    // by the old entries, by no entries, or by the record. If the write was refused for another
-    // reason, they are followed by the old entries.
+    // again. The entries before the place of the write never change. It does not matter which calls
+    // are due to fail, or how many bytes a failed call leaves on the medium. The result of the
+    // write decides what is after that place. If the write succeeded, the record is there. If the
+    // device failed, the old entries, no entries, or the record are there. If the write failed for
+    // another reason, the old entries are there.
     ensures stood { Reopens M.holds reel result.1 (λ t u. StandsAfterWrite t (Record bytes.now ∷ []) (done_answer result.0) u) }
-    // The result of the write, and the entries afterwards, are those of one step of the tape.
+    // One step of the tape can have the same result as the write, and leave the same entries.
     ensures step { Reopens M.holds reel result.1 (λ t u. StandsAfterStep reel.capacity t (Write bytes.now) (done_answer result.0) u) }
     // The write fails with `Device` only if a call is due to fail, or if the inner medium can fail
     // or has too little room.
@@ -49,7 +49,7 @@ pub fn write_and_reopen<M: Medium>(
         (M.can_fail reel.medium.inner ⊎ CanStop reel.medium.to_go) ⊎ (M.spare reel.medium.inner < length bytes.now + 8) }
     // The write never fails with `OutOfMemory`.
     ensures memory { result.0 ≢ Err OutOfMemory }
-    // The reel that is opened again has the given capacity.
+    // The opened reel has the given capacity.
     ensures capacity { result.1.capacity ≡ capacity }
 {
     let mut reel = reel;
@@ -69,17 +69,17 @@ pub fn mark_and_reopen<M: Medium>(
     capacity: u64,
 ) -> (Result<(), TapeFault>, FileReel<M>)
     // `mark_and_reopen` writes marks to a reel on a `FuseMedium`, and then opens the reel again.
-    // The entries before the place never change. It does not matter which calls are due to fail, or
-    // how many bytes a failed call leaves on the medium. If the count of marks is 0, no entry
-    // changes. If a write of at least 1 mark succeeded, the entries before the place are followed
-    // by all of the marks. If the device failed, they are followed by the old entries, or by any
-    // number of the marks. If the write was refused for another reason, they are followed by the
-    // old entries.
+    // The entries before the place of the write never change. It does not matter which calls are
+    // due to fail, or how many bytes a failed call leaves on the medium. The result of the write
+    // decides what is after that place. If the count of marks is 0, the old entries are there. If a
+    // write of at least 1 mark succeeded, all of the marks are there. If the device failed, the old
+    // entries or any number of the marks are there. If the write failed for another reason, the old
+    // entries are there.
     ensures stood { Reopens M.holds reel result.1 (λ t u. StandsAfterMarks t count (done_answer result.0) u) }
-    // The result of the write, and the entries afterwards, are those of one step of the tape. The
-    // write fails with `Device` only if a call is due to fail, or if the inner medium can fail or
-    // has too little room. The write never fails with `OutOfMemory`. The reel that is opened again
-    // has the given capacity.
+    // One step of the tape can have the same result, and leave the same entries. The write fails
+    // with `Device` only if a call is due to fail, or if the inner medium can fail or has too
+    // little room. The write never fails with `OutOfMemory`. The opened reel has the given
+    // capacity.
     ensures step { Reopens M.holds reel result.1 (λ t u. StandsAfterStep reel.capacity t (WriteMarks count) (done_answer result.0) u) }
     ensures cause { result.0 ≡ Err Device →
         (M.can_fail reel.medium.inner ⊎ CanStop reel.medium.to_go) ⊎ (M.spare reel.medium.inner < 4 * count) }

@@ -55,7 +55,7 @@ impl TroubledReel {
         }
     }
 
-    /// Sets how the next device call fails, and replaces what was set before.
+    /// Sets how the next device call fails. This replaces what was set before.
     pub fn set(&mut self, trouble: Trouble)
         // `set` replaces the reel's trouble by the given one. Nothing else changes.
         ensures { self.new ≡ record self.old { trouble = trouble } }
@@ -122,19 +122,19 @@ impl Reel for TroubledReel {
     // step: A call fails with `Device` if and only if a trouble is set and the call reaches the
     // device. Every read reaches the device. Spacing reaches the device if its count is at least 1.
     // A write reaches the device if there is room for it and no allocation fails. A write of at
-    // least one mark reaches the device under the same conditions.
+    // least one mark reaches the device if there is room for the marks and no allocation fails.
     //
-    // step: A call that fails with `Device` leaves the place and the entries before it unchanged.
-    // The trouble decides what a failed write leaves after the place: the old entries, no entries,
-    // or some of the new entries from the first one on. Any other failed call leaves the old
-    // entries after the place.
+    // step: A call that fails with `Device` changes neither the place nor the entries before the
+    // place. The trouble decides what a failed write leaves after the place: the old entries, no
+    // entries, or some of the new entries from the first one on. A failed read and a failed spacing
+    // leave the old entries after the place.
     //
-    // step, failures: A failure with `Device` is counted, up to the greatest `u64`, and clears the
-    // trouble. Any other call changes neither the count nor the trouble, even if an allocation
-    // failed in that call.
+    // step, failures: A call that fails with `Device` raises the count of failures, up to the
+    // greatest `u64`, and clears the trouble. No other call changes the count or the trouble, even
+    // if an allocation fails.
     //
-    // step: A call that does not fail with `Device` does what it does on a reel whose device never
-    // fails.
+    // step: A call that does not fail with `Device` has the same effect as on a reel whose device
+    // never fails.
     //
     // call, bound: Each call keeps the promises that every reel keeps (`IsTapeCall`).
 

@@ -82,8 +82,8 @@ impl Host {
         })
     }
 
-    /// Makes the server's side of the next connection, unless that side exists already, and keeps
-    /// it until `admit` is called.
+    /// Makes the server's side of the next connection, for the next call of `admit`. Keeps that
+    /// side if it exists already.
     ///
     /// Fails if an allocation fails, or if no number is left for its seat. Nothing that contracts
     /// see has changed then.
@@ -119,7 +119,7 @@ impl Host {
         result
     }
 
-    /// Admits the next connection: the server's side that `prepare` made for it becomes live.
+    /// Admits the next connection, for which `prepare` made the server's side.
     pub fn admit(&mut self)
         requires { self.old.ready ≡ true }
         // Admits the next connection: its server's side becomes live. The new session has nothing
@@ -131,8 +131,8 @@ impl Host {
         }
     }
 
-    /// Returns the number of the connection that has this drive open, or 0 if none has. Drives are
-    /// numbered from 0.
+    /// Returns the number of the connection that has this drive open, or 0 if no connection has the
+    /// drive open. Drives are numbered from 0.
     pub fn holder(&self, drive: usize) -> u64
         requires { drive < length self.now.server.holders }
         // Returns the number of the connection whose session has the drive open, even if the
@@ -144,22 +144,22 @@ impl Host {
         self.drives.holds.number_at(drive)
     }
 
-    /// Returns how many bytes `push` can now take for this connection, or none if the server's side
-    /// is not live.
+    /// Returns how many bytes `push` can now take for this connection. Returns `None` if the
+    /// server's side is not live.
     pub fn room(&self, connection: usize) -> Option<usize>
-        // Returns how many more bytes a connection's reader has room for, or none if the server's
-        // side is not live.
+        // Returns how many more bytes a connection's reader has room for. If the server's side is
+        // not live, the call returns `None`.
         ensures { HasRoom (side_at self.now.server.sides connection) result }
     {
         let side = find_side(&self.sides, connection)?;
         Some(side.reader.room())
     }
 
-    /// Takes bytes that a connection sent, as many as its reader has room for, and returns how
-    /// many. Returns 0 if the server's side is not live.
+    /// Takes bytes that a connection sent, and returns how many bytes were taken. Takes as many as
+    /// the connection's reader has room for. Returns 0 if the server's side is not live.
     pub fn push(&mut self, connection: usize, bytes: &[u8]) -> usize
-        // Gives bytes to a connection's reader, as many as the reader has room for. If the server's
-        // side is not live, the call gives no bytes.
+        // Gives as many of the bytes to a connection's reader as the reader has room for. If the
+        // server's side is not live, the call gives no bytes.
         ensures { IsPiecePushed self.old connection bytes.now (side_at self.old.server.sides connection) result self.new }
     {
         let Some(mut side) = take_side(&mut self.sides, connection) else {
@@ -189,8 +189,8 @@ impl Host {
         requires room { vec_len back.old + READER_LIMIT ≤ vec_capacity back.old }
         // Carries out one request. The request comes from the bytes that `Host::push` gave to the
         // reader. If the request makes a device call, the caller of `serve` decides whether and how
-        // that device call fails. The definition `troubled_serve` gives the reply, and the drives,
-        // the session and the holders after the request.
+        // that device call fails. The law `troubled_serve` of `rmt_server` gives the reply, and the
+        // drives, the session and the holders after the request.
         //
         // Appends the reply to the buffer `back`, which must have spare room for 262,156 bytes. If
         // the caller asks that the reply be lost, the call appends nothing.
@@ -202,8 +202,8 @@ impl Host {
         // the request is an open, the call also returns whether the open is for writing.
         //
         // Ends the server's side if the pushed bytes are not a request. If the pushed bytes are
-        // only the beginning of a request, the call does nothing. It also does nothing if the
-        // server's side is not live.
+        // only the beginning of a request, the call does nothing. If the server's side is not live,
+        // the call does nothing.
         ensures { ServesAt trouble lost self.old connection back.old.items result self.new back.new.items }
     {
         let turn = self.turn(connection, trouble, back, lost);
@@ -238,8 +238,9 @@ impl Host {
         turn
     }
 
-    /// Ends the server's side of a connection: closes what its session has open, and makes the side
-    /// no longer live. Does nothing if it is not live. Connections are numbered from 1.
+    /// Ends the server's side of a connection. Closes what the connection's session has open, and
+    /// makes the side no longer live. Does nothing if the side is not live. Connections are
+    /// numbered from 1.
     pub fn end(&mut self, connection: usize)
         // Ends the server's side of a connection. If the side is live, its session closes what it
         // has open, the session's drive becomes free, and the side is no longer live.
@@ -263,17 +264,18 @@ impl Host {
         }
     }
 
-    /// Returns the number of the first drive of that name, counted from 0, or none if there is no
-    /// such drive.
+    /// Returns the number of the first drive with this name, counted from 0. Returns `None` if no
+    /// drive has this name.
     pub fn drive(&self, name: &[u8]) -> Option<usize>
-        // Returns the first drive with the given name, or none if there is no such drive.
+        // Returns the number of the first drive with the given name, or `None` if no drive has this
+        // name.
         ensures { IsDriveNamed name.now self.now.server.library result }
     {
         self.drives.stacks.drive(name)
     }
 
-    /// Returns the session of a connection, while the server's side is live. The number of its seat
-    /// is that of the connection.
+    /// Returns the session of a connection, if the server's side is live. The number of the
+    /// session's seat is that of the connection.
     pub fn session(&self, connection: usize) -> Option<&Session<LocalHolds, ListStacks>>
         // Returns the session of a connection whose server's side is live. The session's seat has
         // the number of the connection.
@@ -285,8 +287,8 @@ impl Host {
         Some(&live.session)
     }
 
-    /// Returns the reels of a drive's stack in order, beginning with the reel that is latched or is
-    /// the next to be latched. Drives are numbered from 0.
+    /// Returns the reels of a drive's stack in order, beginning with the reel that is latched now
+    /// or next. Drives are numbered from 0.
     pub fn stack(&self, drive: usize) -> &[ListedReel]
         requires { drive < length self.now.server.library.drives }
         // Returns the reels of a drive's stack.
@@ -303,23 +305,23 @@ impl Host {
         self.drives.stacks.bin()
     }
 
-    /// Returns the reel of that name, on a stack or in the bin, or none if that reel is latched or
-    /// does not exist.
+    /// Returns the reel with this name, on a stack or in the bin. Returns `None` if the reel is
+    /// latched or does not exist.
     pub fn reel(&self, name: &[u8]) -> Option<&TroubledReel>
-        // Returns the reel with the given name, or none if that reel is latched or there is no such
-        // reel.
+        // Returns the reel with the given name. If the reel is latched, or no reel has this name,
+        // the call returns `None`.
         ensures { option_map at_rest (option_copied result) ≡ reel_named name.now (slots_in self.now.server.library) }
     {
         self.drives.stacks.reel(name)
     }
 
-    /// Whether `arrange` can be called with these names. No reel of the drive may be latched, which
-    /// none is if the drive has no holder. Each name must be that of a reel of its stack or of the
-    /// bin, and none may occur twice. Drives are numbered from 0.
+    /// Returns whether `arrange` can be called with these names. No reel of the drive may be
+    /// latched, which none is if the drive has no holder. Each name must be that of a reel of its
+    /// stack or of the bin, and none may occur twice. Drives are numbered from 0.
     pub fn can_arrange(&self, drive: usize, names: &[&[u8]]) -> bool
         requires { drive < length self.now.server.library.drives }
         // Returns whether the named reels can become the drive's stack. If a drive has no holder,
-        // none of its reels is latched.
+        // no reel of this drive is latched.
         ensures may { result ≡ may_arrange self.now.server.library drive (map (λ n. n.now) names.now) }
         ensures free { IsHolder self.now.server drive 0 → latched_at self.now.server.library drive ≡ None }
     {
@@ -336,8 +338,8 @@ impl Host {
         requires free { IsHolder self.old.server drive 0 }
         requires drive { drive < length self.old.server.library.drives }
         requires may { IsTrue (may_arrange self.old.server.library drive (map (λ n. n.now) names.now)) }
-        // Puts the named reels, and no others, on the stack of a drive that has no holder, as an
-        // operator does. The call fails only if an allocation fails.
+        // Makes the named reels the whole stack of a drive that has no holder, as an operator does.
+        // The call fails only if an allocation fails.
         ensures arranged { MatchResult result
             (λ _. self.new ≡ hosted (restacked self.old.server drive (map (λ n. n.now) names.now)) self.old.ready)
             (λ _. self.new ≡ self.old) }

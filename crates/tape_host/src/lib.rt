@@ -7,9 +7,9 @@
 //!
 //! # Contracts
 //!
-//! `tape_world` and `rsim` use this crate. `rmtd` does not. Each connection has a server's half,
-//! the *server's side*. The server's side is *live* while the connection's session lasts. A reel is
-//! *latched* while a session has it open.
+//! `tape_world` and `rsim` use this crate. `rmtd` does not. The *server's side* is the server's
+//! half of a connection. The server's side is *live* while the connection's session lasts. A reel
+//! is *latched* while a session has the reel open.
 #![tactic(auto)]
 
 mod host;

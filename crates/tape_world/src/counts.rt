@@ -58,7 +58,7 @@ impl<'a> Counts<'a> {
         self.counts.is_empty()
     }
 
-    /// Returns the counted volume with index `i` (counted from 0), or None if there is no such
+    /// Returns the counted volume with index `i`, counted from 0, or None if there is no such
     /// volume.
     pub fn get(&self, i: usize) -> Option<CountedVolume<'a>>
         // Returns the counted volume at the given index.

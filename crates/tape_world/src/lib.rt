@@ -7,19 +7,22 @@
 //!
 //! # Contracts
 //!
-//! `WorldState` contains the real server, the real client, and the bytes in transit between them.
+//! `WorldState` contains a server, a client, and the bytes in transit between them. The *real*
+//! server is a `Host` of `tape_host`, and the *real* client is a `Client` of `dump_client`.
 //! `WorldState` has one method for each of the seventeen events. The contract of each method is the
-//! clause `IsEvent`, which allows two outcomes. In the first, the event happens: it was possible,
-//! and the new world is the one that `world_model` defines. In the second, the world stays as it
+//! clause `IsEvent`, which allows two outcomes. In the first outcome, the event is possible and
+//! happens, and `world_model` defines the new world. In the second outcome, the world stays as it
 //! was, because the event is not possible or because an allocation failed.
 //!
-//! `WorldState` also has an invariant. The invariant has three parts. The client's source has the
-//! payload of the client's run, and this source has no injected fault. If a run is saved, the world
-//! also has the text of a checkpoint, which is the checkpoint of the saved run with the saved list
-//! of counts. The name of each reel is one of the names that were given at the start. Some methods
-//! also require that the world meets `IsWorldKept`. `World::make` calls these methods, and proves
-//! before each call that the world meets `IsWorldKept`. `WorldState` is private to the crate. But
-//! `run` makes each event by calling one of its methods, so docs/PROMISES.md lists these methods.
+//! `WorldState` also has an invariant with three parts. First, the client's source has the payload
+//! of the client's run, and this source has no injected fault. Second, if a run is saved, the world
+//! also has the checkpoint text of the saved run with the saved list of counts. Third, the name of
+//! each reel is one of the names that were given at the start. Some methods also require a world
+//! that meets `IsWorldKept`. `World::make` calls these methods, and it is proved that the world
+//! meets `IsWorldKept` before each call. `WorldState` is private to the crate. But `run` calls a
+//! method of `WorldState` for each event, so docs/PROMISES.md lists these methods. The section
+//! `world_model` explains *count*, *the count's own session*, *the client's list*, *foreign* and
+//! *reopens*.
 #![tactic(auto)]
 
 mod caller;

@@ -28,14 +28,15 @@ pub fn run(world: &mut World, events: &[Event<'_>]) -> Result<(), WorldFault>
     // Makes the events of a list one after the other. If the call returns `Ok`, each event was
     // possible and was made.
     ensures made { OnOk result (Runs world.old (map plain_event events.now) world.new) }
-    // If the call fails, it returns the index of the first event that was not made. All events
+    // If the call fails, it returns the index of the first event that was not made. The events
     // before that index were made, and no others.
     ensures stopped { IfErr result (λ fault. IsStopped world.old (map plain_event events.now) (fault_place fault) world.new) }
     // The call returns `NotPossible` only if the event at the returned index is not possible in the
     // world before that event.
     ensures impossible { IfErr result (λ fault. IsEventRefused (map plain_event events.now) world.new fault) }
-    // Suppose that the world is new and has one drive before the call, and that all events are
-    // without faults. Then the law `faultless` of `world_model` holds for the resulting world.
+    // Suppose that nothing has happened in the given world yet, that this world has one drive, and
+    // that no event has a fault. Then the promises of the clause `in_order` of the law `faultless`
+    // (crate `world_model`) hold for the resulting world.
     ensures in_order { LeavesInOrder world.old (map plain_event events.now) world.new }
 {
     faultless();

@@ -90,50 +90,48 @@ impl World {
     ///
     /// Does nothing: its contract is what holds of the world.
     pub fn kept(&self)
-        // The headline is the main result about each world. It consists of three statements:
-        // `counted_reels`, `no_two_holders` and `dumpdates_gained`. This clause states them as one
-        // record. The section `world_model` explains *count*, *the count's own session* and
-        // *foreign*.
+        // The *headline* is the main result about each world. It consists of three statements:
+        // `counted_reels`, `no_two_holders` and `dumpdates_gained`. Each statement is a clause of
+        // this call. The clause `headline` states all three as one record, `Headline`.
         ensures headline { Headline self.now }
-        // Some list of events led to this world from a first world, whose drives `good_drives`
+        // Some list of events led to this world from a first world with drives that `good_drives`
         // accepts. So each law about lists of events applies to this world.
         ensures reached { IsReached self.now }
         // Each world meets `IsWorldKept`. The other clauses of this law are proved from
         // `IsWorldKept`.
         ensures kept { IsWorldKept self.now }
-        // The holder of a drive is the connection whose session has the drive open, whether or not
-        // the session still has a reel in the drive. No two sessions have the same drive open.
+        // The holder of a drive is the connection whose session has the drive open, even if the
+        // session no longer has a reel in the drive. No two sessions have the same drive open.
         ensures holders { AreHeld self.now.server }
         ensures no_two_holders { NoTwoHolders self.now }
-        // A counted reel holds its volume and nothing else, unless a foreign session opened the
-        // reel for writing after the count's own session did.
+        // If no foreign session reopened a counted reel, the reel holds its volume and nothing
+        // else.
         ensures counted_reels { CountedReels self.now }
-        // Suppose that no foreign session opened a counted reel for writing after the count's own
-        // session did. Then `World::entry` returns the entries of the counted volume.
+        // If no foreign session reopened a counted reel, `World::entry` returns the entries of the
+        // counted volume.
         ensures volumes_told { TellsVolumes self.now }
-        // If the runs that were entered in dumpdates are entered in an empty list, one by one and
-        // in the same order, the result is dumpdates. No run was entered twice. When a run was
-        // entered, the counts in the client's list covered all blocks of the run, in order. The
-        // history has each of these counts.
+        // The history lists the runs that were entered in dumpdates. Entering these runs in an
+        // empty list, one by one and in the same order, gives dumpdates. No run was entered twice.
+        // When a run was entered, the counts in the client's list covered all blocks of the run, in
+        // order. The history has each of these counts.
         ensures dumpdates_gained { DumpdatesGained self.now }
         // On each connection of the client, the server has carried out as many requests as the
         // client sent, or one fewer.
         ensures sent_requests { SentRequests self.now }
-        // Suppose that no foreign session opened a counted reel for writing after the count's own
-        // session did. Then no other session has written on the reel since the count's own session
-        // opened it.
+        // Suppose that no foreign session reopened a counted reel. Then only the count's own
+        // session has written on the reel since that session opened it.
         ensures reels_not_reopened { ReelsNotReopened self.now }
-        // Suppose that the client opens a reel for writing in an attempt. Then the session of this
-        // attempt is not foreign to the counts in the client's list.
+        // If the client opens a reel for writing in an attempt, the session of this attempt is not
+        // foreign to the counts in the client's list.
         ensures own_opens { OwnOpens self.now }
         // A latched reel belongs to one session. The reel is first on the stack of the drive that
         // this session holds.
         ensures latched_reels { LatchedReels self.now }
         // Once the server has accepted the label of an attempt, the attempt's reel holds exactly
-        // what the attempt's accepted writes wrote. This ends when a write of the attempt meets a
-        // device fault, or when another session writes on the reel. Suppose that this has not
-        // ended, that the session has the reel in its drive, and that the server has not carried
-        // out an MTOFFL of the session. Then the position of the session is the reel's end.
+        // what the attempt's accepted writes wrote. The clause promises this only until a write of
+        // the attempt meets a device fault, or another session writes on the reel. During this
+        // time, if the session has the reel in its drive, and the session's MTOFFL is not carried
+        // out yet, the session's position is the reel's end.
         ensures labelled_reels { LabelledReels self.now }
         // Each volume in the client's list was counted under the number of the client's run. A run
         // that has not begun has no counts.

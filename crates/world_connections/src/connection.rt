@@ -54,7 +54,7 @@ impl Connection {
         self.cut = true;
     }
 
-    /// Removes the peer: the connection is cut, and what is in transit to the peer is lost.
+    /// Removes the peer, and cuts the connection.
     pub fn end_there(&mut self)
         // Removes the peer: the connection is cut, and the bytes in transit to the peer are lost.
         ensures { plain_connection self.new ≡ without_peer (plain_connection self.old) }
@@ -116,8 +116,9 @@ impl Connection {
     /// Records what the server's side did in one turn. A fault ends the server's side.
     pub fn note_turn(&mut self, turn: Turn)
         // Records one turn of the server's side. If the server carried out a request, the call adds
-        // 1 to the attempt's number of carried-out requests. If the request was a write, the call
-        // also records the reply. If the server found a fault in the bytes, the server's side ends.
+        // 1 to the number of requests that were carried out for the attempt. If the request was a
+        // write, the call also records the reply. If the server found a fault in the bytes, the
+        // server's side ends.
         ensures { plain_connection self.new ≡ noted_turn turn (plain_connection self.old) }
     {
         match turn {
@@ -134,7 +135,7 @@ impl Connection {
 
 /// Returns the connection with this number, if there is one.
 pub fn find(connections: &[Connection], connection: usize) -> Option<&Connection>
-    // Returns the connection with the given number, counted from 1, or none if there is no such
+    // Returns the connection with the given number, counted from 1, or `None` if there is no such
     // connection.
     ensures { option_map plain_connection (option_copied result) ≡ numbered (map plain_connection connections.now) connection }
 {
@@ -210,8 +211,8 @@ pub fn send(
     connections[connection - 1].send(bytes)
 }
 
-/// Removes the first `count` bytes in transit to the server, after they arrived. The connection
-/// with this number must exist.
+/// Removes the first `count` bytes in transit to the server, after these bytes arrived. The
+/// connection with this number must exist.
 pub fn arrive(connections: &mut [Connection], connection: usize, count: usize)
     requires first { 1 ≤ connection }
     requires last { connection ≤ length connections.old }
@@ -221,8 +222,8 @@ pub fn arrive(connections: &mut [Connection], connection: usize, count: usize)
     connections[connection - 1].toward.pass(count);
 }
 
-/// Removes the first `count` bytes in transit to the peer, after they arrived. The connection with
-/// this number must exist.
+/// Removes the first `count` bytes in transit to the peer, after these bytes arrived. The
+/// connection with this number must exist.
 pub fn deliver_back(connections: &mut [Connection], connection: usize, count: usize)
     requires first { 1 ≤ connection }
     requires last { connection ≤ length connections.old }

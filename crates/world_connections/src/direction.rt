@@ -111,7 +111,8 @@ impl Direction {
     }
 
     /// Lets the server's side of a connection take one turn, and appends the reply to the bytes in
-    /// transit, unless the reply is to be lost. There must be room for `READER_LIMIT` bytes.
+    /// transit. The reply is not appended if it is to be lost. There must be room for
+    /// `READER_LIMIT` bytes.
     pub fn take_reply(
         &mut self,
         host: &mut Host,
@@ -121,7 +122,7 @@ impl Direction {
     ) -> Turn
         requires { READER_LIMIT ≤ self.old.spare }
         // Lets the server's side take one turn, as `Host::serve` promises. The call appends the
-        // reply to the bytes in transit, unless the caller asks that the reply be lost.
+        // reply to the bytes in transit, unless the caller says that the reply is lost.
         ensures { ServesAt trouble lost host.old connection self.old.way result host.new self.new.way }
     {
         host.serve(connection, trouble, &mut self.bytes, lost)

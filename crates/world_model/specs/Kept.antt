@@ -73,28 +73,30 @@ pub record AreBooked (w : World) : Type 0 where
 abbrev pub IsClientLawful : World → Type 0
 IsClientLawful w = (c : WorldClient) → w.caller ≡ Some c → IsLawful c.at
 
--- The invariant of a world: the first world meets it, and each event preserves it.
+-- The invariant of a world: each first world of good drives meets this invariant, and each event
+-- preserves it.
 pub record IsWorldKept (w : World) : Type 0 where
   -- The client's counts are volumes of its run, in order. The stage that the client has reached
   -- fits its counts.
   pub lawful : IsClientLawful w
   -- While an attempt is under way, the client has exactly one connection of its own. Between
-  -- attempts it has none. On every earlier connection of the client, the client's side has ended.
+  -- attempts the client has none. On every earlier connection of the client, the client's side has
+  -- ended.
   pub owned : IsOwned w
   -- Field `sent`: On each connection of the client, the server has carried out all requests that
-  -- were sent, or all but the last. Suppose that the last request is not carried out yet. Then its
-  -- whole text is in transit or has reached the server, or the text is lost. The session has
-  -- carried out all earlier steps of the attempt and nothing else, without a device fault.
+  -- were sent, or all but the last. If the last request is not carried out yet, its whole text is
+  -- in transit or has reached the server, or the text is lost. The session has then carried out all
+  -- earlier steps of the attempt and nothing else, without a device fault.
   --
-  -- Field `good`: Each run that was begun is within the limits of a run (`IsRun`). Its payload has
-  -- all blocks of the run, and each block is whole.
+  -- Field `good`: Each run that was begun is within the limits of a run (`IsRun`). The payload of
+  -- the run has all blocks of the run, and each block has the size of the run's blocks.
   --
   -- Field `own`: The attempt on the client's own connection is for the run and the volume that the
   -- client works on. The attempt is in one of three states. In the first state, the client is about
   -- to send its next request, and no bytes are in transit. In the second state, the request of the
   -- current step was sent and is not carried out yet. In the third state, this request was carried
   -- out. Its reply is in transit, is partly or wholly read, or is lost. If the reply lets the
-  -- client continue with a next step, the session has carried out all steps before that step.
+  -- client continue with the next step, the session has carried out all steps before the next step.
   pub told : AreTold w
   -- The history's list of opens has at most one open for each connection of the client. Before the
   -- server has carried out the first request of a connection, the list has no open of this
@@ -104,9 +106,8 @@ pub record IsWorldKept (w : World) : Type 0 where
   -- Once the server has accepted the label of an attempt, the attempt's reel holds exactly what the
   -- attempt's accepted writes wrote, even after the session ends. The field promises this only
   -- until a write of the attempt meets a device fault, or another session writes on the reel.
-  -- Suppose that neither of the two has happened. Suppose also that the session has the reel in its
-  -- drive, and that the server has not carried out the session's MTOFFL. Then the session's
-  -- position is the reel's end.
+  -- During this time, if the session has the reel in its drive, and the session's MTOFFL is not
+  -- carried out yet, the session's position is the reel's end.
   pub labelled : AreLabelled w
   -- Each count was made on a connection of the client. The count has the run, the volume and the
   -- first block of that connection's attempt. The attempt opened the counted reel for writing. The
@@ -118,16 +119,16 @@ pub record IsWorldKept (w : World) : Type 0 where
   -- the server.
   pub tidy : AreTidy w
   -- The holder of a drive is the connection whose session has the drive open, even if the session
-  -- no longer has a reel in the drive. A drive that no session has open has no holder. No two
-  -- sessions have the same drive open, because a drive has only one holder.
+  -- no longer has a reel in the drive. If no session has a drive open, the drive has no holder. A
+  -- drive has only one holder, so no two sessions have the same drive open.
   pub held : AreHeld w.server
   -- A slot is the place of a reel on a stack or in the bin. While a session has a drive open and a
   -- reel in it, the first slot of the drive's stack is empty. All other slots contain their reels.
   pub laid : AreLaid w.server
   -- Fields `last`, `begun`, `listed`, `none`: The client's run is the last run that was begun. Each
   -- volume in the client's list was counted under the number of that run. If the client was
-  -- restarted, the history can have more counts of the run than the client's list has. No count has
-  -- a run number above that of the last run.
+  -- restarted, the history can have more counts of the run than the client's list has. The number
+  -- of a count's run is never above the number of the last run.
   --
   -- Field `kept`: The saved run, which a restarted client resumes, is the last run that was begun,
   -- and was not entered in dumpdates. The saved list has the first volumes of the saved run, in
@@ -142,28 +143,27 @@ pub record IsWorldKept (w : World) : Type 0 where
   -- No two reels have the same name. For each accepted open in the history, the opened reel still
   -- exists.
   pub once : AreNamed w
-  -- For each accepted open in the history, the connection of this open exists. If a session has a
-  -- reel open for writing, no other session has opened that reel for writing after this session
-  -- did.
+  -- For each accepted open in the history, the open's connection exists. If a session has a reel
+  -- open for writing, no other session has opened this reel for writing since.
   pub opened : AreOpened w
-  -- Each write on a reel was made by the connection that had last opened the reel for writing.
+  -- Each write on a reel was made by the connection that opened the reel for writing last before
+  -- the write.
   pub writers : AreWritersLast w
   -- Field `paired`: For each accepted open, the history has the list of counts that the client had
   -- when the open was accepted.
   --
   -- Fields `late`, `stopped`: An attempt begins with three requests: the open, the rewind, and the
-  -- look, which reads the label. If a session of the client has written, it has carried out more
-  -- than these three requests. Suppose that no foreign session opened a counted reel for writing
-  -- after the count's own session did. Suppose also that a later session of the client opened this
-  -- reel. Then the client sent at most these three requests in that later session.
+  -- look, which reads the label. If a session of the client has written on a reel, the server has
+  -- carried out more than these three requests in this session. Suppose that no foreign session
+  -- reopened a counted reel, and that a later session of the client opened this reel. Then the
+  -- client sent at most these three requests in the later session.
   --
   -- Fields `listed`, `looked`: While an attempt is under way and has not counted its volume, the
   -- client's list does not change. The history records this list for the attempt's own open, and
-  -- for each later open. Suppose that no foreign session opened a counted reel for writing after
-  -- the count's own session did. Suppose also that the attempt under way opened this reel after the
-  -- count's own session did. Then the client does not continue after the look.
+  -- for each later open. Suppose that no foreign session reopened a counted reel, and that the
+  -- attempt under way opened this reel after the count's own session did. Then the client does not
+  -- continue after the look.
   pub not_reopened : AreNotReopened w
   -- Each live server's side has a list of bytes that it has not read yet. The list may be empty.
-  -- Because this list always exists, statements about unread bytes apply to every live server's
-  -- side.
+  -- The list always exists, so statements about unread bytes apply to every live server's side.
   pub readable : IsReadable w

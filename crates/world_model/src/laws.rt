@@ -34,7 +34,7 @@ pub fn one_run()
         Runs first events before → Runs before more after → Runs first (events ++ more) after }
 {}
 
-/// States what holds of each world, whatever events led to it. The first world of good drives
+/// States what is true in each world, whatever events led to it. The first world of good drives
 /// satisfies `IsWorldKept`, and each event preserves it. Each possible event has a world after it
 /// (`steps`). No event adds or removes the name of a reel.
 ///
@@ -72,56 +72,54 @@ pub fn one_run()
 ///
 /// Does nothing: its contract is a law of the definitions.
 pub fn kept()
-    // A first world, in which nothing has happened yet, meets `IsWorldKept` if its drives are good
-    // (`AreGoodDrives`). Each event preserves `IsWorldKept`. So every list of events from such a
-    // first world leads to a world that meets `IsWorldKept`. A world meets `IsReached` if some list
-    // of events leads from such a first world to that world.
+    // A first world meets `IsWorldKept` if its drives are good (`AreGoodDrives`). Each event
+    // preserves `IsWorldKept`. So every list of events from such a first world leads to a world
+    // that meets `IsWorldKept`. `IsReached` says that some list of events leads from such a first
+    // world to a world. So a world that meets `IsReached` meets `IsWorldKept` too.
     ensures first { (drives : List PlainDriveSpec) → AreGoodDrives drives → IsWorldKept (first_world drives) }
     ensures after { (w u : World) (event : PlainEvent) → IsWorldKept w → Happens w event u → IsWorldKept u }
     ensures runs { (drives : List PlainDriveSpec) (events : List PlainEvent) (w : World) → AreGoodDrives drives →
         Runs (first_world drives) events w → IsWorldKept w }
     ensures reached { (w : World) → IsReached w → IsWorldKept w }
     // If a world meets `IsWorldKept`, each event that is possible in this world leads to a next
-    // world. Other laws speak of the world after a possible event, and this clause says that such a
-    // world exists.
+    // world. Other laws are about the world after a possible event. This clause says that the world
+    // after a possible event exists.
     ensures steps { (w : World) (event : PlainEvent) → IsWorldKept w → Possible w event → (u : World) × Happens w event u }
     // No event adds or removes the name of a reel.
     ensures names { (w u : World) (event : PlainEvent) → IsWorldKept w → Happens w event u → SameNames w.server.library u.server.library }
-    // The headline consists of three statements, and each of them holds. This clause states them as
-    // one record, `Headline`. Each statement is also a separate clause: `counted_reels`,
-    // `no_two_holders` and `dumpdates_gained`.
+    // The *headline* is the main result about each world. It consists of three statements:
+    // `counted_reels`, `no_two_holders` and `dumpdates_gained`. Each statement is a clause of this
+    // law. The clause `headline` states all three as one record, `Headline`.
     ensures headline { (w : World) → IsWorldKept w → Headline w }
     // The holder of a drive is the connection whose session has the drive open, even if the session
     // no longer has a reel in the drive. No two sessions have the same drive open.
     ensures holders { (w : World) → IsWorldKept w → AreHeld w.server }
     ensures no_two_holders { (w : World) → IsWorldKept w → NoTwoHolders w }
-    // Suppose that no foreign session opened a counted reel for writing after the count's own
-    // session did. Then, since the count's own session opened the reel, only that session has
-    // written on the reel.
+    // Suppose that no foreign session reopened a counted reel. Then only the count's own session
+    // has written on the reel since that session opened it.
     ensures reels_not_reopened { (w : World) → IsWorldKept w → ReelsNotReopened w }
-    // Suppose that one session opened a reel for writing, and that nobody opened the reel for
-    // writing after that. Then, since that session opened the reel, only that session has written
-    // on the reel. If the reel was counted in that session, no foreign session opened the reel for
-    // writing after that session did.
+    // Suppose that a session opened a reel for writing, and that nobody opened the reel for writing
+    // after that. Then only this session has written on the reel since this session opened it. If
+    // the reel was counted in this session, no foreign session reopened the reel.
     ensures unopened { (w : World) (x : Count) → IsUnopenedSince w.opens x.connection x.reel → IsNotReopened w x }
     ensures unwritten { (w : World) (k : ℕ) (reel : List ℕ) → IsWorldKept w → IsUnopenedSince w.opens k reel → IsAlone w k reel }
-    // Suppose that the client opens a reel for writing in an attempt. Then the session of this
-    // attempt is not foreign to the counts in the client's list. So the client's own open does not
-    // cancel the promise of `counted_reels` for these counts.
+    // If the client opens a reel for writing in an attempt, the session of this attempt is not
+    // foreign to the counts in the client's list. So the client's own open does not end the promise
+    // of `counted_reels` for these counts.
     ensures own_opens { (w : World) → IsWorldKept w → OwnOpens w }
     // Suppose that the server accepted the label of an attempt, and that none of the attempt's
     // writes met a device fault. Suppose also that no other session has written on the attempt's
-    // reel after the attempt opened the reel. Then the reel holds exactly what the attempt's
-    // accepted writes wrote. As long as the attempt's session has the reel in its drive, and the
-    // server has not carried out the attempt's MTOFFL, the session's position is the reel's end.
+    // reel since the attempt opened the reel. Then the reel holds exactly what the attempt's
+    // accepted writes wrote. If the attempt's session has the reel in its drive, and the attempt's
+    // MTOFFL is not carried out yet, the session's position is the reel's end.
     ensures labelled_reels { (w : World) → IsWorldKept w → LabelledReels w }
-    // A counted reel still exists. It holds its volume and nothing else, unless a foreign session
-    // opened the reel for writing after the count's own session did. The volume consists of the
-    // label, one record for each counted block, and one mark.
+    // A counted reel still exists. If no foreign session reopened the reel, the reel holds its
+    // volume and nothing else. The volume consists of the label, one record for each counted block,
+    // and one mark.
     ensures counted_reels { (w : World) → IsWorldKept w → CountedReels w }
-    // Take the runs that were entered in dumpdates, in the order in which they were entered.
-    // Entering them one by one in an empty list gives dumpdates. No run was entered twice. When a
-    // run was entered, the counts in the client's list covered all blocks of the run, in order. The
+    // The history lists the runs that were entered in dumpdates. Entering these runs in an empty
+    // list, one by one and in the same order, gives dumpdates. No run was entered twice. When a run
+    // was entered, the counts in the client's list covered all blocks of the run, in order. The
     // history has each of these counts.
     ensures dumpdates_gained { (w : World) → IsWorldKept w → DumpdatesGained w }
     // On each connection of the client, the server has carried out as many requests as the client
@@ -129,12 +127,13 @@ pub fn kept()
     ensures sent_requests { (w : World) → IsWorldKept w → SentRequests w }
     // On each connection of the client, the server carries out the client's requests in the order
     // in which the client sent them. The server has carried out all requests that the client sent,
-    // or all but the last. In the second case, the last request is the one that comes next in the
-    // attempt. `Talks` lists the requests that were sent and the requests that were carried out.
+    // or all but the last. If it has not carried out the last request, this request is the
+    // attempt's next request. `Talks` lists the requests that were sent and the requests that were
+    // carried out.
     ensures requests { (drives : List PlainDriveSpec) (events : List PlainEvent) (w : World) (k : ℕ) (sent carried : List PlainRequest) →
         AreGoodDrives drives → Talks k (first_world drives) events w sent carried → IsBeginning w k sent carried }
-    // For each list of events there are two lists of requests that meet `Talks`: one of the
-    // requests that were sent, and one of the requests that were carried out.
+    // For each list of events, two lists of requests meet `Talks`: one lists the requests that were
+    // sent, and one lists the requests that were carried out.
     ensures talks { (first w : World) (events : List PlainEvent) (k : ℕ) → Runs first events w →
         (sent : List PlainRequest) × (carried : List PlainRequest) × Talks k first events w sent carried }
     // A latched reel belongs to one session. The reel is first on the stack of the drive that this
@@ -144,7 +143,7 @@ pub fn kept()
     // has not begun has no counts.
     ensures clients_counts { (w : World) → IsWorldKept w → ClientsCounts w }
     // Only an event that delivers bytes to the client can add counts to the history. If such an
-    // event adds counts, it adds the same volumes to the client's list. This also holds if the
+    // event adds counts, it adds the same volumes to the client's list. This is also true if the
     // client was restarted with a saved list.
     ensures counts_grow { (w u : World) (event : PlainEvent) → Happens w event u → CountsGrow w event u }
 {
@@ -186,9 +185,9 @@ pub fn one_request()
     // bin, reels, holders and the session stay as before. An open is an exception: even if it is
     // refused, it first closes what the session had open. Every error reply to an open is a
     // refusal, whatever its cause: a bad mode, no such drive, a drive of another session, no reel,
-    // or a failed device. Every other request is refused only if it fails a check. The checks are
-    // that the session has a drive open, that the reel is not in the bin, and that the access, the
-    // count and the operation are right.
+    // or a failed device. A request that is not an open is refused only if the request fails a
+    // check. The server checks three things: the session has a drive open; the reel is not in the
+    // bin; and the access, the count and the operation are right.
     //
     // If the outcome is `own`, the request is not an open and passes all checks. The session is
     // still the holder of the drive that it has open, and has no other drive open. The request can
@@ -196,15 +195,15 @@ pub fn one_request()
     // fails, the outcome is still `own`, because the position or the reel may have changed before
     // the error reply.
     //
-    // If the outcome is `free`, the request is an open. It first closed what the session had open,
-    // and then opened a drive without a holder. After that close, the request changed only the
-    // stack of the drive that it opened.
+    // If the outcome is `free`, the request is an open. The open first closes what the session had
+    // open, and then opens a drive without a holder. After the close, the open changes only the
+    // stack of the drive that it opens.
     ensures stale_requests { (w u : World) (k : ℕ) (trouble : Trouble) (c : ServerTurn w k trouble u) → IsWorldKept w →
         Meets w k c.s.session c.request c.reply u c.session }
     // A request changes no drive that another session has open.
     ensures others_stay { (w u : World) (k : ℕ) (trouble : Trouble) (c : ServerTurn w k trouble u) → IsWorldKept w → OthersStay w k u }
     // If the server carries out an MTOFFL of the client's session without an error, the reel is
-    // then in the bin with its whole volume. This holds whether or not the reply arrives.
+    // then in the bin with its whole volume. This is true whether or not the reply arrives.
     ensures whole_at_the_move { (w u : World) (k : ℕ) (t : Trouble) (c : ServerTurn w k t u) (d : AttemptState) →
         IsWorldKept w → HasDump w k d → IsMoveDone c.request c.reply → IsWholeInBin w k d u }
 {

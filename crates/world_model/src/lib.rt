@@ -6,17 +6,24 @@
 //!
 //! # Contracts
 //!
-//! In this crate, the world and its events are plain data. The crate has only laws. Calling a law
-//! does nothing, so this page lists no edits for laws. docs/WORLD.md explains the terms of this
-//! section. An *attempt* is the client's work on one volume, over one connection. The *history* of
-//! a world lists the accepted opens for writing, the writes, the counts and the runs that were
-//! entered in dumpdates. A *count* records one counted volume: its run, connection, reel, volume,
-//! first block and number of blocks. The *count's own session* is the session of the count's
-//! connection. The *client's list* contains the counts that the client itself holds. They are
-//! counts of the client's current run. A session is *foreign* to a count in two cases. In the first
-//! case, the session belongs to a stranger, or to another run than the run of the count. In the
-//! second case, the session belongs to the run of the count. But when the session opened the
-//! count's reel, the client's list had no count with the same volume and first block.
+//! The crate has only laws. Calling a law does nothing, so this page lists no edits for laws.
+//! docs/WORLD.md explains the terms of this section.
+//!
+//! An *attempt* is the client's work on one volume, over one connection. A *first world* is a world
+//! in which nothing has happened yet. The *history* of a world lists the accepted opens for
+//! writing, the writes, the counts, and the runs that were entered in dumpdates. A *count* records
+//! one counted volume: its run, connection, reel, volume, first block and number of blocks. The
+//! *count's own session* is the session of the count's connection. The *client's list* contains the
+//! counts that the client itself holds. These are counts of the client's current run. A session is
+//! *foreign* to a count in three cases:
+//!
+//! - The session belongs to a stranger.
+//! - The session belongs to another run than the count.
+//! - When the session opened the count's reel, the client's list had no count with the same volume
+//!   and first block.
+//!
+//! A foreign session *reopens* a counted reel if it opens the reel for writing after the count's
+//! own session did.
 #![tactic(auto)]
 
 mod laws;

@@ -24,24 +24,24 @@ use rmt_wire::{dropped_writes, one_reading, one_reply};
 /// Does nothing: its contract is a law of the definitions.
 pub fn faultless()
     // Without faults, the volumes of a dump are in order. The law is about a server with one drive,
-    // and about five kinds of events. The first kind is that a run begins. The second is that an
-    // attempt starts. The third is that the client sends a request, and no read of its payload
-    // fails. The fourth is that bytes reach the server or the client. The fifth is that the server
-    // carries out a request, and no device call fails. The first world of such a server meets
-    // `IsFaultlessWorld`. In a world that meets `IsFaultlessWorld` and `IsWorldKept`, each event of
-    // these kinds preserves `IsFaultlessWorld`.
+    // and about five kinds of events without faults. In an event of the first kind, a run begins.
+    // In the second kind, an attempt starts. In the third kind, the client sends a request, and no
+    // read of its payload fails. In the fourth kind, bytes reach the server or the client. In the
+    // fifth kind, the server carries out a request, and no device call fails. The first world of
+    // such a server meets `IsFaultlessWorld`. In a world that meets `IsFaultlessWorld` and
+    // `IsWorldKept`, each event of these kinds preserves `IsFaultlessWorld`.
     ensures first { (drive : PlainDriveSpec) → IsFaultlessWorld drive (first_world (drive ∷ [])) }
     ensures after { (drive : PlainDriveSpec) (w u : World) (event : PlainEvent) → IsWorldKept w → IsFaultlessWorld drive w →
         IsFaultless event → Happens w event u → IsFaultlessWorld drive u }
     // This clause is about a world that meets `IsFaultlessWorld` and `IsWorldKept`. An attempt
     // fails only in four cases: the drive does not exist, the drive has no reel, the server is out
-    // of memory, or the label and one block do not fit on the reel. The first counted volume is on
-    // the reel that was first on the drive's stack in the first world. The second volume is on the
-    // reel that was second there, and so on. Each counted reel holds its volume and nothing else.
-    // Between attempts the bin has exactly the counted reels, in order.
+    // of memory, or the label and one block do not fit on the reel. Take the drive's stack in the
+    // first world: the first counted volume is on its first reel, the second volume is on its
+    // second reel, and so on. Each counted reel holds its volume and nothing else. Between attempts
+    // the bin has exactly the counted reels, in order.
     ensures in_order { (drive : PlainDriveSpec) (w : World) → IsWorldKept w → IsFaultlessWorld drive w → VolumesInOrder drive w }
-    // Every list of events of these kinds, from the first world of a server with one good drive,
-    // leads to a world in which all promises of `in_order` hold.
+    // Start from the first world of a server with one good drive. Every list of events of these
+    // five kinds leads to a world in which all promises of `in_order` hold.
     ensures runs { (drive : PlainDriveSpec) (events : List PlainEvent) (w : World) → AreGoodDrives (drive ∷ []) →
         AreFaultless events → Runs (first_world (drive ∷ [])) events w → VolumesInOrder drive w }
 {

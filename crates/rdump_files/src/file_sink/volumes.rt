@@ -10,25 +10,27 @@ use rdump_net::{SinkStopped, Verdict, VolumeSink};
 use std::io::ErrorKind;
 
 impl<F: RestoredFile> VolumeSink for FileSink<F> {
-    // label: With places, the first record of a volume goes on only if it is a label of the dump
-    // that is restored. Before any label went on, that is any dump. The sink then knows the first
-    // block of the volume. The file is unchanged, whatever the record is.
+    // label: With places, the sink accepts the first record of a volume only if the record is a
+    // label of the dump that is restored. The first label that the sink accepts decides which dump
+    // this is. From an accepted label, the sink learns the number of the volume's first block. The
+    // file is unchanged, whatever the record is.
     //
-    // label: Without places, any first record goes on. The first record of all clears the file, and
-    // no later one does.
+    // label: Without places, the sink accepts any first record, unless the file cannot be cleared.
+    // The sink clears the file only if it has accepted no label and no block before.
     //
-    // block: With places, a block goes on only after a label, and only if it has the length of the
-    // blocks before it. It is written at its place: the first block of the volume plus the block's
-    // number, times the length of a block. If the write fails, a beginning of the block may be
-    // there, and nothing else of the file has changed.
+    // block: With places, the sink accepts a block only after a label, and only if the block has
+    // the length of the blocks before it. The sink writes the block at its place. The place is the
+    // offset `(first + number) * length`: the volume's first block plus the block's number, times
+    // the length of a block. If the write fails, a beginning of the block may be at its place, and
+    // nothing else of the file has changed.
     //
-    // block: Without places, each block is appended. If that fails, a beginning of the block may
-    // have been appended.
+    // block: Without places, the sink appends each block to the file. If the call fails, it may
+    // have appended a beginning of the block.
     //
-    // complete: The sink completes only if the file is synced. The bytes of the file are then on
-    // the disk. They are unchanged, whether the sink completes or not.
+    // complete: The sink completes only if the file is synced. Then the bytes of the file are on
+    // the disk. The bytes of the file are unchanged, whether or not the sink completes.
     //
-    // sizes: The sink counts each block that goes on.
+    // sizes: The sink counts each block that it accepts.
 
     ghost takes = { FileStep (restored_kind F.holds F.kept) };
 

@@ -32,8 +32,8 @@ impl<H: Holds> Session<H, ListStacks> {
         ensures at { (drives : Drives H ListLibrary H.Seat TroubledTape) →
             IsAt (kinds H.Holds of_stacks of_reel) (state drives self.old) →
             IsAt (kinds H.Holds of_stacks of_reel) (state drives self.new) }
-        // For reels in memory, `trouble` sets how the next device call of the open reel fails. The
-        // call changes nothing else of the open drive and reel.
+        // For reels in memory, `trouble` sets how the next device call of the open reel fails.
+        // `trouble` changes nothing else of the open drive and reel.
         ensures set { self.new.opened ≡ with_trouble trouble self.old.opened }
     {
         if let Some(device) = &mut self.session_state.opened {

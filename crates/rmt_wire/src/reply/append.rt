@@ -10,8 +10,7 @@ use crate::reply::Reply;
 use crate::reply::parts::parts;
 use std::alloc::AllocError;
 
-/// Appends to a buffer the bytes that are sent for a reply, with no leading zeros in the reply's
-/// numbers.
+/// Appends a reply to a buffer, as it is sent. The reply's numbers have no leading zeros.
 ///
 /// The reply must have a spelling. Its number, or the count of its data, is at most `NUMBER_LIMIT`,
 /// and its text is one line of at most `LINE_LIMIT` bytes.
@@ -20,8 +19,7 @@ use std::alloc::AllocError;
 /// `out` and its capacity are unchanged.
 pub fn push_reply(out: &mut Vec<u8>, reply: &Reply<'_>) -> Result<(), AllocError>
     requires { ReplyHasSpelling (plain_reply reply.now) }
-    // `push_reply` appends to the buffer the bytes that are sent for the reply. These bytes spell
-    // the reply.
+    // `push_reply` appends the bytes that are sent for the reply.
     ensures appended { OnOk result (out.new.items ≡ out.old.items ++ reply_text (plain_reply reply.now)) }
     // `push_reply` fails only if the buffer has less spare capacity than the reply takes. If
     // `push_reply` fails, the buffer and its capacity are unchanged.

@@ -71,8 +71,8 @@ impl ReplyReader {
     ghost use Rattle.std.specs.Io.BufRead.{Rests};
     ghost use Rattle.rmt_wire.specs.contracts.reply.reader.ReplyReader.{the_row};
 
-    /// Returns a reader that holds no bytes and waits for nothing. It reserves `READER_LIMIT` bytes
-    /// (262,156) once. Fails only if this allocation fails.
+    /// Returns a reader that holds no bytes and waits for no reply. It reserves `READER_LIMIT`
+    /// bytes (262,156) once. Fails only if this allocation fails.
     pub fn new(alloc: Global) -> Result<ReplyReader, AllocError>
         // The new reader waits for no reply, holds no bytes, and has room for 262,156 bytes.
         ensures { IfOk result (λ r. ReplyUnread r None []) }
@@ -84,7 +84,7 @@ impl ReplyReader {
         })
     }
 
-    /// Whether `next` has returned every byte that was pushed.
+    /// Whether the reader has no unread bytes.
     pub fn is_empty(&self) -> bool
         // `is_empty` returns true if and only if no byte is unread.
         ensures value { (wanted : Option kinds.Wanted) (bytes : List ℕ) →
@@ -97,8 +97,8 @@ impl ReplyReader {
     /// Returns how many bytes `push` can take now. The text of an error that is waited for takes no
     /// room after its first 255 bytes.
     pub fn room(&self) -> usize
-        // `room` returns how many bytes `push` can take now. While the reader waits for a reply, an
-        // error's text takes room for its first 255 bytes only.
+        // `room` returns how many bytes `push` can take now. While the reader waits for a reply,
+        // only the first 255 bytes of an error's text take room.
         ensures { (wanted : Option kinds.Wanted) (bytes : List ℕ) →
             ReplyUnread self.now wanted bytes → result + reply_taken_of wanted bytes ≡ READER_LIMIT }
     {
@@ -116,10 +116,11 @@ impl ReplyReader {
     pub fn expect(&mut self, wanted: Wanted)
         requires given { self.old.wanted ≡ None }
         requires within { IsWithin (plain_wanted wanted) }
-        // After `expect` the reader waits for a reply of the given kind.
+        // If no byte was unread before the call, the reader now waits for a reply of the given
+        // kind.
         ensures waits { ReplyUnread self.old None [] → ReplyUnread self.new (Some (plain_wanted wanted)) [] }
-        // `expect` clears no fault. Suppose that bytes came while the reader waited for no reply.
-        // Then the reader still waits for no reply after `expect`.
+        // `expect` clears no fault. If bytes came before the call, while the reader waited for no
+        // reply, the reader still waits for no reply.
         ensures for_good { (bytes : List ℕ) → bytes ≢ [] → ReplyUnread self.old None bytes → ReplyUnread self.new None bytes }
     {
         if self.is_empty() {
@@ -130,7 +131,7 @@ impl ReplyReader {
     /// Discards all unread bytes and ends the wait for a reply, so that the reader can serve a new
     /// connection. The reader keeps its buffer and allocates nothing.
     pub fn clear(&mut self)
-        // After `clear` the reader waits for no reply, and no byte is unread.
+        // After `clear` the reader waits for no reply, and has no unread bytes.
         ensures { ReplyUnread self.new None [] }
     {
         self.buffer.clear();
@@ -162,10 +163,10 @@ impl ReplyReader {
         count
     }
 
-    /// Returns the reply that the reader waits for, and lends the reply's data or the first 255
-    /// bytes of an error's text. After that, nothing is waited for. Returns None if the bytes
-    /// pushed so far are only a beginning of the reply; then there is room for more. Also returns
-    /// None if nothing is waited for and no byte was pushed.
+    /// Returns the reply that the reader waits for. Lends the reply's data or the first 255 bytes
+    /// of an error's text. After that, nothing is waited for. Returns None if the bytes pushed so
+    /// far are only a beginning of the reply; then there is room for more. Also returns None if
+    /// nothing is waited for and no byte was pushed.
     ///
     /// Fails at the first byte that rules out every reply, and returns the same fault until
     /// `clear`. The fault is `NotAReply`, `BadNumber`, or `TooMuchData` for a count of data that is
@@ -180,8 +181,8 @@ impl ReplyReader {
         //
         // If `next` returns no reply, the reader is unchanged (field `unchanged`).
         ensures* rests { sem 𝓛 (Rests the_row self.entry (λ new. ReplyIsNext self.old (plain_reply_result result) new)) }
-        // Once `next` has returned a fault, it returns that fault until `clear` is called, whatever
-        // is pushed.
+        // Once `next` has returned a fault, it returns the same fault until `clear` is called,
+        // whatever bytes are pushed.
         ensures for_good { ReplyStaysFaulty self.old (plain_reply_result result) }
     {
         let start = self.start;

@@ -18,7 +18,7 @@ use thiserror::Error;
 #[error("Output")]
 pub struct OutputFault;
 
-/// Writes a reply, with no leading zeros in its numbers. Allocates nothing.
+/// Writes a reply, as it is sent. The reply's numbers have no leading zeros. Allocates nothing.
 ///
 /// The reply must have a spelling. Its number, or the count of its data, is at most `NUMBER_LIMIT`,
 /// and its text is one line of at most `LINE_LIMIT` bytes. The head is passed to the stream in one
@@ -35,7 +35,7 @@ pub fn write_reply<W: Write>(out: &mut Counted<W>, reply: &Reply<'_>) -> Result<
     ensures beginning { OnErr result
         (AppendsBeginning (W.contents out.old.inner) (W.contents out.new.inner) (reply_text (plain_reply reply.now))) }
     ensures fault { OnErr result (HasRisen out.old.failures out.new.failures) }
-    // The count of failures never falls. The number of reads left does not change.
+    // The count of failures never falls.
     ensures counted { out.old.failures ≤ out.new.failures }
     // If `write_reply` succeeds, it has counted no failure.
     ensures steady { OnOk result (out.new.failures ≡ out.old.failures) }

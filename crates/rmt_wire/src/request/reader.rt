@@ -143,8 +143,7 @@ impl RequestReader {
         })
     }
 
-    /// Whether `next` has returned every byte that was pushed. If so, the reader is in the state of
-    /// a new one.
+    /// Whether the reader has no unread bytes. If so, the reader is in the state of a new one.
     pub fn is_empty(&self) -> bool
         // `is_empty` returns true if and only if no byte is unread.
         ensures value { (bytes : List ℕ) → Unread self.now bytes → (IsTrue result ↔ (bytes ≡ [])) }
@@ -156,9 +155,9 @@ impl RequestReader {
     /// Returns how many bytes `push` can take now. The data of a dropped write take no room once
     /// `next` has returned every request before it.
     pub fn room(&self) -> usize
-        // `room` returns how many bytes `push` can take now. A write can be too long to keep. The
-        // data of a write that is too long take no room once `next` has returned every request
-        // before this write.
+        // `room` returns how many bytes `push` can take now. A write of more than 262,144 bytes is
+        // too long to keep. Once `next` has returned every request before this write, the data of
+        // the write take no room.
         ensures { (bytes : List ℕ) → Unread self.now bytes → result + taken_of bytes ≡ READER_LIMIT }
     {
         let unread = &self.buffer.as_slice()[self.start..];
@@ -174,9 +173,9 @@ impl RequestReader {
         ensures count { (bytes : List ℕ) → Unread self.old bytes → result ≡ min (length piece.now) (READER_LIMIT - taken_of bytes) }
         // The bytes that `push` took are unread afterwards.
         ensures unread { (bytes : List ℕ) → Unread self.old bytes → Unread self.new (bytes ++ take result piece.now) }
-        // Each push adds bytes to the bytes that were pushed before. All these bytes together spell
-        // a list of requests that begins with the requests that `next` returned before the push.
-        // The reader keeps at most 262,156 bytes.
+        // `push` adds its bytes to all bytes that were pushed before. All these bytes together
+        // still begin with the requests that `next` has returned, in order. The reader keeps at
+        // most 262,156 bytes.
         ensures given { (pushed : List ℕ) (requests : List PlainRequest) →
             IsGiven self.old pushed requests → IsGiven self.new (pushed ++ take result piece.now) requests }
         ensures limit { length self.new.kept ≤ READER_LIMIT }
@@ -213,11 +212,11 @@ impl RequestReader {
         //
         // If `next` returns no request, the reader is unchanged (field `unchanged`).
         //
-        // All pushed bytes spell a list of requests. Successive calls of `next` return these
-        // requests in order (field `gives_on`).
+        // Successive calls of `next` return, in order, the requests that all pushed bytes spell
+        // (field `gives_on`).
         ensures* rests { sem 𝓛 (Rests the_row self.entry (λ new. IsNext self.old (plain_next_result result) new)) }
-        // Once `next` has returned a fault, it returns that fault at every later call, whatever is
-        // pushed.
+        // Once `next` has returned a fault, every later call returns the same fault, whatever bytes
+        // are pushed.
         ensures for_good { StaysFaulty self.old (plain_next_result result) }
     {
         let start = self.start;

@@ -37,10 +37,10 @@ impl World {
         &self.world_state.dates
     }
 
-    /// Returns the volume and the cause, if the last event made an attempt fail.
+    /// Returns the failure of an attempt, if the last event made an attempt fail.
     pub fn failure(&self) -> Option<(u32, AttemptFault)>
-        // If the last event made an attempt fail, returns the attempt's volume and the reason.
-        // Otherwise the call returns none.
+        // If the last event made an attempt fail, the call returns the attempt's volume and the
+        // cause. Otherwise the call returns `None`.
         ensures { result ≡ self.now.failure }
     {
         self.world_state.history.failure
@@ -48,14 +48,14 @@ impl World {
 
     /// Returns the number of the connection of the client's attempt, if an attempt is under way.
     pub fn own(&self) -> Option<usize>
-        // Returns the number of the connection of the client's attempt, or none if no attempt is
+        // Returns the number of the connection of the client's attempt, or `None` if no attempt is
         // under way.
         ensures { result ≡ self.now.own }
     {
         self.world_state.own
     }
 
-    /// Returns the client, if there is one.
+    /// Returns the client, if there is a client.
     pub fn client(&self) -> Option<&Client<ListBlocks>>
         // Returns the real client. The client's source has the payload of its run.
         ensures told { option_map client_told (option_copied result) ≡ option_map caller_told self.now.caller }
@@ -98,7 +98,7 @@ impl World {
     /// Returns the reels on the stack of the first drive with this name, in order. The first is
     /// latched, or is the next to be. Returns none if there is no such drive.
     pub fn stack(&self, drive: &[u8]) -> Option<&[ListedReel]>
-        // Returns the stack of the first drive with the given name, or none if there is no such
+        // Returns the stack of the first drive with the given name, or `None` if there is no such
         // drive.
         ensures { IsStackOf drive.now self.now.server.library (option_map (map rest_slot) (option_copied result)) }
     {

@@ -209,8 +209,8 @@ impl WorldState {
     /// Gives the operator's answer to the client. Not possible unless the client asks, as it does
     /// after an attempt failed.
     pub(crate) fn respond(&mut self, answer: Answer) -> Result<(), EventStop>
-        // The client asks the operator after a failed attempt, and the operator answers. If the
-        // answer is to abandon the run, the saved run is dropped.
+        // Gives the client the operator's answer after a failed attempt. If the answer is to
+        // abandon the run, the saved run is dropped.
         ensures { IsEvent self.old (Respond answer) result self.new }
     {
         if !self.is_client_in(State::Asking) {
@@ -222,11 +222,11 @@ impl WorldState {
         Ok(())
     }
 
-    /// Lets the peer (the client or a stranger) notice that the connection ended, and leave the
+    /// Lets the peer (the client or a stranger) notice the end of the connection, and leave the
     /// connection. Not possible unless the connection was cut and the peer is still there.
     pub(crate) fn end_at_client(&mut self, connection: usize) -> Result<(), EventStop>
         requires { IsWorldKept self.old }
-        // The peer notices that a connection ended. If the peer is the client, the world records
+        // The peer notices the end of a connection. If the peer is the client, the world records
         // how the client's attempt ended.
         ensures { IsEvent self.old (EndAtClient connection) result self.new }
     {

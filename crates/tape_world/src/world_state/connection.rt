@@ -7,8 +7,8 @@ use crate::stop::EventStop;
 use world_connections::{Connection, find};
 
 impl WorldState {
-    /// Cuts the connection: from now on, what is sent on it is lost. Not possible if it was cut
-    /// already.
+    /// Cuts the connection: bytes that are sent on it from now on are lost. Not possible if it was
+    /// cut already.
     pub(crate) fn cut(&mut self, connection: usize) -> Result<(), EventStop>
         // Cuts a connection.
         ensures { IsEvent self.old (Cut connection) result self.new }

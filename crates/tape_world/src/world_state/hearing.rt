@@ -136,15 +136,15 @@ fn deliver_or_leave(
 }
 
 impl WorldState {
-    /// Delivers to the peer the first `count` bytes that are in transit to it. Not possible if the
+    /// Delivers the first `count` bytes in transit to the peer of a connection. Not possible if the
     /// peer has left, `count` is 0, or fewer bytes are in transit.
     pub(crate) fn to_client(&mut self, connection: usize, count: usize) -> Result<(), EventStop>
         requires { IsWorldKept self.old }
         // Delivers bytes to the peer of a connection. The client reads the bytes. A stranger drops
         // them.
         //
-        // If the client counts a volume, the history lists the count. The listed count names the
-        // run, the client's connection, and the reel that this connection opened.
+        // If the client counts a volume, a count is added to the history. This count names the run,
+        // the client's connection, and the reel that this connection opened.
         //
         // If these bytes make the attempt fail or finish, the client leaves the attempt's
         // connection.

@@ -14,8 +14,8 @@ impl WorldState {
     /// twice.
     pub(crate) fn arrange(&mut self, drive: &[u8], reels: &[&[u8]]) -> Result<(), EventStop>
         requires { IsWorldKept self.old }
-        // The operator chooses the reels on the stack of a drive, and the order of these reels.
-        // This is possible only while no session has the drive open.
+        // The operator chooses the reels on the stack of a drive, and their order. This is possible
+        // only while no session has the drive open.
         ensures { IsEvent self.old (Arrange drive.now (map (λ n. n.now) reels.now)) result self.new }
     {
         let Some(place) = self.host.drive(drive) else {

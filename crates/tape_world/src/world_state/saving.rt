@@ -67,7 +67,7 @@ fn may_keep(caller: &WorldClient, entered: &[Entered]) -> bool
     }
 }
 
-/// Makes the client that resumes the saved run, or none if none is saved.
+/// Makes the client that resumes the saved run, or `None` if none is saved.
 ///
 /// Fails only if an allocation fails.
 fn resume_run(
@@ -110,7 +110,8 @@ impl WorldState {
     pub(crate) fn save(&mut self) -> Result<(), EventStop>
         requires { IsWorldKept self.old }
         // Saves the client's run and its list of counts, so that both outlive a restart of the
-        // client. The call does not save an abandoned run, or a finished run that was entered.
+        // client. The call saves neither an abandoned run nor a finished run that was entered in
+        // dumpdates.
         ensures { IsEvent self.old Save result self.new }
     {
         let Some(caller) = &self.caller else {
@@ -125,14 +126,14 @@ impl WorldState {
         Ok(())
     }
 
-    /// Replaces the client by a new one that resumes the saved run, or only removes the client if
-    /// no run is saved. The old client leaves its own connection, if it has one. Not possible if
-    /// there is no client.
+    /// Restarts the client: a new client resumes the saved run, or there is no client if no run is
+    /// saved. The old client leaves its own connection, if it has one. Not possible if there is no
+    /// client.
     pub(crate) fn client_restart(&mut self) -> Result<(), EventStop>
         requires { IsWorldKept self.old }
-        // Restarts the client. The new client resumes from the checkpoint text of the saved run,
-        // with the saved list. If no run is saved, there is no client after the restart. The old
-        // client leaves its own connection, if it has one.
+        // If a run is saved, a new client resumes from the checkpoint text of the saved run, with
+        // the saved list. If no run is saved, there is no client after the restart. The old client
+        // leaves its own connection, if it has one.
         ensures { IsEvent self.old ClientRestart result self.new }
     {
         if self.caller.is_none() {

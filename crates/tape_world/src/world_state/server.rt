@@ -9,12 +9,12 @@ use world_connections::find;
 use world_model::kept;
 
 impl WorldState {
-    /// Delivers to the server the first `count` bytes that are in transit to it. Not possible if
-    /// the server's side is not live, `count` is 0, fewer bytes are in transit, or the reader has
-    /// less room.
+    /// Delivers the first `count` bytes in transit to the server. Not possible if the server's side
+    /// is not live, `count` is 0, fewer bytes are in transit, or the reader has less room.
     pub(crate) fn to_server(&mut self, connection: usize, count: usize) -> Result<(), EventStop>
         requires { IsWorldKept self.old }
-        // Delivers the first `count` bytes in transit to the server. If it fails, nothing changes.
+        // Delivers the first `count` bytes in transit to the server. If the call fails, nothing
+        // changes.
         ensures { IsEvent self.old (ToServer connection count) result self.new }
     {
         let Some(room) = self.host.room(connection) else {
@@ -33,11 +33,11 @@ impl WorldState {
         Ok(())
     }
 
-    /// Lets the server notice that the connection ended, and end its side of the connection. Not
-    /// possible unless the connection was cut and the server's side is live.
+    /// Lets the server notice the end of the connection, and end the server's side of the
+    /// connection. Not possible unless the connection was cut and the server's side is live.
     pub(crate) fn end_at_server(&mut self, connection: usize) -> Result<(), EventStop>
         requires { IsWorldKept self.old }
-        // The server notices that a connection ended, and ends the server's side. The bytes in
+        // The server notices the end of a connection, and ends the server's side. The bytes in
         // transit to the server are lost.
         ensures { IsEvent self.old (EndAtServer connection) result self.new }
     {

@@ -276,7 +276,7 @@ impl WorldState {
         // the request was an open for writing and was accepted, the history lists the open and the
         // reel that was opened.
         //
-        // For each open for writing, the history also has a list of counts. It is the list that the
+        // For each open for writing, the history also has a list of counts: the list that the
         // client had when the server carried out the open. If there was no client, the list is
         // empty.
         //

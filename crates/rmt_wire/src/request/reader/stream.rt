@@ -64,21 +64,21 @@ impl RequestReader {
         stream: &mut Counted<R>,
     ) -> Result<Option<Request<'_>>, StreamFault>
         requires { (bytes : List ℕ) × Unread self.old bytes }
-        // All bytes that were pushed or read spell a list of requests. Successive calls of
-        // `read_next` return these requests in order (field `gives_on`). `read_next` returns `None`
-        // if the stream ended and no byte is unread. The call fails with `Truncated` if the stream
-        // ended inside a request. The call fails with `Broken` if the bytes that follow are not a
-        // request. The call fails with `Input` if a read failed, inside a request or between two
-        // requests.
+        // Successive calls of `read_next` return, in order, the requests that the pushed and read
+        // bytes spell (field `gives_on`). `read_next` returns `None` if the stream ended and no
+        // byte is unread. The call fails with `Truncated` if the stream ended inside a request. The
+        // call fails with `Broken` if the unread bytes cannot begin a request. The call fails with
+        // `Input` if a read failed, inside a request or between two requests.
         //
         // Suppose that a caller writes one reply for each request that `read_next` returns. Then
-        // these replies answer exactly the requests that the bytes read spell, in the same order
-        // (field `answers`). A loop over `read_next` can rely on this promise, and need not keep
-        // lists of requests and replies of its own.
+        // the replies answer exactly the requests that the stream's bytes spell, in the same order
+        // (field `answers`). A loop over `read_next` can rely on this promise, and needs no lists
+        // of requests and replies of its own.
         //
         // The returned request has a spelling (field `spelled`). `read_next` can be called again
         // (field `unread`). Each returned request lowers a number that cannot fall forever (field
-        // `falls`). So a loop that calls `read_next` until it returns no request ends.
+        // `falls`). So `read_next` returns only finitely many requests, and a loop over `read_next`
+        // ends.
         ensures* rests { sem 𝓛 (Rests the_row self.entry (λ new. IsReadNext
             (R.remaining stream.old.inner) (R.remaining stream.new.inner) stream.old.left stream.new.left
             self.old (plain_read_next_result result) new)) }
