@@ -1,7 +1,8 @@
 -- From bytes that were written to the tape of a reel.
-use Rattle.std.proofs.Common.{◌≡◌, ℕ, ◌+◌, List, [], ◌∷◌, ◌++◌, length, Ok, Err, IsErr, refl, sym, subst, arith}
+use Rattle.std.proofs.Common.{◌≡◌, ℕ, ◌+◌, List, [], ◌∷◌, ◌++◌, length, take, Ok, Err, IsErr, refl, sym, ap, subst, ◌∙◌, arith}
 use Rattle.std.proofs.lemmas.List.Elements.{All-cons, All-nil}
 use Rattle.std.specs.List.{All}
+use Rattle.tape.specs.Failures.{Steps}
 use Rattle.tape.specs.Tape.{PlainEntry, IsRecord, IsTapeEntry, tape}
 use Rattle.tape.specs.Tape.PlainEntry.{Record}
 use Rattle.tape.specs.Medium.{MediumKind}
@@ -23,6 +24,14 @@ puts_whole old new written image added u v lawful image_is offset_is same run = 
   calls = run_as run (λ f. f) (λ f. f) (omega arith) (λ x y held step. tt);
   same_capacity = same;
 }
+
+-- the medium's bytes end with what was written
+pub ends_in : {M : Type 0} {m : MediumKind M} {added : ℕ} {fails : Type 0} (old new : M) (at : ℕ) (written : List PlainEntry) (image : List ℕ) (u : Unit {0})
+    → image ≡ images_of written → AreMediumCalls m (IsImageWritten at image (Ok u)) added fails old new
+    → Steps m.holds old new (λ bytes left. left ≡ take at bytes ++ images_of written)
+ends_in old new at written image u image_is run = λ bytes held.
+    let s = run.step bytes held in
+    (s.0, s.1, s.2 ∙ ap (λ l. take at bytes ++ l) image_is)
 
 pub puts_part : {M : Type 0} {m : MediumKind M} (old new : FileTape M) (written : List PlainEntry) (image : List ℕ) (added : ℕ) (e : MediumFailed) (d : TapeFault)
     → All IsTapeEntry written → image ≡ images_of written → new.offset ≡ old.offset → new.capacity ≡ old.capacity

@@ -1,5 +1,5 @@
 -- From a run of a reel on a medium to a call of a reel.
-use Rattle.std.proofs.Common.{◌≡◌, ◌↔◌, IsTrue, Bool, true, ℕ, ◌+◌, ◌*◌, ◌<◌, ◌≤◌, List, [], ◌∷◌, length, replicate, min, false, Result, Ok, Err, IsErr, IfErr, inl, inr, refl, sym, ap, subst, ◌∙◌, arith}
+use Rattle.std.proofs.Common.{◌≡◌, ◌↔◌, IsTrue, Bool, true, ℕ, ◌+◌, ◌*◌, ◌<◌, ◌≤◌, List, [], ◌∷◌, length, replicate, min, false, Result, Ok, Err, IsErr, IfErr, IfOk, inl, inr, refl, sym, ap, subst, ◌∙◌, arith}
 use Rattle.std.proofs.lemmas.Bool.{cases_lt}
 use Rattle.std.specs.Prelude.{◌-◌, MatchResult}
 use Rattle.tape.specs.Tape.{Tape, TapeRequest, TapeAnswer, TapeStep, SpaceStep, stands_at, marks_met, records_met, passed_for_marks, passed_for_records, tape, entries_of, done_answer}
@@ -8,7 +8,7 @@ use Rattle.tape.specs.Tape.TapeRequest.{Write, WriteMarks, ForwardFiles, BackFil
 use Rattle.tape.specs.Tape.TapeAnswer.{Done, Fault}
 use Rattle.tape.specs.Call.{IsTapeCall, CanAnswer, CanSpace}
 use Rattle.tape.specs.Medium.{MediumKind}
-use Rattle.tape.specs.RecordFile.{IsFile, FileTape, file_reel_kind, image_added}
+use Rattle.tape.specs.RecordFile.{IsFile, FileTape, EndsInEntries, file_reel_kind, image_added, entries_written}
 use Rattle.tape.specs.FileSteps.{AreMediumCalls, AreReelCalls, IsWalked, PutsEntries, ahead, place_after, files_request, records_request}
 use Rattle.tape.specs.declared.file_reel.walk.Way.{Way}
 use Rattle.tape.specs.declared.file_reel.walk.Way.TheVariants.{Forward, Back}
@@ -26,8 +26,8 @@ pub file_call : {M : Type 0} {m : MediumKind M} {does : Tape → Tape → Type 0
     → AreReelCalls m does added fails old new → (answer ≡ Fault Device → fails) → (fails → answer ≡ Fault Device) → CanAnswer request answer
     → (answer ≡ Fault OutOfMemory → ⊥) → added ≤ image_added request
     → ((bytes : List ℕ) (t u : Tape) → IsFile bytes old.offset t → does t u → TapeStep old.capacity t request answer u)
-    → FileCall m old new request answer
-file_call old new request answer r to from can memory fits step = record {
+    → (answer ≡ Done → 0 < image_added request → EndsInEntries m (entries_written request) old new) → FileCall m old new request answer
+file_call old new request answer r to from can memory fits step ends = record {
   step = λ t h. let s = r.step t h in (s.0, s.1, step h.0 t s.0 h.2 s.2);
   can = can;
   device = λ is. r.calls.failed (to is);
@@ -41,6 +41,7 @@ file_call old new request answer r to from can memory fits step = record {
     cause = λ is. elim (r.calls.able (to is)) [ inl e ↦ inl e | inr l ↦ inr (omega arith) ];
     quiet = r.calls.quiet;
     room = let k = r.calls.room in omega arith;
+    exact = ends;
   };
 }
 
@@ -62,11 +63,11 @@ reel_none m here = record {
 
 pub write_call : {M : Type 0} {m : MediumKind M} (old new : FileTape M) (bytes : List ℕ) (r : Result Unit TapeFault) → IfErr r (λ fault. fault ≡ Device)
     → old.offset + (length bytes + 8 + 4) ≤ old.capacity → AreReelCalls m (PutsEntries (Record bytes ∷ []) r) (length bytes + 8) (IsErr r) old new
-    → FileCall m old new (Write bytes) (done_answer r)
-write_call old new bytes (Ok x) device room run =
+    → IfOk r (λ _. EndsInEntries m (Record bytes ∷ []) old new) → FileCall m old new (Write bytes) (done_answer r)
+write_call old new bytes (Ok x) device room run ends =
     file_call old new (Write bytes) Done run (λ is. cc) (λ f. cc) (inl refl) (λ is. cc) (omega arith)
-    (λ file t u f put. (omega (arith, offset_at file old.offset t f), put))
-write_call old new bytes (Err fault) device room run =
+    (λ file t u f put. (omega (arith, offset_at file old.offset t f), put)) (λ is more. ends)
+write_call old new bytes (Err fault) device room run ends =
     let is : fault ≡ Device = device in
     file_call old new (Write bytes) (Fault fault) run (λ _. refl) (λ _. ap Fault is) (inr (inr (inl (ap Fault is)))) (λ out. cc) (omega arith)
     (λ file t u f put. let P : TapeFault → Type 0 = λ k. TapeStep old.capacity t (Write bytes) (Fault k) u in
@@ -79,21 +80,21 @@ write_call old new bytes (Err fault) device room run =
           | inr some ↦ elim (left_of_one some.0 (Record bytes)) [ inl none ↦ inr (inl (some.1 ∙ none)) | inr all ↦ inr (inr (some.1 ∙ all)) ]
         ],
       ),
-    ))
+    )) (λ is. cc)
 
 pub full_call : {M : Type 0} (m : MediumKind M) (here : FileTape M) (bytes : List ℕ) → here.capacity < here.offset + (length bytes + 8 + 4)
     → FileCall m here here (Write bytes) (Fault Full)
 full_call m here bytes short =
     file_call here here (Write bytes) (Fault Full) (reel_none m here) (λ is. cc) (λ f. absurd f) (inr (inl refl)) (λ is. cc) (omega arith)
-    (λ file t u f same. (omega (arith, offset_at file here.offset t f), same))
+    (λ file t u f same. (omega (arith, offset_at file here.offset t f), same)) (λ is. cc)
 
 pub marks_call : {M : Type 0} {m : MediumKind M} (old new : FileTape M) (count : ℕ) (r : Result Unit TapeFault) → IfErr r (λ fault. fault ≡ Device)
     → 0 < count → old.offset + 4 * count ≤ old.capacity → AreReelCalls m (PutsEntries (replicate count Mark) r) (4 * count) (IsErr r) old new
-    → FileCall m old new (WriteMarks count) (done_answer r)
-marks_call old new count (Ok x) device some room run =
+    → IfOk r (λ _. EndsInEntries m (replicate count Mark) old new) → FileCall m old new (WriteMarks count) (done_answer r)
+marks_call old new count (Ok x) device some room run ends =
     file_call old new (WriteMarks count) Done run (λ is. cc) (λ f. cc) (inl refl) (λ is. cc) (omega arith)
-    (λ file t u f put. inr (some, omega (arith, offset_at file old.offset t f), put))
-marks_call old new count (Err fault) device some room run =
+    (λ file t u f put. inr (some, omega (arith, offset_at file old.offset t f), put)) (λ is more. ends)
+marks_call old new count (Err fault) device some room run ends =
     let is : fault ≡ Device = device in
     file_call old new (WriteMarks count) (Fault fault) run (λ _. refl) (λ _. ap Fault is) (inr (some, inr (inl (ap Fault is)))) (λ out. cc) (omega arith)
     (λ file t u f put. let P : TapeFault → Type 0 = λ k. TapeStep old.capacity t (WriteMarks count) (Fault k) u in
@@ -104,18 +105,18 @@ marks_call old new count (Err fault) device some room run =
         | inl same ↦ (0, omega arith, (put.0, inl same))
         | inr part ↦ (min part.0 count, omega arith, (put.0, inr (inr (part.1 ∙ first_marks part.0 count))))
       ],
-    ))
+    )) (λ is. cc)
 
 pub full_marks : {M : Type 0} (m : MediumKind M) (here : FileTape M) (count : ℕ) → 0 < count → here.capacity < here.offset + 4 * count
     → FileCall m here here (WriteMarks count) (Fault Full)
 full_marks m here count some short =
     file_call here here (WriteMarks count) (Fault Full) (reel_none m here) (λ is. cc) (λ f. absurd f) (inr (some, inl refl)) (λ is. cc) (omega arith)
-    (λ file t u f same. (some, omega (arith, offset_at file here.offset t f), same))
+    (λ file t u f same. (some, omega (arith, offset_at file here.offset t f), same)) (λ is. cc)
 
 pub no_marks : {M : Type 0} (m : MediumKind M) (here : FileTape M) (count : ℕ) → count ≡ 0 → FileCall m here here (WriteMarks count) Done
 no_marks m here count none =
     file_call here here (WriteMarks count) Done (reel_none m here) (λ is. cc) (λ f. absurd f) (inl refl) (λ is. cc) (omega arith)
-    (λ file t u f same. inl (none, same))
+    (λ file t u f same. inl (none, same)) (λ is more. absurd (omega arith))
 
 -- a room that is not there
 pub no_room : (need most : ℕ) (r : Bool) → (IsTrue r ↔ (need ≤ most)) → r ≡ false → most < need
@@ -132,13 +133,13 @@ rewind_call {M} m old =
       calls = (reel_none m old).calls;
       same_capacity = refl;
     } in
-    file_call old new Rewind Done run (λ is. cc) (λ f. absurd f) refl (λ is. cc) (omega arith) (λ file t u f is. is)
+    file_call old new Rewind Done run (λ is. cc) (λ f. absurd f) refl (λ is. cc) (omega arith) (λ file t u f is. is) (λ is more. absurd (omega arith))
 
 pub nothing_call : {M : Type 0} (m : MediumKind M) (here : FileTape M) → FileCall m here here Nothing Done
-nothing_call m here = file_call here here Nothing Done (reel_none m here) (λ is. cc) (λ f. absurd f) refl (λ is. cc) (omega arith) (λ file t u f is. is)
+nothing_call m here = file_call here here Nothing Done (reel_none m here) (λ is. cc) (λ f. absurd f) refl (λ is. cc) (omega arith) (λ file t u f is. is) (λ is more. absurd (omega arith))
 
 pub unknown_call : {M : Type 0} (m : MediumKind M) (here : FileTape M) → FileCall m here here Unknown (Fault BadOperation)
-unknown_call m here = file_call here here Unknown (Fault BadOperation) (reel_none m here) (λ is. cc) (λ f. absurd f) refl (λ is. cc) (omega arith) (λ file t u f is. is)
+unknown_call m here = file_call here here Unknown (Fault BadOperation) (reel_none m here) (λ is. cc) (λ f. absurd f) refl (λ is. cc) (omega arith) (λ file t u f is. is) (λ is. cc)
 
 -- ---- spacing
 
@@ -162,32 +163,32 @@ space_by : {M : Type 0} {m : MediumKind M} {F : Type 0} (way : Way) (count at le
     → AreMediumCalls m (Walked way count at left met far old) 0 F old.medium b → (F → ⊥) → left ≤ count
     → MatchResult r (λ _. left ≡ 0) (λ fault. (fault ≡ EndOrMark) × (0 < left))
     → ((answer : TapeAnswer) (t u : Tape) → SpaceStep count (met t) (place_after way (far t) t) t answer u → TapeStep old.capacity t request answer u)
-    → ((answer : TapeAnswer) → CanSpace count answer → CanAnswer request answer)
+    → ((answer : TapeAnswer) → CanSpace count answer → CanAnswer request answer) → image_added request ≡ 0
     → FileCall m old (record { medium = b; offset = at; capacity = old.capacity }) request (done_answer r)
-space_by way count at left met far request old b (Ok x) run never within none step can =
+space_by way count at left met far request old b (Ok x) run never within none step can adds =
     file_call old (record { medium = b; offset = at; capacity = old.capacity }) request Done (walked_run way count at left met far old b run never)
     (λ is. cc) (λ f. absurd f) (can Done (inl refl)) (λ is. cc) (omega arith)
-    (λ file t u f d. step Done t u (let e = d.1 in omega arith, d.0))
-space_by {m = m} way count at left met far request old b (Err fault) run never within (is, some) step can =
+    (λ file t u f d. step Done t u (let e = d.1 in omega arith, d.0)) (λ is more. absurd (omega arith))
+space_by {m = m} way count at left met far request old b (Err fault) run never within (is, some) step can adds =
     subst (λ k. FileCall m old (record { medium = b; offset = at; capacity = old.capacity }) request (Fault k)) (sym is)
     (file_call old (record { medium = b; offset = at; capacity = old.capacity }) request (Fault EndOrMark) (walked_run way count at left met far old b run never)
     (λ e. cc) (λ f. absurd f) (can (Fault EndOrMark) (inr (omega arith, inl refl))) (λ e. cc) (omega arith)
-    (λ file t u f d. step (Fault EndOrMark) t u (let e = d.1 in omega arith, d.0)))
+    (λ file t u f d. step (Fault EndOrMark) t u (let e = d.1 in omega arith, d.0)) (λ e. cc))
 
 pub files_spaced : {M : Type 0} {m : MediumKind M} {F : Type 0} (way : Way) (count at left : ℕ) (old : FileTape M) (b : M) (r : Result Unit TapeFault)
     → AreMediumCalls m (Walked way count at left (λ t. marks_met (ahead way t)) (λ t. passed_for_marks count (ahead way t)) old) 0 F old.medium b → (F → ⊥) → left ≤ count
     → MatchResult r (λ _. left ≡ 0) (λ fault. (fault ≡ EndOrMark) × (0 < left))
     → FileCall m old (record { medium = b; offset = at; capacity = old.capacity }) (files_request way count) (done_answer r)
 files_spaced Forward count at left old b r run never within answered =
-    space_by Forward count at left _ _ (ForwardFiles count) old b r run never within answered (λ answer t u s. s) (λ answer c. c)
+    space_by Forward count at left _ _ (ForwardFiles count) old b r run never within answered (λ answer t u s. s) (λ answer c. c) refl
 files_spaced Back count at left old b r run never within answered =
-    space_by Back count at left _ _ (BackFiles count) old b r run never within answered (λ answer t u s. s) (λ answer c. c)
+    space_by Back count at left _ _ (BackFiles count) old b r run never within answered (λ answer t u s. s) (λ answer c. c) refl
 
 pub records_spaced : {M : Type 0} {m : MediumKind M} {F : Type 0} (way : Way) (count at left : ℕ) (old : FileTape M) (b : M) (r : Result Unit TapeFault)
     → AreMediumCalls m (Walked way count at left (λ t. records_met (ahead way t)) (λ t. passed_for_records count (ahead way t)) old) 0 F old.medium b → (F → ⊥) → left ≤ count
     → MatchResult r (λ _. left ≡ 0) (λ fault. (fault ≡ EndOrMark) × (0 < left))
     → FileCall m old (record { medium = b; offset = at; capacity = old.capacity }) (records_request way count) (done_answer r)
 records_spaced Forward count at left old b r run never within answered =
-    space_by Forward count at left _ _ (ForwardRecords count) old b r run never within answered (λ answer t u s. s) (λ answer c. c)
+    space_by Forward count at left _ _ (ForwardRecords count) old b r run never within answered (λ answer t u s. s) (λ answer c. c) refl
 records_spaced Back count at left old b r run never within answered =
-    space_by Back count at left _ _ (BackRecords count) old b r run never within answered (λ answer t u s. s) (λ answer c. c)
+    space_by Back count at left _ _ (BackRecords count) old b r run never within answered (λ answer t u s. s) (λ answer c. c) refl

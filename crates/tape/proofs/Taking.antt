@@ -36,7 +36,7 @@ gave_call {M} {m} old new count bytes run not bound same step =
       calls = run_as run not (λ f. absurd f) (omega arith) (λ x y held s. tt);
       same_capacity = same;
     } in
-    file_call old new (Read count) (Gave bytes) whole (λ is. cc) (λ f. absurd f) (inl (bytes, bound, refl)) (λ is. cc) (omega arith) (λ file t u f is. is)
+    file_call old new (Read count) (Gave bytes) whole (λ is. cc) (λ f. absurd f) (inl (bytes, bound, refl)) (λ is. cc) (omega arith) (λ file t u f is. is) (λ is. cc)
 
 pub failed_read : {M : Type 0} {m : MediumKind M} {does : List ℕ → List ℕ → Type 0} {F : Type 0} (old new : FileTape M) (count : ℕ)
     → AreMediumCalls m does 0 F old.medium new.medium → F → new.offset ≡ old.offset → new.capacity ≡ old.capacity
@@ -51,7 +51,7 @@ failed_read {M} {m} old new count run failed here same step =
       calls = run_as run (λ f. tt) (λ f. failed) (omega arith) (λ x y held s. tt);
       same_capacity = same;
     } in
-    file_call old new (Read count) (Fault Device) whole (λ is. tt) (λ f. refl) (inr refl) (λ is. cc) (omega arith) (λ file t u f is. is)
+    file_call old new (Read count) (Fault Device) whole (λ is. tt) (λ f. refl) (inr refl) (λ is. cc) (omega arith) (λ file t u f is. is) (λ is. cc)
 
 pub end_passes : (way : List PlainEntry) (count : ℕ) (t : Tape) → way ≡ [] → Passes count way t [] t
 end_passes way count t is = let P : List PlainEntry → Type 0 = λ w. Passes count w t [] t in subst P (sym is) (refl, refl)

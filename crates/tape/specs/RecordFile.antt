@@ -1,14 +1,15 @@
 -- A record file: a reel's entries as bytes (the format is this project's own). `m` has the promises
 -- of the kind of medium, and `t` is a tape. Public contracts cite it.
-use Rattle.std.specs.Prelude.{◌≡◌, ◌≢◌, ◌⊎◌, ◌&&◌, ◌==◌, if◌then◌else◌, ℕ, zero, suc, ◌+◌, ◌*◌, ◌<◌, ◌≤◌, false, List, [], ◌∷◌, ◌++◌, length, take, drop, flat_map, nat_eq, nat_le, Option, Some, None, refl}
+use Rattle.std.specs.Prelude.{◌≡◌, ◌≢◌, ◌⊎◌, ◌&&◌, ◌==◌, if◌then◌else◌, ℕ, zero, suc, ◌+◌, ◌*◌, ◌<◌, ◌≤◌, false, List, [], ◌∷◌, ◌++◌, length, take, drop, replicate, flat_map, nat_eq, nat_le, Option, Some, None, refl}
 use Rattle.std.specs.Coded.{Coded, code_by, coded×, coded_ℕ}
 use Rattle.std.specs.Int.{w32, to_le_bytes, from_le_bytes}
 use Rattle.std.specs.List.{All, starts_with}
+use Rattle.tape.specs.Failures.{Steps}
 use Rattle.tape.specs.Tape.{PlainEntry, Tape, TapeRequest, TapeAnswer, IsEntryUpTo, entries_of, tape}
 use Rattle.rmt_wire.specs.declared.limits.TheConstants.{RECORD_LIMIT}
 use Rattle.tape.specs.Tape.PlainEntry.{Record, Mark}
 use Rattle.tape.specs.Tape.TapeRequest.{Write, WriteMarks}
-use Rattle.tape.specs.Tape.TapeAnswer.{Fault}
+use Rattle.tape.specs.Tape.TapeAnswer.{Done, Fault}
 use Rattle.tape.specs.Call.{ReelKind, reel_kind}
 use Rattle.tape.specs.Medium.{MediumKind, medium_kind}
 use Rattle.tape.specs.declared.medium.Medium.{Ghosts as MediumPromise}
@@ -113,13 +114,27 @@ image_added (Write bytes) = length bytes + 8
 image_added (WriteMarks count) = 4 * count
 image_added _ = 0
 
+-- The entries that a call writes if its answer is `Done`.
+abbrev pub entries_written : TapeRequest → List PlainEntry
+entries_written (Write bytes) = Record bytes ∷ []
+entries_written (WriteMarks count) = replicate count Mark
+entries_written _ = []
+
+-- If the medium's bytes are known before a call, they are known after it. They are then the bytes
+-- that were before the place, followed by the images of these entries and nothing else.
+abbrev pub EndsInEntries : {M : Type 0} → MediumKind M → List PlainEntry → FileTape M → FileTape M → Type 0
+EndsInEntries m entries old new =
+    Steps m.holds old.medium new.medium (λ bytes left. left ≡ take old.offset bytes ++ images_of entries)
+
 -- What a call of a reel on such a medium promises in addition to the promises of every reel. The
 -- answer is `Device` only if the medium can fail, or if its room is too small for what was to be
--- written. No call makes the medium able to fail. Only written bytes use up its room.
+-- written. No call makes the medium able to fail. Only written bytes use up its room. If a call that
+-- writes entries is done, the medium's bytes end with these entries.
 pub record IsFileCall {M : Type 0} (m : MediumKind M) (old new : FileTape M) (request : TapeRequest) (answer : TapeAnswer) : Type 0 where
   pub cause : answer ≡ Fault Device → m.can_fail old.medium ⊎ (m.spare old.medium < image_added request)
   pub quiet : m.can_fail new.medium → m.can_fail old.medium
   pub room : m.spare old.medium ≤ m.spare new.medium + image_added request
+  pub exact : answer ≡ Done → 0 < image_added request → EndsInEntries m (entries_written request) old new
 
 -- The promises of media of a type.
 abbrev pub medium_kind_of : {M : Type 0} → MediumPromise M → MediumKind M

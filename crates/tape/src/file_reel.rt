@@ -1,11 +1,11 @@
 //! A reel whose entries are on a medium.
 
-ghost use Rattle.std.specs.Prelude.{◌≡◌, ◌+◌, ◌*◌, ◌^◌, ◌<◌, ◌≤◌, ◌↔◌, List, ℕ, IfErr, IsErr, OnErr, IsTrue, MatchResult, [], ◌∷◌, length, replicate, false};
+ghost use Rattle.std.specs.Prelude.{◌≡◌, ◌+◌, ◌*◌, ◌^◌, ◌<◌, ◌≤◌, ◌↔◌, List, ℕ, IfOk, IfErr, IsErr, OnErr, IsTrue, MatchResult, [], ◌∷◌, length, replicate, false};
 ghost use Rattle.tape.specs.Tape.{PlainEntry, IsRecord, tape, done_answer};
 ghost use Rattle.tape.specs.Tape.PlainEntry.{Record, Mark};
 ghost use Rattle.tape.specs.Tape.TapeRequest.{WriteMarks};
 ghost use Rattle.tape.specs.Call.{IsTapeCall};
-ghost use Rattle.tape.specs.RecordFile.{FileTape, SpellsReel, HoldsTape, IsFileCall, file_reel_kind, medium_kind_of};
+ghost use Rattle.tape.specs.RecordFile.{FileTape, SpellsReel, HoldsTape, IsFileCall, EndsInEntries, file_reel_kind, medium_kind_of};
 ghost use Rattle.tape.specs.FileSteps.{AreReelCalls, PutsEntries, files_request, records_request};
 ghost use Rattle.tape.specs.declared.fault.TapeFault.TheVariants.{Device, OutOfMemory};
 
@@ -123,6 +123,7 @@ impl<M: Medium> FileReel<M> {
         requires room { self.old.offset + (length bytes.now + 8) < 2 ^ 64 }
         ensures run { AreReelCalls (medium_kind_of M.Medium) (PutsEntries (Record bytes.now ∷ []) result)
             (length bytes.now + 8) (IsErr result) self.old self.new }
+        ensures exact { IfOk result (λ _. EndsInEntries (medium_kind_of M.Medium) (Record bytes.now ∷ []) self.old self.new) }
         ensures device { IfErr result (λ fault. fault ≡ Device) }
     {
         put_record(&mut self.medium, self.offset, bytes)?;
@@ -138,6 +139,7 @@ impl<M: Medium> FileReel<M> {
         requires { self.old.offset + 4 * count < 2 ^ 64 }
         ensures run { AreReelCalls (medium_kind_of M.Medium) (PutsEntries (replicate count Mark) result)
             (4 * count) (IsErr result) self.old self.new }
+        ensures exact { IfOk result (λ _. EndsInEntries (medium_kind_of M.Medium) (replicate count Mark) self.old self.new) }
         ensures device { IfErr result (λ fault. fault ≡ Device) }
     {
         put_marks(&mut self.medium, self.offset, count)?;
@@ -205,7 +207,9 @@ impl<M: Medium> Reel for FileReel<M> {
     //
     // makes: A call fails with `Device` only if the medium can fail, or has too little room for the
     // bytes that the call is to write (`IsFileCall`). If the medium cannot fail before a call, it
-    // cannot fail after the call. Only written bytes use up room.
+    // cannot fail after the call. Only written bytes use up room. If the medium's bytes are known, a
+    // successful call that writes a record or marks leaves no byte after them. It leaves the bytes
+    // before the place unchanged.
 
     ghost holds = { HoldsTape M.holds };
 

@@ -5,7 +5,7 @@ use Rattle.std.proofs.lemmas.Result.{err_from_is_err_and}
 use Rattle.tape.specs.Tape.{IsTapeEntry}
 use Rattle.tape.specs.Tape.PlainEntry.{Mark}
 use Rattle.tape.proofs.Writing.{marks_image}
-use Rattle.tape.proofs.Putting.{puts_whole, puts_part}
+use Rattle.tape.proofs.Putting.{puts_whole, puts_part, ends_in}
 use Rattle.tape.proofs.file_reel.FileReel.put_marks.Goals as goal
 
 pub returns-in_err-put_marks-clause-run : goal.returns-in_err-put_marks-clause-run
@@ -20,3 +20,9 @@ returns-clause-run g c =
     let count = c.args.count in
     rw (← c.self.view_is) (puts_whole _ _ (replicate count Mark) (replicate (4 * count) 0) (4 * count) c.in_ok-put_marks.field-0 tt
     (All-replicate IsTapeEntry count Mark tt) (marks_image count) (omega (arith, length-replicate {A = ℕ} (4 * count) 0)) refl c.in_ok-put_marks.ensures)
+
+pub returns-clause-exact : goal.returns-clause-exact
+returns-clause-exact g c =
+    let count = c.args.count in
+    rw (← c.self.view_is) (ends_in _ _ _ (replicate count Mark) (replicate (4 * count) 0) c.in_ok-put_marks.field-0
+    (marks_image count) c.in_ok-put_marks.ensures)

@@ -15,4 +15,4 @@ returns-then-not-has_room g c =
 pub returns : goal.returns
 returns g c =
     let room = the_room (c.args.self.now.offset + c.from.result * 4) c.args.self.now.capacity c.has_room.result c.has_room.ensures.answer c.if-not-has_room.false in
-    marks_call c.args.self.now c.put_marks.new.self c.args.count c.put_marks.result c.put_marks.ensures.device (omega arith) (omega arith) c.put_marks.ensures.run
+    marks_call c.args.self.now c.put_marks.new.self c.args.count c.put_marks.result c.put_marks.ensures.device (omega arith) (omega arith) c.put_marks.ensures.run c.put_marks.ensures.exact

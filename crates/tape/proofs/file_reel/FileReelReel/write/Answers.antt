@@ -11,4 +11,4 @@ returns-then-not-has_room g c =
 pub returns : goal.returns
 returns g c =
     let room = the_room (c.args.self.now.offset + (length c.args.bytes.now + 8 + 4)) c.args.self.now.capacity c.has_room.result c.has_room.ensures.answer c.if-not-has_room.false in
-    write_call c.args.self.now c.put_record.new.self c.args.bytes.now c.put_record.result c.put_record.ensures.device room c.put_record.ensures.run
+    write_call c.args.self.now c.put_record.new.self c.args.bytes.now c.put_record.result c.put_record.ensures.device room c.put_record.ensures.run c.put_record.ensures.exact
