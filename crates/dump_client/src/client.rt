@@ -174,6 +174,14 @@ impl<B: Blocks> Client<B> {
         self.ledger.run()
     }
 
+    /// Returns the source of the blocks.
+    pub fn source(&self) -> &B
+        // Returns the client's source. The types allow only this body, so there is no edit.
+        ensures { result.now ≡ self.now.source }
+    {
+        &self.source
+    }
+
     /// Returns the counted volumes, in order.
     pub fn counted(&self) -> &[VolumeCount]
         // Returns the client's counts.

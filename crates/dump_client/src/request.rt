@@ -75,8 +75,8 @@ fn push_label<B: Blocks>(
     ensures same_source { source.new ≡ source.old }
 {
     let (volume, first) = ledger.checkpoint();
-    source.begin_volume(volume, first);
     let label = label(ledger.run(), volume, first);
+    source.begin_volume(&label, volume, first);
     push(&Request::Write { bytes: &label }, out)
 }
 

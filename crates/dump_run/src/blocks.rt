@@ -3,6 +3,7 @@
 ghost use Rattle.std.specs.Prelude.{◌≡◌, ◌↔◌, ℕ, List, Result, IsErr, length};
 ghost use Rattle.dump_run.specs.Blocks.{HasBlock, GivesBlock, counted_after};
 
+use crate::LABEL_BYTES;
 use thiserror::Error;
 
 /// A read of a block failed. The source's blocks are unchanged.
@@ -31,14 +32,16 @@ pub trait Blocks {
     /// the source and the bytes of `into`.
     ghost reads: { Self → ℕ → List ℕ → Result Unit SourceFailed → Self → List ℕ → Type 0 };
 
-    /// Tells the source that an attempt to write volume `volume` begins. Volume numbers start at 1.
-    /// The volume's first block is `first`, counted from 0. A source may show this. The default
-    /// does nothing. The source does not change.
-    fn begin_volume(&mut self, volume: u32, first: u32)
-        // Tells the source which volume begins. The source does not change.
+    /// Tells the source that an attempt begins to write volume `volume`, whose first record is
+    /// `label`. Volume numbers start at 1. The volume's first block is `first`, counted from 0. A
+    /// source may show this, or hash the label and the blocks that it then reads. The default does
+    /// nothing. What contracts see of the source does not change.
+    fn begin_volume(&mut self, label: &[u8; LABEL_BYTES], volume: u32, first: u32)
+        // Tells the source which volume begins. What contracts see of the source does not change. No
+        // clause says that the label is that of the volume.
         ensures { self.new ≡ self.old }
     {
-        let _ = (volume, first);
+        let _ = (label[0], volume, first);
     }
 
     /// Reads block `block`, counted from 0, into `into`, whose length must be the block's length.

@@ -1,6 +1,6 @@
 //! The label of a volume, as read from a reel.
 
-ghost use Rattle.std.specs.Prelude.{◌≡◌, ◌≤◌, ◌↔◌, IsTrue, length, replicate};
+ghost use Rattle.std.specs.Prelude.{◌≡◌, ◌≤◌, ◌↔◌, IfSome, IsSome, IsTrue, length, replicate};
 ghost use Rattle.std.specs.Int.{IsInRange};
 ghost use Rattle.dumpdates.specs.Entry.{IsName, last_second};
 ghost use Rattle.dump_run.specs.Run.{blocks_limit};
@@ -11,7 +11,7 @@ use crate::checkpoint::field::{name_field, number_field};
 use crate::dump_id::DumpId;
 use crate::labels::LABEL_BYTES;
 use crate::run::{BLOCKS_LIMIT, LAST_LEVEL};
-use dumpdates::LAST_SECOND;
+use dumpdates::{LAST_SECOND, is_name};
 use std::marker::Model;
 
 /// The greatest number of a volume, and of a block.
@@ -55,6 +55,35 @@ impl VolumeLabel {
             return None;
         }
         Some(label)
+    }
+
+    /// Makes a label of these parts. Returns None if a part breaks its limit.
+    ///
+    /// The name is 1 to 255 bytes of printable ASCII without a space, the level 0 to 9, and each
+    /// date 0 to `dumpdates::LAST_SECOND`. The volume is 1 to `BLOCKS_LIMIT`, and its first block 0
+    /// to `BLOCKS_LIMIT`.
+    pub fn new(
+        name: &str,
+        level: u8,
+        date: u64,
+        since: u64,
+        volume: u32,
+        first: u32,
+    ) -> Option<VolumeLabel>
+        // Returns the label with the given parts.
+        ensures made { IfSome result (λ l. l ≡ plain_label name.now level date since volume first) }
+        // Returns a label exactly if each part is within its limit.
+        ensures limits { IsSome result ↔ IsLabel (plain_label name.now level date since volume first) }
+    {
+        let (level, volume, first) = (u64::from(level), u64::from(volume), u64::from(first));
+        if !is_name(name.as_bytes()) || level > LAST_LEVEL || date > LAST_SECOND {
+            return None;
+        }
+        if since > LAST_SECOND || volume == 0 || volume > LAST_NUMBER || first > LAST_NUMBER {
+            return None;
+        }
+        let id = DumpId::from_parts(name.as_bytes(), level, date, since);
+        Some(VolumeLabel::from_parts(id, volume, first))
     }
 
     /// Makes a label of parts that are within the limits.

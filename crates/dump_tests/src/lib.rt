@@ -1,5 +1,6 @@
-//! Tests of `dumpdates`, `dump_run`, `reel_check`, `dump_client` and the examples, by their public
-//! calls alone. They are a crate of their own so that each of these crates is proved only once.
+//! Tests of `dumpdates`, `dump_run`, `reel_check`, `sum_lines`, `dump_client` and the examples, by
+//! their public calls alone. They are a crate of their own so that each of these crates is proved
+//! only once.
 #![tactic(auto)]
 
 #[cfg(test)]

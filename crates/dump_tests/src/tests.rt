@@ -5,3 +5,4 @@ mod of_dump_run;
 mod of_dumpdates;
 mod of_examples;
 mod of_reel_check;
+mod of_sum_lines;

@@ -16,3 +16,4 @@ pub mod Reading
 pub mod PrintingSink
 pub mod Look
 pub mod Protection
+pub mod Booking

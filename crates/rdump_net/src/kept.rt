@@ -2,14 +2,15 @@
 //!
 //! A count is the record of a volume that was written whole: its number, its first block and its
 //! number of blocks.
-ghost use Rattle.std.specs.Prelude.{◌≡◌, false};
+ghost use Rattle.std.specs.Prelude.{◌≡◌, false, drop, length};
+ghost use Rattle.rdump_net.specs.Booking.{EntersOn};
 ghost use Rattle.rdump_net.specs.Keeping.{IsDumpKept, IsKeptUp, IsUnkept, kept_ends, kept_kind, plain_checkpoint};
 ghost use Rattle.rdump_net.specs.Lines.{IsDumped};
 ghost use Rattle.rdump_net.specs.Talk.{FromAny, TalksOver};
 ghost use Rattle.rdump_net.specs.declared.conclusion.Conclusion.TheVariants as ends;
 
 use crate::rounds::{finish, round};
-use crate::{Conclusion, Keeper, Peer};
+use crate::{Conclusion, CountBook, Keeper, Peer};
 use dump_client::{Blocks, Client, Run, State, VolumeCount};
 use exit_status::ExitStatus;
 use rmt_wire::{Counted, print_text};
@@ -28,6 +29,16 @@ impl Keeper for NoKeeper {
     fn keep(&mut self, _run: &Run, _counts: &[VolumeCount]) -> bool {
         true
     }
+}
+
+/// Enters nothing.
+#[derive(Drop)]
+struct NoBook;
+
+impl<B: Blocks> CountBook<B> for NoBook {
+    ghost entered = { λ _ _. ⊥ };
+
+    fn enter(&mut self, _client: &Client<B>, _count: VolumeCount) {}
 }
 
 /// Makes a client write its run to a tape server (the peer), with a new connection for each
@@ -118,6 +129,44 @@ pub fn dump_kept<B: Blocks, P: Peer, R: Read, W: Write, K: Keeper>(
     // not end as `Unkept`.
     ensures able { result ≡ ends.Unkept → K.can_fail keeper.old }
 {
+    let mut book = NoBook;
+    dump_booked(alloc, client, peer, operator, out, keeper, &mut book)
+}
+
+/// Makes a client write its run to a tape server and stores its checkpoint, as `dump_kept` does,
+/// and enters each counted volume in `book`.
+///
+/// It enters a volume once the client has counted it, and before it prints the volume's line. It
+/// enters no volume that was counted before the call.
+///
+/// Returns how the dump ended: see `Conclusion`.
+pub fn dump_booked<B: Blocks, P: Peer, R: Read, W: Write, K: Keeper, C: CountBook<B>>(
+    alloc: Global,
+    client: &mut Client<B>,
+    peer: &mut P,
+    operator: &mut R,
+    out: &mut Counted<W>,
+    keeper: &mut K,
+    book: &mut C,
+) -> Conclusion
+    // The call keeps checkpoints, sends requests and prints lines as `dump_kept` does. All promises
+    // of the clause `kept` of `dump_kept` hold here too.
+    ensures kept { IsDumpKept (kept_kind B.holds P.tells W.contents K.puts) (kept_ends client.old peer.old out.old keeper.old)
+        (kept_ends client.new peer.new out.new keeper.new) result }
+    // `Unkept` means that a checkpoint could not be kept. If the keeper cannot fail, the dump does
+    // not end as `Unkept`.
+    ensures able { result ≡ ends.Unkept → K.can_fail keeper.old }
+    // The promise about entered volumes holds if the book's contract gives the counts that were
+    // entered. The call enters exactly the volumes that were counted since the start, each of them
+    // once, in order.
+    //
+    // However the dump ends, all of these volumes are entered. This is so even if the line of a
+    // volume could not be printed, or if a checkpoint could not be kept. No clause says at which time
+    // a volume is entered. Tests show that the book of `rdump dump` has a volume before the volume's
+    // line is printed, and before its checkpoint is kept. The contract of this book does not give
+    // the volumes. Test: `tests/sums.py`.
+    ensures booked { EntersOn C.entered book.old book.new (drop (length client.old.at.counts) client.new.at.counts) }
+{
     match client.state() {
         State::Finished | State::Abandoned => return finish(client, out),
         _ => {}
@@ -127,7 +176,7 @@ pub fn dump_kept<B: Blocks, P: Peer, R: Read, W: Write, K: Keeper>(
         if !keep_up(client, &mut kept, keeper) {
             return unkept(out);
         }
-        if let Some(end) = round(client, peer, operator, out, &mut text) {
+        if let Some(end) = round(client, peer, operator, out, &mut text, book) {
             return end;
         }
     }

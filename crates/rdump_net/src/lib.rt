@@ -3,7 +3,8 @@
 //!
 //! `Peer` is the far end of a connection; `SocketPeer` reaches it over TCP. `dump` makes a client
 //! write its volumes to a tape server, asks the operator after a failure, and prints each counted
-//! volume. `dump_kept` also keeps the checkpoint with a `Keeper`.
+//! volume. `dump_kept` also keeps the checkpoint with a `Keeper`. `dump_booked` also enters each
+//! counted volume in a `CountBook`.
 //!
 //! `copy_volume` reads a volume back into a `VolumeSink`, and `read_volume` reads one into two
 //! streams. `mt` does one operation, and `look_at_reel` finds out what a reel begins with. Each uses
@@ -26,9 +27,13 @@
 //! its calls do.
 //!
 //! A *keeper* stores the text of the client's checkpoint. Each new text replaces the previous one.
+//!
+//! A *book* receives each volume that the client counts. This is called *to enter* the volume. The promises about a book hold only if the book's contract
+//! gives the volumes that were entered.
 #![tactic(auto)]
 
 mod attempt;
+mod book;
 mod caller;
 mod conclusion;
 mod fault;
@@ -47,11 +52,12 @@ mod sink;
 mod socket;
 mod volume;
 
+pub use book::CountBook;
 pub use caller::PeerCaller;
 pub use conclusion::Conclusion;
 pub use fault::{CallFault, ReadFault, VolumeRequest};
 pub use keeper::Keeper;
-pub use kept::{dump, dump_kept};
+pub use kept::{dump, dump_booked, dump_kept};
 pub use kept_reply::KeptReply;
 pub use lines::{LINE_ROOM, failure_line};
 pub use look::{LookFault, LookRequest, ReelFront, look_at_reel};

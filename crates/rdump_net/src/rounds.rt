@@ -4,6 +4,7 @@
 //! `operator` is the stream of the operator's answers.
 ghost use Rattle.std.specs.Prelude.{◌≡◌, ◌≢◌, false, Some, length, drop, if◌then◌else◌};
 ghost use Rattle.dump_client.specs.Standing.{checkpoint_of};
+ghost use Rattle.rdump_net.specs.Booking.{EntersOn};
 ghost use Rattle.rdump_net.specs.Lines.{DumpLines, IsFinish, IsRound, complete_line, count_lines, failure_lines};
 ghost use Rattle.rdump_net.specs.declared.attempt.Attempted.TheVariants.{NotStarted};
 ghost use Rattle.rdump_net.specs.declared.conclusion.Conclusion.TheVariants as ends;
@@ -13,30 +14,32 @@ ghost use Rattle.rdump_net.specs.Talk.{FromThis, TalksAlone, TalksOver};
 use crate::attempt::{Attempted, attempt};
 use crate::lines::{LINE_ROOM, QUESTION, complete_text, failure_text, print_counts};
 use crate::operator::says_yes;
-use crate::{Conclusion, Peer};
+use crate::{Conclusion, CountBook, Peer};
 use arrayvec::ArrayString;
 use dump_client::{Answer, AttemptFault, Blocks, Client, State, VolumeCount};
 use rmt_wire::{Counted, print_text};
 use std::io::{Read, Write};
 
 /// Does the one thing that the client waits for. Returns how the dump ended, if it did.
-pub(crate) fn round<B: Blocks, P: Peer, R: Read, W: Write>(
+pub(crate) fn round<B: Blocks, P: Peer, R: Read, W: Write, C: CountBook<B>>(
     client: &mut Client<B>,
     peer: &mut P,
     operator: &mut R,
     out: &mut Counted<W>,
     text: &mut Vec<u8>,
+    book: &mut C,
 ) -> Option<Conclusion>
     ensures talks { TalksOver B.holds (FromThis client.old.at) P.tells client.old client.new peer.old peer.new }
     ensures printed { IsRound W.contents client.old.at.counts client.new.at out.old out.new result }
     ensures still { result ≡ Some ends.Complete → client.new.at ≡ client.old.at }
+    ensures booked { EntersOn C.entered book.old book.new (drop (length client.old.at.counts) client.new.at.counts) }
 {
     match client.state() {
         State::Ready => {
             let may = peer.may_begin();
-            begin_volume(client, peer, may, operator, out, text)
+            begin_volume(client, peer, may, operator, out, text, book)
         }
-        State::ToSend | State::Waiting => try_volume(client, peer, operator, out, text),
+        State::ToSend | State::Waiting => try_volume(client, peer, operator, out, text, book),
         State::Asking => {
             ask(client, operator);
             None
@@ -47,42 +50,47 @@ pub(crate) fn round<B: Blocks, P: Peer, R: Read, W: Write>(
 
 /// Makes the client try its next volume if `may` is true, and otherwise asks the operator. Returns
 /// how the dump ended, if it did.
-fn begin_volume<B: Blocks, P: Peer, R: Read, W: Write>(
+fn begin_volume<B: Blocks, P: Peer, R: Read, W: Write, C: CountBook<B>>(
     client: &mut Client<B>,
     peer: &mut P,
     may: bool,
     operator: &mut R,
     out: &mut Counted<W>,
     text: &mut Vec<u8>,
+    book: &mut C,
 ) -> Option<Conclusion>
     ensures talks { TalksOver B.holds (FromThis client.old.at) P.tells client.old client.new peer.old peer.new }
     ensures printed { IsRound W.contents client.old.at.counts client.new.at out.old out.new result }
     ensures still { result ≡ Some ends.Complete → client.new.at ≡ client.old.at }
+    ensures booked { EntersOn C.entered book.old book.new (drop (length client.old.at.counts) client.new.at.counts) }
     // If `may` is false, the client and the peer are unchanged. No clause says that `may` is the
     // peer's answer.
     ensures held { may ≡ false → (client.new ≡ client.old) × (peer.new ≡ peer.old) }
 {
     if may {
-        return try_volume(client, peer, operator, out, text);
+        return try_volume(client, peer, operator, out, text, book);
     }
     ask_here(client, QUESTION.as_bytes(), operator, out)
 }
 
 /// Has the client try its next volume, and prints the outcome. Returns how the dump ended, if it
 /// did.
-fn try_volume<B: Blocks, P: Peer, R: Read, W: Write>(
+fn try_volume<B: Blocks, P: Peer, R: Read, W: Write, C: CountBook<B>>(
     client: &mut Client<B>,
     peer: &mut P,
     operator: &mut R,
     out: &mut Counted<W>,
     text: &mut Vec<u8>,
+    book: &mut C,
 ) -> Option<Conclusion>
     ensures talks { TalksOver B.holds (FromThis client.old.at) P.tells client.old client.new peer.old peer.new }
     ensures printed { IsRound W.contents client.old.at.counts client.new.at out.old out.new result }
     ensures still { result ≡ Some ends.Complete → client.new.at ≡ client.old.at }
+    ensures booked { EntersOn C.entered book.old book.new (drop (length client.old.at.counts) client.new.at.counts) }
 {
     let before = volumes(client);
     let attempted = attempt(client, peer, text);
+    enter_counts(client, before, book);
     if !print_since(client, before, out) {
         return Some(Conclusion::PrintFailed);
     }
@@ -155,6 +163,15 @@ fn volumes<B: Blocks>(client: &Client<B>) -> usize
     ensures { result ≡ length client.now.at.counts }
 {
     client.counted().len()
+}
+
+/// Enters the counted volumes after the first `before` in the book, in order.
+fn enter_counts<B: Blocks, C: CountBook<B>>(client: &Client<B>, before: usize, book: &mut C)
+    ensures { EntersOn C.entered book.old book.new (drop before client.now.at.counts) }
+{
+    for count in counts_from(client, before) {
+        book.enter(client, *count);
+    }
 }
 
 /// Prints the counted volumes after the first `before`. Returns whether all were printed.

@@ -37,6 +37,8 @@ pub fn check_reel<M: Medium>(medium: &mut M, room: &mut [u8]) -> Result<ReelCont
     ensures able { OnErr result (M.can_fail medium.old) }
     // If the check succeeds, no call of the medium failed during the check.
     ensures quiet { OnOk result (M.failures medium.new ≡ M.failures medium.old) }
+    // If the medium can fail after the check, it could fail before.
+    ensures steady { M.can_fail medium.new → M.can_fail medium.old }
 {
     let bytes = medium.len()?;
     let (tally, end) = add_entries(medium, room)?;

@@ -3,3 +3,4 @@
 mod of_drives;
 mod of_reel_files;
 mod of_tape;
+mod of_volume_sum;

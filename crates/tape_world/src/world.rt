@@ -6,6 +6,7 @@ mod telling;
 ghost use Rattle.std.specs.Prelude.{◌≡◌, IfOk, map};
 ghost use Rattle.world_model.specs.First.{AreGoodDrives, first_world, IsReached};
 ghost use Rattle.world_model.specs.Headline.{Headline, CountedReels, NoTwoHolders, DumpdatesGained};
+ghost use Rattle.world_model.specs.Sums.{CountedSums};
 ghost use Rattle.world_model.specs.Further.{SentRequests, ReelsNotReopened, OwnOpens, LatchedReels, LabelledReels, ClientsCounts};
 ghost use Rattle.world_model.specs.Standing.{AreHeld};
 ghost use Rattle.world_model.specs.Kept.{IsWorldKept};
@@ -79,6 +80,8 @@ impl World {
     /// - From an attempt's accepted label on, its reel holds just what its accepted writes wrote.
     ///   This ends if a write meets a device fault, or if another session writes on the reel. Until
     ///   MTOFFL, the attempt's session has the reel positioned at its end.
+    /// - The entries of each reel that was counted and not reopened have the sum of the count's
+    ///   volume (`counted_sums`).
     /// - Each volume in the client's list was counted under the number of its run.
     /// - While the reel of a count is not reopened, only the count's own session has written on it
     ///   since its open (`reels_not_reopened`).
@@ -107,6 +110,10 @@ impl World {
         // If no foreign session reopened a counted reel, the reel holds its volume and nothing
         // else.
         ensures counted_reels { CountedReels self.now }
+        // If no foreign session reopened a counted reel, the reel holds a list of entries, and each
+        // such list has the sum of the counted volume. The sum of a list of entries is the SHA-256
+        // of the record file that has these entries and nothing else.
+        ensures counted_sums { CountedSums self.now }
         // If no foreign session reopened a counted reel, `World::entry` returns the entries of the
         // counted volume.
         ensures volumes_told { TellsVolumes self.now }

@@ -1,6 +1,6 @@
 -- In reading order: World, Events, Changes, Rows, Steps, First; History, Standing, Written,
--- Headline; Further; Serving, Talk, Faultless. How it is proved: Owning, Naming, Sending, Attempts,
--- Sparing, Kept.
+-- Headline, Sums; Further; Serving, Talk, Faultless. How it is proved: Owning, Naming, Sending,
+-- Attempts, Sparing, Kept.
 pub mod World
 pub mod Events
 pub mod Changes
@@ -11,6 +11,7 @@ pub mod History
 pub mod Standing
 pub mod Written
 pub mod Headline
+pub mod Sums
 pub mod Further
 pub mod Naming
 pub mod Kept

@@ -1,6 +1,5 @@
--- The entries of a whole volume on a reel, and of what an attempt wrote, as far as it was accepted.
--- Public contracts cite it.
-use Rattle.std.specs.Prelude.{◌≡◌, ℕ, zero, suc, ◌+◌, ◌≤◌, Bool, true, false, List, [], ◌∷◌, ◌++◌, length, get_or, Contains, Some}
+-- The entries that an attempt wrote, as far as they were accepted. Public contracts cite it.
+use Rattle.std.specs.Prelude.{◌≡◌, ℕ, ◌+◌, ◌≤◌, Bool, true, false, List, [], ◌∷◌, ◌++◌, length, Contains, Some}
 use Rattle.tape.specs.Tape.{PlainEntry}
 use Rattle.tape.specs.Tape.PlainEntry.{Record, Mark}
 use Rattle.dump_run.specs.Run.{PlainRun}
@@ -10,15 +9,8 @@ use Rattle.dump_client.specs.declared.step.Step.TheVariants.{Operation}
 use Rattle.dump_client.specs.declared.step.TapeOp.TheVariants.{Unload}
 use Rattle.world_model.specs.World.{World, AttemptState, Writing, numbered}
 use Rattle.world_model.specs.Changes.{opening}
-
--- `count` blocks from `first` on, one record each
-abbrev pub block_records : List (List ℕ) → ℕ → ℕ → List PlainEntry
-block_records payload first zero = []
-block_records payload first (suc count) = Record (get_or payload first []) ∷ block_records payload (suc first) count
-
--- a whole volume: its label, `count` blocks from its first on, and one mark
-abbrev pub whole_volume : PlainRun → List (List ℕ) → ℕ → ℕ → ℕ → List PlainEntry
-whole_volume run payload volume first count = Record (label run volume first) ∷ (block_records payload first count ++ Mark ∷ [])
+-- A volume on a reel: its blocks, and the whole volume.
+pub use Rattle.volume_sum.specs.Volume.{block_records, whole_volume}
 
 -- the label's record, if the flag is set
 abbrev pub label_if : Bool → PlainRun → ℕ → ℕ → List PlainEntry

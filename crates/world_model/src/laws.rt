@@ -12,6 +12,7 @@ ghost use Rattle.world_model.specs.Rows.{Possible};
 ghost use Rattle.world_model.specs.Steps.{Runs, Happens};
 ghost use Rattle.world_model.specs.First.{PlainDriveSpec, AreGoodDrives, first_world, IsReached};
 ghost use Rattle.world_model.specs.Headline.{Headline, CountedReels, IsNotReopened, NoTwoHolders, DumpdatesGained};
+ghost use Rattle.world_model.specs.Sums.{CountedSums};
 ghost use Rattle.world_model.specs.Written.{IsAlone};
 ghost use Rattle.world_model.specs.Further.{SentRequests, LatchedReels, ReelsNotReopened, OwnOpens, LabelledReels, ClientsCounts, CountsGrow};
 ghost use Rattle.world_model.specs.Standing.{AreHeld};
@@ -54,6 +55,8 @@ pub fn one_run()
 /// While the reel of a count is not reopened, only the count's own session has written on it since
 /// its open (`reels_not_reopened`). A reel that nobody opened for writing since is not reopened
 /// (`unopened`), and nobody else has written on it (`unwritten`).
+///
+/// A reel that was counted and not reopened has the sum of its volume (`counted_sums`).
 ///
 /// An attempt's reel holds what the attempt wrote, and nothing else (`labelled_reels`). This holds
 /// if the attempt's label was accepted, no write of it met a device fault, and no other session
@@ -117,6 +120,10 @@ pub fn kept()
     // volume and nothing else. The volume consists of the label, one record for each counted block,
     // and one mark.
     ensures counted_reels { (w : World) → IsWorldKept w → CountedReels w }
+    // If no foreign session reopened a counted reel, the reel holds a list of entries, and each such
+    // list has the sum of the counted volume. This is the sum of the label, one record for each
+    // counted block, and one mark.
+    ensures counted_sums { (w : World) → IsWorldKept w → CountedSums w }
     // The history lists the runs that were entered in dumpdates. Entering these runs in an empty
     // list, one by one and in the same order, gives dumpdates. No run was entered twice. When a run
     // was entered, the counts in the client's list covered all blocks of the run, in order. The

@@ -24,6 +24,8 @@
 //!
 //! A foreign session *reopens* a counted reel if it opens the reel for writing after the count's
 //! own session did.
+//!
+//! The *sum* of entries is the SHA-256 of the record file that has these entries and nothing else.
 #![tactic(auto)]
 
 mod laws;

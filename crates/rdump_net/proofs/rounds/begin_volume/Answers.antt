@@ -1,6 +1,7 @@
-use Rattle.std.proofs.Common.{◌≡◌, subst, sym}
+use Rattle.std.proofs.Common.{◌≡◌, refl, subst, sym}
 use Rattle.rdump_net.specs.Lines.{DumpLines, question_line}
 use Rattle.rdump_net.specs.Talk.{FromThis}
+use Rattle.rdump_net.proofs.Booking.{enters_same}
 use Rattle.rdump_net.proofs.Printed.{lines_asked}
 use Rattle.rdump_net.proofs.Talking.{nothing_said}
 use Rattle.rdump_net.proofs.rounds.begin_volume.Goals as goal
@@ -13,3 +14,6 @@ ask_here-requires g c =
     let counts = c.args.client.now.at.counts in
     let e : c.as_bytes.result.now ≡ question_line = c.as_bytes.ensures.value in
     subst (DumpLines counts counts) (sym e) (lines_asked counts)
+
+pub returns-clause-booked : goal.returns-clause-booked
+returns-clause-booked g c = enters_same g.C.CountBook.entered c.args.book.now c.args.client.now.at.counts c.args.client.now.at.counts refl

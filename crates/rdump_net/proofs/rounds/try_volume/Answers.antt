@@ -1,4 +1,5 @@
 use Rattle.std.proofs.Common.{ℕ, List, Bool, true, false, drop, subst}
+use Rattle.rdump_net.specs.Booking.{EntersOn}
 use Rattle.rdump_net.specs.Lines.{count_lines}
 use Rattle.rmt_wire.specs.Print.{IsPrinted}
 use Rattle.rdump_net.proofs.Printed.{lines_since, cut_short, round_after}
@@ -21,3 +22,13 @@ returns-clause-printed g c =
     subst (λ (b : Bool). IsPrinted g.W.Write.contents text c.args.out.now c.print_since.new.out b) c.if-not-print_since.false c.print_since.ensures in
     round_after g.W.Write.contents c.args.client.now.at.counts new.at.counts new.at c.args.out.now c.print_since.new.out c.report.new.out text c.report.result
     (lines_since c.args.client.now.at.counts new.at.counts c.volumes-before.result c.volumes-before.ensures c.attempt-attempted.ensures.grows) printed c.report.ensures.printed
+
+pub returns-then-not-print_since-clause-booked : goal.returns-then-not-print_since-clause-booked
+returns-then-not-print_since-clause-booked g c =
+    subst (λ (n : ℕ). EntersOn g.C.CountBook.entered c.args.book.now c.enter_counts.new.book (drop n c.attempt-attempted.new.client.at.counts)) c.volumes-before.ensures
+    c.enter_counts.ensures
+
+pub returns-clause-booked : goal.returns-clause-booked
+returns-clause-booked g c =
+    subst (λ (n : ℕ). EntersOn g.C.CountBook.entered c.args.book.now c.enter_counts.new.book (drop n c.attempt-attempted.new.client.at.counts)) c.volumes-before.ensures
+    c.enter_counts.ensures

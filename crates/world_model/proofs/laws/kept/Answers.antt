@@ -1,4 +1,5 @@
 use Rattle.world_model.proofs.Staying.{first_kept, kept_after, runs_kept, kept_names, headline, no_two_holders, reels_labelled, reels_counted, not_reopened_reels, dumpdates_gained, sent_requests, latched_reels, clients_counts}
+use Rattle.world_model.proofs.Sums.{sums_of}
 use Rattle.world_model.proofs.Counting.{counts_grow}
 use Rattle.world_model.proofs.Steppable.{steps}
 use Rattle.world_model.proofs.Talked.{requests, talks}
@@ -71,6 +72,9 @@ returns-clause-own_opens c = own_opens
 
 pub returns-clause-counted_reels : goal.returns-clause-counted_reels
 returns-clause-counted_reels c = reels_counted
+
+pub returns-clause-counted_sums : goal.returns-clause-counted_sums
+returns-clause-counted_sums c = λ w kept. sums_of w (reels_counted w kept)
 
 pub returns-clause-dumpdates_gained : goal.returns-clause-dumpdates_gained
 returns-clause-dumpdates_gained c = dumpdates_gained

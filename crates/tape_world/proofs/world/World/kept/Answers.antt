@@ -3,6 +3,7 @@ use Rattle.world_model.specs.World.{World}
 use Rattle.world_model.specs.First.{IsReached}
 use Rattle.world_model.specs.Headline.{Headline, NoTwoHolders, CountedReels, DumpdatesGained}
 use Rattle.world_model.specs.Further.{SentRequests, ReelsNotReopened, OwnOpens, LatchedReels, LabelledReels, ClientsCounts}
+use Rattle.world_model.specs.Sums.{CountedSums}
 use Rattle.world_model.specs.Kept.{IsWorldKept}
 use Rattle.world_model.specs.Standing.{AreHeld}
 use Rattle.tape_world.specs.Volumes.{TellsVolumes}
@@ -20,6 +21,9 @@ returns-clause-no_two_holders c = subst NoTwoHolders c.self.view_is (c.kept.ensu
 
 pub returns-clause-counted_reels : goal.returns-clause-counted_reels
 returns-clause-counted_reels c = subst CountedReels c.self.view_is (c.kept.ensures.counted_reels c.self.inside.world_state (c.kept.ensures.reached c.self.inside.world_state c.self.invariant))
+
+pub returns-clause-counted_sums : goal.returns-clause-counted_sums
+returns-clause-counted_sums c = subst CountedSums c.self.view_is (c.kept.ensures.counted_sums c.self.inside.world_state (c.kept.ensures.reached c.self.inside.world_state c.self.invariant))
 
 pub returns-clause-dumpdates_gained : goal.returns-clause-dumpdates_gained
 returns-clause-dumpdates_gained c = subst DumpdatesGained c.self.view_is (c.kept.ensures.dumpdates_gained c.self.inside.world_state (c.kept.ensures.reached c.self.inside.world_state c.self.invariant))

@@ -1,0 +1,75 @@
+//! Compares a record file with the lines of a sums file.
+ghost use Rattle.std.specs.Prelude.{◌≡◌, ◌<◌, ◌↔◌, List, ℕ, IfOk, IfSome, IsNone, IsTrue, OnErr, OnOk, length};
+ghost use Rattle.tape.specs.Tape.{PlainEntry};
+ghost use Rattle.tape.specs.Failures.{HasRisen, Steps};
+ghost use Rattle.tape.specs.RecordFile.{SpellsReel};
+ghost use Rattle.reel_check.specs.Contents.{IsContents};
+ghost use Rattle.dump_run.specs.Label.{PlainLabel};
+ghost use Rattle.reel_check.specs.declared.holding.VolumeEnd.TheVariants.{OneMark};
+ghost use Rattle.rdump_sums.specs.ComparedReel.{IsReelCompared, IsWholeVolume};
+
+use dump_run::VolumeLabel;
+use reel_check::{Holding, ReelContents, VolumeEnd, check_reel};
+use sum_lines::{SumVerdict, Sums};
+use tape::{Medium, MediumFailed};
+use volume_sum::medium_sum;
+
+/// Reads a reel's medium, as `check_reel` does, and compares the SHA-256 of its bytes with the
+/// lines of the reel's volume. Returns what the reel holds, and what the comparison found. If the
+/// reel is not whole, nothing is compared.
+///
+/// The bytes of each record are read, in pieces as long as `room`, so that a read error of the disk
+/// is noticed. `room` must not be empty. The medium is not changed. Allocates nothing.
+///
+/// Fails with `MediumFailed` if a call of the medium failed.
+pub fn compare_reel<M: Medium>(
+    medium: &mut M,
+    room: &mut [u8],
+    sums: &Sums,
+) -> Result<(ReelContents, Option<SumVerdict>), MediumFailed>
+    requires { 0 < length room.old }
+    // If the medium's contract gives the bytes, the call returns what `check_reel` returns. There
+    // is a verdict exactly if the reel is a whole volume without a tail. It is the verdict of the
+    // lines on the SHA-256 of all bytes.
+    ensures compared { (bytes : List ℕ) (entries : List PlainEntry) → M.holds medium.old bytes → SpellsReel bytes entries →
+        IfOk result (λ found. IsContents found.0 bytes entries × IsReelCompared sums.now bytes found.0 found.1) }
+    // If the medium's contract gives the bytes, they stay as they were.
+    ensures same { Steps M.holds medium.old medium.new (λ old new. new ≡ old) }
+    // If the call fails, the medium's count of failed calls has risen, or has its greatest value.
+    ensures failed { OnErr result (HasRisen (M.failures medium.old) (M.failures medium.new)) }
+    // If the medium cannot fail, the call succeeds.
+    ensures able { OnErr result (M.can_fail medium.old) }
+    // If the call succeeds, the medium's count of failed calls is unchanged.
+    ensures quiet { OnOk result (M.failures medium.new ≡ M.failures medium.old) }
+{
+    let contents = check_reel(medium, &mut [])?;
+    let verdict = match whole_label(&contents) {
+        Some(label) => Some(sums.compare(label, &medium_sum(medium, room)?)),
+        None => {
+            // The bytes of the records are read too.
+            check_reel(medium, room)?;
+            None
+        }
+    };
+    Ok((contents, verdict))
+}
+
+/// Returns the label of a reel that is a whole volume without a tail.
+fn whole_label(contents: &ReelContents) -> Option<&VolumeLabel>
+    ensures some { IfSome result (λ label. IsWholeVolume contents.now label.now) }
+    ensures none { IsNone result → (label : PlainLabel) → IsWholeVolume contents.now label → ⊥ }
+{
+    match &contents.holding {
+        Holding::Volume(volume) if contents.tail == 0 && is_one_mark(volume.end) => {
+            Some(&volume.label)
+        }
+        _ => None,
+    }
+}
+
+/// Whether exactly one mark and nothing else follows the blocks of a volume.
+fn is_one_mark(end: VolumeEnd) -> bool
+    ensures { IsTrue result ↔ (end ≡ OneMark) }
+{
+    matches!(end, VolumeEnd::OneMark)
+}

@@ -1,0 +1,86 @@
+//! What a comparing sink does with a volume.
+ghost use Rattle.std.specs.Prelude.{◌≡◌};
+ghost use Rattle.rdump_sums.specs.Comparing.{ComparedStep, IsAdded, IsBegun, IsComparedAs};
+
+use crate::ComparedSink;
+use dump_run::VolumeLabel;
+use rdump_net::{SinkStopped, Verdict, VolumeSink};
+use std::mem;
+use sum_lines::SumVerdict;
+use tape::is_record;
+use volume_sum::EntryHasher;
+
+impl<S: VolumeSink> VolumeSink for ComparedSink<S> {
+    // label: The sink passes the first record on, and accepts it if the inner sink does. The sink
+    // then has no verdict. If there is a sums file, the sum begins with this record.
+    //
+    // block: The sink passes the block on, and accepts it if the inner sink does. If there is a
+    // sums file, the sink adds the block to the sum.
+    //
+    // mark: The sink passes the mark on, and adds it to the sum.
+    //
+    // complete: The sink compares the sum with the lines that have the volume's label. It has a
+    // verdict exactly if there is a sums file and the volume has a label. If the sum differs, the
+    // sink does not complete, and the inner sink is not asked. Otherwise the sink completes if the
+    // inner sink does.
+
+    ghost takes = { ComparedStep S.takes };
+
+    fn label(&mut self, record: &[u8]) -> Verdict {
+        self.begin(record);
+        self.sink.label(record)
+    }
+
+    fn block(&mut self, number: u64, bytes: &[u8]) -> Result<(), SinkStopped> {
+        self.add(bytes);
+        self.sink.block(number, bytes)
+    }
+
+    fn mark(&mut self) {
+        self.hasher.mark();
+        self.sink.mark();
+    }
+
+    fn complete(&mut self) -> Result<(), SinkStopped> {
+        self.verdict = self.compare();
+        if self.verdict == Some(SumVerdict::Differs) {
+            return Err(SinkStopped);
+        }
+        self.sink.complete()
+    }
+}
+
+impl<S: VolumeSink> ComparedSink<S> {
+    /// Begins the sum of a volume with this first record.
+    fn begin(&mut self, record: &[u8])
+        ensures same { self.new.sink ≡ self.old.sink }
+        ensures begun { IsBegun self.old self.new «record».now }
+    {
+        self.verdict = None;
+        self.label = VolumeLabel::read(record);
+        self.hasher = EntryHasher::new();
+        self.add(record);
+    }
+
+    /// Adds a record to the sum, if there is a sums file.
+    fn add(&mut self, record: &[u8])
+        ensures same { self.new ≡ record self.old { hasher = self.new.hasher } }
+        ensures added { IsAdded self.old self.new «record».now }
+    {
+        if self.sums.is_some() && is_record(record) {
+            self.hasher.record(record);
+        }
+    }
+
+    /// Compares the sum of the records and the mark. Returns None if there is no sums file or no
+    /// label.
+    fn compare(&mut self) -> Option<SumVerdict>
+        ensures same { self.new ≡ record self.old { hasher = self.new.hasher } }
+        ensures verdict { IsComparedAs self.old result }
+    {
+        let hasher = mem::replace(&mut self.hasher, EntryHasher::new());
+        let sums = self.sums.as_ref()?;
+        let label = self.label.as_ref()?;
+        Some(sums.compare(label, &hasher.sum()))
+    }
+}

@@ -1,0 +1,124 @@
+//! Recognizes what an interrupted run leaves of a sums file: a beginning of its text.
+ghost use Rattle.std.specs.Prelude.{◌≡◌, ◌≤◌, List, IfOk, IsTrue, length};
+ghost use Rattle.std.specs.List.{list_all};
+ghost use Rattle.sum_lines.specs.Sums as spec;
+ghost use Rattle.sum_lines.specs.Sums.{IsLeftSums, SpellsSums};
+ghost use Rattle.sum_lines.specs.SumLine.{PlainSumLine};
+
+use crate::text::SUM_DIGITS;
+use crate::{Sums, SumsFault};
+use std::alloc::{AllocError, Global};
+
+/// The most bytes of a name.
+const NAME_LIMIT: usize = 255;
+
+/// The words of a line after its name. A number follows each of them.
+const WORDS: [&[u8]; 8] = [
+    b" level ",
+    b" date ",
+    b" since ",
+    b" volume ",
+    b" first ",
+    b", ",
+    b" blocks of ",
+    b" bytes, ",
+];
+
+/// The end of a line, without its line feed.
+const LAST_WORD: &[u8] = b" bytes";
+
+/// Whether these bytes have the form of what an interrupted run leaves in place of a whole sums
+/// file. The bytes may be empty, or whole lines as `push_sum_line` writes them, and perhaps a
+/// beginning of one more.
+///
+/// Fails only if an allocation fails.
+pub fn is_left_sums(alloc: Global, bytes: &[u8]) -> Result<bool, AllocError>
+    // If the call returns true, the bytes are the text of some good lines, followed by a rest. The
+    // rest can be empty. It consists of spaces and printable ASCII, without a line feed. Tests show
+    // that the rest has the form of the beginning of a line. Tests also show that the call returns true for each beginning of a text
+    // of lines. Test: `what_is_left_of_sums` in `dump_tests`.
+    ensures { IfOk result (λ is_left. IsTrue is_left → IsLeftSums bytes.now) }
+{
+    let (lines, rest) = bytes.split_at(lines_len(bytes));
+    if !are_line_bytes(rest) || !begins_line(rest) {
+        return Ok(false);
+    }
+    are_lines(alloc, lines)
+}
+
+/// Returns how many bytes the whole lines have.
+fn lines_len(bytes: &[u8]) -> usize
+    ensures { result ≤ length bytes.now }
+{
+    match bytes.iter().rposition(|b| *b == b'\n') {
+        Some(at) => at + 1,
+        None => 0,
+    }
+}
+
+/// Whether all of these bytes are spaces or printable ASCII.
+fn are_line_bytes(bytes: &[u8]) -> bool
+    ensures { result ≡ list_all spec.is_line_byte bytes.now }
+{
+    bytes.iter().all(|b| is_line_byte(*b))
+}
+
+/// Whether a byte is a space or printable ASCII.
+fn is_line_byte(byte: u8) -> bool
+    ensures { result ≡ spec.is_line_byte byte }
+{
+    byte >= b' ' && byte <= b'~'
+}
+
+/// Whether the bytes are the text of good lines.
+fn are_lines(alloc: Global, bytes: &[u8]) -> Result<bool, AllocError>
+    ensures { IfOk result (λ are. IsTrue are → (lines : List PlainSumLine) × SpellsSums bytes.now lines) }
+{
+    match Sums::read(alloc, bytes) {
+        Ok(_) => Ok(true),
+        Err(SumsFault::OutOfMemory) => Err(AllocError),
+        Err(SumsFault::BadLine(_)) => Ok(false),
+    }
+}
+
+/// Whether these bytes are a beginning of a line, without its line feed.
+fn begins_line(rest: &[u8]) -> bool {
+    let digits = rest.iter().take_while(|b| is_digit_of_sum(**b)).count();
+    if digits >= SUM_DIGITS {
+        return digits == SUM_DIGITS && begins_name(rest.get(SUM_DIGITS..).unwrap_or(b""));
+    }
+    digits == rest.len()
+}
+
+/// Whether a byte is a lower hexadecimal digit.
+fn is_digit_of_sum(byte: u8) -> bool {
+    byte.is_ascii_digit() || (byte >= b'a' && byte <= b'f')
+}
+
+/// Whether these bytes are a beginning of a line after its sum.
+fn begins_name(rest: &[u8]) -> bool {
+    let Some(after) = rest.strip_prefix(b"  ") else {
+        return b"  ".starts_with(rest);
+    };
+    let name = after.iter().take_while(|b| b.is_ascii_graphic()).count();
+    if name == 0 || name > NAME_LIMIT {
+        return after.is_empty();
+    }
+    begins_words(after.get(name..).unwrap_or(b""))
+}
+
+/// Whether these bytes are a beginning of a line after its name.
+fn begins_words(rest: &[u8]) -> bool {
+    let mut left = rest;
+    for word in WORDS {
+        let Some(after) = left.strip_prefix(word) else {
+            return word.starts_with(left);
+        };
+        let digits = after.iter().take_while(|b| b.is_ascii_digit()).count();
+        left = after.get(digits..).unwrap_or(b"");
+        if digits == 0 || left.is_empty() {
+            return left.is_empty();
+        }
+    }
+    LAST_WORD.starts_with(left)
+}

@@ -1,0 +1,5 @@
+-- In reading order: Volume (what a volume is on a reel, and its sum); Hashing (what a hasher
+-- holds); Summing.
+pub mod Volume
+pub mod Hashing
+pub mod Summing
