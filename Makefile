@@ -50,12 +50,13 @@ test: kit ## the gate: each proof from nothing, each wrong body that has to be r
 edits: kit ## try the further edits, wrong bodies that the prover has to refuse, many at once, as the gate does: make edits, or make edits CRATE=tape
 	@python3 tests/further.py $(CRATE)
 
-bench: build ## long streams, reels in folders, dumps beside a floor, a long dumpdates file, long schedules, and bytes in pieces; it ends with a table of ratios
+bench: build ## long streams, reels in folders, dumps beside a floor, a long dumpdates file, a long reel and its sum, long schedules, and bytes in pieces; it ends with a table of ratios
 	@python3 tests/build.py bench_feed
 	rm -f $(RATIOS)
 	python3 bench/stdio.py $(SERVER)
 	python3 bench/reels.py $(SERVER)
 	python3 bench/dates.py $(CLIENT)
+	python3 bench/sums.py $(CLIENT)
 	python3 bench/dump.py $(SERVER) $(CLIENT)
 	python3 bench/network.py $(SERVER) $(CLIENT)
 	python3 bench/instructions.py $(SERVER) $(CLIENT)

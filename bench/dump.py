@@ -4,8 +4,9 @@
     dump.py [RMTD [RDUMP]]
 
 It prints ratios of the least of several times, each with the start of the processes in it: a payload dumped in blocks of three sizes,
-and as much read back from a reel that a client of this file wrote; requests a second of an operation that does nothing, beside a
-plain echo of lines over TCP; the longest time between a request and its reply; and what memory the server held at most.
+the same with a sums file beside without one, and as much read back from a reel that a client of this file wrote; requests a second of an
+operation that does nothing, beside a plain echo of lines over TCP; the longest time between a request and its reply; and what memory the
+server held at most.
 """
 
 from __future__ import annotations
@@ -79,13 +80,27 @@ def through_a_pair(path: Path) -> None:
             drain.wait()
 
 
-def dumped(rmtd: str, rdump: str, path: Path, block: int) -> tuple[float, float]:
-    """The seconds of a dump, and the MiB that the server held."""
+def dumped(rmtd: str, rdump: str, path: Path, block: int, *more: str) -> tuple[float, float]:
+    """The seconds of a dump, which has more words where these are given, and the MiB that the server held."""
     words = (rdump, "dump", "--device", "/dev/st0", "--fs", "/usr", "--level", "0", "--payload", str(path), "--block", str(block))
     with listening(rmtd) as (address, server):
-        words = (*words, "--dumpdates", "/dev/null", "--to", address)
+        words = (*words, "--dumpdates", "/dev/null", "--to", address, *more)
         seconds = timed(lambda: subprocess.run(words, stdout=subprocess.DEVNULL, check=True))
         return seconds, most_memory(server.pid)
+
+
+def with_sums(rmtd: str, rdump: str, path: Path, block: int) -> None:
+    """The time of a dump with a sums file beside that of one without. They take turns, so that what else the machine does falls on both."""
+    sums = path.with_name("sums")
+    rounds = []
+    for _ in range(ROUNDS):
+        sums.unlink(missing_ok=True)
+        rounds.append([dumped(rmtd, rdump, path, block, *more)[0] for more in (("--sums", str(sums)), ())])
+        if sums.read_bytes().count(b"\n") != 1:
+            raise RuntimeError("a dump has no sum")
+    summed, plain = map(min, zip(*rounds))
+    ratio_of_times(f"256 MiB dumped in blocks of {block:,} with a sum / without", summed, plain)
+    print(f"256 MiB in blocks of {block:,} bytes: dumped with a sum in {summed / plain:.2f} times the time without")
 
 
 def write_volume(address: str, path: Path, block: int) -> None:
@@ -178,6 +193,7 @@ def main() -> int:
             ratio(f"256 MiB dumped in blocks of {block:,} / cat", seconds / floor, None, told)
             print(f"256 MiB in blocks of {block:,} bytes: dumped in {seconds / floor:.1f} times the time of cat;", end=" ")
             print(f"server {rounds[0][1]:.0f} MiB at most")
+            with_sums(programs.rmtd, programs.rdump, path, block)
             seconds = read_back(programs.rmtd, programs.rdump, path, block)
             ratio(f"256 MiB read back in blocks of {block:,} / cat", seconds / floor, None, f"{PAYLOAD / seconds / 1e6:,.0f} MB/s")
             print(f"256 MiB in blocks of {block:,} bytes: read back in {seconds / floor:.1f} times the time of cat")

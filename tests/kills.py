@@ -1,6 +1,7 @@
 #!/usr/bin/env python3
 """Kills the built server at random moments of dumps over the loopback, starts it again, and looks at every reel at the end of each dump; and then
-kills the client, the server or both at moments of dumps with a checkpoint file, and has the same words go on until the dump is complete.
+kills the client, the server or both at moments of dumps with a checkpoint file and a sums file, and has the same words go on until the dump is
+complete.
 
     kills.py [RMTD [RDUMP]] [--seed N] [--kills N] [--checkpoint]
 
@@ -30,6 +31,7 @@ from typing import Iterator, NamedTuple
 from checks import COUNT, check, ended
 from model_checkpoint import Checkpoint, decoded
 from model_rmtd import Entry, images
+from model_sums import line_of
 from model_world import Run
 from sites import moved_once
 
@@ -351,7 +353,8 @@ class KeptDump(Dump):
     def __init__(self, title: str, rdump: str, folder: Path, gate: Gate, payload: bytes) -> None:
         super().__init__(title, rdump, folder, gate, payload)
         self.file = folder / "kept"
-        self.words += ["--checkpoint", str(self.file), "--update"]
+        self.sums = folder / "sums"
+        self.words += ["--checkpoint", str(self.file), "--sums", str(self.sums), "--update"]
         self.had: dict[int, int] = {}
 
     def run_to_the_end(self, asked: list[Moment]) -> int:
@@ -386,7 +389,7 @@ class KeptDump(Dump):
         check(f"{self.title}: no volume that the file had is tried again", not again, going, lines)
 
     def stops(self) -> None:
-        """A client was killed: what the file has is a beginning of the dump, was printed, and each volume of it is in the bin."""
+        """A client was killed: what the file has is a beginning of the dump, was printed, and each volume of it is in the bin and has its line."""
         with self.gate.killing:
             self.served.start()
         file = self.spelled()
@@ -394,8 +397,18 @@ class KeptDump(Dump):
         check(f"{self.title}: what the file has was printed", {*file} <= {*self.counted()}, file, self.lines)
         self.reels_hold()
         check(f"{self.title}: what the file has is on reels", {*file} <= {*self.there()}, file)
+        self.lines_hold(file)
         for volume_number, _, _ in file:
             self.had.setdefault(volume_number, self.reels_of(volume_number))
+
+    def lines_hold(self, counts: list[tuple[int, int, int]]) -> None:
+        """The sums file has a line for each of these counts, whose sum is that of its reel. It has no line of another volume, and none twice."""
+        found = self.sums.read_bytes().splitlines(keepends=True) if self.sums.exists() else []
+        _, bin = self.served.looked_at()
+        lines = {self.volumes.get(it): line_of(it) for it in bin.values()}
+        wanted = [lines.get(it) for it in counts]
+        check(f"{self.title}: each count has its line", {*wanted} <= {*found}, counts, found)
+        check(f"{self.title}: each line is of a reel, once", {*found} <= {*lines.values()} and len({*found}) == len(found), found)
 
     def there(self) -> list[tuple[int, int, int] | None]:
         _, bin = self.served.looked_at()
@@ -414,6 +427,7 @@ class KeptDump(Dump):
         check(f"{self.title}: the counts", {*self.counted()} == {*WHOLE} and self.lines[-1:] == [self.end()], self.lines)
         self.reels_hold()
         check(f"{self.title}: each volume is in the bin", {*self.there()} == {*WHOLE}, self.there())
+        self.lines_hold([*WHOLE])
         dates = self.folder / "dumpdates"
         check(f"{self.title}: the run is entered once", dates.exists() and dates.read_text() == ENTRY)
         again = {number: self.reels_of(number) for number in self.had}

@@ -35,7 +35,9 @@ PROGRAMS = {
         "rdump_list",
         "rdump_net",
         "rdump_read",
+        "rdump_sums",
         "rdump_system",
+        "sum_lines",
     ),
     "rsim": ("rsim", "rsim_schedule"),
 }

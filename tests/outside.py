@@ -26,6 +26,7 @@ CHECKS = {
     "faults.py": ("rmtd", "rdump"),
     "kills.py": ("rmtd", "rdump"),
     "threads.py": ("rmtd", "rdump"),
+    "sums.py": ("rmtd", "rdump"),
     "log.py": ("rmtd",),
     "schedules.py": ("rsim",),
     "recipes.py": ("rmtd", "rdump", "rsim"),

@@ -26,6 +26,7 @@ from typing import Callable, NamedTuple
 from checks import check, ended
 from lawful import NO_MEMORY, History, empty, reels_of
 from model_rmtd import images
+from model_sums import line_of
 from shim import compiled
 from sites import ABANDONED, ABNORMAL, ASKED, CRATES, DATED, DEVICE, DONE, FAILED, GUARD_SECONDS, KEPT, LISTEN, NEW_DATES, NO_BLOCKS, NOT_WRITTEN
 from sites import OLD_DATES, THREE_BLOCKS, Ended, Left, Payload, Programs, course, drive_words, dump_site, dumped, folders, held, kept_words, left
@@ -368,6 +369,61 @@ def kept_dump(p: Programs) -> None:
     Sweep("a finished checkpoint file", 150, "connect", lambda rules: it.go(p, rules), starts, never).run()
 
 
+NO_SUMS, UNSUMMED = b"sums not complete\n", rb"^rdump: \S+: out of memory: add this line:\n([0-9a-f]{64}  [^\n]+\n)"
+
+
+def over_sums(p: Programs, rules: str) -> Ended:
+    """A dump of three blocks with a sums file. What is left is what a dump leaves, and the text of that file."""
+    with dump_site(p, THREE_BLOCKS) as (folder, words):
+        file = folder / "sums"
+        got = p.run((*words, "--sums", str(file), *DATED), rules)
+        return got._replace(left=(left(folder), file.read_bytes() if file.exists() else b""))
+
+
+def sums_are_right(got: Ended, more: bool) -> bool:
+    """It took a lawful course. Each count has its line in the file, or on standard error, where it is said that the sums are not complete."""
+    lines, (stands, text) = [*map(line_of, THREE_BLOCKS.reels())], got.left
+    unsummed, went = re.findall(UNSUMMED, got.told, re.M), course(THREE_BLOCKS, got.output, 0)
+    if went is None or went.faults not in ((), ("OutOfMemory",)) or (NO_SUMS in got.told) != bool(unsummed):
+        return False
+    refused = len(went.faults) + (went.end == "not entered") + len(unsummed)
+    has_all = {*text.splitlines(keepends=True), *unsummed} == {*lines[: went.counted]}
+    right = Dump(THREE_BLOCKS, 0).left(went.counted, went.end == "complete")
+    status = ABNORMAL if unsummed else went.status()
+    return (got.status, stands) == (status, right) and has_all and (refused >= 1 if more else refused == 1)
+
+
+def summed_dump(p: Programs) -> None:
+    """A dump with a sums file: where a line cannot be entered it is told whole, and the dump goes on."""
+    lines = b"".join(map(line_of, THREE_BLOCKS.reels()))
+    well, wanted = over_sums(p, ""), (DONE, THREE_BLOCKS.printed(), (Dump(THREE_BLOCKS, 0).left(2, True), lines))
+    check("a dump with a sums file: with all memory", well.seen() == wanted, well.shown())
+
+    def before(got: Ended) -> bool:
+        if is_named(got):
+            return got.left == (UNTOUCHED, b"")
+        return got.output.decode().startswith(FAILED_START) and sums_are_right(got, got.status != DONE)
+
+    came = Sweep("a dump with a sums file", 170, "connect", lambda rules: over_sums(p, rules), before, sums_are_right).run()
+    check("a dump with a sums file: some lines are told", any(NO_SUMS in it.told for it in came), len(came))
+
+
+def compared_reels(p: Programs) -> None:
+    """Reels that are compared with a sums file."""
+    reels = dict(zip(("r1", "r2"), THREE_BLOCKS.reels()))
+    with folders(**reels) as folder:
+        folder.joinpath("sums").write_bytes(b"".join(map(line_of, reels.values())))
+        words = (p.rdump, "ls", "--sums", str(folder / "sums"), str(folder / "st0"))
+        well = p.run(words)
+        check("reels that are compared: with all memory", well.status == DONE and well.output.count(b": whole, sum equal\n") == 2, well.shown())
+        Sweep("reels that are compared", 40, "nothing", lambda rules: p.run(words, rules), tells_memory, never).run()
+
+
+def tells_memory(got: Ended) -> bool:
+    """It failed, and says that it was memory, on either output."""
+    return got.status == FAILED and b"out of memory" in got.output + got.told
+
+
 def dates(p: Programs) -> None:
     """A dumpdates file that is printed, and one that is asked for a base."""
     with tempfile.NamedTemporaryFile() as file:
@@ -502,7 +558,7 @@ def simulator(p: Programs) -> None:
         check("a schedule: nothing else is told", not [it for it in came if b"Error" in it.told], [it for it in came if b"Error" in it.told][:3])
 
 
-PARTS = (in_memory, reserved, over_a_folder, listener, seats, dump, kept_dump, dates, other_commands, stack, simulator)
+PARTS = (in_memory, reserved, over_a_folder, listener, seats, dump, kept_dump, summed_dump, compared_reels, dates, other_commands, stack, simulator)
 
 
 def main() -> int:

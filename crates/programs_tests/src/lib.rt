@@ -5,6 +5,7 @@
 //! - served streams: `rmtd_serve`.
 //! - the files of a dump: `rdump_files`.
 //! - its conversation over a connection: `rdump_net`.
+//! - the sums of volumes: `rdump_sums`.
 //! - lists of reels: `rdump_list`.
 //! - the commands of `rdump`: `rdump_commands`, and below it `rdump_read` and `rdump_dump`.
 //! - a peer in memory: `rmt_tools`.

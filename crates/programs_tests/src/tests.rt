@@ -4,6 +4,7 @@
 mod arguments;
 mod checkpoints;
 mod commands;
+mod compared;
 mod dates;
 mod entering;
 mod fake;

@@ -32,6 +32,8 @@ pub struct DumpLine<'a> {
     pub date: Option<u64>,
     /// The path of the file that keeps the checkpoint, or None to keep none.
     pub checkpoint: Option<&'a str>,
+    /// The path of the file that keeps the sums of counted volumes, or None to keep none.
+    pub sums: Option<&'a str>,
     /// Whether to enter the dump in the dumpdates file once it is complete.
     pub update: bool,
     /// Whether each attempt first looks at the reel, and never writes on a reel of another dump.
@@ -70,6 +72,7 @@ pub(crate) fn dump_in<'a>(matches: &ArgMatches<'a>) -> Result<DumpLine<'a>, Argu
             dumpdates: value_in(matches, "dumpdates"),
             date,
             checkpoint: matches.get_str("checkpoint"),
+            sums: matches.get_str("sums"),
             update: is_given(matches, "update"),
             protect: is_given(matches, "protect"),
         }),
@@ -110,7 +113,7 @@ fn date_in(text: Option<&str>) -> Option<Option<u64>>
 }
 
 /// The arguments of `rdump dump`.
-pub(crate) static DUMP_ARGUMENTS: [ArgumentSpec; 11] = [
+pub(crate) static DUMP_ARGUMENTS: [ArgumentSpec; 12] = [
     ArgumentSpec::TO,
     ArgumentSpec::DEVICE,
     ArgumentSpec {
@@ -159,6 +162,13 @@ pub(crate) static DUMP_ARGUMENTS: [ArgumentSpec; 11] = [
         name: "checkpoint",
         value: "FILE",
         help: "Keep there what is counted; where it is there, go on from it",
+        form: Form::Optional,
+        missing: "",
+    },
+    ArgumentSpec {
+        name: "sums",
+        value: "FILE",
+        help: "Add the SHA-256 of each counted volume to this file",
         form: Form::Optional,
         missing: "",
     },

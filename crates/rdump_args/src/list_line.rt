@@ -20,6 +20,8 @@ pub struct ListLine<'a> {
     /// How many blocks each of those dumps has, up to `rmt_wire::NUMBER_LIMIT`, or None if no
     /// argument gives it. It is given only with a dumpdates file.
     pub blocks: Option<u64>,
+    /// The path of the file with the sums to compare each reel with, or None to compare none.
+    pub sums: Option<&'a str>,
 }
 
 /// The reels that `rdump ls` lists.
@@ -68,6 +70,7 @@ pub(crate) fn list_in<'a>(
             reels,
             dumpdates,
             blocks,
+            sums: matches.get_str("sums"),
         }),
         Err(fault) => Err(fault),
     }
@@ -138,7 +141,7 @@ fn path_reels<'a>(alloc: Global, paths: &[&'a str]) -> Result<ListedReels<'a>, A
 }
 
 /// The arguments of `rdump ls`.
-pub(crate) static LIST_ARGUMENTS: [ArgumentSpec; 5] = [
+pub(crate) static LIST_ARGUMENTS: [ArgumentSpec; 6] = [
     ArgumentSpec {
         name: "path",
         value: "FILE|FOLDER",
@@ -168,6 +171,13 @@ pub(crate) static LIST_ARGUMENTS: [ArgumentSpec; 5] = [
         value: "N",
         help: "Of how many blocks each of these dumps is, 0 to 2147483647",
         form: Form::With("dumpdates"),
+        missing: "",
+    },
+    ArgumentSpec {
+        name: "sums",
+        value: "FILE",
+        help: "Compare each reel with the sums in this file",
+        form: Form::Optional,
         missing: "",
     },
 ];

@@ -43,10 +43,10 @@ pub enum RdumpLine<'a> {
 /// of its commands:
 ///
 /// - `dump --to ADDRESS --device D --fs NAME --level L --payload FILE --block BYTES --dumpdates
-///   FILE [--date SECONDS] [--checkpoint FILE] [--update] [--protect]`
-/// - `read --to ADDRESS --device D --out FILE [--place] [--all] [--length BYTES]`
-/// - `ls FILE|FOLDER... [--dumpdates FILE [--blocks N]]`
-/// - `ls --to ADDRESS --device D [--dumpdates FILE [--blocks N]]`
+///   FILE [--date SECONDS] [--checkpoint FILE] [--sums FILE] [--update] [--protect]`
+/// - `read --to ADDRESS --device D --out FILE [--place] [--all] [--length BYTES] [--sums FILE]`
+/// - `ls FILE|FOLDER... [--dumpdates FILE [--blocks N]] [--sums FILE]`
+/// - `ls --to ADDRESS --device D [--dumpdates FILE [--blocks N]] [--sums FILE]`
 /// - `mt --to ADDRESS --device D OP COUNT`
 /// - `dates --file FILE [--name NAME --level LEVEL]`
 ///

@@ -28,6 +28,8 @@ pub struct ReadLine<'a> {
     /// The length in bytes to which the file is cut at the end, up to
     /// `rmt_wire::argument::ARGUMENT_LIMIT`, or None not to cut it.
     pub length: Option<u64>,
+    /// The path of the file with the sums to compare each volume with, or None to compare none.
+    pub sums: Option<&'a str>,
 }
 
 /// The message for a length that is not a number.
@@ -49,6 +51,7 @@ pub(crate) fn read_in<'a>(matches: &ArgMatches<'a>) -> Result<ReadLine<'a>, Argu
         place: has_places(all, is_given(matches, "place")),
         all,
         length,
+        sums: matches.get_str("sums"),
     })
 }
 
@@ -73,7 +76,7 @@ fn length_of(text: Option<&str>) -> Result<Option<u64>, ArgumentFault>
 }
 
 /// The arguments of `rdump read`.
-pub(crate) static READ_ARGUMENTS: [ArgumentSpec; 6] = [
+pub(crate) static READ_ARGUMENTS: [ArgumentSpec; 7] = [
     ArgumentSpec::TO,
     ArgumentSpec::DEVICE,
     ArgumentSpec {
@@ -101,6 +104,13 @@ pub(crate) static READ_ARGUMENTS: [ArgumentSpec; 6] = [
         name: "length",
         value: "BYTES",
         help: "Cut the file to this length at the end",
+        form: Form::Optional,
+        missing: "",
+    },
+    ArgumentSpec {
+        name: "sums",
+        value: "FILE",
+        help: "Compare each volume with the sums in this file",
         form: Form::Optional,
         missing: "",
     },

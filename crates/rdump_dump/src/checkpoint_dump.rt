@@ -11,6 +11,7 @@ use crate::dump_command::{RunDates, dump_reported};
 use crate::dump_end::report_younger;
 use crate::dump_start::{DumpStart, refuse_files, refuse_unknown_new};
 use crate::run_limit::refuse_run;
+use crate::sums_start::report_unsummed;
 use dump_client::{Blocks, Client, ResumeFault, Run};
 use dump_run::Checkpoint;
 use exit_status::ExitStatus;
@@ -22,6 +23,7 @@ use rdump_files::{
 use rdump_system::{ClientSystem, print_fault, report, report_failed, report_no_memory};
 use std::io::{self, Write};
 use tape::Medium;
+use volume_sum::Summed;
 
 /// Dumps a payload with these dates, and returns the exit status. If there is a checkpoint at
 /// `path`, the dump is resumed from it.
@@ -82,7 +84,7 @@ fn dump_from_start<R: ClientSystem, M: Medium + Drop, T: Write + Copy + Drop>(
 {
     let dates = dates_of(&run);
     let gauge = terminal.map(|it| ProgressLine::new(rt, it));
-    match dumper_of(rt.alloc(), run, payload, gauge) {
+    match dumper_of(rt.alloc(), run, payload, gauge, line.sums.is_some()) {
         Ok(mut client) => dump_held(rt, line, start, dates, None, &mut client, file, terminal),
         Err(_) => report_no_memory(rt),
     }
@@ -108,7 +110,8 @@ fn resume<R: ClientSystem, M: Medium + Drop, T: Write + Copy + Drop>(
     };
     let dates = dates_of(checkpoint.run());
     let gauge = terminal.map(|it| ProgressLine::new(rt, it));
-    match resume_dump(rt.alloc(), run, checkpoint, payload, gauge) {
+    let is_summed = line.sums.is_some();
+    match resume_dump(rt.alloc(), run, checkpoint, payload, gauge, is_summed) {
         Ok(mut client) => {
             let blocks = Some(run.blocks());
             dump_held(rt, line, start, dates, blocks, &mut client, file, terminal)
@@ -133,7 +136,7 @@ fn dump_held<R: ClientSystem, B: Blocks, T: Write + Copy + Drop>(
     start: &DumpStart,
     dates: RunDates,
     goes_on: Option<u32>,
-    client: &mut Client<B>,
+    client: &mut Client<Summed<B>>,
     file: ReplacedFile<'_, R>,
     terminal: Option<T>,
 ) -> ExitStatus {
@@ -163,6 +166,7 @@ fn report_going_on<R: ClientSystem, B: Blocks>(
     let volumes = client.counted().len();
     let (_, counted) = client.checkpoint();
     let _ = eprintln!(rt; "going on: {volumes} volumes, {counted} blocks of {blocks} counted");
+    report_unsummed(rt, start, client);
     let path = line.checkpoint.unwrap_or("");
     report_younger(rt, line, start, path, file.modified())
 }

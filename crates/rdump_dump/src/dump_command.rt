@@ -11,6 +11,7 @@ use crate::dump_end::report_end;
 use crate::dump_start::{DumpStart, refuse_files, refuse_unknown_new};
 use crate::dumping::run_kept;
 use crate::run_limit::refuse_run;
+use crate::sums_start::refuse_sums;
 use dump_client::{Blocks, Client};
 use dumpdates::DatesFault;
 use exit_status::ExitStatus;
@@ -26,6 +27,7 @@ use rmt_wire::Counted;
 use std::fs::File;
 use std::io::{self, ErrorKind, Write};
 use tape::{Medium, MediumFailed, MemoryMedium};
+use volume_sum::Summed;
 
 /// Dumps a payload, as `rdump dump` does, and enters the dump in the dumpdates file if the
 /// arguments ask for that. `terminal` is standard error, if that is a terminal: it shows the base
@@ -33,8 +35,8 @@ use tape::{Medium, MediumFailed, MemoryMedium};
 ///
 /// A payload that is a regular file or a block device is read block by block during the dump. Any
 /// other file, such as a pipe, and a regular file that reports no bytes, is read whole before the
-/// dump. Errors are found in this order: the payload, the dumpdates file, the clock, the limits of
-/// a run, and the checkpoint file.
+/// dump. Errors are found in this order: the payload, the dumpdates file, the sums file, the clock,
+/// the limits of a run, and the checkpoint file.
 ///
 /// If a checkpoint file exists, the dump is resumed from it, with the date and the base date in it.
 /// The file is held during the whole dump. It is removed once the dump is complete and, if asked
@@ -88,7 +90,10 @@ fn dump_medium<R: ClientSystem, M: Medium + Drop, T: Write + Copy + Drop>(
     };
     start.bytes = payload.len();
     match since_of(rt, line, start) {
-        Ok(since) => dump_since(rt, line, payload, start, since, terminal),
+        Ok(since) => match refuse_sums(rt, line, start) {
+            None => dump_since(rt, line, payload, start, since, terminal),
+            Some(status) => status,
+        },
         Err(status) => status,
     }
 }
@@ -215,7 +220,7 @@ pub(crate) fn dump_reported<R: ClientSystem, B: Blocks, T: Write + Copy + Drop>(
     line: &DumpLine<'_>,
     start: &DumpStart,
     dates: RunDates,
-    client: &mut Client<B>,
+    client: &mut Client<Summed<B>>,
     file: CheckpointFile<'_, R>,
     terminal: Option<T>,
 ) -> ExitStatus {

@@ -12,6 +12,7 @@ use std::alloc::Global;
 use std::fs::{File, Metadata};
 use std::io;
 use std::os::unix::fs::FileTypeExt;
+use sum_lines::Sums;
 
 /// The facts about a dump that are known before its first attempt.
 #[derive(Drop)]
@@ -27,6 +28,8 @@ pub(crate) struct DumpStart {
     /// The latest date of the entries that the dump is to replace, in seconds since 1970. It is 0
     /// without such entries.
     pub replaced: u64,
+    /// The lines of the sums file, if the dump keeps one.
+    pub sums: Option<Sums>,
 }
 
 impl DumpStart {
@@ -43,6 +46,7 @@ impl DumpStart {
             look,
             files: DumpFiles::new(rt.alloc(), &found)?,
             replaced: 0,
+            sums: None,
         };
         Ok((file, start))
     }
@@ -110,18 +114,38 @@ fn refuse_one<R: ClientSystem>(rt: &R, line: &DumpLine<'_>, path: &str, one: Sam
     ensures { result ≡ StartupError }
 {
     let which = match one.file {
-        DumpFile::NewDates | DumpFile::NewCheckpoint => "its .new",
+        DumpFile::NewDates | DumpFile::NewCheckpoint | DumpFile::NewSums => "its .new",
         _ => "it",
     };
-    let (other, other_path) = match one.other {
-        DumpFile::Payload => ("the payload", line.payload),
-        DumpFile::Dates => ("the dumpdates file", line.dumpdates),
-        DumpFile::NewDates => ("the .new of the dumpdates file", line.dumpdates),
-        _ => ("the checkpoint file", path),
-    };
-    let (path, other_path) = (plain(path), plain(other_path));
+    let other = name_of(one.other);
+    let other_path = plain(path_of(line, one.other).unwrap_or(path));
+    let path = plain(path);
     let _ = eprintln!(rt; "rdump: {path}: {which} is {other} too: {other_path}");
     ExitStatus::StartupError
+}
+
+/// Returns what a message calls a file of a dump.
+fn name_of(file: DumpFile) -> &'static str {
+    match file {
+        DumpFile::Payload => "the payload",
+        DumpFile::Dates => "the dumpdates file",
+        DumpFile::NewDates => "the .new of the dumpdates file",
+        DumpFile::Checkpoint => "the checkpoint file",
+        DumpFile::NewCheckpoint => "the .new of the checkpoint file",
+        DumpFile::Sums => "the sums file",
+        DumpFile::NewSums => "the .new of the sums file",
+    }
+}
+
+/// Returns the path that the arguments give for a file of a dump. For a new file, returns the path
+/// of the file that it replaces. Returns none if the arguments name no such file.
+fn path_of<'a>(line: &DumpLine<'a>, file: DumpFile) -> Option<&'a str> {
+    match file {
+        DumpFile::Payload => Some(line.payload),
+        DumpFile::Dates | DumpFile::NewDates => Some(line.dumpdates),
+        DumpFile::Checkpoint | DumpFile::NewCheckpoint => line.checkpoint,
+        DumpFile::Sums | DumpFile::NewSums => line.sums,
+    }
 }
 
 /// If a file that no run left has the name of the new file, prints that and returns the exit

@@ -10,16 +10,18 @@ ghost use Rattle.rdump_dump.specs.Status.{IsDumpStatus, IsEndStatus};
 use crate::asking::Asking;
 use crate::checkpoint_file::CheckpointFile;
 use crate::reporting_peer::ReportingPeer;
+use crate::sums_file::SumsFile;
 use dump_client::{Blocks, Client};
 use dumpdates::DatesFault;
 use exit_status::ExitStatus;
 use printable::plain;
 use rdump_args::DumpLine;
 use rdump_files::{Clearing, FileFailed, ReplacedFile, UpdateFault, enter_dump};
-use rdump_net::{Conclusion, dump_kept};
+use rdump_net::{Conclusion, dump_booked};
 use rdump_system::{ClientSystem, NO_DUMPDATES, report_failed, report_failures};
 use rmt_wire::Counted;
 use std::io::{self, Write};
+use volume_sum::Summed;
 
 /// Makes a client write its run to the server that `line` names, as `rdump dump` does, and prints
 /// the lines of the dump on standard output. `terminal` is standard error, if that is a terminal.
@@ -27,12 +29,14 @@ use std::io::{self, Write};
 /// shown there after each question. Standard error reports why attempts failed. If `line` asks for
 /// `protect`, it must have the date of the dump.
 ///
+/// If `line` names a sums file, it gets a line for each counted volume.
+///
 /// Returns the exit status: `Success` if the run is finished, everything was printed, and the dump
-/// is entered if `line` asks for that. Returns `Abnormal` otherwise.
+/// and the sums are entered if `line` asks for that. Returns `Abnormal` otherwise.
 pub fn run_client<R: ClientSystem, B: Blocks, T: Write + Copy + Drop>(
     rt: &R,
     line: &DumpLine<'_>,
-    client: &mut Client<B>,
+    client: &mut Client<Summed<B>>,
     terminal: Option<T>,
 ) -> ExitStatus
     // The status is `Success` or `Abnormal`. If it is `Success`, the client's run is finished.
@@ -53,14 +57,15 @@ pub(crate) struct Dumped {
 /// Has a client dump to the server that `line` names, and keeps its checkpoint in `file`. The file
 /// is removed once the dump is complete and, if `line` asks for that, entered. It is also removed
 /// if the dump is abandoned. Standard error reports why a checkpoint could not be written or
-/// removed. `terminal` is standard error, if that is a terminal.
+/// removed. If `line` names a sums file, it gets a line for each counted volume. `terminal` is
+/// standard error, if that is a terminal.
 ///
-/// The exit status is `Success` if the run is finished, everything was printed, the dump is entered
-/// if `line` asks for that, and `file` is removed. It is `Abnormal` otherwise.
+/// The exit status is `Success` if the run is finished, everything was printed, the dump and the
+/// sums are entered if `line` asks for that, and `file` is removed. It is `Abnormal` otherwise.
 pub(crate) fn run_kept<R: ClientSystem, B: Blocks, T: Write + Copy + Drop>(
     rt: &R,
     line: &DumpLine<'_>,
-    client: &mut Client<B>,
+    client: &mut Client<Summed<B>>,
     mut file: CheckpointFile<'_, R>,
     terminal: Option<T>,
 ) -> Dumped
@@ -72,19 +77,34 @@ pub(crate) fn run_kept<R: ClientSystem, B: Blocks, T: Write + Copy + Drop>(
         lines: io::writer(rt),
         terminal,
     });
-    let end = dump_kept(
+    let mut sums = SumsFile::new(rt, line.sums, terminal);
+    let end = dump_booked(
         rt.alloc(),
         client,
         &mut peer,
         &mut operator,
         &mut out,
         &mut file,
+        &mut sums,
     );
     let status = end_kept(rt, line, client, end, &mut out, &mut file);
+    let status = status_with_sums(rt, status, sums.has_all());
     Dumped {
         status: report_failures(rt, out.failures(), status),
         is_complete: end == Conclusion::Complete,
     }
+}
+
+/// Returns `status` if the sums file has all lines. Otherwise prints that it has not, and returns
+/// `Abnormal`.
+fn status_with_sums<R: Eprint>(rt: &R, status: ExitStatus, has_all: bool) -> ExitStatus
+    ensures { (result ≡ status) ⊎ (result ≡ Abnormal) }
+{
+    if has_all {
+        return status;
+    }
+    let _ = eprintln!(rt; "sums not complete");
+    ExitStatus::Abnormal
 }
 
 /// Does what remains after a dump. Enters a complete dump if `line` asks for that, and removes the

@@ -1,7 +1,7 @@
 //! The command `rdump dump`: dumps a payload to a server, with the files that the dump needs.
 //!
-//! `run_dump` is the whole command: it checks the payload, the dumpdates file, the clock, the
-//! limits of a run and the checkpoint file, in this order, and then has a client dump. `run_client`
+//! `run_dump` is the whole command: it checks the payload, the dumpdates file, the sums file, the
+//! clock, the limits of a run and the checkpoint file, in this order, and then has a client dump. `run_client`
 //! is a dump from its client on.
 #![tactic(auto)]
 
@@ -16,6 +16,8 @@ mod protecting;
 mod reporting_peer;
 mod run_limit;
 mod shell_word;
+mod sums_file;
+mod sums_start;
 
 pub use dump_command::run_dump;
 pub use dumping::run_client;

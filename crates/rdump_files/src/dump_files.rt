@@ -22,6 +22,10 @@ pub enum DumpFile {
     Checkpoint,
     /// The new file that replaces the checkpoint file.
     NewCheckpoint,
+    /// The sums file.
+    Sums,
+    /// The new file that replaces the sums file.
+    NewSums,
 }
 
 /// Two of the files of a dump that are the same file.
@@ -169,6 +173,23 @@ impl DumpFiles {
         }
         let new = FileId::of_new(rt, alloc, path)?;
         self.add(DumpFile::NewCheckpoint, new)
+    }
+
+    /// Adds the sums file at this path, and the new file that is to replace it. The result is like
+    /// that of `add_dates`.
+    pub fn add_sums<R: Files<File = File>>(
+        &mut self,
+        rt: &R,
+        alloc: Global,
+        path: &str,
+    ) -> io::Result<Option<SameFile>> {
+        let sums = FileId::of_path(rt, alloc, path)?;
+        let same = self.add(DumpFile::Sums, sums)?;
+        if same.is_some() {
+            return Ok(same);
+        }
+        let new = FileId::of_new(rt, alloc, path)?;
+        self.add(DumpFile::NewSums, new)
     }
 
     /// Adds a file, if it has an identity and differs from all that were added before. Otherwise

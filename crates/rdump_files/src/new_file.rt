@@ -13,6 +13,7 @@ use std::path::PathBuf;
 use std::rt::Files;
 use std::thread;
 use std::time::{Clock, Duration, Instant, SystemTime};
+use sum_lines::is_left_sums;
 
 /// How long a run waits for another run that has the new file, in seconds.
 const WAIT_SECONDS: u64 = 10;
@@ -32,7 +33,7 @@ const NOT_LEFT: &str = "its .new is not one that rdump left: it is not touched";
 /// The mode of a checkpoint file: only its user may read it.
 const CHECKPOINT_MODE: u32 = 0o600;
 
-/// The mode with which a new dumpdates file is created, less the process's umask.
+/// The mode with which a new dumpdates file or sums file is created, less the process's umask.
 const USUAL_MODE: u32 = 0o666;
 
 /// The text that a replaced file contains.
@@ -42,13 +43,15 @@ pub(crate) enum Form {
     Dates,
     /// The text of a checkpoint.
     Checkpoint,
+    /// The text of sum lines.
+    Sums,
 }
 
 impl Form {
     /// Returns the mode with which the new file is created.
     fn mode(self) -> u32 {
         match self {
-            Form::Dates => USUAL_MODE,
+            Form::Dates | Form::Sums => USUAL_MODE,
             Form::Checkpoint => CHECKPOINT_MODE,
         }
     }
@@ -63,6 +66,7 @@ impl Form {
         let may_be_leftover = match self {
             Form::Dates => is_left_dates(alloc, &bytes)?,
             Form::Checkpoint => is_left_checkpoint(alloc, &bytes)?,
+            Form::Sums => is_left_sums(alloc, &bytes)?,
         };
         Ok(may_be_leftover)
     }
@@ -257,8 +261,8 @@ impl<'a, R: Files<File = File>> NewFile<'a, R> {
     }
 
     /// Writes the text, syncs it, and puts the new file in place of the other. The new file gets
-    /// the owner of the other if the system allows it, and for dumpdates also its mode. It then has
-    /// the name of the other, and still its own lock.
+    /// the owner of the other if the system allows it, and its mode unless it is a checkpoint. It
+    /// then has the name of the other, and still its own lock.
     pub(crate) fn put(&mut self, text: &[u8]) -> io::Result<()> {
         self.take_rights();
         self.file.write_all(text)?;
@@ -280,8 +284,8 @@ impl<'a, R: Files<File = File>> NewFile<'a, R> {
     }
 
     /// Gives the new file the owner and group of the other, or the group alone, if the other exists
-    /// and the system allows it. A new dumpdates file also gets its mode; a checkpoint keeps the
-    /// mode with which it was created.
+    /// and the system allows it. A new dumpdates file or sums file also gets its mode; a checkpoint
+    /// keeps the mode with which it was created.
     fn take_rights(&self) {
         let Ok(found) = fs::metadata(self.rt, &self.named) else {
             return;
@@ -290,7 +294,7 @@ impl<'a, R: Files<File = File>> NewFile<'a, R> {
         if fchown(self.file.as_fd(), Some(owner), Some(group)).is_err() {
             let _ = fchown(self.file.as_fd(), None, Some(group));
         }
-        if self.form == Form::Dates {
+        if self.form != Form::Checkpoint {
             let _ = self.file.set_permissions(found.permissions());
         }
     }

@@ -10,6 +10,7 @@ use dump_client::{Client, Run, RunFault};
 use rdump_args::DumpLine;
 use std::alloc::{AllocError, Global};
 use tape::Medium;
+use volume_sum::Summed;
 
 /// Why no client was made.
 #[derive(Clone, Copy, Debug, PartialEq, Eq)]
@@ -47,7 +48,8 @@ impl From<AllocError> for DumperFault {
 /// Makes the client for the run that the arguments describe. `date` is the date of the dump and
 /// `since` the date of the dump that it builds on, both in seconds since 1970, UTC. The payload
 /// must have been opened in blocks of the size that the arguments give. The gauge gets the number
-/// of blocks, and shows each block that is read.
+/// of blocks, and shows each block that is read. The client's source sums each volume if the
+/// arguments name a sums file.
 ///
 /// Returns `Run` with the first limit of a run that is violated, or `OutOfMemory` if an allocation
 /// fails.
@@ -58,7 +60,7 @@ pub fn dumper<M: Medium + Drop, G: Gauge + Drop>(
     since: u64,
     payload: PayloadFile<M>,
     gauge: G,
-) -> Result<Client<Shown<PayloadFile<M>, G>>, DumperFault>
+) -> Result<Client<Summed<Shown<PayloadFile<M>, G>>>, DumperFault>
     requires { payload.size ≡ line.now.block }
     // Returns a client that is ready and has counted no volume. The client has the run that the
     // arguments describe, with as many blocks as the payload has.
@@ -69,7 +71,7 @@ pub fn dumper<M: Medium + Drop, G: Gauge + Drop>(
     ensures refused { IfErr result (IsRefusedRun (line_run line.now date since payload.len)) }
 {
     match run_of(line, date, since, &payload) {
-        Ok(run) => Ok(dumper_of(alloc, run, payload, gauge)?),
+        Ok(run) => Ok(dumper_of(alloc, run, payload, gauge, line.sums.is_some())?),
         Err(fault) => Err(DumperFault::Run(fault)),
     }
 }
@@ -94,7 +96,8 @@ pub fn run_of<M: Medium + Drop>(
 }
 
 /// Makes the client for a given run, as `dumper` does for the run that the arguments describe. The
-/// client dumps the payload of the run, and has counted no volume.
+/// client dumps the payload of the run, and has counted no volume. Its source sums each volume if
+/// `is_summed` is true.
 ///
 /// Fails if an allocation fails.
 pub fn dumper_of<M: Medium + Drop, G: Gauge + Drop>(
@@ -102,7 +105,8 @@ pub fn dumper_of<M: Medium + Drop, G: Gauge + Drop>(
     run: Run,
     payload: PayloadFile<M>,
     mut gauge: G,
-) -> Result<Client<Shown<PayloadFile<M>, G>>, AllocError>
+    is_summed: bool,
+) -> Result<Client<Summed<Shown<PayloadFile<M>, G>>>, AllocError>
     requires { IsRunsPayload run payload }
     // Returns a client that is ready, has counted no volume, and has the given run.
     ensures at { IfOk result (λ c. c.at ≡ standing run [] stages.Ready) }
@@ -110,10 +114,11 @@ pub fn dumper_of<M: Medium + Drop, G: Gauge + Drop>(
     ensures source { IfOk result (λ c. c.source ≡ payload) }
 {
     gauge.begin(run.blocks());
-    let source = Shown {
+    let shown = Shown {
         source: payload,
         gauge,
     };
+    let source = Summed::new(shown, is_summed);
     Client::new(alloc, run, source)
 }
 

@@ -1,6 +1,7 @@
 //! Shows the progress of a dump.
 use crate::live_line::{CLEAR, LiveLine, LiveText};
 use dump_client::{Blocks, SourceFailed};
+use dump_run::LABEL_BYTES;
 use std::fmt::Write as _;
 use std::io::{self, Write};
 use std::marker::Model;
@@ -73,9 +74,9 @@ impl<B: Blocks, G: Gauge> Blocks for Shown<B, G> {
 
     ghost single = { B.single };
 
-    fn begin_volume(&mut self, volume: u32, first: u32) {
+    fn begin_volume(&mut self, label: &[u8; LABEL_BYTES], volume: u32, first: u32) {
         self.gauge.begin_volume(volume, first);
-        self.source.begin_volume(volume, first);
+        self.source.begin_volume(label, volume, first);
     }
 
     fn read(&mut self, block: u32, into: &mut [u8]) -> Result<(), SourceFailed> {

@@ -13,6 +13,7 @@ use dump_client::{Client, Run};
 use dump_run::Checkpoint;
 use std::alloc::Global;
 use tape::Medium;
+use volume_sum::Summed;
 
 /// Why a dump was not resumed.
 #[derive(Clone, Copy, Debug, PartialEq, Eq)]
@@ -26,7 +27,8 @@ pub enum ResumedDumpFault {
 /// Makes the client that resumes a dump from its checkpoint. It has the run and the counts of the
 /// checkpoint, and is finished if these count all blocks. `payload` is the payload of `run`. The
 /// checkpoint must be of the same dump as `run`: only the dates may differ. The gauge gets the
-/// number of blocks, and shows each block that is read.
+/// number of blocks, and shows each block that is read. The client's source sums each volume if
+/// `is_summed` is true.
 ///
 /// Returns `OfAnother` if the checkpoint is of another dump, and `OutOfMemory` if an allocation
 /// fails.
@@ -36,7 +38,8 @@ pub fn resume_dump<M: Medium + Drop, G: Gauge + Drop>(
     checkpoint: Checkpoint,
     payload: PayloadFile<M>,
     mut gauge: G,
-) -> Result<Client<Shown<PayloadFile<M>, G>>, ResumedDumpFault>
+    is_summed: bool,
+) -> Result<Client<Summed<Shown<PayloadFile<M>, G>>>, ResumedDumpFault>
     requires { IsRunsPayload run.now payload }
     // Returns a client with the run and the counts of the checkpoint. So the date and base date of
     // this run come from the checkpoint too.
@@ -56,10 +59,11 @@ pub fn resume_dump<M: Medium + Drop, G: Gauge + Drop>(
         return Err(ResumedDumpFault::OfAnother);
     }
     gauge.begin(checkpoint.run().blocks());
-    let source = Shown {
+    let shown = Shown {
         source: payload,
         gauge,
     };
+    let source = Summed::new(shown, is_summed);
     match Client::from_checkpoint(alloc, checkpoint, source) {
         Ok(client) => Ok(client),
         Err(_) => Err(ResumedDumpFault::OutOfMemory),

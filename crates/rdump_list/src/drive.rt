@@ -2,31 +2,37 @@
 ghost use Rattle.dump_run.specs.Run.{IsDevice};
 
 use crate::ListSystem;
-use crate::drive_reel::{DriveReel, read_drive};
+use crate::drive_reel::{DriveEntries, DriveReel, read_drive};
 use crate::reel::{ListedReel, Source};
+use crate::sums::compare;
 use printable::plain;
 use rdump_net::{ReadFault, SocketPeer};
-use reel_check::{ReelContents, ReelTally};
+use reel_check::ReelContents;
 use std::alloc::AllocError;
 use std::io::Write;
+use sum_lines::Sums;
 
-/// Reads the first reel on the stack of this drive. `terminal` shows how far that is, if there is
+/// Reads the first reel on the stack of this drive, and compares it with `sums`, if given. `terminal` shows how far that is, if there is
 /// one. If there is no session, it prints why and returns None. Fails if an allocation fails.
 pub(crate) fn drive_reel<R: ListSystem, T: Write + Drop>(
     rt: &R,
     to: &str,
     device: &str,
+    sums: Option<&Sums>,
     terminal: Option<T>,
 ) -> Result<Option<ListedReel>, AllocError>
     requires { IsDevice device.now }
 {
     let mut peer = SocketPeer::new(rt, to);
-    let mut reel = DriveReel::new(rt, terminal);
+    let mut reel = DriveReel::new(rt, sums.is_some(), terminal);
     let read = read_drive(rt.alloc(), &mut peer, device.as_bytes(), &mut reel);
-    let tally = reel.into_tally();
+    let entries = reel.into_entries();
     match read {
-        Ok(None) => Ok(Some(reel_of(rt, device, tally, Source::Drive)?)),
-        Ok(Some(why)) => Ok(Some(reel_of(rt, device, tally, Source::Undetermined(why))?)),
+        Ok(None) => Ok(Some(reel_of(rt, device, entries, sums, Source::Drive)?)),
+        Ok(Some(why)) => {
+            let source = Source::Undetermined(why);
+            Ok(Some(reel_of(rt, device, entries, None, source)?))
+        }
         Err(ReadFault::OutOfMemory) => Err(AllocError),
         Err(fault) => {
             report_fault(rt, to, fault, &peer);
@@ -35,24 +41,32 @@ pub(crate) fn drive_reel<R: ListSystem, T: Write + Drop>(
     }
 }
 
-/// Makes the listed reel of this drive from its tally.
+/// Makes the listed reel of this drive from its entries, and compares it with `sums`, if given.
 fn reel_of<R: ListSystem>(
     rt: &R,
     device: &str,
-    tally: ReelTally,
+    entries: DriveEntries,
+    sums: Option<&Sums>,
     source: Source,
 ) -> Result<ListedReel, AllocError> {
+    let DriveEntries { tally, hasher } = entries;
     let (records, marks) = (tally.records(), tally.marks());
+    let contents = ReelContents {
+        holding: tally.into_holding(),
+        records,
+        marks,
+        bytes: 0,
+        tail: 0,
+    };
+    let sum = match (hasher, sums) {
+        (Some(hasher), Some(sums)) => compare(&contents, hasher, sums),
+        _ => None,
+    };
     Ok(ListedReel {
         path: String::from_str(rt.alloc(), device)?,
-        contents: ReelContents {
-            holding: tally.into_holding(),
-            records,
-            marks,
-            bytes: 0,
-            tail: 0,
-        },
+        contents,
         source,
+        sum,
     })
 }
 

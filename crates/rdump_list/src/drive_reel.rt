@@ -17,38 +17,87 @@ use rmt_wire::mtio::{MTBSF, MTBSR, MTFSF, MTFSR};
 use rmt_wire::{NUMBER_LIMIT, Request};
 use std::alloc::Global;
 use std::io::Write;
+use tape::is_record;
+use volume_sum::EntryHasher;
 
 /// What was read of a drive's reel, and what shows that on a terminal, if there is one.
 #[derive(Drop)]
 pub(crate) struct DriveReel<'a, R: ListSystem, T: Write + Drop> {
-    tally: ReelTally,
+    entries: DriveEntries,
     progress: Option<ListProgress<'a, R, T>>,
 }
 
+/// The entries that were read of a drive's reel.
+#[derive(Drop)]
+pub(crate) struct DriveEntries {
+    /// What they are.
+    pub(crate) tally: ReelTally,
+    /// The sum of their record file, if that is compared.
+    pub(crate) hasher: Option<EntryHasher>,
+}
+
+impl DriveEntries {
+    /// Adds a record.
+    fn record(&mut self, record: &[u8]) {
+        self.tally.record(record);
+        if let Some(hasher) = &mut self.hasher {
+            if is_record(record) {
+                hasher.record(record);
+            }
+        }
+    }
+
+    /// Adds a mark.
+    fn mark(&mut self) {
+        self.tally.mark();
+        if let Some(hasher) = &mut self.hasher {
+            hasher.mark();
+        }
+    }
+}
+
 impl<'a, R: ListSystem, T: Write + Drop> DriveReel<'a, R, T> {
-    /// Makes one of which nothing was read. `terminal` shows the records, if there is one.
-    pub(crate) fn new(rt: &'a R, terminal: Option<T>) -> Self {
+    /// Makes one of which nothing was read. Its sum is computed if `is_summed`. `terminal` shows the
+    /// records, if there is one.
+    pub(crate) fn new(rt: &'a R, is_summed: bool, terminal: Option<T>) -> Self {
         let mut progress = ListProgress::at(rt, terminal);
         if let Some(progress) = &mut progress {
             progress.begin_reel();
         }
         DriveReel {
-            tally: ReelTally::new(),
+            entries: DriveEntries {
+                tally: ReelTally::new(),
+                hasher: if is_summed {
+                    Some(EntryHasher::new())
+                } else {
+                    None
+                },
+            },
             progress,
         }
     }
 
     /// Clears the line of progress, and returns the entries that were read.
-    pub(crate) fn into_tally(mut self) -> ReelTally {
+    pub(crate) fn into_entries(mut self) -> DriveEntries {
         if let Some(progress) = &mut self.progress {
             progress.clear();
         }
-        self.tally
+        self.entries
+    }
+
+    /// Returns what the entries that were read are.
+    fn tally(&self) -> &ReelTally {
+        &self.entries.tally
+    }
+
+    /// Adds a mark.
+    fn mark(&mut self) {
+        self.entries.mark();
     }
 
     /// Adds a record.
     fn record(&mut self, record: &[u8]) {
-        self.tally.record(record);
+        self.entries.record(record);
         if let Some(progress) = &mut self.progress {
             progress.add(record.len());
         }
@@ -127,7 +176,7 @@ fn read_reel<P: Peer, R: ListSystem, T: Write + Drop>(
 ) -> Result<(), ReadStop> {
     rewind(caller, peer)?;
     read_records(caller, peer, reel)?;
-    match reel.tally.holding() {
+    match reel.tally().holding() {
         Holding::Foreign => Ok(()),
         Holding::Empty => look_for_mark(caller, peer, reel),
         Holding::Volume(_) => look_after(caller, peer, reel),
@@ -146,7 +195,7 @@ fn read_records<P: Peer, R: ListSystem, T: Write + Drop>(
             return Ok(());
         }
         reel.record(&record);
-        if matches!(reel.tally.holding(), Holding::Foreign) {
+        if matches!(reel.tally().holding(), Holding::Foreign) {
             return Ok(());
         }
     }
@@ -164,7 +213,7 @@ fn look_for_mark<P: Peer, R: ListSystem, T: Write + Drop>(
     if !can_space(caller, peer, MTFSF)? {
         return Err(ReadStop::Undetermined(Undetermined::NoRecord));
     }
-    reel.tally.mark();
+    reel.mark();
     Ok(())
 }
 
@@ -178,15 +227,15 @@ fn look_after<P: Peer, R: ListSystem, T: Write + Drop>(
     if can_space(caller, peer, MTBSR)? {
         return Ok(());
     }
-    go_after_mark(caller, peer, reel.tally.records())?;
-    reel.tally.mark();
+    go_after_mark(caller, peer, reel.tally().records())?;
+    reel.mark();
     let record = next_record(caller, peer)?;
     if !record.is_empty() {
         reel.record(&record);
         return Ok(());
     }
     if has_second_mark(caller, peer)? {
-        reel.tally.mark();
+        reel.mark();
     }
     Ok(())
 }

@@ -3,7 +3,8 @@
 //!
 //! `run_ls` is the whole command; it uses the runtime through `ListSystem`. It reads record files
 //! in place, and the first reel of a drive's stack over a connection. It writes to neither.
-//! `push_verdict` appends the verdict on a reel, and `is_whole` decides whether that is `whole`.
+//! `push_verdict` appends the verdict on a reel, and `is_whole` decides whether that is `whole`. With
+//! a sums file, `run_ls` also compares the SHA-256 of each whole reel with the lines of its volume.
 #![tactic(auto)]
 
 mod drive;
@@ -22,6 +23,7 @@ mod reel;
 mod shown_medium;
 mod spacing;
 mod status;
+mod sums;
 mod system;
 mod undetermined;
 mod verdict;

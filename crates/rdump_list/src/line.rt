@@ -2,8 +2,9 @@
 use crate::reel::{ListedReel, Source};
 use crate::verdict::{push_count, push_verdict};
 use printable::plain_char;
-use reel_check::{Holding, ReelContents, Volume};
+use reel_check::{Holding, ReelContents};
 use std::alloc::AllocError;
+use sum_lines::push_volume;
 
 /// Appends the line of a reel, with its line feed: its path, what it contains, and the verdict on
 /// it. Fails if an allocation fails.
@@ -24,7 +25,17 @@ pub(crate) fn push_line(text: &mut Vec<u8>, reel: &ListedReel) -> Result<(), All
             why.push(text)?;
         }
     }
+    push_sum(text, reel)?;
     text.extend_from_slice(b"\n")
+}
+
+/// Appends what the comparison with a sums file found, if there was one.
+fn push_sum(text: &mut Vec<u8>, reel: &ListedReel) -> Result<(), AllocError> {
+    let Some(verdict) = reel.sum else {
+        return Ok(());
+    };
+    text.extend_from_slice(b", ")?;
+    text.extend_from_slice(verdict.words().as_bytes())
 }
 
 /// Appends a path. A character that ends a line or controls a terminal is replaced by `?`.
@@ -42,7 +53,12 @@ fn push_contents(text: &mut Vec<u8>, contents: &ReelContents) -> Result<(), Allo
     match &contents.holding {
         Holding::Empty => {}
         Holding::Volume(volume) => {
-            push_volume(text, volume)?;
+            push_volume(
+                text,
+                &volume.label,
+                volume.blocks,
+                volume.block_bytes as u64,
+            )?;
             text.extend_from_slice(b", ")?;
         }
         Holding::Foreign => {
@@ -58,22 +74,14 @@ fn push_contents(text: &mut Vec<u8>, contents: &ReelContents) -> Result<(), Allo
 fn push_drive(text: &mut Vec<u8>, reel: &ListedReel) -> Result<(), AllocError> {
     match reel.volume() {
         Some(volume) => {
-            push_volume(text, volume)?;
+            push_volume(
+                text,
+                &volume.label,
+                volume.blocks,
+                volume.block_bytes as u64,
+            )?;
             text.extend_from_slice(b": ")
         }
         None => Ok(()),
     }
-}
-
-/// Appends the fields of a label, and the number and the length of the blocks.
-fn push_volume(text: &mut Vec<u8>, volume: &Volume) -> Result<(), AllocError> {
-    let label = &volume.label;
-    text.extend_from_slice(label.name().as_bytes())?;
-    push_count(text, b" level ", u64::from(label.level()), b"")?;
-    push_count(text, b" date ", label.date(), b"")?;
-    push_count(text, b" since ", label.since(), b"")?;
-    push_count(text, b" volume ", u64::from(label.volume()), b"")?;
-    push_count(text, b" first ", u64::from(label.first()), b", ")?;
-    push_count(text, b"", volume.blocks, b" blocks of ")?;
-    push_count(text, b"", volume.block_bytes as u64, b" bytes")
 }

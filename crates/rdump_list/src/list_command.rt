@@ -11,10 +11,12 @@ use crate::order::sort;
 use crate::printer::Printer;
 use crate::reel::ListedReel;
 use crate::status::status_of;
+use crate::sums::read_sums;
 use exit_status::ExitStatus;
 use rdump_args::{ListLine, ListedReels};
 use std::alloc::{AllocError, Global};
 use std::io::{self, Write};
+use sum_lines::Sums;
 
 /// Runs `rdump ls`: lists reels, one line each, sorted. If a dumpdates file is given, it prints an
 /// empty line and then one line for each of its dumps. Nothing is written to a reel. `terminal` is
@@ -22,8 +24,9 @@ use std::io::{self, Write};
 ///
 /// Returns the exit status:
 ///
-/// - `Success` if there is a reel, all reels are whole, and no volume is missing.
-/// - `StartupError` if a file cannot be read, there is no session with the drive, an allocation
+/// - `Success` if there is a reel, all reels are whole, and no volume is missing. With a sums file,
+///   the sum of each reel must also be equal to one in that file.
+/// - `StartupError` if a file cannot be read, the sums file is not valid, there is no session with the drive, an allocation
 ///   fails, or a write fails.
 /// - `Abnormal` otherwise.
 ///
@@ -44,10 +47,30 @@ pub fn run_ls<R: ListSystem, T: Write + Drop>(
     }
 }
 
-/// Lists the reels. Returns the exit status. Fails if an allocation fails.
+/// Reads the sums file, if one is given, and lists the reels. Returns the exit status. Fails if an
+/// allocation fails.
 fn list<R: ListSystem, T: Write + Drop>(
     rt: &R,
     line: &ListLine<'_>,
+    terminal: Option<T>,
+) -> Result<ExitStatus, AllocError>
+    requires { IsListLine line.now }
+{
+    let Some(path) = line.sums else {
+        return list_reels(rt, line, None, terminal);
+    };
+    match read_sums(rt, path)? {
+        Some(sums) => list_reels(rt, line, Some(&sums), terminal),
+        None => Ok(ExitStatus::StartupError),
+    }
+}
+
+/// Lists the reels, which are compared with these sums if there are any. Returns the exit status.
+/// Fails if an allocation fails.
+fn list_reels<R: ListSystem, T: Write + Drop>(
+    rt: &R,
+    line: &ListLine<'_>,
+    sums: Option<&Sums>,
     terminal: Option<T>,
 ) -> Result<ExitStatus, AllocError>
     requires { IsListLine line.now }
@@ -57,10 +80,10 @@ fn list<R: ListSystem, T: Write + Drop>(
         None => None,
     };
     let are_dates_read = dates.is_some() || line.dumpdates.is_none();
-    let (mut reels, are_reels_read) = read_reels(rt, &line.reels, terminal)?;
+    let (mut reels, are_reels_read) = read_reels(rt, &line.reels, sums, terminal)?;
     sort(reels.as_mut_slice());
     let mut out = Printer::new(rt.alloc(), io::writer(rt));
-    let are_whole = print_reels(rt.alloc(), &mut out, &reels)?;
+    let are_good = print_reels(rt.alloc(), &mut out, &reels)?;
     let are_complete = match &dates {
         Some(dates) => print_dumps(rt.alloc(), &mut out, &reels, dates, line.blocks)?,
         None => true,
@@ -69,7 +92,7 @@ fn list<R: ListSystem, T: Write + Drop>(
     let is_done = are_dates_read && are_reels_read && is_printed;
     Ok(status_of(
         is_done,
-        has_reel(rt, &reels, are_reels_read) && are_whole && are_complete,
+        has_reel(rt, &reels, are_reels_read) && are_good && are_complete,
     ))
 }
 
@@ -86,13 +109,14 @@ fn has_reel<R: ListSystem>(rt: &R, reels: &[ListedReel], are_read: bool) -> bool
 fn read_reels<R: ListSystem, T: Write + Drop>(
     rt: &R,
     reels: &ListedReels<'_>,
+    sums: Option<&Sums>,
     terminal: Option<T>,
 ) -> Result<(Vec<ListedReel>, bool), AllocError>
     requires { IsListedReels reels.now }
 {
     match reels {
-        ListedReels::Paths(paths) => read_paths(rt, paths, terminal),
-        ListedReels::Drive { to, device } => read_first(rt, to, device, terminal),
+        ListedReels::Paths(paths) => read_paths(rt, paths, sums, terminal),
+        ListedReels::Drive { to, device } => read_first(rt, to, device, sums, terminal),
     }
 }
 
@@ -100,9 +124,10 @@ fn read_reels<R: ListSystem, T: Write + Drop>(
 fn read_paths<R: ListSystem, T: Write + Drop>(
     rt: &R,
     paths: &[&str],
+    sums: Option<&Sums>,
     terminal: Option<T>,
 ) -> Result<(Vec<ListedReel>, bool), AllocError> {
-    let mut lister = Lister::new(rt, terminal)?;
+    let mut lister = Lister::new(rt, sums, terminal)?;
     for path in paths {
         lister.read(path)?;
     }
@@ -115,12 +140,13 @@ fn read_first<R: ListSystem, T: Write + Drop>(
     rt: &R,
     to: &str,
     device: &str,
+    sums: Option<&Sums>,
     terminal: Option<T>,
 ) -> Result<(Vec<ListedReel>, bool), AllocError>
     requires { IsDevice device.now }
 {
     let mut reels = Vec::new(rt.alloc());
-    match drive_reel(rt, to, device, terminal)? {
+    match drive_reel(rt, to, device, sums, terminal)? {
         Some(reel) => {
             reels.push(reel)?;
             Ok((reels, true))
@@ -129,21 +155,22 @@ fn read_first<R: ListSystem, T: Write + Drop>(
     }
 }
 
-/// Prints the lines of the reels. Returns whether all are whole.
+/// Prints the lines of the reels. Returns whether all are whole and, with a sums file, have equal
+/// sums.
 fn print_reels<W: Write>(
     alloc: Global,
     out: &mut Printer<W>,
     reels: &[ListedReel],
 ) -> Result<bool, AllocError> {
     let mut line = Vec::new(alloc);
-    let mut are_whole = true;
+    let mut are_good = true;
     for reel in reels {
         line.clear();
         push_line(&mut line, reel)?;
         out.print(&line)?;
-        are_whole = are_whole && reel.is_whole();
+        are_good = are_good && reel.is_good();
     }
-    Ok(are_whole)
+    Ok(are_good)
 }
 
 /// Prints what is left in the buffer. Returns whether everything was printed; if not, it prints an

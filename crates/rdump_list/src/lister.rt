@@ -8,10 +8,13 @@ use crate::progress::ListProgress;
 use crate::reel::{ListedReel, Source};
 use crate::shown_medium::ShownMedium;
 use file_medium::FileMedium;
+use rdump_sums::compare_reel;
 use reel_check::{ReelContents, check_reel};
 use std::alloc::AllocError;
 use std::fs::{self, File};
 use std::io::{self, ErrorKind, Write};
+use sum_lines::{SumVerdict, Sums};
+use tape::{Medium, MediumFailed};
 
 /// How many bytes of a record are read at once.
 const ROOM: usize = 65536;
@@ -23,6 +26,7 @@ const NO_FILE: &str = "it is no plain file and no folder";
 #[derive(Drop)]
 pub(crate) struct Lister<'a, R: ListSystem, W: Write + Drop> {
     rt: &'a R,
+    sums: Option<&'a Sums>,
     room: Box<[u8; ROOM]>,
     progress: Option<ListProgress<'a, R, W>>,
     reels: Vec<ListedReel>,
@@ -30,14 +34,19 @@ pub(crate) struct Lister<'a, R: ListSystem, W: Write + Drop> {
 }
 
 impl<'a, R: ListSystem, W: Write + Drop> Lister<'a, R, W> {
-    /// Makes a lister that has read nothing. `terminal` shows how far it is, if there is one. It
-    /// allocates 65,536 bytes. Fails if an allocation fails.
-    pub(crate) fn new(rt: &'a R, terminal: Option<W>) -> Result<Self, AllocError> {
+    /// Makes a lister that has read nothing. It compares reels with `sums`, if given. `terminal`
+    /// shows how far it is, if there is one. It allocates 65,536 bytes. Fails if an allocation fails.
+    pub(crate) fn new(
+        rt: &'a R,
+        sums: Option<&'a Sums>,
+        terminal: Option<W>,
+    ) -> Result<Self, AllocError> {
         let Ok(room) = Box::new(rt.alloc(), [0; ROOM]) else {
             return Err(AllocError);
         };
         Ok(Lister {
             rt,
+            sums,
             room,
             progress: ListProgress::at(rt, terminal),
             reels: Vec::new(rt.alloc()),
@@ -103,7 +112,7 @@ impl<'a, R: ListSystem, W: Write + Drop> Lister<'a, R, W> {
     /// Reads the plain file at this path.
     fn read_file(&mut self, path: &str) -> Result<(), AllocError> {
         match self.contents_of(path) {
-            Ok(Some(contents)) => self.keep(path, contents),
+            Ok(Some((contents, sum))) => self.keep(path, contents, sum),
             Ok(None) => {
                 self.print_fault(path, "it could not be read");
                 Ok(())
@@ -112,9 +121,12 @@ impl<'a, R: ListSystem, W: Write + Drop> Lister<'a, R, W> {
         }
     }
 
-    /// Returns what the plain file at this path contains, or None if the system failed while it was
-    /// read. Fails if it cannot be opened or is no plain file.
-    fn contents_of(&mut self, path: &str) -> io::Result<Option<ReelContents>> {
+    /// Returns what the plain file at this path contains, and what the comparison of its sum found.
+    /// Returns None if the system failed while it was read. Fails if it cannot be opened or is no plain file.
+    fn contents_of(
+        &mut self,
+        path: &str,
+    ) -> io::Result<Option<(ReelContents, Option<SumVerdict>)>> {
         let file = File::open(self.rt, path)?;
         if !file.metadata()?.is_file() {
             return Err(io::Error::new(ErrorKind::InvalidInput, NO_FILE));
@@ -126,9 +138,9 @@ impl<'a, R: ListSystem, W: Write + Drop> Lister<'a, R, W> {
         if let Some(progress) = &mut shown.progress {
             progress.begin_reel();
         }
-        let contents = check_reel(&mut shown, self.room.as_mut_slice());
+        let found = check(&mut shown, &mut self.room, self.sums);
         self.progress = shown.progress;
-        Ok(contents.ok())
+        Ok(found.ok())
     }
 
     /// Clears the line of progress.
@@ -139,12 +151,18 @@ impl<'a, R: ListSystem, W: Write + Drop> Lister<'a, R, W> {
     }
 
     /// Adds a record file with its contents to the list.
-    fn keep(&mut self, path: &str, contents: ReelContents) -> Result<(), AllocError> {
+    fn keep(
+        &mut self,
+        path: &str,
+        contents: ReelContents,
+        sum: Option<SumVerdict>,
+    ) -> Result<(), AllocError> {
         let path = String::from_str(self.rt.alloc(), path)?;
         self.reels.push(ListedReel {
             path,
             contents,
             source: Source::File,
+            sum,
         })?;
         Ok(())
     }
@@ -162,5 +180,17 @@ impl<'a, R: ListSystem, W: Write + Drop> Lister<'a, R, W> {
         self.has_failed = true;
         self.clear();
         report(self.rt, path, error)
+    }
+}
+
+/// Checks a reel, and compares its sum with these lines if there are any.
+fn check<M: Medium>(
+    medium: &mut M,
+    room: &mut [u8; ROOM],
+    sums: Option<&Sums>,
+) -> Result<(ReelContents, Option<SumVerdict>), MediumFailed> {
+    match sums {
+        Some(sums) => compare_reel(medium, room, sums),
+        None => Ok((check_reel(medium, room)?, None)),
     }
 }

@@ -2,6 +2,7 @@
 use crate::undetermined::Undetermined;
 use crate::verdict::is_whole;
 use reel_check::{Holding, ReelContents, Volume, VolumeEnd};
+use sum_lines::SumVerdict;
 
 /// The source that a reel was read from.
 #[derive(Clone, Copy)]
@@ -25,6 +26,8 @@ pub(crate) struct ListedReel {
     pub(crate) contents: ReelContents,
     /// The source that it was read from.
     pub(crate) source: Source,
+    /// What the comparison with a sums file found, if the reel is whole and there is such a file.
+    pub(crate) sum: Option<SumVerdict>,
 }
 
 impl ListedReel {
@@ -41,6 +44,15 @@ impl ListedReel {
         match self.source {
             Source::File | Source::Drive => is_whole(&self.contents),
             Source::Undetermined(_) => false,
+        }
+    }
+
+    /// Whether the reel is whole, and its sum is equal to one in the sums file if there is such a
+    /// file.
+    pub(crate) fn is_good(&self) -> bool {
+        match self.sum {
+            Some(SumVerdict::Differs | SumVerdict::Unknown) => false,
+            Some(SumVerdict::Equal) | None => self.is_whole(),
         }
     }
 

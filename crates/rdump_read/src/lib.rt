@@ -11,6 +11,7 @@ mod progress;
 mod read_command;
 mod read_sink;
 mod stack;
+mod sums;
 mod volume;
 
 pub use read_command::run_read;

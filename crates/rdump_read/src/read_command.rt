@@ -7,16 +7,18 @@ ghost use Rattle.rdump_args.specs.Rdump.{IsReadLine};
 use crate::out_file::OutFile;
 use crate::read_sink::ReadSink;
 use crate::stack::read_stack;
+use crate::sums::read_sums;
 use crate::volume::{ReadEnd, read_volume};
 use exit_status::ExitStatus;
 use rdump_args::ReadLine;
 use rdump_system::{ClientSystem, report, report_failed};
 use std::io::Write;
+use sum_lines::Sums;
 
 /// Reads a volume back into a file, as `rdump read` does, and prints its label. `terminal` is
 /// standard error, if that is a terminal: it shows how far the read is.
 ///
-/// The file is opened first, and emptied once the label was read. A file that is created here and
+/// The sums file is read first, if one is given. Then the file is opened, and emptied once the label was read. A file that is created here and
 /// gets no label is removed. Standard error reports how many blocks were read, and whether the
 /// first record is not a label of `rdump`.
 ///
@@ -36,13 +38,19 @@ use std::io::Write;
 ///   were read. With a length, it also succeeds at a reel that stays, if no block below the length
 ///   is missing.
 ///
+/// With a sums file, the SHA-256 of each volume's record file is compared with the lines of its
+/// label, and the volume must end with a mark. If there are such lines and none has the sum, the
+/// volume is not read whole: with `all`, its reel stays in the drive. Standard error reports what
+/// was found.
+///
 /// With a length, the file is cut to it at the end, if it is longer. With `all`, a file that is
 /// shorter is reported. With `all` and no length, it is reported that the end of the dump is not
 /// known. At the end, a regular file or a block device is synced, and so is the folder of a file
 /// that is created here.
 ///
 /// Returns the exit status: `Success` if everything was read and synced, and nothing is known to be
-/// missing. Returns `StartupError` if the file could not be opened, or if `place` or a length
+/// missing. Returns `StartupError` if the sums file could not be read or is not valid, if the file
+/// could not be opened, or if `place` or a length
 /// requires a regular file and it is not one. Returns `Abnormal` otherwise.
 pub fn run_read<R: ClientSystem, T: Write + Drop>(
     rt: &R,
@@ -51,8 +59,12 @@ pub fn run_read<R: ClientSystem, T: Write + Drop>(
 ) -> ExitStatus
     requires { IsReadLine line }
 {
+    let sums = match read_sums(rt, line.sums) {
+        Ok(sums) => sums,
+        Err(status) => return status,
+    };
     match OutFile::open(rt, rt.alloc(), &line) {
-        Ok(file) => read_into(rt, &line, file, terminal),
+        Ok(file) => read_into(rt, &line, file, sums, terminal),
         Err(error) => report(rt, line.out, error),
     }
 }
@@ -62,12 +74,13 @@ fn read_into<'a, R: ClientSystem, T: Write + Drop>(
     rt: &'a R,
     line: &ReadLine<'_>,
     file: OutFile<'a, R>,
+    sums: Option<Sums>,
     terminal: Option<T>,
 ) -> ExitStatus
     requires { IsReadLine line.now }
     ensures { IsReadStatus result }
 {
-    let mut sink = ReadSink::new(rt, file, line.place, terminal);
+    let mut sink = ReadSink::new(rt, file, line.place, sums, terminal);
     let status = if line.all {
         read_stack(rt, line, &mut sink)
     } else {

@@ -4,9 +4,11 @@ use crate::progress::VolumeProgress;
 use printable::PlainBytes;
 use rdump_files::{BlockSizes, FileSink, Found, SinkFault};
 use rdump_net::{SinkStopped, Verdict, VolumeSink};
+use rdump_sums::ComparedSink;
 use rdump_system::{ClientSystem, may_be_terminal};
 use rmt_wire::find_byte;
 use std::io::{self, Write};
+use sum_lines::{SumVerdict, Sums};
 
 /// What a volume is read into. Standard output gets the text of each label that is wanted, and the
 /// file gets the blocks. `T` is the terminal that shows the progress.
@@ -18,25 +20,34 @@ pub(crate) struct ReadSink<'a, R: ClientSystem, T: Write + Drop> {
     rt: &'a R,
     is_shown: bool,
     places: bool,
-    file: FileSink<OutFile<'a, R>>,
+    file: ComparedSink<FileSink<OutFile<'a, R>>>,
     progress: Option<VolumeProgress<'a, R, T>>,
     found: Option<Found>,
     is_unprinted: bool,
     is_complete: bool,
+    verdict: Option<SumVerdict>,
 }
 
 impl<'a, R: ClientSystem, T: Write + Drop> ReadSink<'a, R, T> {
-    /// Makes a sink for this file, whose blocks have places if `places`.
-    pub(crate) fn new(rt: &'a R, file: OutFile<'a, R>, places: bool, terminal: Option<T>) -> Self {
+    /// Makes a sink for this file, whose blocks have places if `places`. Each volume is compared with
+    /// `sums`, if given.
+    pub(crate) fn new(
+        rt: &'a R,
+        file: OutFile<'a, R>,
+        places: bool,
+        sums: Option<Sums>,
+        terminal: Option<T>,
+    ) -> Self {
         ReadSink {
             rt,
             is_shown: may_be_terminal(rt),
             places,
-            file: FileSink::new(file, places),
+            file: ComparedSink::new(FileSink::new(file, places), sums),
             progress: terminal.map(|it| VolumeProgress::new(rt, it)),
             found: None,
             is_unprinted: false,
             is_complete: false,
+            verdict: None,
         }
     }
 
@@ -45,6 +56,7 @@ impl<'a, R: ClientSystem, T: Write + Drop> ReadSink<'a, R, T> {
         self.found = None;
         self.is_unprinted = false;
         self.is_complete = false;
+        self.verdict = None;
     }
 
     /// Clears the line of progress.
@@ -71,38 +83,43 @@ impl<'a, R: ClientSystem, T: Write + Drop> ReadSink<'a, R, T> {
 
     /// Returns how many blocks of the volume were written, and of how many bytes.
     pub(crate) fn sizes(&self) -> BlockSizes {
-        self.file.sizes()
+        self.file.sink().sizes()
     }
 
     /// Takes why the file stopped the read, if it did.
     pub(crate) fn take_fault(&mut self) -> Option<SinkFault> {
-        self.file.take_fault()
+        self.file.sink_mut().take_fault()
+    }
+
+    /// Returns what the comparison of the volume's sum found, if it was compared.
+    pub(crate) fn verdict(&self) -> Option<SumVerdict> {
+        self.verdict
     }
 
     /// Returns the file.
     pub(crate) fn file(&self) -> &OutFile<'a, R> {
-        self.file.file()
+        self.file.sink().file()
     }
 
     /// Returns how many bytes each block has, if one was written at its place.
     pub(crate) fn block_bytes(&self) -> Option<usize> {
-        self.file.block_bytes()
+        self.file.sink().block_bytes()
     }
 
     /// Whether a volume has begun: a label or a block went on.
     pub(crate) fn has_begun(&self) -> bool {
-        self.file.has_begun()
+        self.file.sink().has_begun()
     }
 
     /// Cuts the file to this length, if one is given, and syncs it.
     pub(crate) fn finish(&mut self, length: Option<u64>) -> io::Result<()> {
-        self.file.finish(length)
+        self.file.sink_mut().finish(length)
     }
 
     /// Removes the file if this run created it and no volume has begun.
     pub(crate) fn end(self) {
-        if !self.file.has_begun() {
-            self.file.into_file().remove_made();
+        if !self.file.sink().has_begun() {
+            self.file.into_sink().into_file().remove_made();
         }
     }
 
@@ -134,7 +151,7 @@ impl<'a, R: ClientSystem, T: Write + Drop> VolumeSink for ReadSink<'a, R, T> {
 
     /// Prints the text of a record that is wanted, and then gives the record to the file.
     fn label(&mut self, record: &[u8]) -> Verdict {
-        let found = self.file.look(record);
+        let found = self.file.sink().look(record);
         self.is_unprinted = !self.print(&found, record);
         if let Some(progress) = &mut self.progress {
             progress.begin(volume_of(&found));
@@ -159,9 +176,10 @@ impl<'a, R: ClientSystem, T: Write + Drop> VolumeSink for ReadSink<'a, R, T> {
     }
 
     fn complete(&mut self) -> Result<(), SinkStopped> {
-        self.file.complete()?;
-        self.is_complete = true;
-        Ok(())
+        let completed = self.file.complete();
+        self.verdict = self.file.verdict();
+        self.is_complete = completed.is_ok();
+        completed
     }
 }
 

@@ -15,6 +15,7 @@ use rdump_net::{
 use rdump_system::{ClientSystem, report_failed, report_unwritten};
 use rmt_wire::errno::ENXIO;
 use std::io::{self, Write};
+use sum_lines::SumVerdict;
 
 /// How the read of a volume ended.
 #[derive(Clone, Copy, PartialEq, Eq)]
@@ -78,7 +79,7 @@ fn blocks_of<R: ClientSystem, T: Write + Drop>(sink: &ReadSink<'_, R, T>) -> Opt
 fn after_of(line: &ReadLine<'_>) -> AfterVolume {
     if line.all {
         AfterVolume::Offline
-    } else if line.place {
+    } else if line.place || line.sums.is_some() {
         AfterVolume::Check
     } else {
         AfterVolume::Stay
@@ -152,8 +153,14 @@ fn report_volume<R: ClientSystem, T: Write + Drop>(
         return ReadEnd::Failed;
     }
     let fault = sink.take_fault();
+    if let Some(verdict) = sink.verdict() {
+        report_verdict(rt, verdict);
+    }
     if sink.is_unprinted() {
         report_unwritten(rt, ExitStatus::Abnormal);
+        return ReadEnd::Failed;
+    }
+    if sink.verdict() == Some(SumVerdict::Differs) {
         return ReadEnd::Failed;
     }
     let end = end_of(rt, line, read, fault.as_ref(), failure);
@@ -161,6 +168,12 @@ fn report_volume<R: ClientSystem, T: Write + Drop>(
         report_reel(rt, read);
     }
     end
+}
+
+/// Prints what the comparison of a volume's sum found.
+fn report_verdict<R: ClientSystem>(rt: &R, verdict: SumVerdict) {
+    let words = verdict.words();
+    let _ = eprintln!(rt; "whole, {words}");
 }
 
 /// Whether a first record was received whose text was printed, or was to be.

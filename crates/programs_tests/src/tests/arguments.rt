@@ -16,7 +16,7 @@ fn is_shown<T: Debug>(alloc: Global, value: &T, wanted: &str) -> bool {
 /// Arguments of `rdump`, and the text of what is read from them.
 type Row = (&'static [&'static str], &'static str);
 
-static ROWS: [Row; 9] = [
+static ROWS: [Row; 10] = [
     (
         &["rdump", "dates", "--file", "f"],
         "Ok(Dates { file: \"f\", asked: None })",
@@ -44,16 +44,17 @@ static ROWS: [Row; 9] = [
             "--dumpdates=f",
             "--date=9223372036854775807",
             "--checkpoint=c",
+            "--sums=s",
             "--update",
             "--protect",
         ],
-        "Ok(Dump(DumpLine { to: \"h:1\", device: \"d\", fs: \"/usr\", level: 1, payload: \"p\", block: 1024, dumpdates: \"f\", date: Some(9223372036854775807), checkpoint: Some(\"c\"), update: true, protect: true }))",
+        "Ok(Dump(DumpLine { to: \"h:1\", device: \"d\", fs: \"/usr\", level: 1, payload: \"p\", block: 1024, dumpdates: \"f\", date: Some(9223372036854775807), checkpoint: Some(\"c\"), sums: Some(\"s\"), update: true, protect: true }))",
     ),
     (
         &[
             "rdump", "read", "--to", "h:1", "--device", "d", "--out", "o",
         ],
-        "Ok(Read(ReadLine { to: \"h:1\", device: \"d\", out: \"o\", place: false, all: false, length: None }))",
+        "Ok(Read(ReadLine { to: \"h:1\", device: \"d\", out: \"o\", place: false, all: false, length: None, sums: None }))",
     ),
     (
         &[
@@ -65,7 +66,7 @@ static ROWS: [Row; 9] = [
             "--place",
             "--length=9223372036854775807",
         ],
-        "Ok(Read(ReadLine { to: \"h:1\", device: \"d\", out: \"o\", place: true, all: false, length: Some(9223372036854775807) }))",
+        "Ok(Read(ReadLine { to: \"h:1\", device: \"d\", out: \"o\", place: true, all: false, length: Some(9223372036854775807), sums: None }))",
     ),
     (
         &[
@@ -76,8 +77,9 @@ static ROWS: [Row; 9] = [
             "--out=o",
             "--all",
             "--length=0",
+            "--sums=s",
         ],
-        "Ok(Read(ReadLine { to: \"h:1\", device: \"d\", out: \"o\", place: true, all: true, length: Some(0) }))",
+        "Ok(Read(ReadLine { to: \"h:1\", device: \"d\", out: \"o\", place: true, all: true, length: Some(0), sums: Some(\"s\") }))",
     ),
     (
         &[
@@ -87,13 +89,19 @@ static ROWS: [Row; 9] = [
             "--dumpdates=f",
             "--blocks",
             "2147483647",
+            "--sums",
+            "s",
             "a",
         ],
-        "Ok(List(ListLine { reels: Paths([\"b\", \"a\"]), dumpdates: Some(\"f\"), blocks: Some(2147483647) }))",
+        "Ok(List(ListLine { reels: Paths([\"b\", \"a\"]), dumpdates: Some(\"f\"), blocks: Some(2147483647), sums: Some(\"s\") }))",
     ),
     (
         &["rdump", "ls", "--device", "d", "--to", "h:1"],
-        "Ok(List(ListLine { reels: Drive { to: \"h:1\", device: \"d\" }, dumpdates: None, blocks: None }))",
+        "Ok(List(ListLine { reels: Drive { to: \"h:1\", device: \"d\" }, dumpdates: None, blocks: None, sums: None }))",
+    ),
+    (
+        &["rdump", "ls", "--device=d", "--to=h:1", "--sums=s"],
+        "Ok(List(ListLine { reels: Drive { to: \"h:1\", device: \"d\" }, dumpdates: None, blocks: None, sums: Some(\"s\") }))",
     ),
     (
         &[

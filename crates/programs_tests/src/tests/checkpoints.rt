@@ -6,11 +6,12 @@ use super::fake::{FakePeer, Replies};
 use super::fixture::{PayloadDumper, TWO_BYTES, client, line, payload};
 use super::lines::{EMPTY, FULL, LAST};
 use super::progress::Seen;
+use dump_client::{Blocks, Client};
 use dump_run::{Checkpoint, Run, VolumeCount, push_checkpoint};
 use exit_status::ExitStatus;
 use rdump_commands::run_arguments;
 use rdump_files::{ReplacedFile, ResumedDumpFault, WholeFile, resume_dump, run_of};
-use rdump_net::{Conclusion, Keeper, dump_kept};
+use rdump_net::{Conclusion, CountBook, Keeper, dump_booked, dump_kept};
 use rmt_wire::Counted;
 use std::alloc::Global;
 use std::fs;
@@ -155,6 +156,65 @@ fn checkpoints_that_are_kept(rt: HostRuntime) {
     }
 }
 
+/// A book in memory: the volumes that were entered, in order.
+#[derive(Drop)]
+struct Entered {
+    counts: Vec<VolumeCount>,
+}
+
+impl<B: Blocks> CountBook<B> for Entered {
+    ghost entered = { λ _ _. ⊥ };
+
+    fn enter(&mut self, _client: &Client<B>, count: VolumeCount) {
+        let _ = self.counts.push(count);
+    }
+}
+
+/// The volumes of a dump of three blocks, two of which fit on the first reel.
+const VOLUMES: [VolumeCount; 2] = [
+    VolumeCount {
+        volume: 1,
+        first: 0,
+        count: 2,
+    },
+    VolumeCount {
+        volume: 2,
+        first: 2,
+        count: 1,
+    },
+];
+
+/// Whether a complete dump by this client enters both volumes in the book.
+fn enters_both(alloc: Global, client: &mut PayloadDumper) -> bool {
+    let mut peer = FakePeer::new(alloc, &[FULL, LAST]);
+    let mut keeper = Texts::new(alloc, 3);
+    let mut book = Entered {
+        counts: Vec::new(alloc),
+    };
+    let mut operator: &[u8] = b"";
+    let mut printed = Vec::new(alloc);
+    let mut out = Counted::new(&mut printed);
+    let end = dump_booked(
+        alloc,
+        client,
+        &mut peer,
+        &mut operator,
+        &mut out,
+        &mut keeper,
+        &mut book,
+    );
+    end == Conclusion::Complete && book.counts.as_slice() == VOLUMES.as_slice()
+}
+
+#[test]
+fn volumes_that_are_entered(rt: HostRuntime) {
+    let entered = match client(rt.alloc(), TWO_BYTES) {
+        Some(mut client) => enters_both(rt.alloc(), &mut client),
+        None => false,
+    };
+    assert!(rt; entered);
+}
+
 /// Resumes a dump from the checkpoint with this text. Returns the number of counted volumes and of
 /// counted blocks.
 fn comes_back(alloc: Global, text: &[u8]) -> Option<Result<(usize, u32), ResumedDumpFault>> {
@@ -162,7 +222,7 @@ fn comes_back(alloc: Global, text: &[u8]) -> Option<Result<(usize, u32), Resumed
     let run = run_of(&line(TWO_BYTES), 0, 0, &payload).ok()?;
     let checkpoint = Checkpoint::read(alloc, text).ok()?;
     Some(
-        match resume_dump(alloc, &run, checkpoint, payload, Seen::new()) {
+        match resume_dump(alloc, &run, checkpoint, payload, Seen::new(), true) {
             Ok(client) => Ok((client.counted().len(), client.checkpoint().1)),
             Err(fault) => Err(fault),
         },

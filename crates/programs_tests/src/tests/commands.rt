@@ -95,6 +95,7 @@ fn a_volume_of_no_server(rt: HostRuntime) {
         place: false,
         all: false,
         length: None,
+        sums: None,
     };
     assert!(rt; run_read(&rt, line, NO_TERMINAL) == ExitStatus::Abnormal);
     assert!(rt; fs::remove_file(&rt, "volume").is_err());
@@ -110,6 +111,7 @@ fn a_volume_of_no_server_by_a_link(rt: HostRuntime) -> Result<(), Fail> {
         place: false,
         all: false,
         length: None,
+        sums: None,
     };
     symlink(&rt, "far", "led")?;
     let status = run_read(&rt, line, NO_TERMINAL);

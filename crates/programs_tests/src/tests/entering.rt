@@ -77,6 +77,20 @@ fn what_lies_in_place_of_a_new_file(rt: HostRuntime) -> Result<(), Fail> {
     Ok(())
 }
 
+/// The text of a sums file is replaced, and the new file is gone then.
+#[test]
+fn a_sums_file_that_is_replaced(rt: HostRuntime) -> Result<(), Fail> {
+    let mut file = ReplacedFile::of_sums(&rt, rt.alloc(), "sums");
+    assert!(rt; file.read(rt.alloc()) == Ok(None));
+    assert!(rt; fs::exists(&rt, "sums.new").unwrap_or(false));
+    assert!(rt; file.replace(b"a line\n").is_ok());
+    assert!(rt; !fs::exists(&rt, "sums.new").unwrap_or(true));
+    let kept = fs::read(&rt, "sums")?;
+    fs::remove_file(&rt, "sums")?;
+    assert!(rt; kept.as_slice() == b"a line\n".as_slice());
+    Ok(())
+}
+
 /// If another run has replaced this run's new file by its own, that file stays.
 #[test]
 fn what_takes_the_name_of_a_new_file(rt: HostRuntime) -> Result<(), Fail> {

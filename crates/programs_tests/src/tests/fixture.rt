@@ -8,6 +8,7 @@ use rdump_args::DumpLine;
 use rdump_files::{PayloadFile, Shown, dumper};
 use std::alloc::Global;
 use tape::MemoryMedium;
+use volume_sum::Summed;
 
 /// The size of a block in bytes, if three of them are dumped.
 pub(super) const TWO_BYTES: u64 = 2;
@@ -17,8 +18,8 @@ pub(super) const DEVICE: &[u8] = b"/dev/st0";
 /// A payload on a medium in memory.
 pub(super) type Payload = PayloadFile<MemoryMedium>;
 
-/// A client that reads its blocks from a payload and shows its progress.
-pub(super) type PayloadDumper = Client<Shown<Payload, Seen>>;
+/// A client that reads its blocks from a payload, shows its progress and can sum its volumes.
+pub(super) type PayloadDumper = Client<Summed<Shown<Payload, Seen>>>;
 
 /// The arguments of a dump of `/usr` at level 1, in blocks of this size.
 pub(super) fn line(block: u64) -> DumpLine<'static>
@@ -34,6 +35,7 @@ pub(super) fn line(block: u64) -> DumpLine<'static>
         dumpdates: "dumpdates",
         date: None,
         checkpoint: None,
+        sums: None,
         update: true,
         protect: false,
     }

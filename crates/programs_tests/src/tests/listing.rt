@@ -92,6 +92,7 @@ fn listed(rt: &HostRuntime, path: &'static str) -> Result<u8, AllocError> {
         reels: ListedReels::Paths(paths),
         dumpdates: None,
         blocks: None,
+        sums: None,
     };
     Ok(run_ls(rt, line, NO_TERMINAL).code())
 }

@@ -4,6 +4,7 @@ ghost use Rattle.std.specs.Prelude.{◌≡◌, length};
 
 use super::check_row;
 use dump_client::{Blocks, ListBlocks};
+use dump_run::LABEL_BYTES;
 use rdump_files::{Clearing, Gauge, ProgressLine, Shown};
 use std::alloc::Global;
 use std::cell::Cell;
@@ -93,7 +94,7 @@ fn is_shown_and_read(payload: Vec<u8>) -> bool
         source: ListBlocks::new(payload, 2, 3),
         gauge,
     };
-    source.begin_volume(2, 1);
+    source.begin_volume(&[0; LABEL_BYTES], 2, 1);
     let mut block = [0; 2];
     let read = source.read(1, &mut block) == Ok(()) && block == *b"cd" && source.failures() == 0;
     read && is_shown(&source.gauge)
