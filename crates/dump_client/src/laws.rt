@@ -94,10 +94,10 @@ pub fn counted_reels()
 ///
 /// The function does nothing: its contract is a law of the definitions.
 pub fn granted_replies()
-    // Suppose that a list of replies leads an attempt from the open to a later step. Then some
-    // script of the volume wants these replies, in this order. The list has one reply for each
-    // request of the script before the later step. The script's next request is the request of the
-    // later step.
+    // Suppose that a list of replies leads an attempt from the open to a later step. Then the
+    // volume has a script of requests that wants exactly these replies so far, in this order. The
+    // list has one reply for each request of the script before the later step. The script's next
+    // request is the request of the later step.
     ensures on_the_way { (run : PlainRun) (had : List VolumeCount) (first : ℕ) (step : Step) (replies : List PlainReply) →
         GrantedOnTheWay run had first step replies }
     // If the replies lead the client to count the volume, the script that wants them writes exactly

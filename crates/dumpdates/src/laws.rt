@@ -27,8 +27,8 @@ pub fn one_reading()
     // A text that spells a list has no bad line.
     ensures no_fault { (bytes : List ℕ) (entries : List DatesEntry) (fault : DatesFault) →
         SpellsDates bytes entries → HasDatesFault bytes fault → fault ≡ OutOfMemory }
-    // A text has at most one first bad line. This line is either a `BadLine` or a `BadDate`, and
-    // not both.
+    // A text has at most one fault other than `OutOfMemory`. So the number of its first bad line,
+    // and whether that is a `BadLine` or a `BadDate`, are determined by the text.
     ensures fault { (bytes : List ℕ) (fault other : DatesFault) →
         HasDatesFault bytes fault → HasDatesFault bytes other →
         (fault ≡ other) ⊎ ((fault ≡ OutOfMemory) ⊎ (other ≡ OutOfMemory)) }

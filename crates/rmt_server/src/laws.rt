@@ -59,10 +59,10 @@ pub fn still_at<H: Holds, S: Stacks>()
     // record and the stacks have as many drives as before. Third, the session's open reel is still
     // latched.
     ensures at { StaysAt (kinds H.Holds S.Stacks S.Reel.Reel) }
-    // Another condition can replace the third condition (the open reel is still latched). This
-    // other condition has two parts. There is one drive that the session does not have open. At
-    // every other drive, a reel that was latched is still latched. For example, an operator may
-    // rearrange the reels of a drive that the session does not have open.
+    // Here the third condition (the open reel is still latched) is replaced by another. At every
+    // drive except one, a reel that was latched is still latched. The session does not have that
+    // one drive open. So an operator may rearrange the reels of a drive that the session does not
+    // have open.
     ensures elsewhere { StaysAtElsewhere (kinds H.Holds S.Stacks S.Reel.Reel) }
 {}
 
