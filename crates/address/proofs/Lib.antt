@@ -1,1 +1,2 @@
 pub mod Colon
+pub mod Paths

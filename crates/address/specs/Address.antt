@@ -1,5 +1,5 @@
 -- The form of an address. Public contracts cite it.
-use Rattle.std.specs.Prelude.{◌≡◌, ◌⊎◌, ◌==◌, ℕ, ◌<◌, ◌^◌, List, ◌++◌, ◌∷◌, Option, None, MatchOption, codes, length, get_or, position}
+use Rattle.std.specs.Prelude.{◌≡◌, ◌≤◌, ◌⊎◌, ◌==◌, ℕ, ◌<◌, ◌^◌, List, ◌++◌, ◌∷◌, Option, None, MatchOption, codes, length, get_or, position}
 use Rattle.std.specs.Str.Parse.{digits_value}
 use Rattle.rmt_wire.specs.Argument.{IsNumber}
 
@@ -30,3 +30,15 @@ LacksColon text = (i : ℕ) → i < length text → get_or text i 0 ≡ 58 → �
 -- The parts before and after the last colon of a text, or `None` if it has no colon.
 abbrev pub IsSplitAtColon : List ℕ → Option (List ℕ × List ℕ) → Type 0
 IsSplitAtColon text parts = MatchOption parts (LacksColon text) (λ both. (text ≡ both.0 ++ 58 ∷ both.1) × LacksColon both.1)
+
+-- `unix:` and this path, which begins with a slash
+abbrev pub IsPathOf : List ℕ → List ℕ → Type 0
+IsPathOf text path = (text ≡ codes "unix:" ++ path) × ((rest : List ℕ) × (path ≡ codes "/" ++ rest))
+
+-- `unix:` and a path that begins with a slash
+abbrev pub IsPath : List ℕ → Type 0
+IsPath text = (path : List ℕ) × IsPathOf text path
+
+-- A host and a port, or the path of a Unix socket. A path has at most 107 bytes (unix(7)).
+abbrev pub IsAddress : List ℕ → Type 0
+IsAddress text = HasPort text ⊎ ((path : List ℕ) × IsPathOf text path × (length path ≤ 107))

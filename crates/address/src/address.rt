@@ -1,18 +1,64 @@
 //! The address of a server.
-ghost use Rattle.std.specs.Prelude.{IsTrue, ◌↔◌, option_map};
-ghost use Rattle.address.specs.Address.{HasPort, HasNoColon, IsBracketed, IsHost, IsPort, IsSplitAtColon};
+ghost use Rattle.std.specs.Prelude.{ℕ, List, IsTrue, ◌↔◌, MatchOption, option_map};
+ghost use Rattle.address.specs.Address.{HasPort, HasNoColon, IsAddress, IsBracketed, IsHost, IsPath, IsPathOf, IsPort, IsSplitAtColon};
 
 use rmt_wire::argument::number_of;
 use rmt_wire::find_byte;
 
-/// Whether a text is an address: a host, a colon and a port.
+/// What an address of a Unix socket begins with.
+const UNIX: &str = "unix:";
+
+/// The greatest length in bytes of the path of a Unix socket (unix(7)).
+pub const PATH_LIMIT: usize = 107;
+
+/// Whether a text is an address: a host, a colon and a port, or `unix:` and the path of a Unix
+/// socket.
 ///
 /// A host has at least one byte. If it contains a colon, as an IPv6 address does, it must be in
-/// brackets. A port is a number of 16 bits, written in digits only.
+/// brackets. A port is a number of 16 bits, written in digits only. The path begins with `/` and
+/// has at most `PATH_LIMIT` bytes.
 pub fn is_address(text: &str) -> bool
-    // Returns true exactly if the text is a host, a colon and a port. The port is a number of 16
-    // bits, written in digits only. The host is not empty. If the host contains a colon, the host
-    // is in brackets. No clause says more about the host.
+    // Returns true exactly if the text is an address of one of two kinds. The first kind is a host,
+    // a colon and a port. The port is a number of 16 bits, written in digits only. The host is not
+    // empty. If the host contains a colon, the host is in brackets. No clause says more about the
+    // host. The second kind is `unix:` and a path. The path begins with `/` and has at most 107
+    // bytes.
+    ensures { IsTrue result ↔ IsAddress text.now }
+{
+    match path_of(text) {
+        Some(path) => path.len() <= PATH_LIMIT,
+        None => has_port(text),
+    }
+}
+
+/// Returns the path of the Unix socket, if the text is `unix:` and a path that begins with `/`. The
+/// path may be longer than `PATH_LIMIT`.
+///
+/// Any other text after `unix:` is no path: `unix:4711` is the host `unix` with a port.
+pub fn path_of(text: &str) -> Option<&str>
+    // Returns what follows `unix:`, if the text begins with `unix:/`. Returns `None` if the text
+    // begins with anything else.
+    ensures { MatchOption result (¬ (IsPath text.now)) (λ path. IsPathOf text.now path.now) }
+{
+    let path = text.strip_prefix(UNIX)?;
+    if path.as_bytes().first() == Some(&b'/') {
+        Some(path)
+    } else {
+        None
+    }
+}
+
+/// The law that no text is an address of both kinds: a host with a port, and the path of a Unix
+/// socket.
+///
+/// It does nothing: its contract is a law of the definitions.
+pub fn one_kind()
+    // A text that is a host, a colon and a port does not begin with `unix:/`.
+    ensures { (text : List ℕ) → HasPort text → ¬ (IsPath text) }
+{}
+
+/// Whether a text is a host, a colon and a port.
+fn has_port(text: &str) -> bool
     ensures { IsTrue result ↔ HasPort text.now }
 {
     match split_port(text) {

@@ -1,10 +1,12 @@
 -- The limits of the arguments of `rdump`. Public contracts cite it.
-use Rattle.std.specs.Prelude.{◌≤◌, ◌<◌, ℕ, Option, None, Some, IfSome, IsSome, IsTrue, ⊤, length}
+use Rattle.std.specs.Prelude.{◌≡◌, ◌≤◌, ◌<◌, ◌*◌, ℕ, Option, None, Some, IfSome, MatchOption, IsSome, IsTrue, ⊤, length}
 use Rattle.std.specs.Borrow.{Bor}
+use Rattle.std.specs.Duration.{as_nanos}
+use Rattle.std.specs.declared.time.Duration.{Duration}
 use Rattle.clap.specs.Words.{Text}
 use Rattle.dumpdates.specs.Entry.{IsName}
 use Rattle.dump_run.specs.Run.{IsDevice}
-use Rattle.address.specs.Address.{HasPort}
+use Rattle.address.specs.Address.{IsAddress}
 use Rattle.rmt_wire.specs.declared.argument.TheConstants.{ARGUMENT_LIMIT}
 use Rattle.rmt_wire.specs.declared.limits.TheConstants.{NUMBER_LIMIT}
 use Rattle.rmt_wire.specs.declared.mtio.TheConstants.{MTNOP}
@@ -22,6 +24,10 @@ abbrev pub IsDatesAsked : Option (Bor Text × ℕ) → Type 0
 IsDatesAsked None = ⊤
 IsDatesAsked (Some (name, level)) = IsName name.now × (level ≤ 9)
 
+-- a limit of this many seconds; 0 is no limit
+abbrev pub IsLimit : ℕ → Option Duration → Type 0
+IsLimit seconds limit = MatchOption limit (seconds ≡ 0) (λ time. (0 < seconds) × (as_nanos time ≡ seconds * 1_000_000_000))
+
 -- the numbers of a run are at most `ARGUMENT_LIMIT`
 abbrev pub IsDumpLine : DumpLine → Type 0
 IsDumpLine line = (line.level ≤ ARGUMENT_LIMIT) × (line.block ≤ ARGUMENT_LIMIT) × IfSome line.date (λ n. n ≤ ARGUMENT_LIMIT)
@@ -33,7 +39,7 @@ IsReadLine line = IsDevice line.device.now × IfSome line.length (λ n. n ≤ AR
 -- the reels to list are those at the paths, at least one, or those of a drive
 abbrev pub IsListedReels : ListedReels → Type 0
 IsListedReels (Paths paths) = 0 < length paths.items
-IsListedReels (Drive to device) = IsDevice device.now × HasPort to.now
+IsListedReels (Drive to device timeout) = IsDevice device.now × IsAddress to.now
 
 -- the number of blocks, if given, is one that a dump can have, and there is a dumpdates file
 abbrev pub IsListLine : ListLine → Type 0
@@ -45,8 +51,8 @@ IsMtLine line = IsDevice line.device.now × (line.op ≤ MTNOP) × (line.count �
 
 -- the parsed arguments of one of the commands, within their limits
 abbrev pub IsRdumpLine : RdumpLine → Type 0
-IsRdumpLine (Dump line) = IsDumpLine line × HasPort line.to.now
-IsRdumpLine (Read line) = IsReadLine line × HasPort line.to.now
+IsRdumpLine (Dump line) = IsDumpLine line × IsAddress line.to.now
+IsRdumpLine (Read line) = IsReadLine line × IsAddress line.to.now
 IsRdumpLine (List line) = IsListLine line
-IsRdumpLine (Mt line) = IsMtLine line × HasPort line.to.now
+IsRdumpLine (Mt line) = IsMtLine line × IsAddress line.to.now
 IsRdumpLine (Dates file asked) = IsDatesAsked asked

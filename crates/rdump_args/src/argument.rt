@@ -40,7 +40,7 @@ impl ArgumentSpec {
     pub const TO: ArgumentSpec = ArgumentSpec {
         name: "to",
         value: "ADDRESS",
-        help: "The server: a host and a port",
+        help: "The server: a host and a port, or unix:PATH",
         form: Form::Required,
         missing: "--to is required",
     };
@@ -52,6 +52,15 @@ impl ArgumentSpec {
         help: "The drive at the server",
         form: Form::Required,
         missing: "--device is required",
+    };
+
+    /// How long to wait for the server.
+    pub const TIMEOUT: ArgumentSpec = ArgumentSpec {
+        name: "timeout",
+        value: "SECONDS",
+        help: "How long to wait for the server [default: no limit]",
+        form: Form::Optional,
+        missing: "",
     };
 
     /// Whether the argument is required.

@@ -1,23 +1,27 @@
 //! The arguments of `rdump dump`.
 ghost use Rattle.std.specs.Prelude.{◌≤◌, IfOk, IfSome};
-ghost use Rattle.address.specs.Address.{HasPort};
+ghost use Rattle.address.specs.Address.{IsAddress};
 ghost use Rattle.rdump_args.specs.Rdump.{IsDumpLine};
 ghost use Rattle.rmt_wire.specs.declared.argument.TheConstants.{ARGUMENT_LIMIT};
 
 use crate::argument::{ArgumentSpec, Form, is_given, value_in};
 use crate::drive::address_in;
 use crate::fault::ArgumentFault;
+use crate::timeout::timeout_of;
 use clap::ArgMatches;
 use rmt_wire::argument::number_of;
+use std::time::Duration;
 
 /// The parsed arguments of `rdump dump`. Whether a run can have this device, name and numbers is
 /// not checked here; each number is 0 to 9223372036854775807.
 #[derive(Clone, Copy, Debug)]
 pub struct DumpLine<'a> {
-    /// The address that the server listens at: a host and a port.
+    /// The address that the server listens at: a host and a port, or `unix:` and a path.
     pub to: &'a str,
     /// The device of the drive at the server.
     pub device: &'a str,
+    /// How long to wait for the server, or None for no limit.
+    pub timeout: Option<Duration>,
     /// The name of the file system.
     pub fs: &'a str,
     /// The level of the dump.
@@ -54,9 +58,10 @@ const BAD_DATE: &str =
 /// Returns the command line of `rdump dump` in clap's matches. Fails if the address is not valid,
 /// or if an argument that must be a number is not one.
 pub(crate) fn dump_in<'a>(matches: &ArgMatches<'a>) -> Result<DumpLine<'a>, ArgumentFault>
-    ensures { IfOk result (λ line. IsDumpLine line × HasPort line.to.now) }
+    ensures { IfOk result (λ line. IsDumpLine line × IsAddress line.to.now) }
 {
     let to = address_in(matches)?;
+    let timeout = timeout_of(matches.get_str("timeout"))?;
     match numbers_in(
         value_in(matches, "level"),
         value_in(matches, "block"),
@@ -65,6 +70,7 @@ pub(crate) fn dump_in<'a>(matches: &ArgMatches<'a>) -> Result<DumpLine<'a>, Argu
         Ok((level, block, date)) => Ok(DumpLine {
             to,
             device: value_in(matches, "device"),
+            timeout,
             fs: value_in(matches, "fs"),
             level,
             payload: value_in(matches, "payload"),
@@ -113,9 +119,10 @@ fn date_in(text: Option<&str>) -> Option<Option<u64>>
 }
 
 /// The arguments of `rdump dump`.
-pub(crate) static DUMP_ARGUMENTS: [ArgumentSpec; 12] = [
+pub(crate) static DUMP_ARGUMENTS: [ArgumentSpec; 13] = [
     ArgumentSpec::TO,
     ArgumentSpec::DEVICE,
+    ArgumentSpec::TIMEOUT,
     ArgumentSpec {
         name: "fs",
         value: "NAME",

@@ -11,6 +11,7 @@ mod list_line;
 mod mt_line;
 mod rdump_line;
 mod read_line;
+mod timeout;
 
 pub use dump_line::DumpLine;
 pub use list_line::{ListLine, ListedReels};

@@ -5,10 +5,12 @@ ghost use Rattle.rdump_args.specs.Rdump.{IsListLine, IsListedReels};
 use crate::argument::{ArgumentSpec, Form};
 use crate::drive::drive_of;
 use crate::fault::ArgumentFault;
+use crate::timeout::timeout_of;
 use clap::ArgMatches;
 use rmt_wire::NUMBER_LIMIT;
 use rmt_wire::argument::number_of;
 use std::alloc::Global;
+use std::time::Duration;
 
 /// The parsed arguments of `rdump ls`.
 #[derive(Debug, Drop)]
@@ -32,10 +34,12 @@ pub enum ListedReels<'a> {
     Paths(Vec<&'a str>),
     /// The first reel of a drive's stack.
     Drive {
-        /// The address that the server listens at: a host and a port.
+        /// The address that the server listens at: a host and a port, or `unix:` and a path.
         to: &'a str,
         /// The device of the drive at the server: 1 to 255 bytes of one line.
         device: &'a str,
+        /// How long to wait for the server, or None for no limit.
+        timeout: Option<Duration>,
     },
 }
 
@@ -96,9 +100,10 @@ fn reels_in<'a>(alloc: Global, matches: &ArgMatches<'a>) -> Result<ListedReels<'
     ensures { IfOk result IsListedReels }
 {
     let drive = (matches.get_str("to"), matches.get_str("device"));
+    let timeout = matches.get_str("timeout");
     match matches.get_strs("path") {
-        Some(paths) => reels_of(alloc, paths, drive),
-        None => reels_of(alloc, &[], drive),
+        Some(paths) => reels_of(alloc, paths, drive, timeout),
+        None => reels_of(alloc, &[], drive, timeout),
     }
 }
 
@@ -108,11 +113,12 @@ fn reels_of<'a>(
     alloc: Global,
     paths: &[&'a str],
     drive: (Option<&'a str>, Option<&'a str>),
+    timeout: Option<&'a str>,
 ) -> Result<ListedReels<'a>, ArgumentFault>
     ensures { IfOk result IsListedReels }
 {
     match (paths.is_empty(), drive) {
-        (true, (Some(to), Some(device))) => drive_reel(to, device),
+        (true, (Some(to), Some(device))) => drive_reel(to, device, timeout),
         (true, (None, None)) => Err(ArgumentFault::Missing(NO_REEL)),
         (true, _) => Err(ArgumentFault::Missing(HALF_A_DRIVE)),
         (false, (None, None)) => path_reels(alloc, paths),
@@ -120,13 +126,22 @@ fn reels_of<'a>(
     }
 }
 
-/// Returns the first reel of a drive at this server. Fails if the address or the device is not
-/// valid.
-fn drive_reel<'a>(to: &'a str, device: &'a str) -> Result<ListedReels<'a>, ArgumentFault>
+/// Returns the first reel of a drive at this server, with the limit in the text `timeout`, if there
+/// is a text. Fails if the address, the device or the limit is not valid.
+fn drive_reel<'a>(
+    to: &'a str,
+    device: &'a str,
+    timeout: Option<&str>,
+) -> Result<ListedReels<'a>, ArgumentFault>
     ensures { IfOk result IsListedReels }
 {
     let (to, device) = drive_of(to, device)?;
-    Ok(ListedReels::Drive { to, device })
+    let timeout = timeout_of(timeout)?;
+    Ok(ListedReels::Drive {
+        to,
+        device,
+        timeout,
+    })
 }
 
 /// Returns the reels at these paths. Fails if an allocation fails.
@@ -141,7 +156,7 @@ fn path_reels<'a>(alloc: Global, paths: &[&'a str]) -> Result<ListedReels<'a>, A
 }
 
 /// The arguments of `rdump ls`.
-pub(crate) static LIST_ARGUMENTS: [ArgumentSpec; 6] = [
+pub(crate) static LIST_ARGUMENTS: [ArgumentSpec; 7] = [
     ArgumentSpec {
         name: "path",
         value: "FILE|FOLDER",
@@ -158,6 +173,10 @@ pub(crate) static LIST_ARGUMENTS: [ArgumentSpec; 6] = [
         form: Form::With("to"),
         missing: "",
         ..ArgumentSpec::DEVICE
+    },
+    ArgumentSpec {
+        form: Form::With("to"),
+        ..ArgumentSpec::TIMEOUT
     },
     ArgumentSpec {
         name: "dumpdates",

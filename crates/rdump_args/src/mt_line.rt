@@ -1,23 +1,27 @@
 //! The arguments of `rdump mt`.
 ghost use Rattle.std.specs.Prelude.{◌≤◌, IfOk, IfSome};
-ghost use Rattle.address.specs.Address.{HasPort};
+ghost use Rattle.address.specs.Address.{IsAddress};
 ghost use Rattle.rdump_args.specs.Rdump.{IsMtLine};
 
 use crate::argument::{ArgumentSpec, Form, value_in};
 use crate::drive::drive_in;
 use crate::fault::ArgumentFault;
+use crate::timeout::timeout_of;
 use clap::ArgMatches;
 use rmt_wire::NUMBER_LIMIT;
 use rmt_wire::argument::number_of;
 use rmt_wire::mtio::{MTBSF, MTBSR, MTFSF, MTFSR, MTNOP, MTOFFL, MTREW, MTWEOF};
+use std::time::Duration;
 
 /// The parsed arguments of `rdump mt`.
 #[derive(Clone, Copy, Debug)]
 pub struct MtLine<'a> {
-    /// The address that the server listens at: a host and a port.
+    /// The address that the server listens at: a host and a port, or `unix:` and a path.
     pub to: &'a str,
     /// The device of the drive at the server: 1 to 255 bytes of one line.
     pub device: &'a str,
+    /// How long to wait for the server, or None for no limit.
+    pub timeout: Option<Duration>,
     /// The number of the operation, one of `rmt_wire::mtio`.
     pub op: u32,
     /// The count of the operation, up to `rmt_wire::NUMBER_LIMIT`.
@@ -34,13 +38,15 @@ const BAD_COUNT: &str = "invalid value for '<COUNT>': a count is 0 to 2147483647
 /// Returns the command line of `rdump mt` in clap's matches. Fails if the address, the device, the
 /// operation or the count is not valid.
 pub(crate) fn mt_in<'a>(matches: &ArgMatches<'a>) -> Result<MtLine<'a>, ArgumentFault>
-    ensures { IfOk result (λ line. IsMtLine line × HasPort line.to.now) }
+    ensures { IfOk result (λ line. IsMtLine line × IsAddress line.to.now) }
 {
     let (to, device) = drive_in(matches)?;
+    let timeout = timeout_of(matches.get_str("timeout"))?;
     match operation_of(value_in(matches, "op"), value_in(matches, "count")) {
         Ok((op, count)) => Ok(MtLine {
             to,
             device,
+            timeout,
             op,
             count,
         }),
@@ -91,9 +97,10 @@ fn count_of(text: &str) -> Option<u32>
 }
 
 /// The arguments of `rdump mt`.
-pub(crate) static MT_ARGUMENTS: [ArgumentSpec; 4] = [
+pub(crate) static MT_ARGUMENTS: [ArgumentSpec; 5] = [
     ArgumentSpec::TO,
     ArgumentSpec::DEVICE,
+    ArgumentSpec::TIMEOUT,
     ArgumentSpec {
         name: "op",
         value: "OP",

@@ -42,12 +42,14 @@ pub enum RdumpLine<'a> {
 /// Parses the arguments of `rdump`, which begin with the name of the program. They are those of one
 /// of its commands:
 ///
-/// - `dump --to ADDRESS --device D --fs NAME --level L --payload FILE --block BYTES --dumpdates
-///   FILE [--date SECONDS] [--checkpoint FILE] [--sums FILE] [--update] [--protect]`
-/// - `read --to ADDRESS --device D --out FILE [--place] [--all] [--length BYTES] [--sums FILE]`
+/// - `dump --to ADDRESS --device D [--timeout SECONDS] --fs NAME --level L --payload FILE --block
+///   BYTES --dumpdates FILE [--date SECONDS] [--checkpoint FILE] [--sums FILE] [--update]
+///   [--protect]`
+/// - `read --to ADDRESS --device D [--timeout SECONDS] --out FILE [--place] [--all] [--length
+///   BYTES] [--sums FILE]`
 /// - `ls FILE|FOLDER... [--dumpdates FILE [--blocks N]] [--sums FILE]`
-/// - `ls --to ADDRESS --device D [--dumpdates FILE [--blocks N]] [--sums FILE]`
-/// - `mt --to ADDRESS --device D OP COUNT`
+/// - `ls --to ADDRESS --device D [--timeout SECONDS] [--dumpdates FILE [--blocks N]] [--sums FILE]`
+/// - `mt --to ADDRESS --device D [--timeout SECONDS] OP COUNT`
 /// - `dates --file FILE [--name NAME --level LEVEL]`
 ///
 /// Fails if the arguments are bad, if they ask for help or the version, or if an allocation fails.

@@ -1,22 +1,26 @@
 //! The arguments of `rdump read`.
 ghost use Rattle.std.specs.Prelude.{◌≤◌, IfOk, IfSome, IsTrue};
-ghost use Rattle.address.specs.Address.{HasPort};
+ghost use Rattle.address.specs.Address.{IsAddress};
 ghost use Rattle.rdump_args.specs.Rdump.{IsReadLine};
 ghost use Rattle.rmt_wire.specs.declared.argument.TheConstants.{ARGUMENT_LIMIT};
 
 use crate::argument::{ArgumentSpec, Form, is_given, value_in};
 use crate::drive::drive_in;
 use crate::fault::ArgumentFault;
+use crate::timeout::timeout_of;
 use clap::ArgMatches;
 use rmt_wire::argument::number_of;
+use std::time::Duration;
 
 /// The parsed arguments of `rdump read`.
 #[derive(Clone, Copy, Debug)]
 pub struct ReadLine<'a> {
-    /// The address that the server listens at: a host and a port.
+    /// The address that the server listens at: a host and a port, or `unix:` and a path.
     pub to: &'a str,
     /// The device of the drive at the server: 1 to 255 bytes of one line.
     pub device: &'a str,
+    /// How long to wait for the server, or None for no limit.
+    pub timeout: Option<Duration>,
     /// The path of the file that the volume's blocks are written to.
     pub out: &'a str,
     /// Whether to write each block at its place in the dump, and never empty the file. It is true
@@ -37,16 +41,18 @@ const BAD_LENGTH: &str =
     "invalid value for '--length <BYTES>': a length is 0 to 9223372036854775807, in digits";
 
 /// Returns the command line of `rdump read` in clap's matches. Fails if the address or the device
-/// is not valid, or the length is not a number.
+/// is not valid, or the limit or the length is not a number.
 pub(crate) fn read_in<'a>(matches: &ArgMatches<'a>) -> Result<ReadLine<'a>, ArgumentFault>
-    ensures { IfOk result (λ line. IsReadLine line × HasPort line.to.now) }
+    ensures { IfOk result (λ line. IsReadLine line × IsAddress line.to.now) }
 {
     let (to, device) = drive_in(matches)?;
+    let timeout = timeout_of(matches.get_str("timeout"))?;
     let length = length_of(matches.get_str("length"))?;
     let all = is_given(matches, "all");
     Ok(ReadLine {
         to,
         device,
+        timeout,
         out: value_in(matches, "out"),
         place: has_places(all, is_given(matches, "place")),
         all,
@@ -76,9 +82,10 @@ fn length_of(text: Option<&str>) -> Result<Option<u64>, ArgumentFault>
 }
 
 /// The arguments of `rdump read`.
-pub(crate) static READ_ARGUMENTS: [ArgumentSpec; 7] = [
+pub(crate) static READ_ARGUMENTS: [ArgumentSpec; 8] = [
     ArgumentSpec::TO,
     ArgumentSpec::DEVICE,
+    ArgumentSpec::TIMEOUT,
     ArgumentSpec {
         name: "out",
         value: "FILE",

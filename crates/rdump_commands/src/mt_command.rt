@@ -23,7 +23,7 @@ pub fn run_mt<R: ClientSystem>(rt: &R, line: MtLine<'_>) -> ExitStatus
     ensures { IsMtStatus result }
 {
     let mut answer = Vec::new(rt.alloc());
-    let mut peer = SocketPeer::new(rt, line.to);
+    let mut peer = SocketPeer::new(rt, line.to, line.timeout);
     let status = answer_of(rt, line, &mut peer, &mut answer);
     if answer.is_empty() {
         return report_unanswered(rt, line.to, peer.failure());

@@ -4,6 +4,7 @@
 ghost use Rattle.std.specs.Prelude.{◌≤◌, length};
 
 use crate::protecting::{find_obstacle, refusal, report_held};
+use crate::shell_word::ShellWord;
 use dump_client::AttemptFault;
 use dump_run::VolumeLabel;
 use jiff::Timestamp;
@@ -39,8 +40,8 @@ impl<'a, R: ClientSystem, T: Write> ReportingPeer<'a, R, T> {
         ReportingPeer {
             rt,
             line: *line,
-            socket: SocketPeer::new(rt, line.to),
-            looks: SocketPeer::new(rt, line.to),
+            socket: SocketPeer::new(rt, line.to, line.timeout),
+            looks: SocketPeer::new(rt, line.to, line.timeout),
             terminal,
         }
     }
@@ -150,13 +151,12 @@ fn report_refused<R: Eprint>(rt: &R, address: &str, number: u32) {
 
 /// Prints what to do with a reel that begins with the label of a counted volume.
 fn report_counted<R: Eprint>(rt: &R, address: &str, device: &str, volume: u32) {
-    let address = plain(address);
-    let device = plain(device);
+    let (to, drive) = (ShellWord(address), ShellWord(device));
+    let (address, device) = (plain(address), plain(device));
     let _ = eprintln!(rt;
         "rdump: {address}: CountedReel {volume}: the first reel of the stack of {device} begins \
          with the label of volume {volume}, which this dump has counted; take it away \
-         (rdump mt --to {address} --device {device} offline 1) or lay another one first, then \
-         answer yes"
+         (rdump mt --to {to} --device {drive} offline 1) or lay another one first, then answer yes"
     );
 }
 

@@ -10,20 +10,23 @@ use rdump_net::{ReadFault, SocketPeer};
 use reel_check::ReelContents;
 use std::alloc::AllocError;
 use std::io::Write;
+use std::time::Duration;
 use sum_lines::Sums;
 
-/// Reads the first reel on the stack of this drive, and compares it with `sums`, if given. `terminal` shows how far that is, if there is
+/// Reads the first reel on the stack of this drive, and compares it with `sums`, if given.
+/// `timeout` limits each wait for the server. `terminal` shows how far the read is, if there is
 /// one. If there is no session, it prints why and returns None. Fails if an allocation fails.
 pub(crate) fn drive_reel<R: ListSystem, T: Write + Drop>(
     rt: &R,
     to: &str,
     device: &str,
+    timeout: Option<Duration>,
     sums: Option<&Sums>,
     terminal: Option<T>,
 ) -> Result<Option<ListedReel>, AllocError>
     requires { IsDevice device.now }
 {
-    let mut peer = SocketPeer::new(rt, to);
+    let mut peer = SocketPeer::new(rt, to, timeout);
     let mut reel = DriveReel::new(rt, sums.is_some(), terminal);
     let read = read_drive(rt.alloc(), &mut peer, device.as_bytes(), &mut reel);
     let entries = reel.into_entries();

@@ -16,6 +16,7 @@ use exit_status::ExitStatus;
 use rdump_args::{ListLine, ListedReels};
 use std::alloc::{AllocError, Global};
 use std::io::{self, Write};
+use std::time::Duration;
 use sum_lines::Sums;
 
 /// Runs `rdump ls`: lists reels, one line each, sorted. If a dumpdates file is given, it prints an
@@ -116,7 +117,11 @@ fn read_reels<R: ListSystem, T: Write + Drop>(
 {
     match reels {
         ListedReels::Paths(paths) => read_paths(rt, paths, sums, terminal),
-        ListedReels::Drive { to, device } => read_first(rt, to, device, sums, terminal),
+        ListedReels::Drive {
+            to,
+            device,
+            timeout,
+        } => read_first(rt, to, device, *timeout, sums, terminal),
     }
 }
 
@@ -135,18 +140,19 @@ fn read_paths<R: ListSystem, T: Write + Drop>(
 }
 
 /// Returns the first reel on the stack of a drive, and whether there was a session with the server
-/// at the address `to`.
+/// at the address `to`. `timeout` limits each wait for it.
 fn read_first<R: ListSystem, T: Write + Drop>(
     rt: &R,
     to: &str,
     device: &str,
+    timeout: Option<Duration>,
     sums: Option<&Sums>,
     terminal: Option<T>,
 ) -> Result<(Vec<ListedReel>, bool), AllocError>
     requires { IsDevice device.now }
 {
     let mut reels = Vec::new(rt.alloc());
-    match drive_reel(rt, to, device, sums, terminal)? {
+    match drive_reel(rt, to, device, timeout, sums, terminal)? {
         Some(reel) => {
             reels.push(reel)?;
             Ok((reels, true))

@@ -1,10 +1,10 @@
 //! Runs a dump over a connection: makes the client's attempts to write volumes to a server, and
 //! prints the lines that the operator reads.
 //!
-//! `Peer` is the far end of a connection; `SocketPeer` reaches it over TCP. `dump` makes a client
-//! write its volumes to a tape server, asks the operator after a failure, and prints each counted
-//! volume. `dump_kept` also keeps the checkpoint with a `Keeper`. `dump_booked` also enters each
-//! counted volume in a `CountBook`.
+//! `Peer` is the far end of a connection; `SocketPeer` reaches it over TCP, or over a Unix socket.
+//! `dump` makes a client write its volumes to a tape server, asks the operator after a failure, and
+//! prints each counted volume. `dump_kept` also keeps the checkpoint with a `Keeper`. `dump_booked`
+//! also enters each counted volume in a `CountBook`.
 //!
 //! `copy_volume` reads a volume back into a `VolumeSink`, and `read_volume` reads one into two
 //! streams. `mt` does one operation, and `look_at_reel` finds out what a reel begins with. Each uses

@@ -1,10 +1,10 @@
-//! A peer over TCP.
-ghost use Rattle.std.specs.Prelude.{◌≤◌, IfOk, length};
+//! A peer over TCP, or over a Unix socket.
 
 use crate::Peer;
 use dump_client::AttemptFault;
-use std::io::{self, ErrorKind, Read, Write};
-use std::net::{Net, OpenStream, TcpStream};
+use sockets::{Stream, connect};
+use std::io::{self, Read, Write};
+use std::net::Net;
 use std::rt::Clock;
 use std::thread;
 use std::time::Duration;
@@ -12,10 +12,19 @@ use std::time::Duration;
 /// How long to wait before a connection that follows failed ones, in seconds.
 const PAUSE_SECONDS: u64 = 1;
 
-/// A peer over TCP, at an address `HOST:PORT`. It keeps no log of what passed.
+/// A peer at an address `HOST:PORT`, which it reaches over TCP, or `unix:PATH`, the path of a Unix
+/// socket. It keeps no log of what passed.
 ///
 /// Each connection sends its bytes without delay (TCP_NODELAY): they do not wait for a reply to
 /// earlier bytes.
+///
+/// A timeout limits each wait for bytes of the far end, and each wait until it takes bytes. It also
+/// limits how long each address of a host may take to answer a connection. If such a wait takes
+/// longer, the connection has failed, and `failure` is the error `TimedOut`. Without a timeout only
+/// the system may give a connection up. The search for the addresses of a host never has a timeout,
+/// nor has the connection to a Unix socket.
+///
+/// A connection that failed, or that the far end ended, is closed.
 ///
 /// A new connection first waits one second in two cases: the latest one could not be made or
 /// received no byte, or attempts failed over the latest two in a row. So a client that retries in a
@@ -24,7 +33,8 @@ const PAUSE_SECONDS: u64 = 1;
 pub struct SocketPeer<'a, R: Net + Clock> {
     runtime: &'a R,
     address: &'a str,
-    stream: Option<R::Stream>,
+    timeout: Option<Duration>,
+    stream: Option<Stream<R::Stream>>,
     failure: Option<io::Error>,
     was_silent: bool,
     has_failed: bool,
@@ -32,11 +42,13 @@ pub struct SocketPeer<'a, R: Net + Clock> {
 }
 
 impl<'a, R: Net + Clock> SocketPeer<'a, R> {
-    /// Returns a peer for this address, with no connection yet.
-    pub fn new(runtime: &'a R, address: &'a str) -> Self {
+    /// Returns a peer for this address, with no connection yet. `timeout` limits each wait for the
+    /// server; None is no limit. If it is zero, each connection fails.
+    pub fn new(runtime: &'a R, address: &'a str, timeout: Option<Duration>) -> Self {
         SocketPeer {
             runtime,
             address,
+            timeout,
             stream: None,
             failure: None,
             was_silent: false,
@@ -45,17 +57,10 @@ impl<'a, R: Net + Clock> SocketPeer<'a, R> {
         }
     }
 
-    /// Returns the system's error if the latest connection failed or could not be made. None if it
-    /// did not fail, or if the far end closed it.
+    /// Returns the system's error if the latest connection failed or could not be made, of the
+    /// kind `TimedOut` if a wait took too long. None if the connection did not fail, or if the far end closed it.
     pub fn failure(&self) -> Option<&io::Error> {
         self.failure.as_ref()
-    }
-
-    /// Connects to the address, with TCP_NODELAY set. Fails with the system's error.
-    fn open(&self) -> io::Result<R::Stream> {
-        let stream = TcpStream::connect(self.runtime, self.address)?;
-        stream.set_nodelay(true)?;
-        Ok(stream)
     }
 
     /// Waits a second if the latest connection received nothing, or if attempts failed over it and
@@ -66,68 +71,65 @@ impl<'a, R: Net + Clock> SocketPeer<'a, R> {
         }
     }
 
-    /// Stores the error of a result, or clears the stored error if it is a success. Returns the
-    /// value of a success.
-    fn keep<T: Drop>(&mut self, found: io::Result<T>) -> Option<T> {
-        match found {
-            Ok(value) => {
-                self.failure = None;
-                Some(value)
-            }
-            Err(error) => {
-                self.failure = Some(error);
-                None
-            }
-        }
+    /// Closes the connection, which failed with this error, and keeps the error.
+    fn fail(&mut self, error: io::Error) {
+        self.stream = None;
+        self.failure = Some(error);
     }
-}
-
-/// Reads once, and retries if interrupted.
-fn read_once<S: Read>(stream: &mut S, into: &mut [u8]) -> io::Result<usize>
-    ensures { IfOk result (λ n. n ≤ length into.new) }
-{
-    for _ in 0..u64::MAX {
-        match stream.read(into) {
-            Ok(count) => return Ok(count),
-            Err(error) if error.kind() == ErrorKind::Interrupted => {}
-            Err(error) => return Err(error),
-        }
-    }
-    Err(io::Error::from(ErrorKind::Interrupted))
 }
 
 impl<'a, R: Net + Clock> Peer for SocketPeer<'a, R> {
     ghost tells = { λ _ _. ⊥ };
 
     fn connect(&mut self) -> bool {
+        self.stream = None;
         self.pause();
         self.was_silent = true;
         self.has_failed_before = self.has_failed;
         self.has_failed = false;
-        let opened = self.open();
-        self.stream = self.keep(opened);
-        self.stream.is_some()
+        match connect(self.runtime, self.address, self.timeout) {
+            Ok(stream) => {
+                self.stream = Some(stream);
+                self.failure = None;
+                true
+            }
+            Err(error) => {
+                self.fail(error);
+                false
+            }
+        }
     }
 
     fn send(&mut self, bytes: &[u8]) -> bool {
         let Some(stream) = &mut self.stream else {
             return false;
         };
-        let sent = stream.write_all(bytes);
-        self.keep(sent).is_some()
+        match stream.write_all(bytes) {
+            Ok(()) => {
+                self.failure = None;
+                true
+            }
+            Err(error) => {
+                self.fail(error);
+                false
+            }
+        }
     }
 
     fn receive(&mut self, into: &mut [u8]) -> usize {
         let Some(stream) = &mut self.stream else {
             return 0;
         };
-        match read_once(stream, into) {
+        match stream.read(into) {
             Ok(count) => {
                 self.was_silent = self.was_silent && count == 0;
+                if count == 0 && !into.is_empty() {
+                    self.stream = None;
+                }
                 count
             }
             Err(error) => {
-                self.failure = Some(error);
+                self.fail(error);
                 0
             }
         }

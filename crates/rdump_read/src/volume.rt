@@ -51,7 +51,7 @@ pub(crate) fn read_volume<R: ClientSystem, T: Write + Drop>(
 ) -> VolumeRead
     requires { IsReadLine line.now }
 {
-    let mut peer = SocketPeer::new(rt, line.to);
+    let mut peer = SocketPeer::new(rt, line.to, line.timeout);
     let device = line.device.as_bytes();
     sink.begin();
     let read = copy_volume(rt.alloc(), &mut peer, device, after_of(line), sink);
@@ -110,7 +110,7 @@ fn end_behind<R: ClientSystem>(
 fn is_blank<R: ClientSystem>(rt: &R, line: &ReadLine<'_>) -> bool
     requires { IsReadLine line.now }
 {
-    let mut peer = SocketPeer::new(rt, line.to);
+    let mut peer = SocketPeer::new(rt, line.to, line.timeout);
     match look_at_reel(rt.alloc(), &mut peer, line.device.as_bytes()) {
         Ok(ReelFront::Empty) => true,
         _ => false,

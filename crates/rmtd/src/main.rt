@@ -19,6 +19,7 @@ fn main(rt: HostRuntime) -> io::Result<ExitCode> {
     };
     let ListenerSetup {
         left,
+        idle,
         table,
         seats,
         stacks,
@@ -29,7 +30,7 @@ fn main(rt: HostRuntime) -> io::Result<ExitCode> {
         seat: None,
         start,
     };
-    let connections = Connections::new(&rt, &listener, left, log);
+    let connections = Connections::new(&rt, &listener, left, idle, log);
     let (connections, seats) = serve_many(&rt, rt.alloc(), connections, &table, seats, stacks);
     close_table(table, seats);
     Ok(ExitCode::from(connections.status().code()))

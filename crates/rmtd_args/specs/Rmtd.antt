@@ -1,7 +1,9 @@
 -- The arguments of `rmtd`, as clap parses them. Public contracts cite it.
-use Rattle.std.specs.Prelude.{◌≡◌, ◌⊎◌, ℕ, ◌&&◌, ◌||◌, Bool, true, false, not, is_some, List, [], Option, Some, None, codes, map, option_map, unwrap_or}
+use Rattle.std.specs.Prelude.{◌≡◌, ◌⊎◌, ℕ, ◌*◌, ◌<◌, ◌&&◌, ◌||◌, Bool, true, false, not, is_some, List, [], Option, Some, None, MatchOption, codes, map, option_map, unwrap_or}
+use Rattle.std.specs.Duration.{as_nanos}
 use Rattle.std.specs.Option.{option_map_or}
 use Rattle.std.specs.Str.{bytes_eq}
+use Rattle.std.specs.declared.time.Duration.{Duration}
 use Rattle.std.specs.Str.Parse.{digits_value}
 use Rattle.clap.specs.Words.{App, Row, Rule, Text, IsAmong, Kinds, all_of, fault_of, first_of, matches_of, new_app, new_rule, with_rule}
 use Rattle.clap.specs.declared.builder.action.ArgAction.TheVariants.{Set, SetTrue, Append}
@@ -33,7 +35,7 @@ app_with_ways = with_rule (with_rule (with_version (new_app (codes "rmtd"))) (fl
 
 -- the command with the options that say where it serves, and those that limit what it serves
 abbrev pub app_with_limits : App
-app_with_limits = with_rule (with_rule app_with_ways (option_rule (codes "capacity"))) (option_rule (codes "connections"))
+app_with_limits = with_rule (with_rule (with_rule app_with_ways (option_rule (codes "capacity"))) (option_rule (codes "connections"))) (option_rule (codes "idle"))
 
 -- the command `rmtd` with all of its arguments
 unfoldable pub app : App
@@ -85,6 +87,20 @@ abbrev pub IsConnectionLimit : Option Text → Option ℕ → Type 0
 IsConnectionLimit None connections = connections ≡ None
 IsConnectionLimit (Some text) connections = IsNumber text × (connections ≡ Some (digits_value 10 text))
 
+-- a limit of this many seconds; 0 seconds is no limit
+abbrev pub IsLimitOfSeconds : ℕ → Option Duration → Type 0
+IsLimitOfSeconds seconds limit = MatchOption limit (seconds ≡ 0) (λ d. (0 < seconds) × (as_nanos d ≡ seconds * 1000000000))
+
+-- the limit for idle connections is the number of seconds in its text; without a text there is no
+-- limit
+abbrev pub IsIdleLimit : Option Text → Option Duration → Type 0
+IsIdleLimit None limit = limit ≡ None
+IsIdleLimit (Some text) limit = IsNumber text × IsLimitOfSeconds (digits_value 10 text) limit
+
+-- no limit for idle connections is given with `--stdio`
+abbrev pub IsIdleWithListen : Bool → Option Text → Type 0
+IsIdleWithListen stdio text = stdio ≡ true → text ≡ None
+
 -- the text, if there is one, is a number
 abbrev pub IsNumberIfGiven : Option Text → Type 0
 IsNumberIfGiven None = Unit {0}
@@ -95,6 +111,8 @@ pub record KeepsRules (rows : List Row) : Type 0 where
   pub one_way : is_one_way (has_stdio rows) (is_some (address_in rows)) ≡ true
   pub capacity : IsNumberIfGiven (first_of (codes "capacity") rows)
   pub connections : IsNumberIfGiven (first_of (codes "connections") rows)
+  pub idle : IsNumberIfGiven (first_of (codes "idle") rows)
+  pub idle_listens : IsIdleWithListen (has_stdio rows) (first_of (codes "idle") rows)
   pub drives : KeepsDriveRules (bin_in rows) (drives_in rows)
 
 -- the line has the values of these matches, and keeps the rules
@@ -103,9 +121,11 @@ pub record IsLineIn (rows : List Row) (line : ServerLine) : Type 0 where
   pub listen : option_map (λ s. s.now) line.listen ≡ address_in rows
   pub capacity : ReadsCapacity (first_of (codes "capacity") rows) line.capacity
   pub connections : IsConnectionLimit (first_of (codes "connections") rows) line.connections
+  pub idle : IsIdleLimit (first_of (codes "idle") rows) line.idle
   pub bin : option_map (λ s. s.now) line.bin ≡ bin_in rows
   pub drives : map plain_drive line.drives.items ≡ drives_in rows
   pub one_way : is_one_way (has_stdio rows) (is_some (address_in rows)) ≡ true
+  pub idle_listens : IsIdleWithListen (has_stdio rows) (first_of (codes "idle") rows)
   pub drive_rules : KeepsDriveRules (bin_in rows) (drives_in rows)
 
 -- clap accepts the arguments, and the line has the values of its matches

@@ -14,6 +14,10 @@ pub(crate) enum BrokenRule<'a> {
     Capacity,
     /// The number of connections is not a number.
     Connections,
+    /// The limit for idle connections is not a number.
+    Idle,
+    /// A limit for idle connections is given, and `--listen` is not.
+    IdleWithStdio,
     /// This argument names a drive, and no bin is given.
     NoBin(&'a str),
     /// This argument names one drive too many.
@@ -30,9 +34,11 @@ impl BrokenRule<'_> {
         ensures { ¬ (IsShown result) }
     {
         match self {
-            BrokenRule::StdioOrListen | BrokenRule::Again(_) => ErrorKind::ArgumentConflict,
-            BrokenRule::Capacity | BrokenRule::Connections | BrokenRule::Drive(_) =>
+            BrokenRule::StdioOrListen | BrokenRule::IdleWithStdio | BrokenRule::Again(_) =>
+                ErrorKind::ArgumentConflict,
+            BrokenRule::Capacity | BrokenRule::Connections | BrokenRule::Idle =>
                 ErrorKind::ValueValidation,
+            BrokenRule::Drive(_) => ErrorKind::ValueValidation,
             BrokenRule::NoBin(_) => ErrorKind::MissingRequiredArgument,
             BrokenRule::TooMany(_) => ErrorKind::TooManyValues,
         }
@@ -56,6 +62,12 @@ impl BrokenRule<'_> {
                 "",
                 "",
             ),
+            BrokenRule::Idle => (
+                "invalid value for '--idle <SECONDS>': a number is 0 to 9223372036854775807 in digits",
+                "",
+                "",
+            ),
+            BrokenRule::IdleWithStdio => ("--idle is given with --listen only", "", ""),
             BrokenRule::NoBin(argument) => (
                 "the drive '",
                 argument,

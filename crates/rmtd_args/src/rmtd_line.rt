@@ -5,7 +5,7 @@
 ghost use Rattle.std.specs.Prelude.{◌≡◌, map, codes, false, [], IfOk, IfErr, IsErrOf, MatchOption, MatchResult, option_map};
 ghost use Rattle.clap.specs.Words.{App, HasKind, app_of, first_of, found_of, kind_of, new_app, rows_of, rule_of, with_rule};
 ghost use Rattle.rmtd_args.specs.Drive.{plain_drive, split_of};
-ghost use Rattle.rmtd_args.specs.Rmtd.{app, app_with_limits, app_with_ways, arguments_in, arguments_rule, faults_in, flag_rule, has_stdio, matches_in, option_rule, with_version, AreBadArguments, AskToBeShown, IsLineIn, IsLineOf, IsShown, KeepsRules, ReadsCapacity, IsConnectionLimit, IsNumberIfGiven};
+ghost use Rattle.rmtd_args.specs.Rmtd.{app, app_with_limits, app_with_ways, arguments_in, arguments_rule, faults_in, flag_rule, has_stdio, matches_in, option_rule, with_version, AreBadArguments, AskToBeShown, IsLineIn, IsLineOf, IsShown, KeepsRules, ReadsCapacity, IsConnectionLimit, IsIdleLimit, IsNumberIfGiven};
 
 use crate::broken_rule::BrokenRule;
 use crate::drive_argument::{DriveArgument, check_drives, drives_of};
@@ -13,6 +13,7 @@ use clap::error::ErrorKind;
 use clap::{Arg, ArgAction, ArgMatches, Command, Error};
 use rmt_wire::argument::number_of;
 use std::alloc::{AllocError, Global};
+use std::time::Duration;
 
 /// The capacity of a reel if no argument gives it, in bytes.
 const USUAL_CAPACITY: u64 = 1_048_576;
@@ -23,13 +24,16 @@ const USUAL_CAPACITY: u64 = 1_048_576;
 pub struct ServerLine<'a> {
     /// Whether to serve standard input and standard output.
     pub stdio: bool,
-    /// The address to listen at: a host and a port. It is not checked here.
+    /// The address to listen at: a host and a port, or `unix:` and a path. It is not checked here.
     pub listen: Option<&'a str>,
     /// The capacity of each reel in bytes, measured as the size of its file. It applies to the reel
     /// in memory and to each in a folder.
     pub capacity: u64,
     /// The number of connections after which the server exits, if there is a limit.
     pub connections: Option<u64>,
+    /// How long one read or one write of a connection may make no progress before the server ends
+    /// the connection, if there is a limit.
+    pub idle: Option<Duration>,
     /// The folder of the bin. It is given if there is a drive.
     pub bin: Option<&'a str>,
     /// The drives whose stacks are folders, in the order of their arguments: at most 64, each with
@@ -47,10 +51,12 @@ pub enum LineFault {
 }
 
 /// Parses the arguments of `rmtd`, which begin with the name of the program. They are `--stdio` or
-/// `--listen ADDRESS`, with `[--capacity BYTES] [--connections N] [--bin DIR] [DEVICE=DIR]...`.
+/// `--listen ADDRESS`, with `[--capacity BYTES] [--connections N] [--idle SECONDS] [--bin DIR]
+/// [DEVICE=DIR]...`.
 ///
 /// Exactly one of `--stdio` and `--listen` is given. A number is 0 to 9223372036854775807, in
-/// digits. The default of `--capacity` is 1048576 bytes.
+/// digits. The default of `--capacity` is 1048576 bytes. `--idle` is given with `--listen` only,
+/// and 0 is no limit.
 ///
 /// An argument `DEVICE=DIR` is a drive. The device ends before the first `=` and is 1 to 255 bytes
 /// of one line. The rest is a folder, not empty. There are at most 64 drives, each with its own
@@ -74,6 +80,9 @@ pub fn server_words<'a>(
     // after the `=` is the folder. Each drive has a device of 1 to 255 bytes without a line feed,
     // and a folder whose name is not empty (`KeepsDriveRules`). No two drives have the same device.
     // There are at most 64 drives. If there is a drive, `--bin` was given.
+    //
+    // The limit for idle connections (`--idle`) is the given number of seconds. If the number is 0,
+    // or no number is given, there is no limit. If `--stdio` was given, `--idle` was not given.
     ensures line { IfOk result (IsLineOf (map (λ s. s.now) arguments.entry.now)) }
     // The call returns `BadWords` (the arguments are bad) in two cases only. Either clap refuses
     // the arguments, or the values that clap matched break a rule of the clause `line`.
@@ -218,6 +227,13 @@ fn checked_line<'a>(
     let Ok(connections) = connections_of(text_of(matches, "connections")) else {
         return Err(BrokenRule::Connections);
     };
+    let seconds = text_of(matches, "idle");
+    let Ok(idle) = idle_of(seconds) else {
+        return Err(BrokenRule::Idle);
+    };
+    if stdio && seconds.is_some() {
+        return Err(BrokenRule::IdleWithStdio);
+    }
     let bin = text_of(matches, "bin");
     if let Err(wrong) = check_drives(given, bin) {
         return Err(wrong);
@@ -227,6 +243,7 @@ fn checked_line<'a>(
         listen,
         capacity,
         connections,
+        idle,
         bin,
         drives,
     })
@@ -286,6 +303,22 @@ fn connections_of(text: Option<&str>) -> Result<Option<u64>, BrokenRule<'static>
     }
 }
 
+/// Returns the limit for idle connections that this text gives in seconds. Returns None if there is
+/// no text, or if the number is 0. Fails if the text is not a number.
+fn idle_of(text: Option<&str>) -> Result<Option<Duration>, BrokenRule<'static>>
+    ensures { MatchResult result (IsIdleLimit (option_map (λ s. s.now) text.entry))
+        (λ _. ¬ (IsNumberIfGiven (option_map (λ s. s.now) text.entry))) }
+{
+    let Some(text) = text else {
+        return Ok(None);
+    };
+    match number_of(text) {
+        Some(0) => Ok(None),
+        Some(seconds) => Ok(Some(Duration::from_secs(seconds))),
+        None => Err(BrokenRule::Idle),
+    }
+}
+
 /// Builds the command `rmtd` with all of its arguments.
 fn command<'a>(alloc: Global) -> Result<Command<'a>, AllocError>
     ensures { IfOk result (λ c. app_of c ≡ app) }
@@ -303,8 +336,10 @@ fn with_limits<'a>(alloc: Global) -> Result<Command<'a>, AllocError>
 {
     let capacity = "What a reel holds [default: 1048576]";
     let connections = "End after so many connections";
-    let command = with_option(alloc, with_ways(alloc), "capacity", "BYTES", capacity);
-    with_option(alloc, command, "connections", "N", connections)
+    let idle = "End a connection that makes no progress for so long [default: no limit]";
+    let sized = with_option(alloc, with_ways(alloc), "capacity", "BYTES", capacity);
+    let counted = with_option(alloc, sized, "connections", "N", connections);
+    with_option(alloc, counted, "idle", "SECONDS", idle)
 }
 
 /// Builds the command `rmtd` with the arguments that say where it serves.
@@ -312,7 +347,7 @@ fn with_ways<'a>(alloc: Global) -> Result<Command<'a>, AllocError>
     ensures { IfOk result (λ c. app_of c ≡ app_with_ways) }
 {
     let stdio = flag(alloc, "stdio", "Serve standard input and standard output");
-    let help = "Listen at this host and port";
+    let help = "Listen at this host and port, or at unix:PATH";
     with_option(alloc, named(alloc).arg(stdio), "listen", "ADDRESS", help)
 }
 

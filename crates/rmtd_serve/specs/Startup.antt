@@ -3,6 +3,7 @@
 -- contracts cite it.
 use Rattle.std.specs.Prelude.{◌≡◌, ℕ, ◌<◌, List, [], length, Option, Some, None, IsSome, All, option_map, unwrap_or, Result}
 use Rattle.std.specs.declared.clone.Clone.{Ghosts as ClonePromise}
+use Rattle.std.specs.declared.time.Duration.{Duration}
 use Rattle.std.specs.declared.io.traits.Read.{Ghosts as ReadPromise}
 use Rattle.clap.specs.Words.{Text}
 use Rattle.rmt_server.specs.declared.stream.Served.{Served}
@@ -35,13 +36,14 @@ pub data EndsLine {In Out : Type 0} (kind : StreamsKind In Out) (line : ServerLi
       → EndsLine kind line old new status
   failed : AreUntouched old new → status ≡ Failed → EndsLine kind line old new status
 
--- The setup of a listener that these arguments ask for: the number of connections, the drives, and
--- stacks of them for each seat.
-pub record IsListenerSetupOf (line : ServerLine) (left drives : ℕ) (stacks : List FolderLibrary) : Type 0 where
+-- The setup of a listener that these arguments ask for: the number of connections, the limit for
+-- idle connections, the drives, and stacks of them for each seat.
+pub record IsListenerSetupOf (line : ServerLine) (left : ℕ) (idle : Option Duration) (drives : ℕ) (stacks : List FolderLibrary) : Type 0 where
   pub some : 0 < length line.drives.items
   pub bin : List ℕ
   pub same_bin : option_map (λ s. s.now) line.bin ≡ Some bin
   pub same_left : left ≡ unwrap_or line.connections 18446744073709551615
+  pub same_idle : idle ≡ line.idle
   pub same_drives : drives ≡ length line.drives.items
   pub same_stacks : All (λ s. s ≡ stacks_of line.drives.items bin line.capacity) stacks
 
@@ -50,7 +52,7 @@ pub record IsListenerSetupOf (line : ServerLine) (left drives : ℕ) (stacks : L
 abbrev pub ListensOrEnds : {R Dir : Type 0} {reads : ReadPromise Dir} {clones : ClonePromise R} → ServerLine → Begun R Dir reads clones
     → Type 0
 ListensOrEnds line (End status) = status ≡ Failed
-ListensOrEnds line (Serve listener listener_setup) = IsListenerSetupOf line listener_setup.left listener_setup.table.words listener_setup.stacks.items
+ListensOrEnds line (Serve listener listener_setup) = IsListenerSetupOf line listener_setup.left listener_setup.idle listener_setup.table.words listener_setup.stacks.items
 
 -- The effect of following `line`, on streams that are `old` before and `new` after, and what
 -- remains to be done: nothing, with this status, or to serve a listener, if the line names an
@@ -59,7 +61,7 @@ abbrev pub IsDone : {In Out R Dir : Type 0} {reads : ReadPromise Dir} {clones : 
     → ServerLine → Streams In Out → Streams In Out → Begun R Dir reads clones → Type 0
 IsDone kind line old new (End status) = EndsLine kind line old new status
 IsDone kind line old new (Serve listener listener_setup) =
-    AreUntouched old new × IsSome line.listen × IsListenerSetupOf line listener_setup.left listener_setup.table.words listener_setup.stacks.items
+    AreUntouched old new × IsSome line.listen × IsListenerSetupOf line listener_setup.left listener_setup.idle listener_setup.table.words listener_setup.stacks.items
 
 -- The effect of the arguments, and what remains to be done. Their line was followed. Or clap
 -- printed help or the version. Or nothing was done, because the arguments are wrong or something

@@ -12,6 +12,7 @@ use drives::{DriveTable, Holds, Stacks};
 use rmt_server::{Served, Session, serve};
 use rmt_wire::{Counted, RequestReader};
 use std::alloc::Global;
+use std::cell::Cell;
 use std::io::{Read, Write};
 
 /// Serves one pair of streams in a session at this seat, and returns the seat with the stacks.
@@ -41,13 +42,37 @@ pub fn serve_at<H: Holds + Drop, S: Stacks + Drop, I: Read, O: Write>(
     ensures { GivesBack (kinds H.Holds S.Stacks S.Reel.Reel) I.Read O.Write (idle input.old output.old drives seat)
         (streams input.new output.new) result }
 {
+    let is_idle = Cell::new(false);
+    serve_timed(alloc, drives, seat, number, input, output, &is_idle)
+}
+
+/// Does what `serve_at` does. If a read or a write of the streams fails because it waited for too
+/// long, the caller's streams set `is_idle`, and the log line says `idle`.
+pub(crate) fn serve_timed<H: Holds + Drop, S: Stacks + Drop, I: Read, O: Write>(
+    alloc: Global,
+    drives: DriveTable<H, S>,
+    seat: H::Seat,
+    number: u64,
+    input: &mut Counted<I>,
+    output: &mut Counted<O>,
+    is_idle: &Cell<bool>,
+) -> (H::Seat, S)
+    requires own { H.belongs drives.holds seat }
+    requires idle { HoldsJust (H.shows seat) None }
+    requires enough { S.drives drives.stacks ≤ H.drives drives.holds }
+    ensures { GivesBack (kinds H.Holds S.Stacks S.Reel.Reel) I.Read O.Write (idle input.old output.old drives seat)
+        (streams input.new output.new) result }
+{
     let mut drives = drives;
     let begun = text_of(format_args!("connection {number}: served"));
     drives.stacks.note(begun.as_str());
     let (seat, ending) = serve_afresh(alloc, &mut drives, seat, input, output);
-    drives
-        .stacks
-        .note(text_of(Ended { number, ending }).as_str());
+    let ended = Ended {
+        number,
+        ending,
+        is_idle: is_idle.get(),
+    };
+    drives.stacks.note(text_of(ended).as_str());
     (seat, drives.stacks)
 }
 

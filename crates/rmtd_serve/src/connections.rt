@@ -10,8 +10,9 @@ use crate::incoming::{DropReason, Incoming};
 use crate::status::ExitStatus;
 use reel_files::Log;
 use rmt_wire::errno::{EBADF, EINVAL};
+use sockets::{Caller, Listener, Stream};
 use std::fmt::Display;
-use std::net::{SocketAddr, TcpListener, TcpStream};
+use std::net::TcpStream;
 use std::rt::Clock;
 use std::time::Duration;
 use std::{io, thread};
@@ -38,7 +39,10 @@ const PAUSE: u64 = 100;
 #[derive(Drop)]
 pub struct Connections<'a, C: Clock, L: Log + Drop> {
     clock: &'a C,
-    listener: &'a TcpListener,
+    listener: &'a Listener,
+    /// How long one read or one write of a connection may make no progress before it fails. None is
+    /// no limit.
+    pub idle: Option<Duration>,
     /// How many more connections come, at most.
     pub left: u64,
     /// How many more accepts may fail. At one each 100 milliseconds it does not reach 0 in the life
@@ -68,11 +72,21 @@ fn lasting(why: &io::Error) -> Option<u32>
 impl<'a, C: Clock, L: Log + Drop> Connections<'a, C, L> {
     /// Makes a `Connections`, which accepts the connections of this listener.
     ///
-    /// `clock` measures the pause after a failed accept. At most `left` connections come. `log`
-    /// gets the log lines.
-    pub fn new(clock: &'a C, listener: &'a TcpListener, left: u64, log: L) -> Self
+    /// `clock` measures the pause after a failed accept. At most `left` connections come. A read or
+    /// a write of a connection fails if it makes no progress for as long as `idle` says; None is no
+    /// limit. `log` gets the log lines.
+    pub fn new(
+        clock: &'a C,
+        listener: &'a Listener,
+        left: u64,
+        idle: Option<Duration>,
+        log: L,
+    ) -> Self
         // The number of connections that may still come is the number that was given to `new`.
         ensures left { result.left ≡ left }
+        // The limit for idle connections is the limit that was given to `new`. No clause says that
+        // a connection gets this limit.
+        ensures idle { result.idle ≡ idle }
         // The allowed number of failed accepts is the greatest `u64`. The listener is not marked as
         // broken.
         ensures tries { result.tries ≡ 18446744073709551615 }
@@ -81,6 +95,7 @@ impl<'a, C: Clock, L: Log + Drop> Connections<'a, C, L> {
         Connections {
             clock,
             listener,
+            idle,
             left,
             tries: u64::MAX,
             broken: None,
@@ -112,15 +127,15 @@ impl<'a, C: Clock, L: Log + Drop> Connections<'a, C, L> {
         self.left > 0 && self.tries > 0 && self.broken.is_none()
     }
 
-    /// Accepts the next connection, with TCP_NODELAY set. Returns None if none was accepted, or if
-    /// the option could not be set.
-    pub(crate) fn accept(&mut self) -> Option<TcpStream>
+    /// Accepts the next connection, with TCP_NODELAY and the limit of its waits set. Returns None if
+    /// none was accepted, or if an option could not be set.
+    fn accept(&mut self) -> Option<Stream<TcpStream>>
         requires left { 0 < self.old.left }
         requires tries { 0 < self.old.tries }
         ensures { self.new.left + self.new.tries < self.old.left + self.old.tries }
     {
         match self.listener.accept() {
-            Ok((stream, address)) => self.take(stream, address),
+            Ok((stream, caller)) => self.take(stream, caller),
             Err(why) => {
                 self.miss(why);
                 None
@@ -148,8 +163,9 @@ impl<'a, C: Clock, L: Log + Drop> Connections<'a, C, L> {
         }
     }
 
-    /// Counts and logs a connection, and sets TCP_NODELAY on it. Returns None if that fails.
-    fn take(&mut self, stream: TcpStream, address: SocketAddr) -> Option<TcpStream>
+    /// Counts and logs a connection, and sets TCP_NODELAY and the limit of its waits. Returns None if
+    /// that fails.
+    fn take(&mut self, stream: Stream<TcpStream>, caller: Caller) -> Option<Stream<TcpStream>>
         requires { 0 < self.old.left }
         ensures left { self.new.left + 1 ≡ self.old.left }
         ensures tries { self.new.tries ≡ self.old.tries }
@@ -157,8 +173,8 @@ impl<'a, C: Clock, L: Log + Drop> Connections<'a, C, L> {
         self.left -= 1;
         self.has_failed = false;
         self.number = self.number.saturating_add(1);
-        self.note_last(format_args!("accepted from {address}"));
-        match stream.set_nodelay(true) {
+        self.note_last(format_args!("accepted {caller}"));
+        match stream.make_ready(self.idle) {
             Ok(()) => Some(stream),
             Err(why) => {
                 self.note_closed(why);
@@ -169,7 +185,7 @@ impl<'a, C: Clock, L: Log + Drop> Connections<'a, C, L> {
 
     /// Accepts the next connection, and returns one stream to read from and one to write to.
     /// Returns None if none was accepted, or if the system call that prepares it fails.
-    fn accept_both(&mut self) -> Option<(TcpStream, TcpStream)>
+    pub(crate) fn accept_both(&mut self) -> Option<(Stream<TcpStream>, Stream<TcpStream>)>
         requires left { 0 < self.old.left }
         requires tries { 0 < self.old.tries }
         ensures { self.new.left + self.new.tries < self.old.left + self.old.tries }
@@ -203,13 +219,13 @@ impl<C: Clock, L: Log + Drop> Incoming for Connections<'_, C, L> {
     // accept(2): EBADF, EFAULT, EINVAL, ENOTSOCK and EOPNOTSUPP. An accept that failed with another
     // error does not count as a connection.
 
-    type In = TcpStream;
+    type In = Stream<TcpStream>;
 
-    type Out = TcpStream;
+    type Out = Stream<TcpStream>;
 
     ghost is_over = { λ connections. AreOver connections.left connections.tries connections.broken };
 
-    fn next(&mut self) -> Option<(TcpStream, TcpStream)> {
+    fn next(&mut self) -> Option<(Stream<TcpStream>, Stream<TcpStream>)> {
         while self.is_open() {
             if let Some(pair) = self.accept_both() {
                 return Some(pair);

@@ -11,6 +11,8 @@ pub(crate) struct Ended {
     pub(crate) number: u64,
     /// How its stream ended.
     pub(crate) ending: Result<Served, SessionFault>,
+    /// Whether a read or a write failed because it waited for too long.
+    pub(crate) is_idle: bool,
 }
 
 impl Display for Ended {
@@ -20,6 +22,7 @@ impl Display for Ended {
             Ok(Served::End) => f.write_str("end"),
             Ok(Served::Truncated) => f.write_str("truncated"),
             Ok(Served::Broken(fault)) => write!(f, "{fault}"),
+            Err(SessionFault::Stream(_)) if self.is_idle => f.write_str("idle"),
             Err(fault) => write!(f, "{fault}"),
         }
     }

@@ -50,8 +50,10 @@ impl Display for LimitLog {
             f,
             "a file may have {limit} bytes here and a reel {capacity}: "
         )?;
-        f.write_str("a longer one ends the server by SIGXFSZ, ")?;
-        f.write_str("and is E5 where it is started with that ignored (trap '' XFSZ)")
+        f.write_str("a longer one ends the server by the signal SIGXFSZ; ")?;
+        f.write_str(
+            "if the server ignores that signal (trap '' XFSZ), the write is answered with E5",
+        )
     }
 }
 

@@ -22,6 +22,7 @@ mod ended;
 mod error_log;
 mod file_limit;
 mod folders;
+mod idle_watch;
 mod idle_workers;
 mod incoming;
 mod line_start;

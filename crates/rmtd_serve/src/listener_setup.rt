@@ -9,6 +9,7 @@ use crate::error_log::ErrorLog;
 use crate::line_start::LineStart;
 use hold_table::{HoldSeat, HoldTable};
 use reel_files::{FolderStacks, FolderSystem};
+use std::time::Duration;
 
 /// The setup of a listener that serves connections in parallel: drives in folders, the table of
 /// their holders, its seats, and stacks for each seat.
@@ -16,6 +17,9 @@ use reel_files::{FolderStacks, FolderSystem};
 pub struct ListenerSetup<R: FolderSystem + Eprint> {
     /// How many connections are served, at most.
     pub left: u64,
+    /// How long one read or one write of a connection may make no progress before the server ends
+    /// the connection. None is no limit.
+    pub idle: Option<Duration>,
     /// The table of who holds which drive.
     pub table: HoldTable,
     /// The table's seats. None holds a drive.

@@ -7,8 +7,11 @@ use crate::MemoryServer;
 use crate::connections::Connections;
 use crate::ended::Ended;
 use crate::error_log::text_of;
+use crate::idle_watch::IdleWatch;
 use reel_files::Log;
 use rmt_wire::Counted;
+use sockets::Stream;
+use std::cell::Cell;
 use std::net::TcpStream;
 use std::rt::Clock;
 
@@ -34,20 +37,31 @@ pub fn serve_connections<'a, C: Clock, L: Log + Drop>(
 {
     let mut connections = connections;
     while connections.is_open() {
-        if let Some(stream) = connections.accept() {
-            let ended = serve_stream(server, &stream, connections.number);
-            connections.log.note(text_of(ended).as_str());
+        if let Some((input, output)) = connections.accept_both() {
+            serve_stream(server, input, output, connections.number, &connections.log);
         }
     }
     connections
 }
 
-/// Serves connection `number`, and returns how it ended.
-fn serve_stream(server: &mut MemoryServer, stream: &TcpStream, number: u64) -> Ended
+/// Serves the streams of connection `number`, logs how it ended, and closes it.
+fn serve_stream<L: Log>(
+    server: &mut MemoryServer,
+    input: Stream<TcpStream>,
+    output: Stream<TcpStream>,
+    number: u64,
+    log: &L,
+)
     ensures { ServedInTurn server.old server.new }
 {
-    let mut input = Counted::new(stream);
-    let mut output = Counted::new(stream);
+    let is_idle = Cell::new(false);
+    let mut input = Counted::new(IdleWatch::new(input, &is_idle));
+    let mut output = Counted::new(IdleWatch::new(output, &is_idle));
     let ending = server.serve(&mut input, &mut output);
-    Ended { number, ending }
+    let ended = Ended {
+        number,
+        ending,
+        is_idle: is_idle.get(),
+    };
+    log.note(text_of(ended).as_str());
 }

@@ -26,13 +26,14 @@ pub(crate) fn listener_setup_of<R: FolderSystem + Eprint>(
     requires few { length line.now.drives.items ≤ DRIVE_LIMIT }
     requires same { option_map (λ s. s.now) line.now.bin ≡ Some bin.now }
     requires rules { KeepsDriveRules (Some bin.now) (map plain_drive line.now.drives.items) }
-    ensures { IfOk result (λ listener_setup. IsListenerSetupOf line.now listener_setup.left listener_setup.table.words listener_setup.stacks.items) }
+    ensures { IfOk result (λ listener_setup. IsListenerSetupOf line.now listener_setup.left listener_setup.idle listener_setup.table.words listener_setup.stacks.items) }
 {
     let drives = line.drives.as_slice();
     let (table, seats) = HoldTable::new(rt.alloc(), drives.len())?;
     let stacks = seat_stacks(rt.clone()?, drives, bin, line.capacity, start)?;
     Ok(ListenerSetup {
         left: line.connections.unwrap_or(u64::MAX),
+        idle: line.idle,
         table,
         seats,
         stacks,

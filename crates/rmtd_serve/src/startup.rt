@@ -36,6 +36,7 @@ use reel_files::{FolderStacks, FolderSystem, Log};
 use rmt_server::Served;
 use rmt_wire::Counted;
 use rmtd_args::{ServerLine, server_line};
+use sockets::Listener;
 use std::alloc::{AllocError, Global};
 use std::env;
 use std::fmt::Display;
@@ -64,7 +65,7 @@ pub enum Begun<R: FolderSystem + Eprint> {
     /// To end with this status.
     End(ExitStatus),
     /// To serve the connections of this listener in parallel.
-    Serve(TcpListener, ListenerSetup<R>),
+    Serve(Listener, ListenerSetup<R>),
 }
 
 /// Reads the program's arguments and does what they ask, up to the point where connections are
@@ -180,8 +181,8 @@ pub fn begin<R: ServerSystem, I: Read, O: Write>(
     // `Failed`, and neither stream is touched. No clause says that connections were served.
     //
     // If the arguments ask for `--listen` with drives in folders, `begin` returns the setup of the
-    // listener. The setup has the drives and the number of connections that the arguments name.
-    // Neither stream is touched.
+    // listener. The setup has the drives, the number of connections and the limit for idle
+    // connections that the arguments name. Neither stream is touched.
     //
     // If the server cannot start, or the arguments are wrong, `begin` returns `Failed`. If the
     // argument parser (clap) prints the help or the version, `begin` returns `Ended`. In all these
@@ -382,7 +383,7 @@ fn listen<R: ServerSystem>(
         IN_MEMORY
     });
     let left = line.connections.unwrap_or(u64::MAX);
-    let connections = Connections::new(rt, &listener, left, log);
+    let connections = Connections::new(rt, &listener, left, line.idle, log);
     Ok(serve_connections(&mut server, connections).status())
 }
 
@@ -399,15 +400,23 @@ fn log_of<R>(rt: &R, start: LineStart) -> ErrorLog<&R> {
 const ANYWHERE: &str =
     "it listens at each address of this machine: whoever reaches one of them can read and write all reels";
 
-/// Listens at this address, and prints it on standard output. If the server listens at each address
+/// Listens at this address, and prints it on standard output: the host and the port of the
+/// listener, or the given address if that is a path. If the server listens at each address
 /// of the machine, it logs a warning.
-fn bind<R: ServerSystem, L: Log>(rt: &R, address: &str, log: &L) -> io::Result<TcpListener> {
-    let listener = TcpListener::bind(rt, address)?;
-    let place = listener.local_addr()?;
-    if place.ip().to_canonical().is_unspecified() {
-        log.warn(ANYWHERE);
+fn bind<R: ServerSystem, L: Log>(rt: &R, address: &str, log: &L) -> io::Result<Listener> {
+    let listener = Listener::bind(rt, address)?;
+    match listener.local_addr()? {
+        Some(place) => {
+            if place.ip().to_canonical().is_unspecified() {
+                log.warn(ANYWHERE);
+            }
+            println!(rt; "listening on {place}")?;
+        }
+        None => {
+            let place = plain(address);
+            println!(rt; "listening on {place}")?;
+        }
     }
-    println!(rt; "listening on {place}")?;
     Ok(listener)
 }
 
@@ -418,7 +427,11 @@ fn refuse<R: ServerSystem>(rt: &R, error: Error) -> io::Result<Begun<R>>
     ensures { IfOk result (λ begun. (begun ≡ Begun.End Failed) ⊎ ((begun ≡ Begun.End Ended) × IsShown (kind_of error))) }
 {
     if error.kind() == ErrorKind::OutOfMemory {
-        return report(rt, "the words", io::Error::from(io::ErrorKind::OutOfMemory));
+        return report(
+            rt,
+            "the arguments",
+            io::Error::from(io::ErrorKind::OutOfMemory),
+        );
     }
     let printed = if error.use_stderr() {
         print_error(rt, &error)

@@ -5,12 +5,14 @@ ghost use Rattle.drives.specs.Holding.{HoldsJust};
 ghost use Rattle.hold_table.specs.Seats.{IsSeatAt};
 ghost use Rattle.hold_table.specs.declared.table.TheConstants.{SEAT_LIMIT};
 
-use crate::at::serve_at;
+use crate::at::serve_timed;
+use crate::idle_watch::IdleWatch;
 use crate::names_table::NamesTable;
 use drives::{DriveTable, Stacks};
 use hold_table::{HoldSeat, HoldTable, TableHand};
 use rmt_wire::Counted;
 use std::alloc::Global;
+use std::cell::Cell;
 use std::io::{Read, Write};
 use std::marker::PhantomData;
 
@@ -76,9 +78,18 @@ impl<'t, S: Stacks + Drop, B: NamesTable> Worker<'t, S, B> {
         } = self;
         let holds = TableHand { table };
         let drives = DriveTable { holds, stacks };
-        let mut input = Counted::new(input);
-        let mut output = Counted::new(output);
-        let (seat, stacks) = serve_at(alloc, drives, seat, number, &mut input, &mut output);
+        let is_idle = Cell::new(false);
+        let mut input = Counted::new(IdleWatch::new(input, &is_idle));
+        let mut output = Counted::new(IdleWatch::new(output, &is_idle));
+        let (seat, stacks) = serve_timed(
+            alloc,
+            drives,
+            seat,
+            number,
+            &mut input,
+            &mut output,
+            &is_idle,
+        );
         Worker {
             table,
             seat,

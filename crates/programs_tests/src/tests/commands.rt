@@ -91,6 +91,7 @@ fn a_volume_of_no_server(rt: HostRuntime) {
     let line = ReadLine {
         to: NOWHERE,
         device: "d",
+        timeout: None,
         out: "volume",
         place: false,
         all: false,
@@ -107,6 +108,7 @@ fn a_volume_of_no_server_by_a_link(rt: HostRuntime) -> Result<(), Fail> {
     let line = ReadLine {
         to: NOWHERE,
         device: "d",
+        timeout: None,
         out: "led",
         place: false,
         all: false,
@@ -126,6 +128,7 @@ fn an_operation_at_no_server(rt: HostRuntime) {
     let line = MtLine {
         to: NOWHERE,
         device: "d",
+        timeout: None,
         op: 5,
         count: 1,
     };

@@ -28,6 +28,7 @@ pub(super) fn line(block: u64) -> DumpLine<'static>
     DumpLine {
         to: "nowhere",
         device: "/dev/st0",
+        timeout: None,
         fs: "/usr",
         level: 1,
         payload: "payload",

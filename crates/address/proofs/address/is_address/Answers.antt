@@ -1,17 +1,12 @@
-use Rattle.address.proofs.Colon.{no_port, parts_of}
+use Rattle.std.proofs.Common.{length, inr}
+use Rattle.std.proofs.lemmas.Bool.{le-leb, leb-true}
+use Rattle.address.proofs.Paths.{short_path}
 use Rattle.address.proofs.address.is_address.Goals as goal
 
 pub returns-in-Some : goal.returns-in-Some
 returns-in-Some c =
-    let split = c.in-Some.ensures in
-    let parts = parts_of c.args.text.now c.in-Some.host.now c.in-Some.port.now split.0 split.1 in (
-      (λ yes.
-          let both = c.is_host_and_port.ensures.0 yes in
-          (c.in-Some.host.now, c.in-Some.port.now, split.0, both.0, both.1)),
-      λ has. c.is_host_and_port.ensures.1 (parts has),
+    let path = c.in-Some.path.now in
+    let is = c.in-Some.ensures in (
+      (λ yes. inr (path, is, leb-true (length path) 107 yes)),
+      λ has. le-leb (length path) 107 (short_path c.args.text.now path is has),
     )
-
-pub returns-in-None : goal.returns-in-None
-returns-in-None c =
-    let none = no_port c.args.text.now c.in-None.ensures in
-    ((λ yes. absurd cc), λ has. absurd (none has))

@@ -6,4 +6,4 @@ pub loop-connections-init : goal.loop-connections-init
 loop-connections-init g c = none
 
 pub loop-connections-preserved-in-Some : goal.loop-connections-preserved-in-Some
-loop-connections-preserved-in-Some g c = in_turn c.loop-connections.invariant c.serve_stream-ended.ensures
+loop-connections-preserved-in-Some g c = in_turn c.loop-connections.invariant c.serve_stream.ensures

@@ -5,6 +5,7 @@ use super::table::serve_pairs;
 use rmtd_serve::{
     Connections, ErrorLog, ExitStatus, Incoming, LineStart, MemoryServer, serve_connections,
 };
+use sockets::Listener;
 use std::alloc::{AllocError, Global};
 use std::cell::Cell;
 use std::fmt::Display;
@@ -88,7 +89,7 @@ impl Clock for Waits<'_> {
 
 /// Whether exactly two clients are accepted, each after three failed accepts and three waits of 100
 /// milliseconds. The log has one line for the failures before each client, and one for each client.
-fn two_come(clock: &Waits<'_>, listener: &TcpListener) -> bool {
+fn two_come(clock: &Waits<'_>, listener: &Listener) -> bool {
     let lines = Lines {
         count: Cell::new(0),
     };
@@ -97,7 +98,7 @@ fn two_come(clock: &Waits<'_>, listener: &TcpListener) -> bool {
         seat: None,
         start: LineStart::Time,
     };
-    let mut connections = Connections::new(clock, listener, 2, log);
+    let mut connections = Connections::new(clock, listener, 2, None, log);
     let first = connections.next().is_some() && connections.left == 1 && clock.time.get() == 300;
     let second = connections.next().is_some() && connections.left == 0 && clock.time.get() == 600;
     let last = connections.next().is_none() && connections.status() == ExitStatus::Ended;
@@ -109,18 +110,19 @@ fn a_failed_accept_is_made_again_after_a_wait(rt: HostRuntime) -> Result<(), Fai
     let listener = TcpListener::bind(&rt, "127.0.0.1:0")?;
     listener.set_nonblocking(true)?;
     let clock = Waits::new(&rt, Some(listener.local_addr()?));
-    assert!(rt; two_come(&clock, &listener));
+    assert!(rt; two_come(&clock, &Listener::Tcp(listener)));
     Ok(())
 }
 
 /// Makes a listener that is not a socket. The system reports error 88 for it.
-fn no_listener(rt: &HostRuntime) -> Result<TcpListener, Fail> {
-    Ok(TcpListener::from(OwnedFd::from(fs::open(rt, "/")?)))
+fn no_listener(rt: &HostRuntime) -> Result<Listener, Fail> {
+    let file = OwnedFd::from(fs::open(rt, "/")?);
+    Ok(Listener::Tcp(TcpListener::from(file)))
 }
 
 /// Whether a listener that is not a socket ends at once, with one line in the log, no wait, and the
 /// status `Failed`.
-fn none_come(clock: &Waits<'_>, listener: &TcpListener) -> bool {
+fn none_come(clock: &Waits<'_>, listener: &Listener) -> bool {
     let lines = Lines {
         count: Cell::new(0),
     };
@@ -129,7 +131,7 @@ fn none_come(clock: &Waits<'_>, listener: &TcpListener) -> bool {
         seat: None,
         start: LineStart::Time,
     };
-    let mut connections = Connections::new(clock, listener, 2, log);
+    let mut connections = Connections::new(clock, listener, 2, None, log);
     let none = connections.next().is_none() && connections.left == 2;
     let told = connections.broken == Some(88) && connections.status() == ExitStatus::Failed;
     none && told && clock.count.get() == 0 && lines.count.get() == 1
@@ -147,7 +149,7 @@ fn a_listener_that_is_none_has_no_connections(rt: HostRuntime) -> Result<(), Fai
 fn status_in_memory(
     alloc: Global,
     clock: &Waits<'_>,
-    listener: &TcpListener,
+    listener: &Listener,
 ) -> Result<ExitStatus, AllocError> {
     let mut server = MemoryServer::new(alloc, 1024)?;
     let lines = Lines {
@@ -158,7 +160,7 @@ fn status_in_memory(
         seat: None,
         start: LineStart::Time,
     };
-    let connections = Connections::new(clock, listener, 2, log);
+    let connections = Connections::new(clock, listener, 2, None, log);
     Ok(serve_connections(&mut server, connections).status())
 }
 
@@ -182,7 +184,7 @@ fn a_server_of_threads_ends_with_its_listener(rt: HostRuntime) -> Result<(), Fai
         seat: None,
         start: LineStart::Time,
     };
-    let connections = Connections::new(&clock, &listener, 2, log);
+    let connections = Connections::new(&clock, &listener, 2, None, log);
     let connections = serve_pairs(&rt, rt.alloc(), connections)?;
     assert!(rt; connections.status() == ExitStatus::Failed);
     Ok(())

@@ -1,10 +1,15 @@
-use Rattle.std.proofs.Common.{false}
+use Rattle.std.proofs.Common.{true, false}
 use Rattle.rdump_net.proofs.Talking.{some_sent}
 use Rattle.rdump_net.proofs.socket.SocketPeerPeer.send.Goals as goal
 
-pub returns : goal.returns
-returns g c =
-    let sent = some_sent c.args.bytes.now c.is_some.result in
+pub returns-in-Ok : goal.returns-in-Ok
+returns-in-Ok g c =
+    let sent = some_sent c.args.bytes.now true in
+    (sent.0, sent.1, λ log h. h)
+
+pub returns-in-Err : goal.returns-in-Err
+returns-in-Err g c =
+    let sent = some_sent c.args.bytes.now false in
     (sent.0, sent.1, λ log h. h)
 
 pub returns-in_default : goal.returns-in_default

@@ -1,0 +1,39 @@
+//! The limit of each wait for the server.
+ghost use Rattle.std.specs.Prelude.{◌≡◌, None, IfOk, MatchOption};
+ghost use Rattle.std.specs.Str.Parse.{digits_value};
+ghost use Rattle.rdump_args.specs.Rdump.{IsLimit};
+
+use crate::fault::ArgumentFault;
+use rmt_wire::argument::number_of;
+use std::time::Duration;
+
+/// The message for a limit that is not a number.
+const BAD_TIMEOUT: &str =
+    "invalid value for '--timeout <SECONDS>': a number is 0 to 9223372036854775807 in digits";
+
+/// Returns the limit in this text, which is a number of seconds. None is no limit: there is no
+/// text, or the number is 0. Fails if the text is not a number.
+pub(crate) fn timeout_of(text: Option<&str>) -> Result<Option<Duration>, ArgumentFault>
+    // If there is a text, the limit is that number of seconds, and None if the number is 0. If
+    // there is no text, the limit is None.
+    ensures { IfOk result (λ limit. MatchOption text.entry (limit ≡ None) (λ given. IsLimit (digits_value 10 given.now) limit)) }
+{
+    let Some(text) = text else {
+        return Ok(None);
+    };
+    match number_of(text) {
+        Some(seconds) => Ok(limit_of(seconds)),
+        None => Err(ArgumentFault::Value(BAD_TIMEOUT)),
+    }
+}
+
+/// Returns the limit of this many seconds. It is None for 0.
+fn limit_of(seconds: u64) -> Option<Duration>
+    ensures { IsLimit seconds result }
+{
+    if seconds == 0 {
+        None
+    } else {
+        Some(Duration::from_secs(seconds))
+    }
+}

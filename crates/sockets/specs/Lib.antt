@@ -1,0 +1,1 @@
+-- This crate has no definitions: no contract describes what a socket does.
