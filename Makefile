@@ -16,7 +16,7 @@ BIN = $(DESTDIR)$(PREFIX)/bin
 MAN = $(DESTDIR)$(PREFIX)/share/man
 DOC = $(DESTDIR)$(PREFIX)/share/doc/rdump
 
-.PHONY: help build run try test edits bench install uninstall clean kit
+.PHONY: help build run try test edits bench deb install uninstall clean kit
 .NOTPARALLEL:
 
 help: ## list these targets
@@ -74,6 +74,10 @@ install: build ## install the programs, their manual pages and the documents und
 	install -m 644 docs/*.md $(DOC)
 	@found=$$(command -v rdump); test "$${found:-$(PREFIX)/sbin/rdump}" = $(PREFIX)/sbin/rdump || \
 		echo "rdump: PATH finds $$found first, not $(PREFIX)/sbin/rdump: see README.md"
+
+deb: build ## pack the programs as two Debian packages, out/deb/rmtd_*.deb and out/deb/rdump_*.deb; what `make test` has proved and built is not proved again
+	rm -rf out/deb
+	@python3 packaging/deb.py $(SERVER) $(CLIENT) $(SIMULATOR) out/deb
 
 uninstall: ## remove what `make install` put there, with the same PREFIX and DESTDIR; the folders stay
 	rm -f $(SBIN)/rmtd $(SBIN)/rdump $(BIN)/rsim $(MAN)/man8/rmtd.8 $(MAN)/man8/rdump.8 $(MAN)/man1/rsim.1
