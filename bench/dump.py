@@ -37,9 +37,9 @@ DONE_ONE = b"A1\n"
 
 
 @contextmanager
-def listening(rmtd: str, *drives: str) -> Iterator[tuple[str, subprocess.Popen[bytes]]]:
+def listening(rmtd: str, *drives: str, at: str = "127.0.0.1:0") -> Iterator[tuple[str, subprocess.Popen[bytes]]]:
     """A server that listens, and its address."""
-    words = (rmtd, "--listen", "127.0.0.1:0", "--capacity", str(ROOM), *drives)
+    words = (rmtd, "--listen", at, "--capacity", str(ROOM), *drives)
     with subprocess.Popen(words, stdout=subprocess.PIPE, stderr=subprocess.DEVNULL) as server:
         try:
             found = re.search(r"listening on (.+)\n", server.stdout.readline().decode())

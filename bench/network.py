@@ -4,7 +4,8 @@
     network.py [RMTD [RDUMP]] [--mib N]
 
 It prints ratios of the least of several times, each with the start of the clients in it: `rdump dump` and `rdump read` with a server that has a
-reel in memory, and with one that has it in a folder; and 32 of them at once, each with a drive of its own. Then what memory the server holds
+reel in memory, and with one that has it in a folder; and 32 of them at once, each with a drive of its own. Then dumps over TCP and over a Unix
+socket, without and with limits of time at both ends (--idle, --timeout), each beside the same floor, which is over TCP. Then what memory the server holds
 for 32 clients, and what a client holds. A time into a folder is up to when the bytes are synced. The files stand in the temporary folder.
 
 The floor is `netfloor.c`: a client and a server of one block a turn with few calls of the system, and both trust what comes. It is built where
@@ -79,16 +80,25 @@ def blocks(source: Path, block: int) -> Iterator[bytes]:
             yield data.ljust(block, b"\0")
 
 
+class Way(NamedTuple):
+    """Where the server listens, and whether each wait has a limit at both ends."""
+
+    title: str
+    at: str
+    limit: str = ""
+
+
 class Programs:
     """The server and the client that are measured."""
 
-    def __init__(self, rmtd: str, rdump: str) -> None:
-        self.rmtd, self.rdump = rmtd, rdump
+    def __init__(self, rmtd: str, rdump: str, way: Way = Way("TCP", "127.0.0.1:0")) -> None:
+        self.rmtd, self.rdump, self.way = rmtd, rdump, way
 
     def listening(self, reels: Reels) -> ContextManager[tuple[str, subprocess.Popen[bytes]]]:
         """A server of these reels, and its address."""
         drives = [f"/dev/st{number}={path.parent}" for number, path in enumerate(reels.paths)]
-        return listening(self.rmtd, *(["--bin", str(reels.folder / "bin"), *drives] if drives else []))
+        idle = ["--idle", self.way.limit] if self.way.limit else []
+        return listening(self.rmtd, *idle, *(["--bin", str(reels.folder / "bin"), *drives] if drives else []), at=self.way.at)
 
     @contextmanager
     def serving(self, reels: Reels) -> Iterator[list[str]]:
@@ -98,7 +108,8 @@ class Programs:
 
     def writes(self, address: str, number: int, source: Path, block: int) -> Words:
         words = (self.rdump, "dump", "--to", address, "--device", f"/dev/st{number}", "--fs", "/usr", "--level", "0")
-        return (*words, "--payload", str(source), "--block", str(block), "--dumpdates", "/dev/null")
+        limit = ("--timeout", self.way.limit) if self.way.limit else ()
+        return (*words, *limit, "--payload", str(source), "--block", str(block), "--dumpdates", "/dev/null")
 
     def reads(self, address: str, number: int, out: Path) -> Words:
         return (self.rdump, "read", "--to", address, "--device", f"/dev/st{number}", "--out", str(out))
@@ -238,6 +249,26 @@ def measure_all(programs: Programs, floor: Floor, folder: Path, mib: int) -> Non
             shutil.rmtree(reels.folder)
 
 
+def measure_ways(programs: Programs, floor: Floor, folder: Path, mib: int) -> None:
+    """Prints the lines of dumps into a folder over each kind of socket, without and with limits. All take turns, so they can be compared."""
+    socket = f"unix:{folder}/socket"
+    ways = (
+        Way("over TCP", "127.0.0.1:0"),
+        Way("over TCP, with limits", "127.0.0.1:0", "3600"),
+        Way("over a Unix socket", socket),
+        Way("over a Unix socket, with limits", socket, "3600"),
+    )
+    source, reels = payload(folder / "way_source", mib * MIB), Reels(folder / "ways")
+    for block in BLOCKS:
+        load = Load(source, block, reels)
+        ends = [Programs(programs.rmtd, programs.rdump, way) for way in ways]
+        *ours, least = in_turns([lambda it=it: load.written(it) for it in (*ends, floor)])
+        for way, seconds in zip(ways, ours):
+            tell(f"dumped {way.title}, blocks of {block:,}", [seconds, least], source.stat().st_size, WANTED)
+    shutil.rmtree(reels.folder)
+    source.unlink()
+
+
 # Memory.
 
 
@@ -293,6 +324,7 @@ def main() -> int:
         floor = built_floor(folder)
         if floor:
             measure_all(programs, floor, folder, words.mib)
+            measure_ways(programs, floor, folder, words.mib)
         else:
             print("skipped: there is no C compiler on this machine, and so no floor")
         measure_memory(programs, folder)

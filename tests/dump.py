@@ -124,7 +124,8 @@ class Received:
 
 class Model:
     """A tape server with one drive, of these reels, one connection after the other. `lost` are requests whose reply is the end instead,
-    `said` are other replies, and `acts` is what is done before a reply, each by the number of the request, counted from 1."""
+    `said` are other replies, and `acts` is what is done before a reply, each by the number of the request, counted from 1. With `path` it
+    listens at a Unix socket."""
 
     def __init__(
         self,
@@ -132,6 +133,7 @@ class Model:
         lost: tuple[int, ...] = (),
         said: dict[int, bytes] | None = None,
         acts: dict[int, Callable[[], object]] | None = None,
+        path: Path | None = None,
     ) -> None:
         self.stack = list(reels)
         self.bin: list[Reel] = []
@@ -140,8 +142,8 @@ class Model:
         self.lost = lost
         self.said = said or {}
         self.acts = acts or {}
-        self.listener = socket.create_server(("127.0.0.1", 0))
-        self.address = "127.0.0.1:%d" % self.listener.getsockname()[1]
+        self.listener = socket.create_server(str(path), family=socket.AF_UNIX) if path else socket.create_server(("127.0.0.1", 0))
+        self.address = f"unix:{path}" if path else "127.0.0.1:%d" % self.listener.getsockname()[1]
         self.worker = threading.Thread(target=self.serve, daemon=True)
         self.worker.start()
 
@@ -205,7 +207,7 @@ class Model:
         if op == 0:
             self.open.entries[self.place :] = [None] * count
             self.place += count
-        elif op in (1, 3, 4):
+        elif op in (1, 2, 3, 4):
             return self.space(op, count)
         elif op in (5, 6):
             self.place = 0
@@ -215,12 +217,13 @@ class Model:
         return b"A%d\n" % count
 
     def space(self, op: int, count: int) -> bytes:
-        """Goes over marks (1), or over records, forward (3) or back (4). A mark ends the way over records, behind it."""
+        """Goes over marks, forward (1) or back (2), or over records, forward (3) or back (4). A mark ends the way over records, behind it."""
+        way, is_over_marks = (1 if op in (1, 3) else -1), op in (1, 2)
         for _ in range(count):
-            is_mark = self.step(-1 if op == 4 else 1)
-            while op == 1 and is_mark is False:
-                is_mark = self.step(1)
-            if is_mark is None or is_mark != (op == 1):
+            is_mark = self.step(way)
+            while is_over_marks and is_mark is False:
+                is_mark = self.step(way)
+            if is_mark is None or is_mark != is_over_marks:
                 return b"E5\nInput/output error\n"
         return b"A%d\n" % count
 
@@ -322,7 +325,7 @@ class Programs:
         with subprocess.Popen((self.rmtd, "--listen", at, *words), stdout=subprocess.PIPE, stderr=subprocess.PIPE) as server:
             try:
                 line = server.stdout.readline().decode()
-                found = re.fullmatch(r"listening on (.+:\d+)\n", line)
+                found = re.fullmatch(r"listening on (unix:/.+|.+:\d+)\n", line)
                 if not found:
                     raise RuntimeError(f"rmtd printed {line!r}")
                 yield found[1], server

@@ -460,10 +460,11 @@ def full_table(p: Programs) -> None:
         check(f"{title}: it ends after so many connections", it.ended() == DONE)
     title = "a full table of files, at the drive in memory"
     with listening(p, "", "--connections", "3") as it:
-        # The accept that waits has its descriptor already.
+        # The accept that waits has its descriptor already, and a connection takes two.
         check(f"{title}: it waits for a connection", comes_true(lambda: it.accepts() == 1 and sleeps(it.process.pid)))
         it.limit_files(max(it.files()) + 1)
-        check(f"{title}: the first is served", it.asked(NOTHING) == BAD_DESCRIPTOR)
+        check(f"{title}: the first has one descriptor, and is closed", it.asked(NOTHING) == b"")
+        check(f"{title}: that is told", it.ends() == [f"1: closed: {reason(errno.EMFILE)}"], it.lines())
         streams = [it.connect() for _ in range(2)]
         for stream in streams:
             stream.sendall(NOTHING)
@@ -577,7 +578,7 @@ def failed_streams(p: Programs) -> None:
     """A connection of which a read or a write fails is told as that; one that cannot be made to send at once is closed, with the reason. The next one
     is served."""
     for call in ("recv", "send"):
-        for error in (5, 32, 104):
+        for error in (5, 32, 104, 110):
             with folders(r1=b"") as folder, listening(p, f"{call}:1:E{error}", "--connections", "2", *drive_words(folder)) as it:
                 answers = [it.asked(NOTHING) for _ in range(2)]
                 title = f"a connection whose {call} fails with {error}"

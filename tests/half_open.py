@@ -1,5 +1,6 @@
 #!/usr/bin/env python3
-"""Checks a half-open connection: its client's machine is gone without a word, and the drive stays held until an operator ends the connection.
+"""Checks a half-open connection: its client's machine is gone without a word, and the drive stays held until an operator ends the connection, or
+until the server does, with `--idle`.
 
     half_open.py [RMTD [RDUMP]]
 
@@ -27,6 +28,8 @@ CRATES = Path(__file__).resolve().parent.parent / "crates"
 SERVER, CLIENT = f"rmt-server-{os.getpid()}", f"rmt-client-{os.getpid()}"
 SERVER_ADDRESS, CLIENT_ADDRESS = "10.9.8.1", "10.9.8.2"
 SOON_SECONDS = 30
+# The seconds of `--idle`.
+LIMIT = 2
 # A client that opens the drive, says that it has it, and then nothing more.
 SILENT = """
 import socket, sys, time
@@ -126,19 +129,26 @@ def ends_the_connection(site: Site) -> None:
     check("half open: the drive is free", soon(lambda: site.nothing() == "A1\n"), site.nothing(), site.log.read_text())
 
 
-def half_open(rmtd: str, rdump: str, folder: Path) -> None:
+def ends_by_itself(site: Site) -> None:
+    """The client is gone, and the server ends the connection once it was silent for as long as it may; then the drive is free."""
+    check("half open, --idle: it has ended", soon(lambda: bool(site.lines(r"connection 1: ended: idle$"))), site.log.read_text())
+    check("half open, --idle: the drive is free", soon(lambda: site.nothing() == "A1\n"), site.nothing(), site.log.read_text())
+
+
+def half_open(rmtd: str, rdump: str, folder: Path, ends: Callable[[Site], None], *more: str) -> None:
     """A server on one host; a client on the other that opens the drive, and the link between them goes down."""
     for name in ("st0", "bin"):
         (folder / name).mkdir()
     (folder / "st0/r1").touch()
-    words = [rmtd, "--listen", f"{SERVER_ADDRESS}:0", "--capacity", "100000", "--bin", str(folder / "bin"), f"/dev/st0={folder / 'st0'}"]
+    tool("ip", "-n", CLIENT, "link", "set", "back", "up")
+    words = [rmtd, "--listen", f"{SERVER_ADDRESS}:0", "--capacity", "100000", "--bin", str(folder / "bin"), *more, f"/dev/st0={folder / 'st0'}"]
     with started(on_host(SERVER, *words), folder / "log") as server:
         port = int(server.stdout.readline().rpartition(":")[2])
         silent = on_host(CLIENT, sys.executable, "-c", SILENT, SERVER_ADDRESS, str(port))
         with started(silent, folder / "errors") as client:
             check("half open: the client has the drive", client.stdout.readline() == "A0\n")
             tool("ip", "-n", CLIENT, "link", "set", "back", "down")
-            ends_the_connection(Site(rdump, folder / "log", port))
+            ends(Site(rdump, folder / "log", port))
 
 
 def main() -> int:
@@ -147,9 +157,10 @@ def main() -> int:
     parser.add_argument("rdump", nargs="?", default=str(CRATES / "rdump/out/rdump"))
     asked = parser.parse_args()
     rmtd, rdump = (str(Path(it).resolve()) for it in (asked.rmtd, asked.rdump))
-    with hosts() as made, tempfile.TemporaryDirectory() as folder:
+    with hosts() as made, tempfile.TemporaryDirectory() as folder, tempfile.TemporaryDirectory() as other:
         if made and shutil.which("ss"):
-            half_open(rmtd, rdump, Path(folder))
+            half_open(rmtd, rdump, Path(folder), ends_the_connection)
+            half_open(rmtd, rdump, Path(other), ends_by_itself, "--idle", str(LIMIT))
         else:
             print("skipped: a half-open connection: root, ip and ss, with network namespaces, cannot be used on this machine")
             check("half open: it is named as skipped", True)

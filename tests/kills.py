@@ -1,11 +1,12 @@
 #!/usr/bin/env python3
-"""Kills the built server at random moments of dumps over the loopback, starts it again, and looks at every reel at the end of each dump; and then
+"""Kills the built server at random moments of dumps, starts it again, and looks at every reel at the end of each dump; and then
 kills the client, the server or both at moments of dumps with a checkpoint file and a sums file, and has the same words go on until the dump is
 complete.
 
     kills.py [RMTD [RDUMP]] [--seed N] [--kills N] [--checkpoint]
 
-The client connects to a gate of this file, which passes its bytes on to the server that runs. The moments are after a number of bytes
+The client connects to a gate of this file, which passes its bytes on to the server that runs: over the loopback, or over a Unix socket, whose file
+the killed server leaves, and the next one replaces. The moments are after a number of bytes
 either way, after some time, and around the move of a reel to the bin: before the request for it has passed, within the move, when its
 reply has come, which is lost then, and when that has passed; and where there is a checkpoint file also around the reply to the close, after which
 that is written. With `--checkpoint` only dumps with such a file are made. The seed is printed where a check failed.
@@ -34,6 +35,7 @@ from model_rmtd import Entry, images
 from model_sums import line_of
 from model_world import Run
 from sites import moved_once
+from threads import TCP, UNIX, Address, address_in, connected
 
 CRATES = Path(__file__).resolve().parent.parent / "crates"
 DEVICE = "/dev/st0"
@@ -98,10 +100,15 @@ def moment_of(source: random.Random, kind: str, pace: Pace) -> Moment:
     return Moment(kind, source.randrange(VOLUMES), source.uniform(0, most) if most else 0.0)
 
 
+def place_of(moment: Moment | None) -> str:
+    """Where the server of a dump listens that is killed at this moment: at a Unix socket where its part is odd."""
+    return UNIX if moment and moment.part % 2 else TCP
+
+
 class Served:
     """The server over its folders: started, killed, started again."""
 
-    def __init__(self, program: str, folder: Path, reels: list[str]) -> None:
+    def __init__(self, program: str, folder: Path, reels: list[str], at: str) -> None:
         self.stack = folder / "st0"
         self.bin = folder / "bin"
         self.stack.mkdir()
@@ -109,18 +116,17 @@ class Served:
         self.names = sorted(reels)
         for name in reels:
             self.stack.joinpath(name).touch()
-        self.words = (program, "--listen", "127.0.0.1:0", "--capacity", str(CAPACITY), "--bin", str(self.bin), f"{DEVICE}={self.stack}")
+        at = at.replace("FOLDER", str(folder))
+        self.words = (program, "--listen", at, "--capacity", str(CAPACITY), "--bin", str(self.bin), f"{DEVICE}={self.stack}")
         self.process: subprocess.Popen[bytes] | None = None
-        self.address = NOWHERE
+        self.address: Address = NOWHERE
 
     def start(self) -> None:
         """Starts it where it does not run."""
         if self.process and self.process.poll() is None:
             return
         self.process = subprocess.Popen(self.words, stdout=subprocess.PIPE, stderr=subprocess.DEVNULL)
-        line = self.process.stdout.readline().decode()
-        host, port = re.fullmatch(r"listening on (.+):(\d+)\n", line).groups()
-        self.address = (host, int(port))
+        self.address = address_in(self.process.stdout.readline())
 
     def looked_at(self) -> tuple[dict[str, bytes], dict[str, bytes]]:
         """What the reels of the stack and of the bin hold, by name."""
@@ -199,12 +205,12 @@ class Gate:
                 return
             with near:
                 try:
-                    far = socket.create_connection(self.served.address)
+                    far = connected(self.served.address)
                 except OSError:
                     continue
                 with far:
-                    for end in (near, far):
-                        end.setsockopt(socket.IPPROTO_TCP, socket.TCP_NODELAY, 1)
+                    far.settimeout(None)
+                    near.setsockopt(socket.IPPROTO_TCP, socket.TCP_NODELAY, 1)
                     back = threading.Thread(target=self.carry, args=(far, near, self.reply))
                     back.start()
                     self.carry(near, far, self.request)
@@ -444,9 +450,9 @@ class Shop(NamedTuple):
     source: random.Random
 
     @contextmanager
-    def gate(self, folder: Path) -> Iterator[Gate]:
-        """A server in this folder that runs, and the gate before it."""
-        served = Served(self.rmtd, folder, [f"r{number}" for number in range(1, REELS + 1)])
+    def gate(self, folder: Path, moment: Moment | None) -> Iterator[Gate]:
+        """A server in this folder that runs, and the gate before it, of a dump in which is killed first at this moment."""
+        served = Served(self.rmtd, folder, [f"r{number}" for number in range(1, REELS + 1)], place_of(moment))
         gate = Gate(served)
         try:
             served.start()
@@ -459,7 +465,7 @@ class Shop(NamedTuple):
         """One dump in which the server is killed, or nobody: how often it was, how many reels are in the bin that were not counted, and its pace."""
         title = f"killed at {moment}" if moment else "not killed"
         with tempfile.TemporaryDirectory() as name:
-            with self.gate(Path(name)) as gate:
+            with self.gate(Path(name), moment) as gate:
                 gate.set(moment)
                 began = time.perf_counter()
                 dump = kind(title, self.rdump, Path(name), gate, self.payload)
@@ -473,7 +479,7 @@ class Shop(NamedTuple):
         """One dump with a checkpoint file in which is killed at these moments: how often it was."""
         title = f"with a checkpoint file, killed at {asked}"
         with tempfile.TemporaryDirectory() as name:
-            with self.gate(Path(name)) as gate:
+            with self.gate(Path(name), asked[0]) as gate:
                 dump = KeptDump(title, self.rdump, Path(name), gate, self.payload)
                 status = dump.run_to_the_end(asked)
             check(f"{title}: the status", status == 0 or (status == -signal.SIGKILL and dump.is_over()), status, dump.lines)

@@ -40,8 +40,12 @@ from threads import (
     READ,
     REWIND,
     SPARE_MEMORY,
+    TCP,
+    UNIX,
+    Address,
     Server,
     Talk,
+    address_in,
     can_trace,
     is_served,
     opened,
@@ -60,11 +64,11 @@ ADDRESS = r"127\.0\.0\.1:\d+"
 HEAD = re.compile(r"(\d{4}-\d\d-\d\dT\d\d:\d\d:\d\dZ) rmtd: ")
 # What a line is, without that.
 FORMS = (
-    rf"connection (?P<came>\d+): accepted from {ADDRESS}",
+    rf"connection (?P<came>\d+): accepted (from {ADDRESS}|at descriptor \d+)",
     r"connection \d+: closed: .+",
     r"accept failed: .+ \(os error \d+\)",
     r"seat (?P<begun>\d+): connection (?P<served>\d+): served",
-    r"seat (?P<left>\d+): connection (?P<ended>\d+): ended: (end|truncated|UnknownCommand|BadNumber|LineTooLong|stream failed)",
+    r"seat (?P<left>\d+): connection (?P<ended>\d+): ended: (end|truncated|UnknownCommand|BadNumber|LineTooLong|idle|stream failed)",
     r"seat \d+: /dev/st\d+: .+",
 )
 SMALLEST_PIPE = 4096
@@ -254,9 +258,9 @@ def refused_calls(rmtd: str) -> None:
         check("refused calls: the lines", good, mine, wanted)
 
 
-def too_many(rmtd: str) -> None:
+def too_many(rmtd: str, at: str = TCP) -> None:
     """A connection above the most, and one for which no thread is had, are told as closed, and why."""
-    with serving(rmtd) as server:
+    with serving(rmtd, at=at) as server:
         talks = [Talk(server.address) for _ in range(CONNECTIONS)]
         check("too many: all are served", all([it.ask(NOTHING) == NOTHING_OPEN for it in talks]))
         with talking(server) as other:
@@ -264,17 +268,18 @@ def too_many(rmtd: str) -> None:
         check("too many: it is told", has(server, rf"connection {CONNECTIONS + 1}: closed: no seat is free"), lines_of(server)[-3:])
         for it in talks:
             it.end()
-    with serving(rmtd) as server:
+    with serving(rmtd, at=at) as server:
         server.may_take(SPARE_MEMORY)
         with talking(server) as talk:
             check("no thread: it is closed", talk.is_closed())
         check("no thread: it is told", has(server, "connection 1: closed: no thread"), lines_of(server))
 
 
-def failed_accepts(rmtd: str) -> None:
+def failed_accepts(rmtd: str, at: str = TCP) -> None:
     """Accepts that fail are told once, while they fail. Connections are served when they fail no more. One for which the system had waited
-    before is accepted, and closed since its second file is refused."""
-    with serving(rmtd) as server:
+    before is accepted, and closed since its second file is refused. Another one is served meanwhile, so that no number below those of its files is free."""
+    with serving(rmtd, at=at) as server, talking(server) as other:
+        check("accept failed: another one is served", other.ask(NOTHING) == NOTHING_OPEN)
         files = len(os.listdir(f"/proc/{server.process.pid}/fd"))
         _, most = resource.prlimit(server.process.pid, resource.RLIMIT_NOFILE)
         for title in ("once", "and once again"):
@@ -292,9 +297,9 @@ def failed_accepts(rmtd: str) -> None:
         check("accept failed: one is closed", has(server, r"connection \d+: closed: .+ \(os error 24\)"), lines_of(server))
 
 
-def at_once(rmtd: str) -> None:
+def at_once(rmtd: str, at: str = TCP) -> None:
     """The lines of many connections at once: each is whole, each connection has its three, and a seat serves one after the other."""
-    with serving(rmtd, drives=CONNECTIONS) as server:
+    with serving(rmtd, drives=CONNECTIONS, at=at) as server:
         for number in range(CONNECTIONS):
             server.reel(f"r{number}", number)
 
@@ -327,12 +332,11 @@ def at_once(rmtd: str) -> None:
 
 
 @contextmanager
-def listening(words: list[str], **how: object) -> Iterator[tuple[subprocess.Popen[bytes], tuple[str, int]]]:
+def listening(words: list[str], **how: object) -> Iterator[tuple[subprocess.Popen[bytes], Address]]:
     """A server with these words, and its address."""
     process = subprocess.Popen(words, stdout=subprocess.PIPE, **how)
     try:
-        host, port = re.fullmatch(r"listening on (.+):(\d+)\n", process.stdout.readline().decode()).groups()
-        yield process, (host, int(port))
+        yield process, address_in(process.stdout.readline())
     finally:
         process.kill()
         process.wait()
@@ -352,7 +356,7 @@ def stdio_words(rmtd: str, folder: Path) -> list[str]:
     return [it if it != "--listen" else "--stdio" for it in folder_words(rmtd, folder) if it != "127.0.0.1:0"]
 
 
-def converses(address: tuple[str, int]) -> bool:
+def converses(address: Address) -> bool:
     """Whether a connection is served: it opens the drive, writes, and closes it."""
     talk = Talk(address)
     good = [talk.ask(it) for it in (opened(), write(b"x"), CLOSE)] == [DONE, DONE_ONE, DONE]
@@ -435,7 +439,7 @@ def told(log: IO[bytes]) -> str:
 
 
 SMALL_FILE, REEL = 65_536, 1_048_576
-BY_ITS_SIGNAL = "a longer one ends the server by SIGXFSZ, and is E5 where it is started with that ignored (trap '' XFSZ)"
+BY_ITS_SIGNAL = "a longer one ends the server by the signal SIGXFSZ; if the server ignores that signal (trap '' XFSZ), the write is answered with E5"
 # How a server is started, how many bytes its reels may have, and whether it is told that its files may not.
 LIMITS = (
     ("a limit far below a reel", f"ulimit -f {SMALL_FILE // 512};", REEL, True),
@@ -646,6 +650,8 @@ def main() -> int:
     listeners = (endings, *reels_of, too_many, failed_accepts, at_once, unwritable, unread, in_memory, limits)
     for part in (*listeners, with_stdio, wrong_with_stdio, one_stream, without_proc, bin_alone, without_streams, times, anywhere):
         part(rmtd)
+    for part in (too_many, failed_accepts, at_once):
+        part(rmtd, UNIX)
     return ended()
 
 

@@ -9,8 +9,8 @@ as a part of a message. A message of the page is the first cell of a row of a ta
 Some parts of a text vary. In the source such a part is `{..}`. On the page it is `..`, a number, or a word in capitals that the page
 explains, as FILE. What lies between two such parts, without the punctuation around it, is a piece. Pieces are what is compared.
 
-The messages of each table are in alphabetical order, and none of a program is there twice. Wrong arguments are left out: the texts that
-refuse them name what is wrong.
+The messages of each table are in alphabetical order, and none of a program is there twice. Most texts that refuse wrong arguments are left out,
+since they name what is wrong.
 """
 
 from __future__ import annotations
@@ -26,7 +26,7 @@ PAGE = TOP / "docs/MESSAGES.md"
 
 # The crates in which each program's texts are.
 PROGRAMS = {
-    "rmtd": ("rmtd", "rmtd_serve", "reel_files", "file_medium"),
+    "rmtd": ("rmtd", "rmtd_serve", "sockets", "reel_files", "file_medium"),
     "rdump": (
         "rdump",
         "rdump_commands",
@@ -42,7 +42,7 @@ PROGRAMS = {
     "rsim": ("rsim", "rsim_schedule"),
 }
 # Crates whose faults each program may print. The page need not have them.
-LIBRARIES = ("rmt_wire", "dump_client", "dump_run", "dumpdates")
+LIBRARIES = ("rmt_wire", "dump_client", "dump_run", "dumpdates", "rmtd_args", "rdump_args")
 # The sections of the page, each with its program.
 SECTIONS = {
     "rmtd at its start": "rmtd",
@@ -64,8 +64,9 @@ NOT_PRINTED = (
 )
 # Files all of whose strings are printed, those of one word too.
 ALL_PRINTED = ("rdump_net/src/lines.rt", "rdump_list/src/verdict.rt", "rmtd_serve/src/ended.rt")
-# What a program prints that is in no string of these crates, but in the kit: the first word of a wrong argument, and a reason.
-FROM_THE_KIT = ("error", "permission denied")
+# What a program prints that is in no string of these crates, but in the kit or in an argument: the first word of a wrong argument, what the
+# address of a Unix socket begins with, and reasons.
+FROM_THE_KIT = ("error", "unix", "permission denied", "Address already in use", "path must be shorter than SUN_LEN", "connection timed out", "timed out")
 
 # A comment, a character, or a string, whose text is the group.
 TOKEN = re.compile(r'//[^\n]*|\'(?:\\.|[^\'\\])\'|"((?:\\.|[^"\\])*)"', re.DOTALL)

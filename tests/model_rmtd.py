@@ -504,6 +504,10 @@ def serve(drives: Drives, requests: IO[bytes], replies: IO[bytes], holders: Hold
 # The program.
 
 
+# A time that no connection comes to, and Python can wait for.
+FOREVER = 1_000_000_000
+
+
 class Parser(argparse.ArgumentParser):
     """Ends with status 1 for words that are wrong."""
 
@@ -546,15 +550,37 @@ def serve_connection(drives: Drives, stream: socket.socket, holders: Holders, se
     seats.release()
 
 
-def listen(drives: Drives, address: str, connections: int | None) -> int:
+def is_left(path: str) -> bool:
+    """Whether a socket that refuses connections lies at a path."""
+    with suppress(FileNotFoundError), socket.socket(socket.AF_UNIX) as stream:
+        try:
+            is_socket = stat.S_ISSOCK(os.lstat(path).st_mode)
+            stream.connect(path)
+        except ConnectionRefusedError:
+            return is_socket
+    return False
+
+
+def bound(address: str) -> socket.socket:
+    """A listener at a host and a port, or at a path, where a socket that was left is replaced."""
+    if not address.startswith("unix:/"):
+        host, _, port = address.rpartition(":")
+        return socket.create_server((host, int(port)))
+    path = address.removeprefix("unix:")
+    if is_left(path):
+        os.unlink(path)
+    return socket.create_server(path, family=socket.AF_UNIX)
+
+
+def listen(drives: Drives, address: str, connections: int | None, idle: int) -> int:
     """Serves each connection in a thread of its own. One that comes while as many as there are seats are served is closed, and so is one
-    that gets no thread."""
-    host, _, port = address.rpartition(":")
+    that gets no thread. One that gives and takes nothing for so many seconds is ended."""
     holders, seats = Holders(), threading.Semaphore(SEATS)
-    with socket.create_server((host, int(port))) as listener:
-        print("listening on %s:%d" % listener.getsockname(), flush=True)
+    with bound(address) as listener:
+        print("listening on", address if listener.family == socket.AF_UNIX else "%s:%d" % listener.getsockname(), flush=True)
         while connections is None or connections > 0:
             stream, _ = listener.accept()
+            stream.settimeout(min(idle, FOREVER) or None)
             connections = None if connections is None else connections - 1
             if not seats.acquire(blocking=False):
                 stream.close()
@@ -576,14 +602,17 @@ def main() -> int:
     way.add_argument("--listen", metavar="ADDRESS")
     parser.add_argument("--capacity", type=lawful_number, default=CAPACITY)
     parser.add_argument("--connections", type=lawful_number)
+    parser.add_argument("--idle", type=lawful_number)
     parser.add_argument("--bin", metavar="DIR")
     parser.add_argument("drives", nargs="*", metavar="DEVICE=DIR")
     words = parser.parse_args()
     if sys.argv.count("--bin") > 1:
         refuse("--bin is given twice")
+    if words.stdio and words.idle is not None:
+        refuse("--idle is given with --listen only")
     drives = drives_of(words)
     if words.listen:
-        return listen(drives, words.listen, words.connections)
+        return listen(drives, words.listen, words.connections, words.idle or 0)
     return serve(drives, sys.stdin.buffer, sys.stdout.buffer)
 
 

@@ -103,7 +103,7 @@ def numbers(folder: Path) -> None:
     got = run(folder, UNATTENDED, asks, PAUSE="02", TIMES="01")
     check("PAUSE=02 is two seconds", got.status == 1 and time.monotonic() - began >= 2, got)
     for value in ("x", "1x", "0x", "-1", "1.5", "0" * 30 + "x", "9" * 19):
-        for name in ("PAUSE", "TIMES"):
+        for name in ("PAUSE", "TIMES", "TIMEOUT"):
             got = run(folder, UNATTENDED, asks, **{name: value})
             check(f"{name}={value}", got == Got("", f"unattended: not a number: {value}\n", 1), got)
 
@@ -138,18 +138,24 @@ def shown_at_once(folder: Path) -> None:
 
 
 def protects(folder: Path) -> None:
-    """A dump gets --protect once, and nothing else does."""
+    """A dump gets --protect and --timeout once, and nothing else does."""
     words = stand_in(folder, WORDS)
-    for given, more in (
-        (("dump", "--to", "a b"), ["--protect"]),
-        (("dump", "--protect", "--to", "x"), []),
-        (("read", "--to", "x"), []),
-        (("--version",), []),
+    hour = ["--timeout", "3600"]
+    for given, more, seconds in (
+        (("dump", "--to", "a b"), ["--protect", *hour], {}),
+        (("dump", "--protect", "--to", "x"), hour, {}),
+        (("dump", "--timeout", "5", "--to", "x"), ["--protect"], {"TIMEOUT": "7"}),
+        (("dump", "--timeout=0", "--to", "x"), ["--protect"], {}),
+        (("dump", "--to", "x"), ["--protect", "--timeout", "7"], {"TIMEOUT": "007"}),
+        (("dump", "--to", "x"), ["--protect"], {"TIMEOUT": "0"}),
+        (("dump", "--to", "x"), ["--protect", *hour], {"TIMEOUT": ""}),
+        (("read", "--to", "x"), [], {}),
+        (("--version",), [], {"TIMEOUT": "7"}),
     ):
-        got = run(folder, UNATTENDED, words, *given)
-        check(f"the words of {given}", got == Got("".join(f"{it}\n" for it in (*given, *more)), "", DONE), got)
+        got = run(folder, UNATTENDED, words, *given, **seconds)
+        check(f"the words of {given} {seconds}", got == Got("".join(f"{it}\n" for it in (*given, *more)), "", DONE), got)
     got = run(folder, UNATTENDED, "nice", words, "dump")
-    check("a dump that another program starts", got.output == "dump\n--protect\n", got)
+    check("a dump that another program starts", got.output == "dump\n--protect\n--timeout\n3600\n", got)
 
 
 # What no wait mends: the line on standard output, that on standard error, and whether it is such a one.
@@ -217,6 +223,18 @@ def dumps(folder: Path, rdump: str) -> None:
                 check(f"{title} {more}: the checkpoint", folder.joinpath("kept").exists() == bool(more))
             folder.joinpath("kept").unlink(missing_ok=True)
             server.stop()
+    silent(folder, rdump)
+
+
+def silent(folder: Path, rdump: str) -> None:
+    """A server that is silent costs an attempt, and the next one is made. The system accepts the connections."""
+    with socket.create_server(("127.0.0.1", 0)) as listener:
+        address = "127.0.0.1:%d" % listener.getsockname()[1]
+        words = ("dump", "--to", address, "--device", DEVICE, "--fs", "/usr", "--level", "0", "--payload", "payload")
+        got = run(folder, UNATTENDED, rdump, *words, "--block", "1024", "--dumpdates", "dumpdates", PAUSE="0", TIMES="1", TIMEOUT="1")
+    failed, why = ("", "the look failed: timed out") if has_protect(rdump) else ("volume 1 failed: ConnectionEnded\n", "timed out")
+    wanted = Got(f"{failed}retry?\n" * 2 + "dump abandoned\n", f"rdump: {address}: {why}\n" * 2, ABNORMAL)
+    check("a silent server", got == wanted, got)
 
 
 def has_protect(rdump: str) -> bool:
@@ -344,6 +362,8 @@ def set_clock(now: Path, when: str) -> int:
 NOW = Path("/mnt/now")
 STACK, BIN, SHELF, CLIENT = Path("/srv/tape/st0"), Path("/srv/tape/bin"), Path("/srv/tape/shelf"), Path("/var/lib/night")
 TABLES = (Path("/etc/cron.d/rmtd"), Path("/etc/cron.d/night"))
+# Where the server listens, and where the client's tunnel to it begins.
+LISTENER, TUNNEL = "/run/rmtd/socket", "/run/rdump/socket"
 
 
 class Job(NamedTuple):
@@ -424,12 +444,21 @@ def rdump(*words: str) -> Got:
 
 def listener(capacity: int) -> subprocess.Popen[bytes]:
     """Starts the server as the recipe of a listener does, with another capacity."""
-    words = ("runuser", "-u", "rmtd", "--", "/usr/local/sbin/rmtd", "--listen", "127.0.0.1:4711", "--capacity", str(capacity))
+    words = ("runuser", "-u", "rmtd", "--", "/usr/local/sbin/rmtd", "--listen", f"unix:{LISTENER}", "--capacity", str(capacity))
     drives = ("--bin", str(BIN), "/dev/st0=/srv/tape/st0", "/dev/st1=/srv/tape/st1")
     with open("/run/rmtd.log", "ab") as log:
-        process = subprocess.Popen((*words, *drives), stdout=subprocess.PIPE, stderr=log)
+        process = subprocess.Popen((*words, *drives), stdout=subprocess.PIPE, stderr=log, umask=0o007)
     process.stdout.readline()
     return process
+
+
+def wait_for(path: str) -> None:
+    """Waits until something listens at a Unix socket. What runs this is killed where nothing does."""
+    while True:
+        with socket.socket(socket.AF_UNIX) as it, suppress(ConnectionRefusedError, FileNotFoundError):
+            it.connect(path)
+            return
+        time.sleep(0.05)
 
 
 def stop_listener() -> None:
@@ -477,7 +506,7 @@ def nights() -> None:
     # The tunnel is the one that cron starts with the machine, and not that of the recipe before.
     stop("ssh")
     n = Nights()
-    recipes.wait_for(4712)
+    wait_for(TUNNEL)
     for it in (*STACK.iterdir(), *BIN.iterdir()):
         it.unlink()
     tree = Path("/mnt/usr/share/night")
@@ -584,7 +613,7 @@ def restored(tree: Path) -> None:
         for it in re.findall(rf"^(\S+): /usr level {level} date {dates[level]} ", got.output, re.M):
             shutil.copy(it, "/srv/tape/st1/")
             shutil.chown(f"/srv/tape/st1/{Path(it).name}", "rmtd", "rmtd")
-        read = rdump("read", "--to", "127.0.0.1:4711", "--device", "/dev/st1", "--out", f"/mnt/level.{level}", "--all", "--place")
+        read = rdump("read", "--to", f"unix:{LISTENER}", "--device", "/dev/st1", "--out", f"/mnt/level.{level}", "--all", "--place")
         check(f"level {level} is read", read.status == DONE, read)
         subprocess.run(("tar", "-xf", f"/mnt/level.{level}", "-C", str(back)), check=True, stderr=subprocess.DEVNULL)
         for it in BIN.iterdir():
@@ -599,20 +628,26 @@ def keys() -> None:
     def ssh(*words: str) -> Got:
         return run(Path("/"), "ssh", "-o", "ExitOnForwardFailure=yes", "-o", "BatchMode=yes", *words, HOME=recipes.HOME)
 
-    way = ssh("-W", "127.0.0.1:4711", "rmtd@tapehost")
-    check("-W to the listener", way.status == DONE, way)
-    other = ssh("-W", "127.0.0.1:22", "rmtd@tapehost")
-    check("-W to another port", other.status == 255 and "prohibited" in other.told, other)
-    listening = subprocess.Popen(("ssh", "-N", "-o", "ExitOnForwardFailure=yes", "-L", "127.0.0.1:4714:127.0.0.1:4711", "rmtd@tapehost"))
-    recipes.wait_for(4714)
-    answer = run(Path("/"), "/usr/local/sbin/rdump", "mt", "--to", "127.0.0.1:4714", "--device", "/dev/st1", "nop", "1")
+    port = ssh("-W", "127.0.0.1:22", "rmtd@tapehost")
+    check("-W to a port", port.status == 255 and "prohibited" in port.told, port)
+    ways = {"/run/rdump/way": LISTENER, "/run/rdump/other": "/run/rmtd/other"}
+    forwards = [word for here, there in ways.items() for word in ("-L", f"{here}:{there}")]
+    with socket.socket(socket.AF_UNIX) as other:
+        other.bind("/run/rmtd/other")
+        os.chmod("/run/rmtd/other", 0o777)
+        other.listen()
+        tunnel = subprocess.Popen(("ssh", "-N", "-o", "ExitOnForwardFailure=yes", *forwards, "rmtd@tapehost"), stderr=subprocess.DEVNULL)
+        wait_for("/run/rdump/other")
+        answer, refused = (rdump("mt", "--to", f"unix:{it}", "--device", "/dev/st1", "nop", "1") for it in ways)
+        tunnel.kill()
+        tunnel.wait()
     check("-L to the listener", answer.output.startswith(("A1", "E6")), answer)
-    listening.kill()
-    listening.wait()
+    check("-L to another socket", (refused.status, refused.output) == (ABNORMAL, ""), refused)
     stop_listener()
+    os.unlink(LISTENER)
     for title, way in (
-        ("the port of the listener", "127.0.0.1:4711:127.0.0.1:22"),
-        ("another port", "127.0.0.1:4799:127.0.0.1:22"),
+        ("the socket of the listener", f"{LISTENER}:127.0.0.1:22"),
+        ("a port", "127.0.0.1:4799:127.0.0.1:22"),
         ("a path in a stack", "/srv/tape/st0/socket:127.0.0.1:22"),
     ):
         process = subprocess.Popen(("ssh", "-N", "-o", "ExitOnForwardFailure=yes", "-R", way, "rmtd@tapehost"), stderr=subprocess.PIPE)
@@ -623,6 +658,7 @@ def keys() -> None:
             told, status = b"it was taken", None
         check(f"-R of {title}", status == 255 and b"failed" in told, told, status)
     check("no socket in the stack", not Path("/srv/tape/st0/socket").exists())
+    check("no socket of the listener", not Path(LISTENER).exists())
     listener(1000000000)
 
 

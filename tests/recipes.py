@@ -15,6 +15,9 @@ Each recipe has a machine of its own: its /usr/local is what `make install` leav
 copy of the repository's etc/ lies where it runs, the loopback is its own, and its processes end with it. That takes root, unshare(1) and
 make(1). Where they are not to be had, all recipes are named as skipped.
 
+On the machine of a recipe that needs apt(8), nothing is installed. The packages that packaging/deb.py makes of the programs lie in out/deb, as
+`make deb` leaves them, and /usr and /var are overlays. Where they are not to be had, the recipe is named as skipped.
+
 Each message of docs/MESSAGES.md that `rdump` prints, or `rmtd` at its start, is in a block `console` of one of these with its status, or below
 with the reason why it is not.
 """
@@ -48,7 +51,7 @@ README = TOP / "README.md"
 PROGRAMS = {"rmtd": "SERVER", "rdump": "CLIENT", "rsim": "SIMULATOR"}
 
 # A recipe that takes longer is killed, so that the checks end.
-GUARD_SECONDS = 300
+GUARD_SECONDS = 900
 # The same of a recipe that is pasted many times.
 PASTED_GUARD_SECONDS = 2400
 # So many recipes run at once.
@@ -60,6 +63,9 @@ UNSHARE = ("unshare", "--mount", "--net", "--pid", "--fork", "--kill-child", "--
 HOME = "/home/root"
 SYSTEM_PATH = "/usr/sbin:/usr/bin:/sbin:/bin"
 ENVIRONMENT = {"PATH": f"/usr/local/sbin:/usr/local/bin:{SYSTEM_PATH}", "HOME": HOME, "USER": "root", "LANG": "C.UTF-8"}
+
+# The programs that make packages, and those that an installation needs.
+PACKERS = ("dpkg-deb", "git", "gzip", "systemctl", "systemd-sysusers", "systemd-tmpfiles")
 
 # The recipe of the README, and its user.
 USED = "A server that is killed"
@@ -122,6 +128,15 @@ $ tar --version | head -n 1 | grep -qv ' 1.34$' || echo 1 | cmp - calls
 
 # The messages that no recipe shows, each with the reason.
 UNSHOWN = {
+    "error: invalid value for '--idle <SECONDS>': a number is 0 to 9223372036854775807 in digits": "tests/doors.py shows it",
+    "rmtd: unix:FILE: another process has the lock of its folder": "tests/doors.py shows it",
+    "rmtd: unix:FILE: path must be shorter than SUN_LEN": "tests/doors.py shows it",
+    (
+        "error: invalid value for '--to <ADDRESS>': an address is a host and a port, as in localhost:4711 or [::1]:4711, or unix: and an absolute"
+        " path, as in unix:/run/rmtd/socket"
+    ): "tests/doors.py shows it",
+    "error: invalid value for '--to <ADDRESS>': the path of a Unix socket has at most 107 bytes": "tests/doors.py shows it",
+    "rdump: ADDRESS: connection timed out": "tests/doors.py shows it: it takes a system that answers no connection",
     "rmtd: FOLDER: an earlier drive has this folder too": "tests/clients.py shows it",
     "rmtd: FOLDER: the bin is on another file system": "tests/clients.py shows it",
     "rmtd: FOLDER: the bin is on another mount": "tests/clients.py shows it",
@@ -294,6 +309,8 @@ def is_there(program: str) -> bool:
         return Path("/run/systemd/system").is_dir()
     if program == "losetup" and not Path("/dev/loop-control").exists():
         return False
+    if program == "apt" and not (has_overlays() and all(shutil.which(it, path=SYSTEM_PATH) for it in PACKERS)):
+        return False
     return shutil.which(program, path=SYSTEM_PATH) is not None
 
 
@@ -319,18 +336,41 @@ def make(target: str, programs: list[str], folder: str) -> None:
     subprocess.run(words, check=True, env=environment, umask=0o077, stdout=subprocess.DEVNULL)
 
 
-def furnish(programs: list[str]) -> None:
-    """Folders that a recipe may change: a copy of /etc, what is installed, and empty ones."""
+def pack(programs: list[str], folder: str) -> None:
+    """Makes packages of the programs in a folder."""
+    subprocess.run((sys.executable, str(TOP / "packaging/deb.py"), *programs, folder), check=True, stdout=subprocess.DEVNULL)
+
+
+def overlay(folder: str) -> None:
+    """Lets a recipe change the files below a folder, which stay as they are."""
+    own = Path("/mnt/overlays", folder.lstrip("/"))
+    for it in ("changed", "work"):
+        own.joinpath(it).mkdir(parents=True)
+    mount("-t", "overlay", "-o", f"lowerdir={folder},upperdir={own}/changed,workdir={own}/work", "machine", folder)
+
+
+def furnish(programs: list[str], has_packages: bool = False) -> None:
+    """Folders that a recipe may change: a copy of /etc, what is installed or the packages, and empty ones."""
     mount("-t", "tmpfs", "-o", "mode=755", "machine", "/mnt")
     subprocess.run(("cp", "-a", "/etc", "/mnt/etc"), check=True)
     shutil.copytree(TOP / "etc", "/mnt/of_the_repository")
-    make("install", programs, "/mnt/installed")
+    empty = [("/srv", "755"), ("/home", "755"), ("/run", "755"), ("/tmp", "1777")]
+    if has_packages:
+        pack(programs, "/mnt/packages")
+        os.makedirs("/mnt/installed/usr/local")
+        overlay("/usr")
+        overlay("/var")
+    else:
+        make("install", programs, "/mnt/installed")
+        empty.append(("/var/lib", "755"))
     mount("--bind", "/mnt/etc", "/etc")
     mount("--bind", "/mnt/installed/usr/local", "/usr/local")
-    for folder, mode in (("/srv", "755"), ("/home", "755"), ("/run", "755"), ("/var/lib", "755"), ("/tmp", "1777")):
+    for folder, mode in empty:
         mount("-t", "tmpfs", "-o", f"mode={mode}", "machine", folder)
     os.mkdir(HOME, 0o700)
     shutil.copytree("/mnt/of_the_repository", f"{HOME}/etc")
+    if has_packages:
+        shutil.copytree("/mnt/packages", f"{HOME}/out/deb")
     with open("/etc/hosts", "a") as hosts:
         hosts.write("\n127.0.0.1 tapehost\n")
     users = Path("/etc/passwd")
@@ -388,7 +428,7 @@ def run_inside(titles: list[str], programs: list[str], shell: str | None) -> int
     recipes = all_recipes()
     wanted = [recipes[it] for it in titles]
     loopback()
-    furnish(programs)
+    furnish(programs, any("apt" in it.needs for it in wanted))
     if any("sshd" in it.needs for it in wanted):
         open_for_ssh()
     pause, environment, how = "", ENVIRONMENT, {}
@@ -416,6 +456,12 @@ def has_machines() -> bool:
         return False
     words = (*UNSHARE, "mount", "-t", "tmpfs", "machine", "/mnt")
     return subprocess.run(words, capture_output=True, check=False).returncode == 0
+
+
+def has_overlays() -> bool:
+    """Whether a machine can have overlays."""
+    words = "mount -t tmpfs machine /mnt && mkdir /mnt/c /mnt/w && mount -t overlay -o lowerdir=/usr,upperdir=/mnt/c,workdir=/mnt/w machine /usr"
+    return os.geteuid() == 0 and subprocess.run((*UNSHARE, "sh", "-c", words), capture_output=True, check=False).returncode == 0
 
 
 class Ran(NamedTuple):
@@ -486,7 +532,7 @@ SECTIONS = {"rmtd at its start": "rmtd", "rdump": "rdump"}
 # What varies in a message, and what is printed in its place.
 VARIES = {
     "..": ".*",
-    "ADDRESS": r"[\w.-]+:\d+",
+    "ADDRESS": r"(?:unix:/\S+|[\w.-]+:\d+)",
     "DATE": ".+",
     "DEVICE": r"/\S+",
     "FILE": r"\S+",

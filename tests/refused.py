@@ -28,9 +28,10 @@ from lawful import NO_MEMORY, History, empty, reels_of
 from model_rmtd import images
 from model_sums import line_of
 from shim import compiled
-from sites import ABANDONED, ABNORMAL, ASKED, CRATES, DATED, DEVICE, DONE, FAILED, GUARD_SECONDS, KEPT, LISTEN, NEW_DATES, NO_BLOCKS, NOT_WRITTEN
+from sites import ABANDONED, ABNORMAL, ASKED, CRATES, DATED, DEVICE, DONE, FAILED, GUARD_SECONDS, KEPT, NEW_DATES, NO_BLOCKS, NOT_WRITTEN
 from sites import OLD_DATES, THREE_BLOCKS, Ended, Left, Payload, Programs, course, drive_words, dump_site, dumped, folders, held, kept_words, left
 from sites import serving
+from threads import TCP, UNIX, Address, address_in, connected
 
 # A record and a mark are written and read back; and a reel is taken away, so that none is left.
 ROW = b"O/dev/st0\n2\nW5\nhelloI0\n1\nI5\n1\nR10\nR10\nC\n"
@@ -43,7 +44,7 @@ RESERVED = [262_144, 262_156]
 
 NAMED = b"out of memory\n"
 # What the server says on standard error that was refused memory at its start: the part of the start, or the folder or address that it was at.
-TOLD = rb"rmtd: (it did not start|the words|the words could not be read|/\S+/(bin|st0)|127\.0\.0\.1:0): out of memory\n"
+TOLD = rb"rmtd: (it did not start|the arguments|the words could not be read|/\S+/(bin|st0)|127\.0\.0\.1:0|unix:/\S+/socket): out of memory\n"
 FAILED_START = f"volume 1 failed: OutOfMemory\n{ASKED}\n"
 
 
@@ -154,32 +155,33 @@ def over_a_folder(p: Programs) -> None:
 
 # The listener.
 
+# How the line begins that a server prints once it listens.
+LISTENS = b"listening on "
 
-def conversed(address: str) -> bytes | None:
+
+def conversed(address: Address) -> bytes | None:
     """What a connection is answered; none where it is closed at once."""
-    host, port = address.rsplit(":", 1)
-    with suppress(OSError), socket.create_connection((host, int(port)), GUARD_SECONDS) as client:
+    with suppress(OSError), connected(address) as client:
         client.sendall(ROW)
         client.shutdown(socket.SHUT_WR)
         return b"".join(iter(lambda: client.recv(65536), b"")) or None
     return None
 
 
-def listened(p: Programs, rules: str, folder: Path | None, count: int = 2) -> Ended:
+def listened(p: Programs, rules: str, folder: Path | None, count: int = 2, at: str = TCP) -> Ended:
     """Connections, one after the other. What is left is what each was answered, and what is told is the log."""
-    words = (p.rmtd, *LISTEN, "--connections", str(count), *(drive_words(folder) if folder else ()))
+    words = (p.rmtd, "--listen", at, "--connections", str(count), *(drive_words(folder) if folder else ()))
     p.shim.forget()
     with tempfile.TemporaryFile() as log, subprocess.Popen(words, stdout=subprocess.PIPE, stderr=log, env=p.shim.environment(rules)) as server:
         guard = threading.Timer(GUARD_SECONDS, server.kill)
         guard.start()
-        line = server.stdout.readline().decode()
-        found = re.fullmatch(r"listening on (.+:\d+)\n", line)
-        answers = [conversed(found[1]) for _ in range(count)] if found else []
+        line = server.stdout.readline()
+        answers = [conversed(address_in(line)) for _ in range(count)] if line.startswith(LISTENS) else []
         rest = server.stdout.read()
         server.wait()
         guard.cancel()
         told = os.pread(log.fileno(), 1 << 20, 0)
-    return Ended(server.returncode, b"" if found else line.encode() + rest, told, answers, tuple(p.shim.calls()))
+    return Ended(server.returncode, b"" if line.startswith(LISTENS) else line + rest, told, answers, tuple(p.shim.calls()))
 
 
 # What the log says last of a connection: after its answers, and where it is answered nothing.
@@ -200,13 +202,17 @@ def is_logged(got: Ended) -> bool:
 
 def listener(p: Programs) -> None:
     """Connections: a refusal alone is met by one of them, and the other is served."""
-    for title, in_folder, least in (("connections at the drive in memory", False, 45), ("connections at a folder", True, 245)):
+    for title, in_folder, least, at in (
+        ("connections at the drive in memory", False, 45, TCP),
+        ("connections at the drive in memory, over a Unix socket", False, 40, UNIX),
+        ("connections at a folder", True, 245, TCP),
+    ):
         history = History(ROW, empty("r1"), NO_MEMORY, grows=not in_folder)
         whole = history.wanted()
 
-        def go(rules: str, in_folder: bool = in_folder) -> Ended:
+        def go(rules: str, in_folder: bool = in_folder, at: str = at) -> Ended:
             with folders(r1=b"") as folder:
-                return listened(p, rules, folder if in_folder else None)
+                return listened(p, rules, folder if in_folder else None, at=at.replace("FOLDER", str(folder)))
 
         def is_lawful(answer: bytes | None, history: History = history) -> bool:
             return answer is None or (bool(history.states(answer)) and history.answered_all(answer))

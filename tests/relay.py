@@ -3,7 +3,8 @@
 
     relay.py [--every N] [RMTD [RDUMP]]
 
-The end is a close or a reset. The operator answers `yes` until the dump is complete. What is told, what each reel holds and what dumpdates has then
+The end is a close or a reset. After each other number of bytes both ends come to the relay over a Unix socket, where a reset is a close with something
+unread. The operator answers `yes` until the dump is complete. What is told, what each reel holds and what dumpdates has then
 follows from the bytes alone, by the table of `cuts.py`. Where the server has not yet seen the end it refuses the next attempt: nothing rests on when
 it does, and how often that came is printed.
 """
@@ -12,7 +13,6 @@ from __future__ import annotations
 
 import argparse
 import os
-import re
 import select
 import socket
 import struct
@@ -29,6 +29,7 @@ from checks import check, ended
 from cuts import ATTEMPTS, ENTRY, REELS, Cut, blocks, cuts, first_block
 from model_rmtd import images
 from sites import files_of
+from threads import TCP, UNIX, Address, address_in, connected
 
 CRATES = Path(__file__).resolve().parent.parent / "crates"
 DEVICE = "/dev/st0"
@@ -53,14 +54,18 @@ CLOSE, RESET = "close", "reset"
 class Relay(threading.Thread):
     """Passes connections on to a server, one after the other, and cuts one of them. It has done so where, after a close, both have ended theirs."""
 
-    def __init__(self, server: tuple[str, int], cut: Cut, way: str) -> None:
+    def __init__(self, server: Address, cut: Cut, way: str, path: Path) -> None:
         super().__init__(daemon=True)
         self.server = server
         self.cut = cut
         self.way = way
         self.has_cut = False
-        self.listener = socket.create_server(("127.0.0.1", 0))
-        self.address = "127.0.0.1:%d" % self.listener.getsockname()[1]
+        if isinstance(server, str):
+            self.listener = socket.create_server(str(path), family=socket.AF_UNIX)
+            self.address = f"unix:{path}"
+        else:
+            self.listener = socket.create_server(("127.0.0.1", 0))
+            self.address = "127.0.0.1:%d" % self.listener.getsockname()[1]
 
     def run(self) -> None:
         """Serves until the listener is shut down."""
@@ -71,10 +76,11 @@ class Relay(threading.Thread):
             except OSError:
                 return
             number += 1
-            with client, suppress(OSError), socket.create_connection(self.server) as server:
+            with client, suppress(OSError), connected(self.server) as server:
                 for it in (client, server):
                     it.settimeout(GUARD_SECONDS)
-                    it.setsockopt(socket.IPPROTO_TCP, socket.TCP_NODELAY, 1)
+                    if it.family != socket.AF_UNIX:
+                        it.setsockopt(socket.IPPROTO_TCP, socket.TCP_NODELAY, 1)
                 self.pass_on(client, server, self.cut.count if number == self.cut.attempt else None)
 
     def pass_on(self, client: socket.socket, server: socket.socket, left: int | None) -> None:
@@ -131,13 +137,12 @@ class Site:
         folder.joinpath("payload").write_bytes(b"".join(payload()))
 
     @contextmanager
-    def serving(self, rmtd: str) -> Iterator[tuple[str, int]]:
+    def serving(self, rmtd: str, at: str) -> Iterator[Address]:
         """The address of a server over the folder, which is killed at the end."""
-        words = (rmtd, "--listen", "127.0.0.1:0", "--capacity", str(CAPACITY), "--bin", str(self.bin), f"{DEVICE}={self.stack}")
+        words = (rmtd, "--listen", at.replace("FOLDER", str(self.folder)), "--capacity", str(CAPACITY), "--bin", str(self.bin), f"{DEVICE}={self.stack}")
         with self.told.open("ab") as told, subprocess.Popen(words, stdout=subprocess.PIPE, stderr=told) as server:
             try:
-                host, port = re.fullmatch(r"listening on (.+):(\d+)\n", server.stdout.readline().decode()).groups()
-                yield host, int(port)
+                yield address_in(server.stdout.readline())
             finally:
                 server.kill()
 
@@ -217,11 +222,12 @@ def without_refusals(cut: Cut, lines: list[str]) -> list[str]:
 def run(rmtd: str, rdump: str, cut: Cut, way: str) -> int:
     """One dump. Answers how often the server refused an attempt since it had not yet seen the end."""
     direction = "to the server" if cut.to_server else "of replies"
-    title = f"attempt {cut.attempt}, a {way} after {cut.count} bytes {direction}"
+    at = UNIX if cut.count % 2 else TCP
+    title = f"attempt {cut.attempt}, a {way} after {cut.count} bytes {direction}, {at}"
     with tempfile.TemporaryDirectory(prefix="relay-") as folder:
         site = Site(Path(folder))
-        with site.serving(rmtd) as address:
-            relay = Relay(address, cut, way)
+        with site.serving(rmtd, at) as address:
+            relay = Relay(address, cut, way, Path(folder, "relay"))
             relay.start()
             try:
                 status, lines = site.dump(rdump, relay.address)

@@ -1,5 +1,5 @@
 #!/usr/bin/env python3
-"""Checks the built server where many connections come to its folder drives at once, on the loopback.
+"""Checks the built server where many connections come to its folder drives at once, on the loopback and at a Unix socket.
 
     threads.py [RMTD [RDUMP]] [--seed N]
 
@@ -56,6 +56,34 @@ NO_REEL = b"E6\nDevice not configured\n"
 NOTHING_OPEN = b"E9\nBad file descriptor\n"
 BUSY = b"E16\nDevice busy\n"
 
+# Where a server listens: at a free port of the loopback, or at a socket file in its own folder.
+TCP, UNIX = "127.0.0.1:0", "unix:FOLDER/socket"
+# A host and a port, or the path of a Unix socket.
+Address = tuple[str, int] | str
+
+
+def address_in(line: bytes) -> Address:
+    """The address in the line that a server prints once it listens."""
+    path, host, port = re.fullmatch(r"listening on (?:unix:(/.+)|(.+):(\d+))\n", line.decode()).groups()
+    return path or (host, int(port))
+
+
+def text_of(address: Address) -> str:
+    """An address as an argument of `rdump`."""
+    return f"unix:{address}" if isinstance(address, str) else "%s:%d" % address
+
+
+def connected(address: Address) -> socket.socket:
+    """A connection to a server, which sends at once."""
+    if isinstance(address, str):
+        stream = socket.socket(socket.AF_UNIX)
+        stream.settimeout(GUARD_SECONDS)
+        stream.connect(address)
+        return stream
+    stream = socket.create_connection(address, timeout=GUARD_SECONDS)
+    stream.setsockopt(socket.IPPROTO_TCP, socket.TCP_NODELAY, 1)
+    return stream
+
 
 def device(number: int) -> str:
     return f"/dev/st{number}"
@@ -78,19 +106,18 @@ def label(volume: int, first: int) -> bytes:
 class Server:
     """A server that listens, its drives, and its bin."""
 
-    def __init__(self, program: str, folder: Path, drives: int, capacity: int, more: tuple[str, ...]) -> None:
+    def __init__(self, program: str, folder: Path, drives: int, capacity: int, more: tuple[str, ...], at: str = TCP) -> None:
         self.bin = folder / "bin"
         self.stacks = [folder / f"st{number}" for number in range(drives)]
         for it in (self.bin, *self.stacks):
             it.mkdir()
-        words = [program, "--listen", "127.0.0.1:0", "--capacity", str(capacity), "--bin", str(self.bin), *more]
-        words += [f"{device(number)}={it}" for number, it in enumerate(self.stacks)]
+        at = at.replace("FOLDER", str(folder))
+        self.words = [program, "--listen", at, "--capacity", str(capacity), "--bin", str(self.bin), *more]
+        self.words += [f"{device(number)}={it}" for number, it in enumerate(self.stacks)]
         self.log = folder / "log"
         with self.log.open("wb") as log:
-            self.process = subprocess.Popen(words, stdout=subprocess.PIPE, stderr=log)
-        line = self.process.stdout.readline().decode()
-        found = re.fullmatch(r"listening on (.+):(\d+)\n", line)
-        self.address = (found[1], int(found[2]))
+            self.process = subprocess.Popen(self.words, stdout=subprocess.PIPE, stderr=log)
+        self.address = address_in(self.process.stdout.readline())
 
     def reel(self, name: str, number: int = 0, *entries: Entry) -> Path:
         """Makes a reel of these entries on the stack of a drive."""
@@ -126,10 +153,10 @@ class Server:
 
 
 @contextmanager
-def serving(program: str, *more: str, drives: int = 1, capacity: int = 1 << 20) -> Iterator[Server]:
+def serving(program: str, *more: str, drives: int = 1, capacity: int = 1 << 20, at: str = TCP) -> Iterator[Server]:
     """A server with these words more over empty folders, which are taken away at the end."""
     with tempfile.TemporaryDirectory() as folder:
-        server = Server(program, Path(folder), drives, capacity, more)
+        server = Server(program, Path(folder), drives, capacity, more, at)
         try:
             yield server
         finally:
@@ -139,9 +166,8 @@ def serving(program: str, *more: str, drives: int = 1, capacity: int = 1 << 20) 
 class Talk:
     """A connection, spoken to in lock step."""
 
-    def __init__(self, address: tuple[str, int]) -> None:
-        self.stream = socket.create_connection(address, timeout=GUARD_SECONDS)
-        self.stream.setsockopt(socket.IPPROTO_TCP, socket.TCP_NODELAY, 1)
+    def __init__(self, address: Address) -> None:
+        self.stream = connected(address)
         self.replies = self.stream.makefile("rb")
 
     def reply(self, wants_data: bool = False) -> bytes:
@@ -255,7 +281,8 @@ class Gate:
                 near, _ = self.listener.accept()
             except OSError:
                 return
-            far = socket.create_connection(self.server.address)
+            far = connected(self.server.address)
+            far.settimeout(None)
             back = threading.Thread(target=self.pass_on, args=(far, near, False), daemon=True)
             back.start()
             self.pass_on(near, far, True)
@@ -289,7 +316,7 @@ def said_by(words: list[str]) -> tuple[int, str]:
 
 
 def mt_words(rdump: str, server: Server) -> list[str]:
-    return [rdump, "mt", "--to", "%s:%d" % server.address, "--device", device(0), "nop", "1"]
+    return [rdump, "mt", "--to", text_of(server.address), "--device", device(0), "nop", "1"]
 
 
 def volumes_of(payload: bytes, counts: list[int]) -> list[bytes]:
@@ -308,10 +335,10 @@ def told_of(counts: list[int]) -> str:
     return "".join(lines) + f"dump complete: {len(counts)} volumes, {sum(counts)} blocks\n"
 
 
-def busy(rmtd: str, rdump: str) -> None:
+def busy(rmtd: str, rdump: str, at: str) -> None:
     """A dump of two reels: who opens the drive in mid volume is told that it is busy, and the dump is whole."""
     counts = [2, 1]
-    with serving(rmtd, capacity=3_100) as server, tempfile.TemporaryDirectory() as folder:
+    with serving(rmtd, capacity=3_100, at=at) as server, tempfile.TemporaryDirectory() as folder:
         for name in ("r1", "r2"):
             server.reel(name)
         payload = Path(folder) / "usr"
@@ -325,7 +352,7 @@ def busy(rmtd: str, rdump: str) -> None:
                 other.asks("busy: another connection again", (opened(mode=0), BUSY), (CLOSE, NOTHING_OPEN))
             got = said_by(mt_words(rdump, server))
             check("busy: an operation of another client", got == (3, "E16 Device busy\n"), got)
-            got = said_by(dump_words(rdump, "%s:%d" % server.address, payload))
+            got = said_by(dump_words(rdump, text_of(server.address), payload))
             check("busy: a dump of another client", got == (3, "volume 1 failed: Refused 16\nretry?\ndump abandoned\n"), got)
             gate.is_open.set()
             told = client.communicate(timeout=GUARD_SECONDS)[0]
@@ -340,9 +367,9 @@ def busy(rmtd: str, rdump: str) -> None:
 # Many connections at once.
 
 
-def all_at_once(rmtd: str) -> None:
+def all_at_once(rmtd: str, at: str) -> None:
     """As many connections as are served at once dump to as many drives, and each reel is that of its own connection."""
-    with serving(rmtd, drives=CONNECTIONS) as server:
+    with serving(rmtd, drives=CONNECTIONS, at=at) as server:
         source = random.Random(2)
         payloads = [source.randbytes(source.randrange(1, 200) * BLOCK) for _ in range(CONNECTIONS)]
         for number in range(CONNECTIONS):
@@ -385,9 +412,9 @@ def run_all(workers: list[threading.Thread]) -> None:
         it.join(GUARD_SECONDS)
 
 
-def one_too_many(rmtd: str, rdump: str) -> None:
+def one_too_many(rmtd: str, rdump: str, at: str) -> None:
     """A connection above the most is closed without an answer. Once another one has ended there is room again."""
-    with serving(rmtd, drives=CONNECTIONS + 1) as server, ExitStack() as stack:
+    with serving(rmtd, drives=CONNECTIONS + 1, at=at) as server, ExitStack() as stack:
         for number in range(CONNECTIONS + 1):
             server.reel("r1" if number == 0 else f"r{number}x", number)
         talks = [stack.enter_context(talking(server)) for _ in range(CONNECTIONS)]
@@ -411,9 +438,9 @@ def one_too_many(rmtd: str, rdump: str) -> None:
                 check("one too many: then there is none", another.is_closed())
 
 
-def interleaved(rmtd: str) -> None:
+def interleaved(rmtd: str, at: str) -> None:
     """Two sessions, request by request in turns: at drives of their own, and at one drive that goes from one to the other."""
-    with serving(rmtd, drives=2) as server:
+    with serving(rmtd, drives=2, at=at) as server:
         server.reel("a")
         server.reel("b", 1)
         with talking(server) as first, talking(server) as second:
@@ -434,9 +461,9 @@ def interleaved(rmtd: str) -> None:
             first.asks("interleaved, and is empty then", (opened(0), NO_REEL), (opened(1), DONE))
 
 
-def one_has_it(rmtd: str) -> None:
+def one_has_it(rmtd: str, at: str) -> None:
     """All connections open one drive at the same moment, over and over: each time one has it, and each other one is told that it is busy."""
-    with serving(rmtd) as server, ExitStack() as stack:
+    with serving(rmtd, at=at) as server, ExitStack() as stack:
         server.reel("r1")
         talks = [stack.enter_context(talking(server)) for _ in range(CONNECTIONS)]
         check("one has it: all are served", all([talk.ask(NOTHING) == NOTHING_OPEN for talk in talks]))
@@ -450,11 +477,11 @@ def one_has_it(rmtd: str) -> None:
                 talk.asks(f"one has it: turn {turn}, they close", (CLOSE, wanted))
 
 
-def silent(rmtd: str) -> None:
+def silent(rmtd: str, at: str) -> None:
     """Clients that send nothing, half of a request, or nothing more while they hold a drive, and one that reads no reply, hold up no other
     one. They are served when they go on."""
     record = bytes(65_536)
-    with serving(rmtd, drives=3) as server, ExitStack() as stack:
+    with serving(rmtd, drives=3, at=at) as server, ExitStack() as stack:
         for number in range(3):
             server.reel(f"r{number}", number, record)
         mute, slow, holder, deaf = (stack.enter_context(talking(server)) for _ in range(4))
@@ -484,10 +511,10 @@ def is_free(server: Server, number: int) -> bool:
         return talk.ask(opened(number)) == DONE
 
 
-def counted(rmtd: str) -> None:
+def counted(rmtd: str, at: str) -> None:
     """With `--connections` so many are accepted. The server ends well when the last of them has ended. One that is closed without an answer
     is one of them."""
-    with serving(rmtd, "--connections", "3", drives=2) as server, ExitStack() as stack:
+    with serving(rmtd, "--connections", "3", drives=2, at=at) as server, ExitStack() as stack:
         server.reel("a")
         server.reel("b", 1)
         first, second, third = (stack.enter_context(talking(server)) for _ in range(3))
@@ -502,7 +529,7 @@ def counted(rmtd: str) -> None:
             second.asks("counted: they are served", (write(b"x"), DONE_ONE))
         second.end()
         check("counted: it ends", server.ends_well(), server.process.returncode)
-    with serving(rmtd, "--connections", str(CONNECTIONS + 1)) as server, ExitStack() as stack:
+    with serving(rmtd, "--connections", str(CONNECTIONS + 1), at=at) as server, ExitStack() as stack:
         talks = [stack.enter_context(talking(server)) for _ in range(CONNECTIONS)]
         check("counted: all are served", all([talk.ask(NOTHING) == NOTHING_OPEN for talk in talks]))
         with talking(server) as other:
@@ -511,7 +538,7 @@ def counted(rmtd: str) -> None:
         for talk in talks:
             talk.end()
         check("counted: the one more was the last", server.ends_well(), server.process.returncode)
-    with serving(rmtd, "--connections", "0") as server:
+    with serving(rmtd, "--connections", "0", at=at) as server:
         check("counted: none", server.ends_well(), server.process.returncode)
 
 
@@ -620,10 +647,10 @@ def is_not_served(server: Server) -> bool:
     return True
 
 
-def no_thread(rmtd: str) -> None:
+def no_thread(rmtd: str, at: str) -> None:
     """Connections for which no thread can be had, more than are served at once, are closed without an answer. The server goes on, and none
     of them keeps a place."""
-    with serving(rmtd) as server:
+    with serving(rmtd, at=at) as server:
         server.reel("r1")
         server.may_take(SPARE_MEMORY)
         for number in range(CONNECTIONS + 1):
@@ -638,10 +665,10 @@ def no_thread(rmtd: str) -> None:
 # Connections that are cut.
 
 
-def cut_connections(rmtd: str, rdump: str, seed: int) -> None:
+def cut_connections(rmtd: str, rdump: str, seed: int, at: str) -> None:
     """Connections that end at a random byte, and then a dump that succeeds."""
     source = random.Random(seed)
-    with serving(rmtd, drives=CUT_DRIVES) as server, tempfile.TemporaryDirectory() as folder:
+    with serving(rmtd, drives=CUT_DRIVES, at=at) as server, tempfile.TemporaryDirectory() as folder:
         reels = [server.reel(f"r{number}", number) for number in range(CUT_DRIVES)]
         is_served(server)
         check("cut connections: the first has ended", soon(lambda: server.held()[1] == 1))
@@ -656,16 +683,16 @@ def cut_connections(rmtd: str, rdump: str, seed: int) -> None:
             check(f"cut connections: drive {number} is free", is_free(server, number))
         payload = Path(folder) / "usr"
         payload.write_bytes(source.randbytes(30 * BLOCK))
-        got = said_by(dump_words(rdump, "%s:%d" % server.address, payload))
+        got = said_by(dump_words(rdump, text_of(server.address), payload))
         check("cut connections: the dump is complete", got == (0, told_of([30])), got)
         wanted = volumes_of(payload.read_bytes(), [30])
         check("cut connections: the reel", not reels[0].exists() and [it.read_bytes() for it in server.bin.iterdir()] == wanted)
 
 
-def cut_at(address: tuple[str, int], stream: bytes, way: str) -> None:
+def cut_at(address: Address, stream: bytes, way: str) -> None:
     """A connection that ends after these bytes: by a reset, by a close before its replies are read, or by the end of what is sent, and the
-    replies are read up to their end. The server may have closed it before."""
-    with suppress(ConnectionError), socket.create_connection(address, timeout=GUARD_SECONDS) as it:
+    replies are read up to their end. The server may have closed it before. A Unix socket has no reset: there it is a close."""
+    with suppress(ConnectionError), connected(address) as it:
         it.sendall(stream)
         if way == "reset":
             reset(it)
@@ -687,13 +714,17 @@ def main() -> int:
     parser.add_argument("--seed", type=int, default=SEED)
     words = parser.parse_args()
     rmtd, rdump = os.path.abspath(words.rmtd), os.path.abspath(words.rdump)
-    busy(rmtd, rdump)
-    one_too_many(rmtd, rdump)
-    for part in (all_at_once, interleaved, one_has_it, silent, counted, no_thread, sends_at_once, laid_back_first):
-        part(rmtd)
-    cut_connections(rmtd, rdump, words.seed)
-    if COUNT[1]:
-        print(f"seed {words.seed}")
+    sends_at_once(rmtd)
+    laid_back_first(rmtd)
+    for at in (TCP, UNIX):
+        failed = COUNT[1]
+        busy(rmtd, rdump, at)
+        one_too_many(rmtd, rdump, at)
+        for part in (all_at_once, interleaved, one_has_it, silent, counted, no_thread):
+            part(rmtd, at)
+        cut_connections(rmtd, rdump, words.seed, at)
+        if COUNT[1] > failed:
+            print(f"{COUNT[1] - failed} failed at {at}, seed {words.seed}")
     return ended()
 
 

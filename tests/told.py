@@ -269,6 +269,12 @@ def counted(p: Programs) -> None:
     output = "volume 1: 2 blocks from 0\n" + "volume 2 failed: CountedReel 1\nretry?\n" * 2 + "dump abandoned\n"
     told("a counted reel, twice", p.dump(server.address, said="yes\n"), output, ABNORMAL, words * 2)
     server.stop()
+    odd = "/dev/st 0"
+    server = Said(*volume, *laid_again, *laid_again)
+    words = words.replace(f"--device {DEVICE} ", f"--device '{odd}' ").replace(DEVICE, odd)
+    words = re.sub(r"127\.0\.0\.1:\d+", server.address, words)
+    told("a counted reel on a drive with a space, twice", p.dump(server.address, device=odd, said="yes\n"), output, ABNORMAL, words * 2)
+    server.stop()
 
 
 def reset(stream: socket.socket) -> None:
