@@ -265,6 +265,14 @@ def arguments(p: Programs) -> None:
             check("a full standard output: the next start takes the place of the file", it.is_served())
 
 
+@contextmanager
+def copied(p: Programs) -> Iterator[Programs]:
+    """The programs in a folder that other users may search, so that they can run them."""
+    with tempfile.TemporaryDirectory() as folder:
+        Path(folder).chmod(0o755)
+        yield Programs(shutil.copy(p.rmtd, folder), shutil.copy(p.rdump, folder), Path(folder))
+
+
 # The socket file.
 
 
@@ -279,11 +287,7 @@ def files(p: Programs) -> None:
     if os.geteuid() != 0:
         print("skipped: who may connect to a Unix socket: it takes root, for a second user")
         return
-    with tempfile.TemporaryDirectory() as folder:
-        given = Path(folder, "rdump")
-        shutil.copy(p.rdump, given)
-        Path(folder).chmod(0o755)
-        theirs = Programs(p.rmtd, str(given), Path(folder))
+    with copied(p) as theirs:
         for title, umask, how, who, is_let_in in (
             ("another user", 0o022, {}, USER, False),
             ("another user, whom the umask lets in", 0, {}, USER, True),
@@ -396,11 +400,7 @@ def taken(p: Programs) -> None:
     if os.geteuid() != 0:
         print("skipped: a folder that the server's user may not write to: it takes root, for a second user")
         return
-    with tempfile.TemporaryDirectory() as folder:
-        given = Path(folder, "rmtd")
-        shutil.copy(p.rmtd, given)
-        Path(folder).chmod(0o755)
-        theirs = Programs(str(given), p.rdump, Path(folder))
+    with copied(p) as theirs:
         with door(theirs) as it:
             stays("a folder without write permission", it, DENIED, **USER)
             ended_by("SIGKILL", it)
