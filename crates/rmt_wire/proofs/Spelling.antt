@@ -1,17 +1,12 @@
--- What a writer writes spells its reply or its request.
-use Rattle.std.proofs.Common.{◌≡◌, ℕ, ◌^◌, ◌<◌, ◌≤◌, List, [], ◌∷◌, ◌++◌, length, length-append, take, decimal, refl, sym, ap, subst, ◌∙◌, arith, append_assoc, append-nil, inl}
+-- What a writer writes spells its reply or its request, and so does a text that it writes in two parts.
+use Rattle.std.proofs.Common.{min, ◌≡◌, ℕ, ◌^◌, ◌<◌, ◌≤◌, List, [], ◌∷◌, ◌++◌, length, length-append, take, decimal, refl, sym, ap, subst, ◌∙◌, arith, append_assoc, append-nil, inl, zero, suc, ◌+◌, Option, Result, Ok, Err, OnErr}
 use Rattle.std.proofs.lemmas.Fmt.{decimal_is_IsNumeral, length-decimal-le}
-use Rattle.std.proofs.lemmas.List.{take_all, nil_from_length}
-use Rattle.rmt_wire.specs.Number.{SpellsNumber, IsLine, line_feed}
-use Rattle.rmt_wire.specs.declared.limits.TheConstants.{READER_LIMIT}
-use Rattle.rmt_wire.specs.declared.limits.TheConstants.{RECORD_LIMIT}
-use Rattle.rmt_wire.specs.ReplyReader.{IsWithin}
-use Rattle.rmt_wire.specs.Reply.{PlainReply, Wanted, ReplyHasSpelling, AnswersTo, SpellsReply, data_length, reply_text}
-use Rattle.rmt_wire.specs.Reply.PlainReply.{Done, Data, Error}
-use Rattle.rmt_wire.specs.Request.{PlainRequest, HasSpelling, SpellsRequest, request_text, unsent, IsTextOf}
-use Rattle.rmt_wire.specs.Request.PlainRequest.{Open, Close, Write, WriteDropped, Read, Op}
+use Rattle.std.proofs.lemmas.List.{take-append-le, take_min, take_all, nil_from_length}
+use Rattle.std.proofs.Math.Seq.{take-append-add}
+use Rattle.std.proofs.KnownBytes.{Appends-trans}
+use Rattle.std.specs.Io.KnownBytes.{Appends}
+use Rattle.rmt_wire.proofs.Words.{SpellsNumber, IsLine, line_feed, READER_LIMIT, RECORD_LIMIT, IsWithin, PlainReply, Wanted, ReplyHasSpelling, AnswersTo, SpellsReply, data_length, reply_text, Done, Data, Error, PlainRequest, HasSpelling, SpellsRequest, request_text, unsent, IsTextOf, Open, Close, Write, WriteDropped, Read, Op, Number, DataUpTo, AppendsBeginning}
 use Rattle.rmt_wire.proofs.Align.{digits_no_feed}
-use Rattle.rmt_wire.specs.Reply.Wanted.{Number, DataUpTo}
 
 -- a number as Rust prints it has at most ten digits
 pub decimal_is_short : (n : ℕ) → n ≤ 2147483647 → length (decimal n) ≤ 10
@@ -23,13 +18,8 @@ pub ruleset short_heads = (length-append, decimal_is_short)
 -- a number as Rust prints it is spelled
 pub decimal_spells : (n : ℕ) → n ≤ 2147483647 → SpellsNumber (decimal n) n
 decimal_spells n small =
-    let fits : n < 2 ^ 64 = omega arith in
-    record {
-      digits = (decimal_is_IsNumeral n fits).0;
-      few = decimal_is_short n small;
-      value = (decimal_is_IsNumeral n fits).1;
-      small = small;
-    }
+    let d = decimal_is_IsNumeral n (omega arith) in
+    record { digits = d.0; few = decimal_is_short n small; value = d.1; small = small }
 
 -- what a writer writes of a reply spells it, for each wanted kind that it is one to
 pub reply_text_spells : (reply : PlainReply) → ReplyHasSpelling reply → (wanted : Wanted) → AnswersTo reply wanted
@@ -62,14 +52,8 @@ request_text_spells (Open device mode) h =
 request_text_spells Close h = whole_text Close refl ([], (omega arith, tt), refl)
 request_text_spells (Write written) h =
     whole_text (Write written) refl (decimal (length written), decimal_spells (length written) (omega arith), h, refl)
-request_text_spells (WriteDropped count) h = λ more long. (
-  decimal count,
-  more,
-  decimal_spells count h.1,
-  h.0,
-  long,
-  ap (λ l. 87 ∷ l) (append_assoc (decimal count) (line_feed ∷ []) more),
-)
+request_text_spells (WriteDropped count) h =
+    λ more long. (decimal count, more, decimal_spells count h.1, h.0, long, ap (λ l. 87 ∷ l) (append_assoc (decimal count) (line_feed ∷ []) more))
 request_text_spells (Read count) h = whole_text (Read count) refl (decimal count, decimal_spells count h, refl)
 request_text_spells (Op op count) h =
     whole_text (Op op count) refl (decimal op, decimal count, decimal_spells op h.0, decimal_spells count h.1, refl)
@@ -91,11 +75,19 @@ short_answer (Data bytes) Number answers within = absurd answers
 short_answer (Data bytes) (DataUpTo most) answers within = omega arith
 short_answer (Error n text) wanted answers within = omega arith
 
--- the texts of an open and of a write, as a writer puts them together
-pub open_text : (device : List ℕ) (mode : ℕ)
-    → ((([] ++ 79 ∷ []) ++ device) ++ line_feed ∷ []) ++ (decimal mode ++ line_feed ∷ []) ≡ request_text (Open device mode)
-open_text device mode =
-    append_assoc (79 ∷ device) (line_feed ∷ []) (decimal mode ++ line_feed ∷ [])
+-- a beginning of the first part went out
+pub beginning_of_first : (old new : Option (List ℕ)) (first rest : List ℕ) → AppendsBeginning old new first → AppendsBeginning old new (first ++ rest)
+beginning_of_first old new first rest (n, out) =
+    (min n (length first), subst (Appends old new) (sym (take-append-le (min n (length first)) first rest (omega arith) ∙ take_min n first)) out)
 
-pub write_text : (bytes : List ℕ) → (87 ∷ (decimal (length bytes) ++ line_feed ∷ [])) ++ bytes ≡ request_text (Write bytes)
-write_text bytes = ap (λ l. 87 ∷ l) (append_assoc (decimal (length bytes)) (line_feed ∷ []) bytes)
+-- the first part went out, and a beginning of the rest
+pub beginning_past_first : (old mid new : Option (List ℕ)) (first rest : List ℕ) → Appends old mid first → AppendsBeginning mid new rest
+    → AppendsBeginning old new (first ++ rest)
+beginning_past_first old mid new first rest whole (n, out) =
+    let both = Appends-trans old mid new first (take n rest) whole out in
+    (length first + n, subst (Appends old new) (sym (take-append-add first rest n)) both)
+
+-- what holds anyway holds at a failure
+pub at_failure : {T E P : Type 0} (r : Result T E) → P → OnErr r P
+at_failure (Ok x) p = tt
+at_failure (Err e) p = p

@@ -1,81 +1,65 @@
 -- Reading a stream up to its next request.
-use Rattle.std.proofs.Common.{◌≡◌, ℕ, Bool, false, not, is_some, ◌+◌, ◌≤◌, List, [], ◌∷◌, ◌++◌, length, Option, Some, None, Result, Ok, Err, refl, sym, subst, append_assoc, append-nil, arith}
+use Rattle.std.proofs.Common.{◌≡◌, ℕ, Bool, false, not, is_some, ◌+◌, ◌≤◌, List, [], ◌∷◌, ◌++◌, length, Option, Some, None, Result, Ok, Err, refl, sym, subst, append_assoc, arith}
 use Rattle.std.specs.Io.KnownBytes.{Consumes}
-use Rattle.std.proofs.KnownBytes.{Consumes-nil, Consumes-trans, Consumes-kept}
-use Rattle.rmt_wire.specs.Request.{PlainRequest}
-use Rattle.rmt_wire.specs.RequestParts.{IsRequestPrefix, HasNoSpelling}
-use Rattle.rmt_wire.specs.RequestReader.{RequestHeld, Unread, IsGiven, IsNext, plain_next_result, plain_front_result}
-use Rattle.rmt_wire.specs.RequestFill.{IsFilled, IsNotFilled}
-use Rattle.rmt_wire.specs.RequestStream.{IsReadNext, CountsNext, EndsAs, IsGivenWhole, GivesNext, IsSpelledIfSome, FallsIfSome, HasAnswered, GoesOn, most_left, plain_read_next_result}
-use Rattle.rmt_wire.specs.declared.limits.TheConstants.{READER_LIMIT}
-use Rattle.rmt_wire.specs.declared.request.Request.{Request}
-use Rattle.rmt_wire.specs.declared.fault.WireFault.{WireFault}
-use Rattle.rmt_wire.specs.declared.request.reader.stream.StreamFault.{StreamFault}
-use Rattle.rmt_wire.specs.declared.request.reader.stream.StreamFault.TheVariants.{Broken}
-use Rattle.rmt_wire.proofs.Giving.{never_open}
+use Rattle.std.proofs.KnownBytes.{Consumes-trans, Consumes-kept}
+use Rattle.rmt_wire.proofs.Words.{PlainRequest, IsRequestPrefix, HasNoSpelling, RequestHeld, Unread, IsGiven, IsNext, plain_next_result, plain_front_result, IsFilled, IsNotFilled, Answers, IsReadNext, CountsNext, EndsAs, IsGivenWhole, GivesNext, IsSpelledIfSome, FallsIfSome, HasAnswered, GoesOn, most_left, plain_read_next_result, READER_LIMIT, Request, WireFault, StreamFault, Broken}
+use Rattle.std.specs.List.{flat_map}
+use Rattle.rmt_wire.proofs.Grammars.{open_or_fault}
+use Rattle.rmt_wire.proofs.Requests.{request_grammar}
+use Rattle.rmt_wire.proofs.Giving.{fault_of}
 use Rattle.rmt_wire.proofs.Given.{answered, answer_begun}
 
 -- bytes with a fault are no beginning of a request
 pub no_wait : (old new : RequestHeld) (fault : WireFault) (bytes : List ℕ) → IsNext old (Err fault) new → Unread old bytes → IsRequestPrefix bytes → ⊥
-no_wait old new fault bytes n u o = never_open bytes fault (n.continues bytes u).2.0 [] (subst IsRequestPrefix (sym (append-nil bytes)) o)
+no_wait old new fault bytes n u o = open_or_fault request_grammar bytes fault o (fault_of bytes fault (n.continues bytes u).2.0)
 
 -- nor are those with a request
-pub no_wait_unless_none : (old new : RequestHeld) (found : Option (Request × ℕ)) (b : Bool) (bytes : List ℕ) → IsNext old (plain_front_result (Ok found)) new → is_some found ≡ not b → b ≡ false
+pub no_wait_unless_none : (old new : RequestHeld) (found : Option (Request × ℕ)) (b : Bool) (bytes : List ℕ) → IsNext old (plain_front_result (Ok found)) new
+    → is_some found ≡ not b → b ≡ false
     → Unread old bytes → HasNoSpelling bytes → ⊥
 no_wait_unless_none old new None b bytes n e f u h = absurd (cc)
 no_wait_unless_none old new (Some found) b bytes n e f u h = let g = n.continues bytes u in h g.2.0 g.0 _ g.2.2 g.2.1
 
 -- by what is given of all that was pushed, a conversation goes on
-goes_on : (left left' : Option (List ℕ)) (old new : RequestHeld) (came : List ℕ) (result : Result (Option PlainRequest) StreamFault) → Consumes left left' came
-    → ((pushed : List ℕ) (requests : List PlainRequest) → IsGiven old pushed requests → GivesNext result left' new (pushed ++ came) requests)
-    → (answer : PlainRequest → List ℕ) (first output output' : Option (List ℕ)) → HasAnswered answer first left old output output' → GoesOn result answer first left' new output output'
-goes_on left left' old new came (Ok (Some request)) consumed gives answer first output output' a = (
-  λ output'' w. record {
-    read = a.read ++ came;
-    requests = a.requests ++ request ∷ [];
-    consumed = Consumes-trans _ _ _ a.read came a.consumed consumed;
-    given = gives a.read a.requests a.given;
-    written = answered answer output output' output'' a.requests request a.written w;
-  },
-  λ output'' w. record {
-    read = a.read ++ came;
-    requests = a.requests ++ request ∷ [];
-    consumed = Consumes-trans _ _ _ a.read came a.consumed consumed;
-    given = gives a.read a.requests a.given;
-    written = answer_begun answer output output' output'' a.requests request a.written w;
-  },
-)
-goes_on left left' old new came (Ok None) consumed gives answer first output output' a = record {
-  read = a.read ++ came;
-  requests = a.requests;
-  consumed = Consumes-trans _ _ _ a.read came a.consumed consumed;
-  given = gives a.read a.requests a.given;
-  written = a.written;
-}
-goes_on left left' old new came (Err fault) consumed gives answer first output output' a = record {
-  read = a.read ++ came;
-  requests = a.requests;
-  consumed = Consumes-trans _ _ _ a.read came a.consumed consumed;
-  given = gives a.read a.requests a.given;
-  written = a.written;
-}
+module _ (left left' : Option (List ℕ)) (came : List ℕ) (consumed : Consumes left left' came) where
+  answers_on : {answer : PlainRequest → List ℕ} {first : Option (List ℕ)} {G G' : List ℕ → List PlainRequest → Type 0} {W W' : List ℕ → Type 0}
+      (a : Answers answer first left G W)
+      (requests : List PlainRequest) → G' (a.read ++ came) requests → W' (flat_map answer requests) → Answers answer first left' G' W'
+  answers_on a requests given written =
+      record { read = a.read ++ came; requests = requests; consumed = Consumes-trans _ _ _ a.read came a.consumed consumed; given = given; written = written }
+
+  goes_on : (old new : RequestHeld) (result : Result (Option PlainRequest) StreamFault)
+      → ((pushed : List ℕ) (requests : List PlainRequest) → IsGiven old pushed requests → GivesNext result left' new (pushed ++ came) requests)
+      → (answer : PlainRequest → List ℕ) (first output output' : Option (List ℕ)) → HasAnswered answer first left old output output'
+      → GoesOn result answer first left' new output output'
+  goes_on old new (Ok (Some request)) gives answer first output output' a = (
+    λ output'' w. answers_on a (a.requests ++ request ∷ []) (gives a.read a.requests a.given)
+        (answered answer output output' output'' a.requests request a.written w),
+    λ output'' w. answers_on a (a.requests ++ request ∷ []) (gives a.read a.requests a.given)
+        (answer_begun answer output output' output'' a.requests request a.written w),
+  )
+  goes_on old new (Ok None) gives answer first output output' a = answers_on a a.requests (gives a.read a.requests a.given) a.written
+  goes_on old new (Err fault) gives answer first output output' a = answers_on a a.requests (gives a.read a.requests a.given) a.written
 
 -- what is unread then
-still_unread : (left : Option (List ℕ)) (new : RequestHeld) (pushed : List ℕ) (requests : List PlainRequest) (result : Result (Option PlainRequest) StreamFault) → GivesNext result left new pushed requests
+still_unread : (left : Option (List ℕ)) (new : RequestHeld) (pushed : List ℕ) (requests : List PlainRequest)
+    (result : Result (Option PlainRequest) StreamFault) → GivesNext result left new pushed requests
     → (rest : List ℕ) × Unread new rest
 still_unread left new pushed requests (Ok (Some request)) g = (g.0, g.1)
 still_unread left new pushed requests (Ok None) g = (g.0, g.1)
 still_unread left new pushed requests (Err fault) g = (g.0, g.1)
 
-is_read_next : (left left' : Option (List ℕ)) (reads reads' : ℕ) (old new : RequestHeld) (came : List ℕ) (result : Result (Option PlainRequest) StreamFault) → ((bytes : List ℕ) × Unread old bytes)
+is_read_next : (left left' : Option (List ℕ)) (reads reads' : ℕ) (old new : RequestHeld) (came : List ℕ) (result : Result (Option PlainRequest) StreamFault)
+    → ((bytes : List ℕ) × Unread old bytes)
     → Consumes left left' came
-    → ((pushed : List ℕ) (requests : List PlainRequest) → IsGiven old pushed requests → GivesNext result left' new (pushed ++ came) requests) → IsSpelledIfSome result
+    → ((pushed : List ℕ) (requests : List PlainRequest) → IsGiven old pushed requests → GivesNext result left' new (pushed ++ came) requests)
+    → IsSpelledIfSome result
     → FallsIfSome result (most_left reads old) (most_left reads' new) → IsReadNext left left' reads reads' old result new
 is_read_next left left' reads reads' old new came result unread consumed gives spelled falls = record {
   came = came;
   consumed = consumed;
   gives_on = gives;
-  answers = goes_on left left' old new came result consumed gives;
+  answers = goes_on left left' came consumed old new result gives;
   unread = still_unread left' new (unread.0 ++ came) [] result (gives unread.0 [] (unread.0, unread.1, refl));
   spelled = spelled;
   falls = falls;
@@ -88,26 +72,21 @@ pub record HasCome (left left' : Option (List ℕ)) (reads reads' : ℕ) (old ne
   pub given : (pushed : List ℕ) (requests : List PlainRequest) → IsGiven old pushed requests → IsGiven new (pushed ++ came) requests
   pub falls : most_left reads' new ≤ most_left reads old
 
-pub none_came : (left : Option (List ℕ)) (reads : ℕ) (old : RequestHeld) → HasCome left left reads reads old old
-none_came left reads old = record {
-  came = [];
-  consumed = Consumes-nil left;
-  given = λ pushed requests g. subst (λ b. IsGiven old b requests) (sym (append-nil pushed)) g;
-  falls = omega arith;
-}
+pub still_come : {left left' : Option (List ℕ)} {reads reads' : ℕ} {old now new : RequestHeld} → HasCome left left' reads reads' old now → new ≡ now
+    → HasCome left left' reads reads' old new
+still_come {left} {left'} {reads} {reads'} {old} h same = subst (HasCome left left' reads reads' old) (sym same) h
 
-pub still_come : (left left' : Option (List ℕ)) (reads reads' : ℕ) (old now new : RequestHeld) → HasCome left left' reads reads' old now → new ≡ now → HasCome left left' reads reads' old new
-still_come left left' reads reads' old now new h same = subst (HasCome left left' reads reads' old) (sym same) h
-
-module _ (left mid : Option (List ℕ)) (reads reads' : ℕ) (old now : RequestHeld) (first : (bytes : List ℕ) × Unread old bytes) (h : HasCome left mid reads reads' old now) where
+module _ {left mid : Option (List ℕ)} {reads reads' : ℕ} {old now : RequestHeld} (first : (bytes : List ℕ) × Unread old bytes)
+    (h : HasCome left mid reads reads' old now) where
   pub unread_now : (rest : List ℕ) × Unread now rest
   unread_now =
       let g = h.given first.0 [] (first.0, first.1, refl) in
       (g.0, g.1)
 
-  pub more_came : (left' : Option (List ℕ)) (reads'' count : ℕ) (new : RequestHeld) → IsFilled mid left' now new count → reads'' + 1 ≡ reads' → length new.kept ≤ READER_LIMIT
+  pub more_came : {left' : Option (List ℕ)} {reads'' count : ℕ} {new : RequestHeld} → IsFilled mid left' now new count → reads'' + 1 ≡ reads'
+      → length new.kept ≤ READER_LIMIT
       → HasCome left left' reads reads'' old new
-  more_came left' reads'' count new f fewer most = record {
+  more_came {new = new} f fewer most = record {
     came = h.came ++ f.came;
     consumed = Consumes-trans _ _ _ h.came f.came h.consumed f.consumed;
     given = λ pushed requests g.
@@ -117,7 +96,8 @@ module _ (left mid : Option (List ℕ)) (reads reads' : ℕ) (old now : RequestH
 
   -- nothing more came, and the bytes unread then end the stream so
   module _ (left' : Option (List ℕ)) (reads'' : ℕ) (new : RequestHeld) (n : IsNotFilled mid left' now new) where
-    given_whole : (end : Result Unit StreamFault) → ((rest : List ℕ) → Unread now rest → EndsAs end left' rest) → (pushed : List ℕ) (requests : List PlainRequest) → IsGiven old pushed requests
+    given_whole : (end : Result Unit StreamFault) → ((rest : List ℕ) → Unread now rest → EndsAs end left' rest)
+        → (pushed : List ℕ) (requests : List PlainRequest) → IsGiven old pushed requests
         → IsGivenWhole end left' new (pushed ++ h.came) requests
     given_whole end ends pushed requests given =
         let g = h.given pushed requests given in
@@ -126,10 +106,12 @@ module _ (left mid : Option (List ℕ)) (reads reads' : ℕ) (old now : RequestH
     pub ended : ((rest : List ℕ) → Unread now rest → EndsAs (Ok tt) left' rest) → IsReadNext left left' reads reads'' old (Ok None) new
     ended ends = is_read_next _ _ _ _ _ _ h.came _ first (Consumes-kept _ _ _ h.came h.consumed n.0) (given_whole (Ok tt) ends) tt tt
 
-    pub failed : (fault : StreamFault) → ((rest : List ℕ) → Unread now rest → EndsAs (Err fault) left' rest) → IsReadNext left left' reads reads'' old (Err fault) new
+    pub failed : (fault : StreamFault) → ((rest : List ℕ) → Unread now rest → EndsAs (Err fault) left' rest)
+        → IsReadNext left left' reads reads'' old (Err fault) new
     failed fault ends = is_read_next _ _ _ _ _ _ h.came _ first (Consumes-kept _ _ _ h.came h.consumed n.0) (given_whole (Err fault) ends) tt tt
 
-  pub next_given : (given : Option Request) (new : RequestHeld) → ((rest : List ℕ) → Unread now rest → ¬ (IsRequestPrefix rest × HasNoSpelling rest)) → IsNext now (plain_next_result (Ok given)) new
+  pub next_given : (given : Option Request) (new : RequestHeld) → ((rest : List ℕ) → Unread now rest → ¬ (IsRequestPrefix rest × HasNoSpelling rest))
+      → IsNext now (plain_next_result (Ok given)) new
       → IsReadNext left mid reads reads' old (plain_read_next_result (Ok given)) new
   next_given None new enough n =
       let rest = unread_now in
@@ -140,9 +122,11 @@ module _ (left mid : Option (List ℕ)) (reads reads' : ℕ) (old now : RequestH
       let given = n.continues rest.0 rest.1 in
       let shrinks = n.shrinks in
       let before = h.falls in
-      is_read_next _ _ _ _ _ _ h.came _ first h.consumed (λ pushed requests g. n.gives_on (pushed ++ h.came) requests (h.given pushed requests g)) (given.2.0, given.2.1) (omega arith)
+      is_read_next _ _ _ _ _ _ h.came _ first h.consumed (λ pushed requests g. n.gives_on (pushed ++ h.came) requests (h.given pushed requests g))
+      (given.2.0, given.2.1) (omega arith)
 
-  pub next_broken : (fault : WireFault) (new : RequestHeld) → IsNext now (plain_next_result (Err fault)) new → IsReadNext left mid reads reads' old (Err (Broken fault)) new
+  pub next_broken : (fault : WireFault) (new : RequestHeld) → IsNext now (plain_next_result (Err fault)) new
+      → IsReadNext left mid reads reads' old (Err (Broken fault)) new
   next_broken fault new n = is_read_next _ _ _ _ _ _ h.came _ first h.consumed
       (λ pushed requests g.
       let w = n.gives_on (pushed ++ h.came) requests (h.given pushed requests g) in

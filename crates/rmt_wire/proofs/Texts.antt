@@ -1,21 +1,19 @@
 -- The text of an error, as it is read and as it is kept.
 use Rattle.std.proofs.Common.{◌≡◌, ℕ, zero, suc, ◌⊎◌, Bool, true, false, eqb, min, List, [], ◌∷◌, ◌++◌, length, take, drop, refl, sym, ap, subst, cond, if◌then◌else◌, ◌≤◌, ◌+◌, ◌==◌, ltb, Some, None, ◌∙◌, arith, append_assoc, append-nil, inl, inr, ⊎_elim}
 use Rattle.std.proofs.lemmas.Bool.Decides.{nat_tests}
-use Rattle.std.proofs.lemmas.List.{take_min, take-append-le, drop_at, drop_all}
+use Rattle.std.proofs.lemmas.List.{take-take, length-append, length-take, length-drop, take_min, take-append-le, drop_at, drop_all}
 use Rattle.std.specs.List.{position}
 use Rattle.std.specs.Option.{unwrap_or}
 use Rattle.std.proofs.lemmas.List.Recursion.{is_position_or_len}
-use Rattle.rmt_wire.specs.Number.{HasNoLineFeed, line_feed}
-use Rattle.rmt_wire.specs.ReplyFront.{text_len, kept_text}
+use Rattle.rmt_wire.proofs.Words.{HasNoLineFeed, line_feed, text_len, kept_text}
+use Rattle.rmt_wire.proofs.Numbers.{by_test, on}
+use Rattle.rmt_wire.proofs.Align.{no_feed_append}
 
 -- the place of the first line feed, if there is one, and else the length
-not_longer_at : (b : ℕ) (text : List ℕ) (test : Bool) → text_len text ≤ length text → (if test then 0 else suc (text_len text)) ≤ length (b ∷ text)
-not_longer_at b text true h = omega arith
-not_longer_at b text false h = omega arith
-
 not_longer : (text : List ℕ) → text_len text ≤ length text
 not_longer [] = omega arith
-not_longer (b ∷ text) = not_longer_at b text (b == line_feed) (not_longer text)
+not_longer (b ∷ text) = let later = not_longer text in
+    by_test (λ n. n ≤ suc (length text)) (b == line_feed) 0 (suc (text_len text)) (λ ends. omega arith) (λ other. omega arith)
 
 step_at : (n : ℕ) (test : Bool) → (if test then 0 else suc n) ≡ cond test 0 (1 + n)
 step_at n true = refl
@@ -28,7 +26,8 @@ found_at n len false e h = grind (arith, nat_tests)
 pub found_len : (text : List ℕ) → unwrap_or (position (λ b. b == line_feed) text) (length text) ≡ text_len text
 found_len text =
     let same = is_position_or_len text_len (λ b. b == line_feed) refl (λ b bytes. step_at (text_len bytes) (b == line_feed)) text in
-    subst (λ n. unwrap_or (cond (ltb n (length text)) (Some n) None) (length text) ≡ n) same (found_at (text_len text) (length text) (ltb (text_len text) (length text)) refl (not_longer text))
+    subst (λ n. unwrap_or (cond (ltb n (length text)) (Some n) None) (length text) ≡ n) same
+    (found_at (text_len text) (length text) (ltb (text_len text) (length text)) refl (not_longer text))
     ∙ sym same
 
 -- a line ends at its line feed
@@ -51,17 +50,12 @@ open_len (b ∷ line) h =
 abbrev pub TextView : List ℕ → Type 0
 TextView text = HasNoLineFeed text ⊎ ((line rest : List ℕ) × HasNoLineFeed line × (text ≡ line ++ line_feed ∷ rest))
 
-longer : (b : ℕ) (text : List ℕ) → eqb b line_feed ≡ false → TextView text → TextView (b ∷ text)
-longer b text other v =
-    ⊎_elim (λ h. inl (grind (arith, nat_tests), h)) (λ w. inr (b ∷ w.0, w.1, (grind (arith, nat_tests), w.2), ap (λ l. b ∷ l) w.3)) v
-
-view_at : (b : ℕ) (text : List ℕ) (test : Bool) → eqb b line_feed ≡ test → TextView text → TextView (b ∷ text)
-view_at b text true e v = inr ([], text, tt, (let same : b ≡ line_feed = grind (arith, nat_tests) in ap (λ x. x ∷ text) same))
-view_at b text false e v = longer b text e v
-
 pub text_view : (text : List ℕ) → TextView text
 text_view [] = inl tt
-text_view (b ∷ text) = view_at b text (eqb b line_feed) refl (text_view text)
+text_view (b ∷ text) =
+    on (eqb b line_feed)
+    (λ e. inr ([], text, tt, (let same : b ≡ line_feed = grind (arith, nat_tests) in ap (λ x. x ∷ text) same)))
+    (λ other. ⊎_elim (λ h. inl (grind (arith, nat_tests), h)) (λ w. inr (b ∷ w.0, w.1, (grind (arith, nat_tests), w.2), ap (λ l. b ∷ l) w.3)) (text_view text))
 
 -- the beginning of a line is one
 pub take_no_feed : (n : ℕ) (line : List ℕ) → HasNoLineFeed line → HasNoLineFeed (take n line)
@@ -76,9 +70,13 @@ take_again (suc n) [] ys = refl
 take_again (suc n) (x ∷ xs) ys = ap (λ l. x ∷ l) (take_again n xs ys)
 
 pub take_twice : (n : ℕ) (xs : List ℕ) → take n (take n xs) ≡ take n xs
-take_twice zero xs = refl
-take_twice (suc n) [] = refl
-take_twice (suc n) (x ∷ xs) = ap (λ l. x ∷ l) (take_twice n xs)
+take_twice n xs = take-take n n xs (omega arith)
+
+-- no more of a text is kept than there is
+pub kept_text_few : (text : List ℕ) → length (kept_text text) ≤ length text
+kept_text_few text =
+    let size = text_len text in
+    omega (arith, length-append (take (min 255 size) text) (drop size text), length-take (min 255 size) text, length-drop size text, not_longer text)
 
 -- of a line the first 255 bytes are kept
 pub kept_open : (line : List ℕ) → HasNoLineFeed line → kept_text line ≡ take 255 line
@@ -92,26 +90,26 @@ kept_open line h =
 pub kept_ended : (line rest : List ℕ) → HasNoLineFeed line → kept_text (line ++ line_feed ∷ rest) ≡ take 255 line ++ line_feed ∷ rest
 kept_ended line rest h =
     ap (λ n. take (min 255 n) (line ++ line_feed ∷ rest) ++ drop n (line ++ line_feed ∷ rest)) (ended_len line rest h)
-    ∙ ap (λ l. l ++ drop (length line) (line ++ line_feed ∷ rest)) (take-append-le (min 255 (length line)) line (line_feed ∷ rest) (omega arith) ∙ take_min 255 line)
+    ∙ ap (λ l. l ++ drop (length line) (line ++ line_feed ∷ rest))
+    (take-append-le (min 255 (length line)) line (line_feed ∷ rest) (omega arith) ∙ take_min 255 line)
     ∙ ap (λ l. take 255 line ++ l) (drop_at line (line_feed ∷ rest) (length line) refl)
-
-no_feed_both : (a b : List ℕ) → HasNoLineFeed a → HasNoLineFeed b → HasNoLineFeed (a ++ b)
-no_feed_both [] b h k = k
-no_feed_both (x ∷ a) b h k = (h.0, no_feed_both a b h.1 k)
 
 -- what was kept is kept again, with more after it
 again_open : (text piece : List ℕ) → HasNoLineFeed text → TextView piece → kept_text (take 255 text ++ piece) ≡ kept_text (text ++ piece)
 again_open text piece h v =
     let kept = take_no_feed 255 text h in
     ⊎_elim
-    (λ p. kept_open (take 255 text ++ piece) (no_feed_both (take 255 text) piece kept p) ∙ take_again 255 text piece ∙ sym (kept_open (text ++ piece) (no_feed_both text piece h p)))
+    (λ p. kept_open (take 255 text ++ piece) (no_feed_append (take 255 text) piece kept p) ∙ take_again 255 text piece
+    ∙ sym (kept_open (text ++ piece) (no_feed_append text piece h p)))
     (λ w.
     let both : (t : List ℕ) → HasNoLineFeed t → kept_text (t ++ piece) ≡ take 255 (t ++ w.0) ++ line_feed ∷ w.1 =
-    λ t k. ap (λ l. kept_text (t ++ l)) w.3 ∙ ap kept_text (sym (append_assoc t w.0 (line_feed ∷ w.1))) ∙ kept_ended (t ++ w.0) w.1 (no_feed_both t w.0 k w.2) in
+    λ t k. ap (λ l. kept_text (t ++ l)) w.3 ∙ ap kept_text (sym (append_assoc t w.0 (line_feed ∷ w.1)))
+    ∙ kept_ended (t ++ w.0) w.1 (no_feed_append t w.0 k w.2) in
     both (take 255 text) kept ∙ ap (λ l. l ++ line_feed ∷ w.1) (take_again 255 text w.0) ∙ sym (both text h))
     v
 
-again_ended : (line rest piece : List ℕ) → HasNoLineFeed line → kept_text ((take 255 line ++ line_feed ∷ rest) ++ piece) ≡ kept_text ((line ++ line_feed ∷ rest) ++ piece)
+again_ended : (line rest piece : List ℕ) → HasNoLineFeed line
+    → kept_text ((take 255 line ++ line_feed ∷ rest) ++ piece) ≡ kept_text ((line ++ line_feed ∷ rest) ++ piece)
 again_ended line rest piece h =
     ap kept_text (append_assoc (take 255 line) (line_feed ∷ rest) piece)
     ∙ kept_ended (take 255 line) (rest ++ piece) (take_no_feed 255 line h)

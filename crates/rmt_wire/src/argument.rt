@@ -9,7 +9,7 @@ use crate::limits::LINE_LIMIT;
 /// The largest number that an argument may give: 2^63 - 1.
 pub const ARGUMENT_LIMIT: u64 = 9_223_372_036_854_775_807;
 
-/// Whether these bytes can be the name of a drive in an open request of rmt(8). Such a name has 1
+/// Returns whether the given bytes can name a drive in an open request of rmt(8). Such a name has 1
 /// to 255 bytes, none of them a line feed.
 pub fn is_device(device: &[u8]) -> bool
     // `is_device` returns true if and only if it is given 1 to 255 bytes, none of them a line feed.
@@ -21,8 +21,8 @@ pub fn is_device(device: &[u8]) -> bool
 /// Returns the number that a text of decimal digits spells. The number is at most
 /// 9223372036854775807. Returns None for any other text.
 pub fn number_of(text: &str) -> Option<u64>
-    // If a text consists only of digits and their value is at most 9223372036854775807, `number_of`
-    // returns the value. For every other text `number_of` returns `None`.
+    // If the text is a decimal number of at most 9223372036854775807, written with digits only,
+    // `number_of` returns the number. For every other text `number_of` returns `None`.
     ensures { SaysNumber text.now result }
 {
     if text.as_bytes().first() == Some(&b'+') {

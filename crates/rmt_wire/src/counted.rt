@@ -34,10 +34,11 @@ impl<T> Model for Counted<T> {
 }
 
 impl<T> Counted<T> {
-    /// Wraps `inner`, with a count of 0 failures and `u64::MAX` reads left.
+    /// Wraps the stream `inner` in a new `Counted`. The count of failures is 0, and `u64::MAX`
+    /// reads remain.
     pub fn new(inner: T) -> Self
-        // The new `Counted` wraps the given stream and has counted no failure. The number of reads
-        // left is the greatest `u64`.
+        // The new `Counted` wraps the given stream and has counted no failure. The `Counted` allows
+        // `u64::MAX` reads.
         ensures inner { result.inner ≡ inner }
         ensures failures { result.failures ≡ 0 }
         ensures left { result.left ≡ u64.MAX }
@@ -49,8 +50,9 @@ impl<T> Counted<T> {
         }
     }
 
-    /// Returns the count of failures: reads and writes that failed, and writes that were given
-    /// bytes but accepted none. The count stays at `u64::MAX`.
+    /// Returns how many failures the `Counted` has counted. A `Counted` counts reads and writes
+    /// that failed, and writes that were given bytes but accepted none. The count stays at
+    /// `u64::MAX`.
     pub fn failures(&self) -> u64
         // `failures` returns the count of failures.
         ensures { result ≡ self.now.failures }
@@ -60,8 +62,8 @@ impl<T> Counted<T> {
 
     /// Returns the wrapped reader or writer.
     pub fn into_inner(self) -> T
-        // `into_inner` returns the wrapped stream. The types allow only this body, so there is no
-        // edit.
+        // `into_inner` returns the wrapped stream. The types allow no other body, so no wrong body
+        // is tried.
         ensures { result ≡ self.inner }
     {
         self.inner
@@ -69,22 +71,25 @@ impl<T> Counted<T> {
 }
 
 impl<R: Read> Read for Counted<R> {
-    // bound, bytes: A read returns the next bytes of the stream, and no more than fit into the
-    // buffer. If the buffer has room for at least one byte, a read returns 0 bytes only at the end
-    // of the stream. A failed read takes no bytes from the stream.
+    // bound, bytes: A successful read copies the next bytes of the stream into the caller's buffer,
+    // at most as many as fit. If the caller's buffer has a length above 0, a read returns 0 only at
+    // the end of the stream. A failed read takes no bytes from the stream.
     //
-    // failures: A read counts a failure if and only if it failed.
+    // failures: The `Counted` counts a failure for each failed read, and for no other read.
     //
-    // lowered: Each read lowers the number of reads left by one, but not below 0.
+    // lowered: Each read lowers by one the number of reads that the `Counted` still allows. This
+    // number does not fall below 0.
     //
-    // left, spent: If no reads are left, a read fails and leaves the stream untouched.
+    // left, spent: If the `Counted` allows no more reads, a read fails and leaves the wrapped
+    // stream untouched.
     //
-    // While reads are left, each read calls the wrapped stream once. The call asks for as many
-    // bytes as fit into the buffer, and the read returns the result of the call. No clause says so,
-    // because the contracts of the standard library's streams do not say how often a stream was
-    // called. The test `failed_reads_are_counted` of `rmt_wire_tests` wraps a stream that counts
-    // its calls. The test fails for a body that reports a failure without a call, makes a second
-    // call, or reads one byte where more fit.
+    // While the `Counted` still allows reads, each read calls the wrapped stream once. This call
+    // asks for as many bytes as fit into the caller's buffer. The read returns what this call
+    // returns. No clause states these facts, because the contracts of the standard library do not
+    // count the calls of a stream. The test `failed_reads_are_counted` of `rmt_wire_tests` wraps a
+    // stream that counts its calls. The test fails for a body of `read` that reports a failure
+    // without a call or makes a second call. The test also fails for a body that reads one byte
+    // although more fit.
 
     ghost remaining = { λ c. R.remaining c.inner };
 
@@ -111,25 +116,27 @@ impl<R: Read> Read for Counted<R> {
 }
 
 impl<W: Write> Write for Counted<W> {
-    // bound, bytes: A write appends a beginning of the given bytes, and returns how many bytes it
-    // appended. A failed write appends nothing.
+    // bound, bytes: A successful write appends a prefix of the given bytes to the stream, and
+    // returns the length of the prefix. A failed write appends nothing.
     //
-    // failed, took_none, took_some: A write counts a failure if it failed. A write also counts a
-    // failure if it was given bytes and accepted none of them. A write that accepted at least one
-    // byte counts no failure.
+    // failed, took_none, took_some: The `Counted` counts a failure for each failed write, and for
+    // each write that is given bytes but accepts none. The `Counted` counts no failure for a write
+    // that accepts at least one byte.
     //
-    // nothing_to_take: If a write is given no bytes and succeeds, it counts no failure.
+    // nothing_to_take: The `Counted` counts no failure for a successful write that is given no
+    // bytes.
     //
-    // left: Writes and flushes do not change the number of reads left.
+    // left: Writes and flushes do not change the number of reads that the `Counted` still allows.
     //
     // bytes, failures: A flush appends no bytes and counts no failure.
     //
-    // Each write and each flush calls the wrapped stream once. A write passes on all of its bytes
-    // in this call. No clause says so, because no contract says how often a stream was called.
-    // Three tests of `rmt_wire_tests` wrap a stream that counts its calls. These tests are
-    // `numbers`, `data_of_few_bytes` and `nothing_is_written_after_a_failed_write`. The tests fail
-    // for a body that reports a failure without a call, writes one byte of many, or makes a call
-    // after a failed call. The tests also fail for a body that does not pass a flush on.
+    // Each write and each flush calls the wrapped stream once. A write passes all the given bytes
+    // to the wrapped stream. No clause states these facts, because no contract counts the calls of
+    // a stream. Three tests of `rmt_wire_tests` wrap a stream that counts its calls. These tests
+    // are `numbers`, `data_of_few_bytes` and `nothing_is_written_after_a_failed_write`. The tests
+    // fail for a body that reports a failure without a call, or writes only one of many bytes. The
+    // tests also fail for a body that calls the stream again after a failed call, or does not pass
+    // a flush to the stream.
 
     ghost contents = { λ c. W.contents c.inner };
 

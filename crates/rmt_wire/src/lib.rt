@@ -14,11 +14,12 @@
 //!
 //! # Contracts
 //!
-//! The page docs/PROTOCOL.md says which bytes stand for a request or a reply. These bytes *spell*
-//! the request or reply. A reader keeps bytes that came from a stream, in a buffer of fixed size. A
-//! kept byte is *unread* until `next` has returned the request or reply that contains the byte. A
-//! reader *lends* data or a text: it returns a reference to bytes in its buffer. A `Counted` is a
-//! stream that counts its failures and limits the number of its reads.
+//! The page docs/PROTOCOL.md says which bytes stand for each request and each reply. These bytes
+//! *spell* the request or the reply. A reader (`RequestReader` or `ReplyReader`) keeps the bytes of
+//! a stream in a buffer of fixed size. A byte that entered a reader is *unread* until `next`
+//! returns the request or reply that contains the byte. A reader *lends* data or a text by
+//! returning a reference to bytes in the reader's buffer. A `Counted` wraps a stream, counts the
+//! stream's failures, and limits the number of reads.
 #![tactic(auto)]
 
 mod append;

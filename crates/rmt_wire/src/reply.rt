@@ -10,6 +10,7 @@ mod writer;
 pub use append::push_reply;
 pub use reader::ReplyReader;
 pub use wanted::Wanted;
+pub(crate) use writer::output;
 pub use writer::{OutputFault, write_reply};
 
 /// A reply of a tape server, one to each request (rmt(8)).

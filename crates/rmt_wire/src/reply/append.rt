@@ -10,16 +10,18 @@ use crate::reply::Reply;
 use crate::reply::parts::parts;
 use std::alloc::AllocError;
 
-/// Appends a reply to a buffer, as it is sent. The reply's numbers have no leading zeros.
+/// Appends to a buffer the bytes that are sent for a reply. The reply's numbers have no leading
+/// zeros.
 ///
 /// The reply must have a spelling. Its number, or the count of its data, is at most `NUMBER_LIMIT`,
 /// and its text is one line of at most `LINE_LIMIT` bytes.
 ///
 /// Fails only if `out` has less spare capacity than the reply takes and an allocation fails. Then
 /// `out` and its capacity are unchanged.
+#[tactic(auto, using(crate::proofs::Spelling::reply_text_spells))]
 pub fn push_reply(out: &mut Vec<u8>, reply: &Reply<'_>) -> Result<(), AllocError>
     requires { ReplyHasSpelling (plain_reply reply.now) }
-    // `push_reply` appends the bytes that are sent for the reply.
+    // `push_reply` appends the bytes that are sent for the given reply.
     ensures appended { OnOk result (out.new.items ≡ out.old.items ++ reply_text (plain_reply reply.now)) }
     // `push_reply` fails only if the buffer has less spare capacity than the reply takes. If
     // `push_reply` fails, the buffer and its capacity are unchanged.

@@ -20,6 +20,7 @@ use std::marker::Model;
 
 /// Returns the reply of the wanted kind that `unread` begins with, and how many of the bytes kept
 /// it takes. Returns None if it is not complete. If no reply is wanted, any byte is `TooMuchData`.
+#[tactic(auto, using(crate::proofs::ReplyNexts::some_faulty, crate::proofs::ReplyNexts::none_faulty, crate::proofs::ReplyNexts::some_kept))]
 fn first_reply(
     unread: &[u8],
     wanted: Option<Wanted>,
@@ -84,9 +85,10 @@ impl ReplyReader {
         })
     }
 
-    /// Whether the reader has no unread bytes.
+    /// Returns whether the reader has no unread bytes.
+    #[tactic(auto, using(crate::proofs::ReplyNexts::empty_at))]
     pub fn is_empty(&self) -> bool
-        // `is_empty` returns true if and only if no byte is unread.
+        // `is_empty` returns true if and only if the reader has no unread bytes.
         ensures value { (wanted : Option kinds.Wanted) (bytes : List ℕ) →
             ReplyUnread self.now wanted bytes → (IsTrue result ↔ (bytes ≡ [])) }
         ensures seen { IsTrue result → ReplyUnread self.now self.now.wanted [] }
@@ -97,8 +99,8 @@ impl ReplyReader {
     /// Returns how many bytes `push` can take now. The text of an error that is waited for takes no
     /// room after its first 255 bytes.
     pub fn room(&self) -> usize
-        // `room` returns how many bytes `push` can take now. While the reader waits for a reply,
-        // only the first 255 bytes of an error's text take room.
+        // `room` returns how many bytes `push` can take now. While the reader waits for a reply, an
+        // error's text takes room for at most 255 bytes.
         ensures { (wanted : Option kinds.Wanted) (bytes : List ℕ) →
             ReplyUnread self.now wanted bytes → result + reply_taken_of wanted bytes ≡ READER_LIMIT }
     {
@@ -116,11 +118,11 @@ impl ReplyReader {
     pub fn expect(&mut self, wanted: Wanted)
         requires given { self.old.wanted ≡ None }
         requires within { IsWithin (plain_wanted wanted) }
-        // If no byte was unread before the call, the reader now waits for a reply of the given
-        // kind.
+        // If no byte was unread before the call, the reader waits for a reply of the given kind
+        // after the call.
         ensures waits { ReplyUnread self.old None [] → ReplyUnread self.new (Some (plain_wanted wanted)) [] }
-        // `expect` clears no fault. If bytes came before the call, while the reader waited for no
-        // reply, the reader still waits for no reply.
+        // `expect` clears no fault. If bytes came while the reader waited for no reply, `expect`
+        // does not make the reader wait for a reply.
         ensures for_good { (bytes : List ℕ) → bytes ≢ [] → ReplyUnread self.old None bytes → ReplyUnread self.new None bytes }
     {
         if self.is_empty() {
@@ -139,12 +141,12 @@ impl ReplyReader {
         self.wanted = None;
     }
 
-    /// Takes as many bytes of `piece` as there is room for, and returns how many. If an error is
+    /// Takes as many bytes of `piece` as fit into the reader, and returns how many. If an error is
     /// waited for and comes, only the first 255 bytes of its text are kept.
     pub fn push(&mut self, piece: &[u8]) -> usize
-        // `push` is given a piece of the stream. `push` takes the whole piece if there is room for
-        // it, and otherwise as many bytes as there is room for. The bytes that `push` took are
-        // unread afterwards. The reader keeps at most 262,156 bytes.
+        // `push` takes the whole piece if the piece fits into the reader. Otherwise `push` takes as
+        // many bytes from the front of the piece as fit. The bytes that `push` took are unread
+        // afterwards. The reader keeps at most 262,156 bytes.
         ensures count { (wanted : Option kinds.Wanted) (bytes : List ℕ) →
             ReplyUnread self.old wanted bytes → result ≡ min (length piece.now) (READER_LIMIT - reply_taken_of wanted bytes) }
         ensures unread { (wanted : Option kinds.Wanted) (bytes : List ℕ) →
@@ -173,16 +175,16 @@ impl ReplyReader {
     /// more than was wanted. If nothing is waited for, any byte is `TooMuchData`. If no reply is
     /// returned, the reader is unchanged.
     pub fn next(&mut self) -> Result<Option<Reply<'_>>, WireFault>
-        // `next` returns the reply that the reader waits for. If the unread bytes are only a
-        // beginning of a reply, `next` returns `None`, and there is room for more bytes. If the
-        // unread bytes cannot begin a reply, `next` returns the fault of the first byte that rules
-        // out every reply. If the reader waits for no reply and a byte is unread, the fault is
+        // `next` returns the reply that the reader waits for. If the reply is still incomplete,
+        // `next` returns `None`, and the reader has room for more bytes. If the unread bytes cannot
+        // be the start of a reply, `next` returns the fault of the first byte that makes a reply
+        // impossible. If the reader waits for no reply and a byte is unread, the fault is
         // `TooMuchData`.
         //
-        // If `next` returns no reply, the reader is unchanged (field `unchanged`).
+        // If `next` returns no reply, the reader is unchanged (field `unchanged` of `ReplyIsNext`).
         ensures* rests { sem 𝓛 (Rests the_row self.entry (λ new. ReplyIsNext self.old (plain_reply_result result) new)) }
-        // Once `next` has returned a fault, it returns the same fault until `clear` is called,
-        // whatever bytes are pushed.
+        // Once `next` has returned a fault, every later call of `next` returns the same fault until
+        // `clear` is called. It does not matter which bytes are pushed in between.
         ensures for_good { ReplyStaysFaulty self.old (plain_reply_result result) }
     {
         let start = self.start;

@@ -18,7 +18,8 @@ use thiserror::Error;
 #[error("Output")]
 pub struct OutputFault;
 
-/// Writes a reply, as it is sent. The reply's numbers have no leading zeros. Allocates nothing.
+/// Writes the bytes of a reply to a stream. The reply's numbers have no leading zeros. Allocates
+/// nothing.
 ///
 /// The reply must have a spelling. Its number, or the count of its data, is at most `NUMBER_LIMIT`,
 /// and its text is one line of at most `LINE_LIMIT` bytes. The head is passed to the stream in one
@@ -28,20 +29,21 @@ pub struct OutputFault;
 /// Then `out` counts the failure.
 pub fn write_reply<W: Write>(out: &mut Counted<W>, reply: &Reply<'_>) -> Result<(), OutputFault>
     requires { ReplyHasSpelling (plain_reply reply.now) }
-    // If `write_reply` succeeds, it has written the bytes that spell the reply.
+    // If `write_reply` succeeds, it has written all bytes of the given reply.
     ensures written { OnOk result (Appends (W.contents out.old.inner) (W.contents out.new.inner) (reply_text (plain_reply reply.now))) }
-    // If `write_reply` fails, it has written a beginning of the reply and counted a failure. A
-    // count that is already the greatest `u64` does not change.
+    // If `write_reply` fails, it has written a prefix of the reply's bytes and counted a failure. A
+    // count of failures that is already the greatest `u64` does not rise.
     ensures beginning { OnErr result
         (AppendsBeginning (W.contents out.old.inner) (W.contents out.new.inner) (reply_text (plain_reply reply.now))) }
     ensures fault { OnErr result (HasRisen out.old.failures out.new.failures) }
-    // The count of failures never falls.
+    // `write_reply` never lowers the count of failures.
     ensures counted { out.old.failures ≤ out.new.failures }
     // If `write_reply` succeeds, it has counted no failure.
     ensures steady { OnOk result (out.new.failures ≡ out.old.failures) }
-    // The number of reads left does not change.
+    // The stream is a `Counted`, which allows a limited number of reads. `write_reply` does not
+    // change how many reads the stream still allows.
     ensures left { out.new.left ≡ out.old.left }
-    // The written bytes spell the reply.
+    // The bytes that a successful call writes spell the reply.
     ensures spelled { (wanted : Wanted) → AnswersTo (plain_reply reply.now) wanted
         → SpellsReply (reply_text (plain_reply reply.now)) (plain_reply reply.now) wanted }
 {
@@ -51,7 +53,7 @@ pub fn write_reply<W: Write>(out: &mut Counted<W>, reply: &Reply<'_>) -> Result<
 }
 
 // Writes a whole text. Fails at the first write that fails or accepts no byte.
-fn output<W: Write>(out: &mut Counted<W>, text: &[u8]) -> Result<(), OutputFault>
+pub(crate) fn output<W: Write>(out: &mut Counted<W>, text: &[u8]) -> Result<(), OutputFault>
     ensures written { OnOk result (Appends (W.contents out.old.inner) (W.contents out.new.inner) text.now) }
     ensures beginning { OnErr result (AppendsBeginning (W.contents out.old.inner) (W.contents out.new.inner) text.now) }
     ensures fault { OnErr result (HasRisen out.old.failures out.new.failures) }

@@ -11,9 +11,9 @@ use crate::request::Request;
 use crate::short_text::{ShortText, numbered, push_number};
 use std::alloc::AllocError;
 
-/// Appends a request to a buffer, as it is sent. The request's numbers have no leading zeros, a
-/// mode is its number alone, and a close has no text. A dropped write is appended as its line
-/// alone.
+/// Appends to a buffer the bytes that are sent for a request. The request's numbers have no leading
+/// zeros, a mode is its number alone, and a close has no text. A dropped write is appended as its
+/// line alone.
 ///
 /// The request must have a spelling. Its device is one line of at most `LINE_LIMIT` bytes, and its
 /// numbers are at most `NUMBER_LIMIT`. A write has at most `RECORD_LIMIT` bytes, and a dropped
@@ -21,10 +21,11 @@ use std::alloc::AllocError;
 ///
 /// Fails only if `out` has less spare capacity than the text takes and an allocation fails. Then
 /// `out` and its capacity are unchanged.
+#[tactic(auto, using(crate::proofs::Spelling::request_text_spells))]
 pub fn push_request(out: &mut Vec<u8>, request: &Request<'_>) -> Result<(), AllocError>
     requires { HasSpelling (plain_request request.now) }
     // `push_request` appends the bytes that are sent for the request. For a write of more than
-    // 262,144 bytes, `push_request` appends only the line that begins the write.
+    // 262,144 bytes, `push_request` appends only the write's first line.
     ensures appended { OnOk result (out.new.items ≡ out.old.items ++ request_text (plain_request request.now)) }
     // If `push_request` fails, the buffer and its capacity are unchanged.
     ensures unchanged { OnErr result ((out.new.items ≡ out.old.items) × (vec_capacity out.new ≡ vec_capacity out.old)) }
@@ -37,24 +38,25 @@ pub fn push_request(out: &mut Vec<u8>, request: &Request<'_>) -> Result<(), Allo
     push_text(out, lines.as_slice(), data)
 }
 
-/// Appends the line that begins a write request of rmt(8). The record has `count` bytes, at most
+/// Appends the first line of a write request of rmt(8). The record has `count` bytes, at most
 /// `RECORD_LIMIT`. Reserves room for the bytes of the record, which the caller appends next.
 ///
 /// Fails only if `out` has less spare capacity than the line and the bytes take and an allocation
 /// fails. Then `out` and its capacity are unchanged.
 pub fn push_write_line(out: &mut Vec<u8>, count: usize) -> Result<(), AllocError>
     requires { count ≤ RECORD_LIMIT }
-    // `push_write_line` appends the line that begins a write of `count` bytes, as it is sent.
+    // `push_write_line` appends the first line that is sent for a write of `count` bytes.
     ensures begun { OnOk result ((bytes : List ℕ) → length bytes ≡ count →
         out.new.items ++ bytes ≡ out.old.items ++ request_text (PlainRequest.Write bytes)) }
-    // If `push_write_line` succeeds, the buffer has spare capacity for `count` bytes.
+    // If `push_write_line` succeeds, the buffer has spare capacity for `count` more bytes.
     ensures room { OnOk result (vec_len out.new + count ≤ vec_capacity out.new) }
     // `push_write_line` fails only if the buffer has less spare capacity than the line and `count`
-    // bytes take. If `push_write_line` fails, the buffer and its capacity are unchanged.
+    // more bytes take. If `push_write_line` fails, the buffer and its capacity are unchanged.
     ensures unchanged { OnErr result ((out.new.items ≡ out.old.items) × (vec_capacity out.new ≡ vec_capacity out.old)) }
     ensures full { OnErr result ((bytes : List ℕ) → length bytes ≡ count →
         vec_capacity out.old < vec_len out.old + length (request_text (PlainRequest.Write bytes))) }
-    // The appended line and any `count` bytes after it spell the write of these bytes.
+    // The appended line, followed by any `count` bytes, spells a write request with these bytes as
+    // its data.
     ensures spelled { (bytes : List ℕ) → length bytes ≡ count →
         IsTextOf (request_text (PlainRequest.Write bytes)) (PlainRequest.Write bytes) }
 {

@@ -41,6 +41,7 @@ fn discardable(line: Option<(usize, u32)>, len: usize, dropped: u32) -> usize
 
 /// Discards the data of a dropped write at the front, as far as they came. Sets `line` if the
 /// write's line is complete, and adds to `dropped` how many bytes were discarded.
+#[tactic(auto, using(std::proofs::lemmas::List::take_rest, crate::proofs::WriteLines::dropped_is, crate::proofs::Nexts::none_let_go, crate::proofs::Dropped::within_some))]
 fn discard_data(
     buffer: &mut BytesMut,
     start: usize,
@@ -143,9 +144,11 @@ impl RequestReader {
         })
     }
 
-    /// Whether the reader has no unread bytes. If so, the reader is in the state of a new one.
+    /// Returns whether the reader has no unread bytes. If so, the reader is in the state of a new
+    /// one.
+    #[tactic(auto, using(crate::proofs::Nexts::empty_at))]
     pub fn is_empty(&self) -> bool
-        // `is_empty` returns true if and only if no byte is unread.
+        // `is_empty` returns true if and only if the reader has no unread bytes.
         ensures value { (bytes : List ℕ) → Unread self.now bytes → (IsTrue result ↔ (bytes ≡ [])) }
         ensures seen { IsTrue result → Unread self.now [] }
     {
@@ -154,10 +157,11 @@ impl RequestReader {
 
     /// Returns how many bytes `push` can take now. The data of a dropped write take no room once
     /// `next` has returned every request before it.
+    #[tactic(auto, using(std::proofs::lemmas::List::take_rest, crate::proofs::WriteLines::dropped_is, crate::proofs::Nexts::room_at))]
     pub fn room(&self) -> usize
         // `room` returns how many bytes `push` can take now. A write of more than 262,144 bytes is
-        // too long to keep. Once `next` has returned every request before this write, the data of
-        // the write take no room.
+        // too long to keep. If the unread bytes begin with a write that is too long, the write's
+        // data take no room.
         ensures { (bytes : List ℕ) → Unread self.now bytes → result + taken_of bytes ≡ READER_LIMIT }
     {
         let unread = &self.buffer.as_slice()[self.start..];
@@ -165,17 +169,17 @@ impl RequestReader {
         READER_LIMIT - (unread.len() - discardable(line, unread.len(), self.dropped))
     }
 
-    /// Takes as many bytes of `piece` as there is room for, and returns how many.
+    /// Takes as many bytes of `piece` as fit into the reader, and returns how many.
+    #[tactic(auto, using(crate::proofs::Dropped::push_dropped, crate::proofs::WriteLines::known_pushed, crate::proofs::Dropped::push_unread))]
     pub fn push(&mut self, piece: &[u8]) -> usize
-        // `push` is given a piece of the stream. `push` takes the whole piece if there is room for
-        // it, and otherwise as many bytes as there is room for. `push` returns how many bytes it
-        // took.
+        // `push` takes the whole piece if the piece fits into the reader. Otherwise `push` takes as
+        // many bytes from the front of the piece as fit. `push` returns how many bytes it took.
         ensures count { (bytes : List ℕ) → Unread self.old bytes → result ≡ min (length piece.now) (READER_LIMIT - taken_of bytes) }
         // The bytes that `push` took are unread afterwards.
         ensures unread { (bytes : List ℕ) → Unread self.old bytes → Unread self.new (bytes ++ take result piece.now) }
-        // `push` adds its bytes to all bytes that were pushed before. All these bytes together
-        // still begin with the requests that `next` has returned, in order. The reader keeps at
-        // most 262,156 bytes.
+        // Suppose that the bytes that entered the reader are the bytes of the requests that `next`
+        // has returned, in order, and then the unread bytes. `push` keeps this true. The reader
+        // keeps at most 262,156 bytes.
         ensures given { (pushed : List ℕ) (requests : List PlainRequest) →
             IsGiven self.old pushed requests → IsGiven self.new (pushed ++ take result piece.now) requests }
         ensures limit { length self.new.kept ≤ READER_LIMIT }
@@ -199,24 +203,24 @@ impl RequestReader {
         count
     }
 
-    /// Returns the next request of the stream, and lends its data. Returns None if the bytes pushed
-    /// so far are only a beginning of one; then there is room for more.
+    /// Returns the next request of the stream, and lends the request's data. Returns None if the
+    /// bytes pushed so far are only a beginning of one; then there is room for more.
     ///
     /// Fails at the first byte that rules out every request, and returns the same fault at each
     /// later call. If no request is returned, the reader is unchanged.
     pub fn next(&mut self) -> Result<Option<Request<'_>>, WireFault>
-        // `next` returns the first request that the unread bytes spell. If these bytes are only a
-        // beginning of a request, `next` returns `None`, and there is room for more bytes. If the
-        // unread bytes cannot begin a request, `next` returns the fault of the first byte that
-        // rules out every request.
+        // `next` returns the request that the unread bytes begin with. If this request is still
+        // incomplete, `next` returns `None`, and the reader has room for more bytes. If the unread
+        // bytes cannot be the start of a request, `next` returns the fault of the first byte that
+        // makes a request impossible.
         //
-        // If `next` returns no request, the reader is unchanged (field `unchanged`).
+        // If `next` returns no request, the reader is unchanged (field `unchanged` of `IsNext`).
         //
-        // Successive calls of `next` return, in order, the requests that all pushed bytes spell
-        // (field `gives_on`).
+        // Successive calls of `next` return, in order, the requests that are spelled by the bytes
+        // that entered the reader (field `gives_on` of `IsNext`).
         ensures* rests { sem 𝓛 (Rests the_row self.entry (λ new. IsNext self.old (plain_next_result result) new)) }
-        // Once `next` has returned a fault, every later call returns the same fault, whatever bytes
-        // are pushed.
+        // Once `next` has returned a fault, every later call of `next` returns the same fault. It
+        // does not matter which bytes are pushed in between.
         ensures for_good { StaysFaulty self.old (plain_next_result result) }
     {
         let start = self.start;

@@ -4,7 +4,8 @@ use Rattle.std.proofs.lemmas.List.{take-take, take-append-le, length-take, lengt
 use Rattle.rmt_wire.proofs.kept.append_read.Goals as goal
 
 -- what a read leaves after the bytes kept, cut to what it gave
-read_behind : (old front buf post rest items : List ℕ) (len count most : ℕ) → items ≡ take (len + count) (take most ((front ++ (buf ++ post)) ++ rest)) → len ≡ length old → front ≡ old
+read_behind : (old front buf post rest items : List ℕ) (len count most : ℕ) → items ≡ take (len + count) (take most ((front ++ (buf ++ post)) ++ rest))
+    → len ≡ length old → front ≡ old
     → count ≤ length buf → length old + count ≤ most → items ≡ old ++ take count buf
 read_behind old front buf post rest items len count most is e same within fits =
     is ∙ take-take (len + count) most _ (omega arith) ∙ ap (λ l. take (len + count) ((l ++ (buf ++ post)) ++ rest)) same
@@ -19,10 +20,20 @@ returns-in-Ok-clause-came g c =
     let count = c.in-Ok.count in
     let within = c.in-Ok.ensures.bound in
     let len : c.len-len.result ≡ length old = c.len-len.ensures.value in
-    let front : take c.len-len.result seen ≡ old = ap (λ n. take n seen) len ∙ ap (take (length old)) c.as_mut_slice.ensures.value ∙ c.advance_mut.ensures.front in
+    let front : take c.len-len.result seen ≡ old = ap (λ n. take n seen) len ∙ ap (take (length old)) c.as_mut_slice.ensures.value
+    ∙ c.advance_mut.ensures.front in
     let size = ap (length {A = ℕ}) c.as_mut_slice.ensures.value in
     let fits : length old + count ≤ length c.advance_mut.new.self.items =
-    omega (arith, within.0, c.read.auto.buf, size, len, c.advance_mut.ensures.len, length-take (length seen - c.len-len.result) (drop c.len-len.result seen), length-drop c.len-len.result seen) in (
+    omega (
+      arith,
+      within.0,
+      c.read.auto.buf,
+      size,
+      len,
+      c.advance_mut.ensures.len,
+      length-take (length seen - c.len-len.result) (drop c.len-len.result seen),
+      length-drop c.len-len.result seen,
+    ) in (
       take count buf,
       sym within.1,
       read_behind old (take c.len-len.result seen) buf _ _ _ c.len-len.result count _ c.truncate.ensures.items len front within.0 fits,

@@ -1,4 +1,4 @@
-use Rattle.rmt_wire.proofs.Dropped.{dropped_exactly}
+use Rattle.rmt_wire.proofs.WriteLines.{dropped_exactly}
 use Rattle.rmt_wire.proofs.laws.dropped_writes.Goals as goal
 
 pub returns : goal.returns

@@ -25,20 +25,20 @@ impl RequestReader {
     /// reader is unchanged.
     pub fn fill<R: Read>(&mut self, stream: &mut Counted<R>) -> io::Result<usize>
         requires { (bytes : List ℕ) × Unread self.old bytes × (taken_of bytes < READER_LIMIT) }
-        // `fill` takes bytes from the front of the stream and adds them to the reader, as `push`
-        // would. These bytes are unread afterwards, and follow the bytes that were unread before.
+        // `fill` takes the next bytes of the stream and adds them to the reader, as `push` would.
+        // The added bytes are unread afterwards, and follow the earlier unread bytes.
         ensures came { IfOk result (IsFilled (R.remaining stream.old.inner) (R.remaining stream.new.inner) self.old self.new) }
         // If `fill` returns 0, the stream is at its end and the reader is unchanged.
         ensures ended { IfOk result (λ n. n ≡ 0 → IsAtEnd (R.remaining stream.new.inner)
             × IsNotFilled (R.remaining stream.old.inner) (R.remaining stream.new.inner) self.old self.new) }
-        // If the read failed, `fill` took no bytes from the stream and the reader is unchanged.
+        // If the read fails, `fill` takes no bytes from the stream, and the reader is unchanged.
         ensures failed { OnErr result (IsNotFilled (R.remaining stream.old.inner) (R.remaining stream.new.inner) self.old self.new) }
-        // The stream is a `Counted`. `fill` counts a failure in this stream if and only if the read
-        // failed. If the read succeeded, the number of reads left in the stream falls by one.
+        // The stream is a `Counted`. The stream counts a failure if and only if the read fails. A
+        // successful read lowers by one the number of reads that the stream still allows.
         ensures counted { OnErr result (stream.new.failures ≡ raised stream.old.failures) }
         ensures steady { OnOk result (stream.new.failures ≡ stream.old.failures) }
         ensures left { OnOk result (stream.new.left + 1 ≡ stream.old.left) }
-        // If bytes came, the reader keeps at most 262,156 bytes.
+        // If `fill` returns more than 0, the reader keeps at most 262,156 bytes.
         ensures limit { IfOk result (λ n. 0 < n → length self.new.kept ≤ READER_LIMIT) }
     {
         remove(&mut self.buffer, 0, self.start);

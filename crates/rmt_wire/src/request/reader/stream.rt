@@ -49,8 +49,8 @@ impl RequestReader {
         }
     }
 
-    /// Returns the next request of a stream, and lends its data. It reads from the stream only
-    /// while the request is incomplete. Returns None if the stream ended between two requests.
+    /// Returns the next request of a stream, and lends the request's data. It reads from the stream
+    /// only while the request is incomplete. Returns None if the stream ended between two requests.
     ///
     /// Fails with `Truncated` if the stream ended inside a request. Fails with `Broken` at the
     /// first byte that rules out every request, and with `Input` at the first read that fails. No
@@ -64,25 +64,25 @@ impl RequestReader {
         stream: &mut Counted<R>,
     ) -> Result<Option<Request<'_>>, StreamFault>
         requires { (bytes : List ℕ) × Unread self.old bytes }
-        // Successive calls of `read_next` return, in order, the requests that the pushed and read
-        // bytes spell (field `gives_on`). `read_next` returns `None` if the stream ended and no
-        // byte is unread. The call fails with `Truncated` if the stream ended inside a request. The
-        // call fails with `Broken` if the unread bytes cannot begin a request. The call fails with
-        // `Input` if a read failed, inside a request or between two requests.
+        // Successive calls of `read_next` return, in order, the requests that are spelled by the
+        // bytes that entered the reader (field `gives_on` of `IsReadNext`). `read_next` returns
+        // `None` if the stream ended and no byte is unread. `read_next` fails with `Truncated` if
+        // the stream ended inside a request. `read_next` fails with `Broken` if the unread bytes
+        // cannot be the start of a request. `read_next` fails with `Input` if a read failed,
+        // whether inside a request or between two requests.
         //
-        // Suppose that a caller writes one reply for each request that `read_next` returns. Then
-        // the replies answer exactly the requests that the stream's bytes spell, in the same order
-        // (field `answers`). A loop over `read_next` can rely on this promise, and needs no lists
-        // of requests and replies of its own.
+        // If a caller writes one reply for each returned request, the replies answer exactly the
+        // stream's requests, in order (field `answers` of `IsReadNext`). A proof about a loop over
+        // `read_next` can use the field `answers`, and needs no lists of requests and replies.
         //
-        // The returned request has a spelling (field `spelled`). `read_next` can be called again
-        // (field `unread`). Each returned request lowers a number that cannot fall forever (field
-        // `falls`). So `read_next` returns only finitely many requests, and a loop over `read_next`
-        // ends.
+        // Some bytes spell the returned request (field `spelled` of `IsReadNext`). After each call
+        // `read_next` can be called again (field `unread` of `IsReadNext`). The field `falls` of
+        // `IsReadNext` gives a natural number that becomes smaller with each returned request. So
+        // `read_next` returns only finitely many requests, and a loop over `read_next` ends.
         ensures* rests { sem 𝓛 (Rests the_row self.entry (λ new. IsReadNext
             (R.remaining stream.old.inner) (R.remaining stream.new.inner) stream.old.left stream.new.left
             self.old (plain_read_next_result result) new)) }
-        // `read_next` counts a failure if and only if it returns `Input`.
+        // The stream counts a failure if and only if `read_next` fails with `Input`.
         ensures counted { CountsNext (plain_read_next_result result) stream.old.failures stream.new.failures }
     {
         while self.is_waiting() {

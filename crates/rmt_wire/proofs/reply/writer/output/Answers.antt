@@ -1,5 +1,5 @@
 use Rattle.std.proofs.lemmas.Grind.{common_steps}
-use Rattle.std.proofs.Common.{rules, ◌≡◌, ◌+◌, ◌-◌, ◌++◌, length, take, drop, sym, subst, arith, length-drop}
+use Rattle.std.proofs.Common.{◌≡◌, ◌+◌, ◌-◌, ◌++◌, length, take, drop, sym, subst, arith, length-drop, rules}
 use Rattle.std.proofs.Math.Seq.{take-add}
 use Rattle.std.proofs.lemmas.List.{take_all}
 use Rattle.std.proofs.KnownBytes.{Appends-trans}
@@ -10,10 +10,13 @@ pub loop-at-preserved : goal.loop-at-preserved
 loop-at-preserved g c = record {
   within = let b = c.in-Ok.ensures.bound in omega (arith, b, length-drop c.loop-at.at c.args.text.now);
   written =
-      let rest : take (length c.args.text.now - c.loop-at.at) (drop c.loop-at.at c.args.text.now) ≡ drop c.loop-at.at c.args.text.now = take_all _ _ (omega (arith, length-drop c.loop-at.at c.args.text.now)) in
-      let join : take c.loop-at.at c.args.text.now ++ take c.in-Ok.n (drop c.loop-at.at c.args.text.now) ≡ take (c.loop-at.at + c.in-Ok.n) c.args.text.now = sym (take-add c.loop-at.at c.in-Ok.n c.args.text.now) in
+      let rest : take (length c.args.text.now - c.loop-at.at) (drop c.loop-at.at c.args.text.now) ≡ drop c.loop-at.at c.args.text.now =
+      take_all _ _ (omega (arith, length-drop c.loop-at.at c.args.text.now)) in
+      let join : take c.loop-at.at c.args.text.now ++ take c.in-Ok.n (drop c.loop-at.at c.args.text.now) ≡ take (c.loop-at.at + c.in-Ok.n) c.args.text.now =
+      sym (take-add c.loop-at.at c.in-Ok.n c.args.text.now) in
       subst (Appends (g.W.Write.contents c.args.out.now.inner) (g.W.Write.contents c.write.new.self.inner)) join
-      (Appends-trans _ _ _ (take c.loop-at.at c.args.text.now) (take c.in-Ok.n (drop c.loop-at.at c.args.text.now)) c.loop-at.invariant.written (rw rest at c.in-Ok.ensures.bytes));
+      (Appends-trans _ _ _ (take c.loop-at.at c.args.text.now) (take c.in-Ok.n (drop c.loop-at.at c.args.text.now)) c.loop-at.invariant.written
+      (rw rest at c.in-Ok.ensures.bytes));
   failures = let f = c.in-Ok.ensures.took_some (omega arith) in cc;
   left = let f = c.in-Ok.ensures.left in cc;
 }

@@ -1,7 +1,5 @@
-use Rattle.std.proofs.Common.{◌≡◌, ◌≤◌, ℕ, List, length, rules, sym, subst}
-use Rattle.rmt_wire.specs.declared.limits.TheConstants.{RECORD_LIMIT}
-use Rattle.rmt_wire.specs.Request.{IsTextOf, request_text}
-use Rattle.rmt_wire.specs.Request.PlainRequest.{Write}
+use Rattle.std.proofs.Common.{◌≡◌, ◌≤◌, ℕ, List, length, sym, subst}
+use Rattle.rmt_wire.proofs.Words.{RECORD_LIMIT, IsTextOf, request_text, Write}
 use Rattle.rmt_wire.proofs.Spelling.{request_text_spells}
 use Rattle.rmt_wire.proofs.request.append.push_write_line.Goals as goal
 
@@ -13,6 +11,3 @@ returns-in_err-reserve-clause-spelled c = λ bytes long. spells c.args.count byt
 
 pub returns-clause-spelled : goal.returns-clause-spelled
 returns-clause-spelled c = λ bytes long. spells c.args.count bytes c.requires long
-
-pub returns-clause-room : goal.returns-clause-room
-returns-clause-room c = search rules

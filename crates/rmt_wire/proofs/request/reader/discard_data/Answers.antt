@@ -1,26 +1,16 @@
 use Rattle.std.proofs.Common.{◌≡◌, ℕ, Some, drop, ◌+◌, sym, ap, subst, ◌∙◌}
-use Rattle.rmt_wire.specs.RequestReader.{dropped_line}
-use Rattle.rmt_wire.specs.RequestKept.{write_line, IsKnown}
+use Rattle.rmt_wire.proofs.Words.{dropped_line, write_line, IsKnown}
 use Rattle.rmt_wire.proofs.Dropped.{within_some}
 use Rattle.rmt_wire.proofs.WriteLines.{dropped_found_of, dropped_same, write_stays}
-use Rattle.rmt_wire.proofs.Nexts.{has_discarded, none_let_go, left_behind, seen_from}
+use Rattle.rmt_wire.proofs.Nexts.{has_discarded, left_behind, seen_from}
 use Rattle.rmt_wire.proofs.request.reader.discard_data.Goals as goal
-
-pub returns-in_default-clause-discardable : goal.returns-in_default-clause-discardable
-returns-in_default-clause-discardable c =
-    let seen = seen_from c.as_slice.result.now c.args.buffer.now.items c.args.start c.as_slice.ensures in
-    none_let_go _ _ (dropped_found_of _ _ _ _ seen c.line_of.ensures.value c.dropped_line.ensures ∙ c.in_default.is) c.requires.dropped
-
-pub overflow_sub-count : goal.overflow_sub-count
-overflow_sub-count c =
-    let seen = seen_from c.as_slice.result.now c.args.buffer.now.items c.args.start c.as_slice.ensures in
-    within_some _ _ _ (dropped_found_of _ _ _ _ seen c.line_of.ensures.value c.dropped_line.ensures ∙ c.in-Some.is) c.requires.dropped
 
 pub returns-clause-discardable : goal.returns-clause-discardable
 returns-clause-discardable c =
     let old = c.args.buffer.now.items in
     let seen = seen_from c.as_slice.result.now old c.args.start c.as_slice.ensures in
-    let found : dropped_line (drop c.args.start old) ≡ Some (c.in-Some.len, c.in-Some.count) = dropped_found_of _ _ _ _ seen c.line_of.ensures.value c.dropped_line.ensures ∙ c.in-Some.is in
+    let found : dropped_line (drop c.args.start old) ≡ Some (c.in-Some.len, c.in-Some.count) =
+    dropped_found_of _ _ _ _ seen c.line_of.ensures.value c.dropped_line.ensures ∙ c.in-Some.is in
     has_discarded old c.remove.new.buffer.items c.args.start c.args.dropped.now c.min-discardable.result (c.in-Some.len, c.in-Some.count) c.requires.start found
     (within_some _ _ _ found c.requires.dropped) (rw (← seen) c.min-discardable.ensures) c.remove.ensures.items
 
@@ -31,8 +21,10 @@ returns-clause-line c =
     let line : ℕ × ℕ = (c.in-Some.len, c.in-Some.count) in
     let seen = seen_from c.as_slice.result.now old c.args.start c.as_slice.ensures in
     let found : dropped_line kept ≡ Some line = dropped_found_of _ _ _ _ seen c.line_of.ensures.value c.dropped_line.ensures ∙ c.in-Some.is in
-    let same = dropped_same c.line_of.result line (sym c.dropped_line.ensures ∙ c.in-Some.is) in
+    let same = (dropped_same c.line_of.result line (sym c.dropped_line.ensures ∙ c.in-Some.is)).0 in
     let here : write_line kept ≡ Some line = ap write_line (sym seen) ∙ sym c.line_of.ensures.value ∙ same in
-    let new = left_behind old c.remove.new.buffer.items c.args.start c.args.dropped.now c.min-discardable.result line c.requires.start found (within_some _ _ _ found c.requires.dropped)
+    let new = left_behind old c.remove.new.buffer.items c.args.start c.args.dropped.now c.min-discardable.result line c.requires.start found
+    (within_some _ _ _ found c.requires.dropped)
     (rw (← seen) c.min-discardable.ensures) c.remove.ensures.items in
-    subst (λ o. IsKnown o (drop c.args.start c.remove.new.buffer.items)) (sym same) (ap write_line new ∙ write_stays kept line here (drop (c.in-Some.len + c.min-discardable.result) kept))
+    subst (λ o. IsKnown o (drop c.args.start c.remove.new.buffer.items)) (sym same)
+    (ap write_line new ∙ write_stays kept line here (drop (c.in-Some.len + c.min-discardable.result) kept))

@@ -1,6 +1,5 @@
-use Rattle.std.proofs.Common.{arith}
 use Rattle.std.proofs.lemmas.Grind.{common_steps}
-use Rattle.std.proofs.Common.{drop, take, subst, sym, ◌∙◌}
+use Rattle.std.proofs.Common.{drop, take, subst, sym, ◌∙◌, arith}
 use Rattle.rmt_wire.specs.ReplyReader.{ReplyUnread}
 use Rattle.rmt_wire.proofs.ReplyNexts.{push_kept}
 use Rattle.rmt_wire.proofs.reply.reader.ReplyReader.push.Goals as goal
@@ -9,8 +8,10 @@ pub returns-then-is_some-clause-unread : goal.returns-then-is_some-clause-unread
 returns-then-is_some-clause-unread c = λ wanted bytes u.
     let inside = c.self.inside in
     let done = c.append-start.ensures in
-    push_kept inside.wanted (drop inside.start inside.buffer.items) c.append-start.new.buffer.items c.remove.new.buffer.items c.as_slice.result.now (take c.min-count.result c.args.piece.now) bytes wanted
-    c.append-start.result c.surplus-at.result.0 c.surplus-at.result.1 (sym c.is_some.ensures ∙ c.if-is_some.true) done.kept done.start c.as_slice.ensures c.surplus-at.ensures.value
+    push_kept inside.wanted (drop inside.start inside.buffer.items) c.append-start.new.buffer.items c.remove.new.buffer.items c.as_slice.result.now
+    (take c.min-count.result c.args.piece.now) bytes wanted
+    c.append-start.result c.surplus-at.result.0 c.surplus-at.result.1
+    (sym c.is_some.ensures ∙ c.if-is_some.true) done.kept done.start c.as_slice.ensures c.surplus-at.ensures.value
     c.surplus-at.ensures.within c.remove.ensures.items (subst (λ h. ReplyUnread h wanted bytes) (sym c.self.view_is) u)
 
 pub invariant_of-self : goal.invariant_of-self

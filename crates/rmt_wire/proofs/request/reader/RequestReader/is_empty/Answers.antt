@@ -1,12 +1,7 @@
-use Rattle.std.proofs.Common.{[], subst, sym}
+use Rattle.std.proofs.Common.{[], subst}
 use Rattle.rmt_wire.specs.RequestReader.{Unread}
-use Rattle.rmt_wire.proofs.Nexts.{empty_at, all_given}
+use Rattle.rmt_wire.proofs.Nexts.{all_given}
 use Rattle.rmt_wire.proofs.request.reader.RequestReader.is_empty.Goals as goal
-
-pub returns-clause-value : goal.returns-clause-value
-returns-clause-value c = λ bytes u.
-    empty_at c.self.inside.buffer.items c.self.inside.start c.self.inside.dropped bytes c.len.result c.len.ensures.value c.self.invariant.0
-    (subst (λ h. Unread h bytes) (sym c.self.view_is) u)
 
 pub returns-clause-seen : goal.returns-clause-seen
 returns-clause-seen c = λ true.

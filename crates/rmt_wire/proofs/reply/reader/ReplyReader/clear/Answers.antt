@@ -1,5 +1,0 @@
-use Rattle.std.proofs.Common.{rules}
-use Rattle.rmt_wire.proofs.reply.reader.ReplyReader.clear.Goals as goal
-
-pub returns : goal.returns
-returns c = search rules
