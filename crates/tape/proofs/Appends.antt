@@ -1,24 +1,16 @@
 -- Appends in a row.
-use Rattle.std.proofs.Common.{◌≡◌, ℕ, suc, ◌+◌, ◌≤◌, min, List, [], ◌∷◌, ◌++◌, length, take, Result, IsErr, Ok, Err, sym, ap, ◌∙◌, append_assoc, length-append, arith}
-use Rattle.std.proofs.lemmas.List.{take_min, take-append-le}
-use Rattle.tape.specs.Medium.{MediumKind, MediumStep, IsMediumCall}
-use Rattle.tape.specs.Medium.MediumCall.{Append}
-use Rattle.tape.specs.FileSteps.{AreMediumCalls}
-use Rattle.tape.specs.declared.medium.MediumFailed.{MediumFailed}
+use Rattle.tape.proofs.Words.{◌≡◌, ℕ, ◌+◌, ◌≤◌, min, List, ◌++◌, length, take, Result, IsErr, Ok, Err, sym, ap, ◌∙◌, append_assoc, arith, take_min, take-append-le, take-append-add, MediumKind, MediumStep, IsMediumCall, Append, AreMediumCalls, MediumFailed}
 
--- some of more than there are is all of it
-pub beyond : (n : ℕ) (a b : List ℕ) → take (length a + n) (a ++ b) ≡ a ++ take n b
-beyond n [] b = ap (λ k. take k b) (omega arith)
-beyond n (x ∷ a) b =
-    let more : suc (length a) + n ≡ suc (length a + n) = omega arith in
-    ap (λ k. take k (x ∷ (a ++ b))) more ∙ ap (λ l. x ∷ l) (beyond n a b)
+-- the first of what is appended after another
+pub append_part : (a b : List ℕ) (n : ℕ) (x y z : List ℕ) → y ≡ x ++ a → z ≡ y ++ take n b → z ≡ x ++ take (length a + n) (a ++ b)
+append_part a b n x y z first next =
+    next ∙ ap (λ l. l ++ take n b) first ∙ append_assoc x a (take n b) ∙ ap (λ l. x ++ l) (sym (take-append-add a b n))
 
 -- an append after another
 pub append_then : (a b : List ℕ) (r : Result Unit MediumFailed) (x y z : List ℕ) → MediumStep (Append a (Ok tt)) x y → MediumStep (Append b r) y z
     → MediumStep (Append (a ++ b) r) x z
 append_then a b (Ok u) x y z first next = next ∙ ap (λ l. l ++ b) first ∙ append_assoc x a b
-append_then a b (Err e) x y z first next =
-    (length a + next.0, next.1 ∙ ap (λ l. l ++ take next.0 b) first ∙ append_assoc x a (take next.0 b) ∙ ap (λ l. x ++ l) (sym (beyond next.0 a b)))
+append_then a b (Err e) x y z first next = (length a + next.0, append_part a b next.0 x y z first next.1)
 
 -- a failed append, where more was to follow
 pub append_short : (a b : List ℕ) (e d : MediumFailed) (x y : List ℕ) → MediumStep (Append a (Err e)) x y → MediumStep (Append (a ++ b) (Err d)) x y
@@ -46,13 +38,3 @@ append_call run = record {
   quiet = run.quiet;
   room = run.room;
 }
-
--- how many bytes a part has, and two parts
-pub first_part : (a b : List ℕ) → length a ≤ length (a ++ b)
-first_part a b = omega (arith, length-append a b)
-
-pub both_parts : (a b : List ℕ) → length a + length b ≤ length (a ++ b)
-both_parts a b = omega (arith, length-append a b)
-
-pub first_parts : (a b c : List ℕ) → length a + length b ≤ length (a ++ (b ++ c))
-first_parts a b c = omega (arith, length-append a (b ++ c), length-append b c)

@@ -1,35 +1,14 @@
 -- The entry before a place.
-use Rattle.std.proofs.Common.{◌≡◌, ◌⊎◌, ⊎_elim, ℕ, ◌+◌, ◌-◌, ◌<◌, ◌≤◌, List, [], ◌∷◌, ◌++◌, length, reverse, drop, Option, Some, None, inl, inr, refl, sym, ap, subst, ◌∙◌, append_assoc, append-nil, length-append, arith}
-use Rattle.std.proofs.lemmas.Bool.Decides.{nat_tests}
-use Rattle.std.proofs.lemmas.List.{drop_at, reverse-append}
-use Rattle.std.proofs.lemmas.List.Elements.{All-head}
-use Rattle.std.proofs.lemmas.Grind.{flat_map-append}
-use Rattle.std.specs.List.{All}
-use Rattle.rmt_wire.specs.declared.limits.TheConstants.{RECORD_LIMIT}
-use Rattle.tape.specs.Tape.{PlainEntry, Tape, IsTapeEntry, size_of}
-use Rattle.tape.specs.Tape.PlainEntry.{Record, Mark}
-use Rattle.tape.specs.List.{bytes_of}
-use Rattle.tape.specs.RecordFile.{length_bytes, image_of, images_of, IsFile}
-use Rattle.tape.specs.FileSteps.{BeginsWith, size_by_length, first_length}
+use Rattle.tape.proofs.Words.{◌≡◌, ◌⊎◌, ⊎_elim, ℕ, ◌+◌, ◌-◌, ◌<◌, ◌≤◌, List, [], ◌∷◌, ◌++◌, length, reverse, drop, Option, Some, None, inl, inr, refl, sym, ap, subst, ◌∙◌, append_assoc, append-nil, length-append, arith, drop_at, reverse-append, All-head, flat_map-append, All, RECORD_LIMIT, PlainEntry, Tape, IsTapeEntry, size_of, Record, Mark, bytes_of, length_bytes, image_of, images_of, IsFile, BeginsWith, size_by_length, first_length}
 use Rattle.tape.proofs.Spelling.{length_length_bytes, length_of, length_bound, image_size}
 use Rattle.tape.proofs.Places.{parted, All_back}
 use Rattle.tape.proofs.Images.{begins_one}
 use Rattle.tape.proofs.Writing.{image_length}
+use Rattle.tape.proofs.Passing.{size_is}
 
 pub nothing_ahead : (way : List PlainEntry) → None ≡ first_length way → way ≡ []
 nothing_ahead [] is = refl
 nothing_ahead (e ∷ es) is = cc
-
-sized : (n : ℕ) → 0 < n → size_by_length n ≡ n + 8
-sized n some = grind (arith, nat_tests)
-
-size_of_length : (e : PlainEntry) → IsTapeEntry e → size_by_length (length_of e) ≡ size_of e
-size_of_length (Record bytes) lawful = sized (length bytes) lawful.0
-size_of_length Mark lawful = refl
-
-length_is : (e : PlainEntry) → length_of e ≡ length (bytes_of e)
-length_is (Record bytes) = refl
-length_is Mark = refl
 
 last_or : (entries : List PlainEntry) → (entries ≡ []) ⊎ ((front : List PlainEntry) × (e : PlainEntry) × (entries ≡ front ++ e ∷ []))
 last_or [] = inl refl
@@ -89,7 +68,7 @@ pub last_is : (x : List ℕ) (at : ℕ) (t : Tape) (o : Option ℕ) → IsFile x
 last_is x at t o f some begins =
     let l = some_before x at t f (omega arith) in
     let bound = length_bound l.e l.lawful in
-    begins_one (drop (at - 4) x) l.more (length_of l.e) o (omega arith) l.begins begins ∙ ap Some (length_is l.e) ∙ sym l.back
+    begins_one (drop (at - 4) x) l.more (length_of l.e) o (omega arith) l.begins begins ∙ sym l.back
 
 pub last_fits : (x : List ℕ) (at n : ℕ) (t : Tape) → IsFile x at t → 4 ≤ at → BeginsWith (drop (at - 4) x) (Some n) → (n ≤ RECORD_LIMIT) × (size_by_length n ≤ at)
 last_fits x at n t f some begins =
@@ -98,4 +77,4 @@ last_fits x at n t f some begins =
     let one : Some n ≡ Some (length_of l.e) = begins_one (drop (at - 4) x) l.more (length_of l.e) (Some n) (omega arith) l.begins begins in
     let same : n ≡ length_of l.e = cc in
     let k = l.fits in
-    (omega arith, omega (arith, ap size_by_length same, size_of_length l.e l.lawful))
+    (omega arith, omega (arith, ap size_by_length same, size_is l.e (length_of l.e) l.lawful refl))

@@ -1,12 +1,5 @@
 -- What is told of an entry.
-use Rattle.std.proofs.Common.{◌≡◌, ◌↔◌, ℕ, List, [], ◌++◌, length, refl, sym, ap, subst, arith, Option, Some, None}
-use Rattle.std.specs.List.{All, slice_get}
-use Rattle.std.proofs.lemmas.List.{take_all}
-use Rattle.std.proofs.lemmas.List.Elements.{All-get_or}
-use Rattle.std.proofs.lemmas.Option.{slice_get_within, get_or_from_slice_get}
-use Rattle.tape.specs.Tape.{PlainEntry, IsTapeEntry}
-use Rattle.tape.specs.Tape.PlainEntry.{Record, Mark}
-use Rattle.tape.specs.List.{entry_length, with_front}
+use Rattle.tape.proofs.Words.{◌≡◌, ◌↔◌, ℕ, List, [], ◌++◌, length, refl, sym, ap, subst, arith, Option, Some, None, All, slice_get, take_all, All-get_or, slice_get_within, get_or_from_slice_get, PlainEntry, IsTapeEntry, Record, Mark, entry_length, with_front}
 
 -- of what a reel holds a mark alone has no bytes
 mark_of : (entry : Option PlainEntry) → ((e : PlainEntry) → entry ≡ Some e → IsTapeEntry e) → (entry_length entry ≡ Some 0) ↔ (entry ≡ Some Mark)

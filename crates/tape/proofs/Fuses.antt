@@ -1,14 +1,6 @@
 -- What a stopped append leaves, part after part.
-use Rattle.std.proofs.Common.{zero, suc, Option, Some, None, if◌then◌else◌, subst, ◌≡◌, ◌⊎◌, ℕ, ◌+◌, ◌-◌, List, ◌++◌, length, take, min, Bool, Result, Ok, Err, IsErr, OnOk, true, false, inl, inr, refl, sym, ap, ◌∙◌, length-append, append_assoc, append-nil, arith}
-use Rattle.std.specs.Result.{is_err}
-use Rattle.std.proofs.Math.Seq.{take-append-add, take-length}
-use Rattle.std.proofs.lemmas.List.{take-append-le, take_min}
-use Rattle.std.proofs.lemmas.Bool.{cases_lt}
-use Rattle.tape.specs.Medium.{MediumKind, IsMediumCall}
-use Rattle.tape.specs.Medium.MediumCall.{Append, Cut}
-use Rattle.tape.specs.Failures.{raised}
-use Rattle.tape.specs.Fuse.{Fused, CanStop, IsLeft, counted_down, fuse_kind, is_due}
-use Rattle.tape.specs.declared.medium.MediumFailed.{MediumFailed}
+use Rattle.tape.proofs.Words.{zero, suc, Option, Some, None, if◌then◌else◌, subst, ◌≡◌, ◌⊎◌, ℕ, ◌+◌, ◌-◌, List, ◌++◌, length, take, min, Bool, Result, Ok, Err, IsErr, OnOk, true, false, inl, inr, refl, sym, ap, ◌∙◌, length-append, append_assoc, append-nil, arith, is_err, take-append-add, take-length, take-append-le, take_min, cases_lt, MediumKind, IsMediumCall, Append, Cut, raised, Fused, CanStop, IsLeft, counted_down, fuse_kind, is_due, MediumFailed}
+use Rattle.tape.proofs.Appends.{append_part, append_short}
 
 -- one append
 pub left_by_append : {S : Type 0} {m : MediumKind S} {old new : S} {bytes : List ℕ} (r : Result Unit MediumFailed)
@@ -32,14 +24,8 @@ pub left_then : {S : Type 0} {m : MediumKind S} {a b d : S} {x y : List ℕ} (u 
 left_then {x = x} {y = y} u c l = record {
   step = λ bytes held.
       let s = c.step bytes held in
-      let t = l.step s.0 s.1 in (
-        t.0,
-        t.1,
-        (
-          length x + t.2.0,
-          t.2.1 ∙ ap (λ z. z ++ take t.2.0 y) s.2 ∙ append_assoc bytes x (take t.2.0 y) ∙ ap (λ z. bytes ++ z) (sym (take-append-add x y t.2.0)),
-        ),
-      );
+      let t = l.step s.0 s.1 in
+      (t.0, t.1, (length x + t.2.0, append_part x y t.2.0 bytes s.0 t.0 s.2 t.2.1));
   exact = λ sound fits.
       let room = c.room in
       let whole = length-append x y in
@@ -56,16 +42,7 @@ left_then {x = x} {y = y} u c l = record {
 pub left_short : {S : Type 0} {m : MediumKind S} {a b : S} {x : List ℕ} (y : List ℕ) (e : MediumFailed)
     → IsMediumCall m a (Append x (Err e)) b → IsLeft m a (x ++ y) b
 left_short {x = x} y e c = record {
-  step = λ bytes held.
-      let s = c.step bytes held in
-      let n = s.2.0 in (
-        s.0,
-        s.1,
-        (
-          min n (length x),
-          s.2.1 ∙ ap (λ z. bytes ++ z) (sym (take_min n x) ∙ sym (take-append-le (min n (length x)) x y (omega arith))),
-        ),
-      );
+  step = λ bytes held. let s = c.step bytes held in (s.0, s.1, append_short x y e e bytes s.0 s.2);
   exact = λ sound fits.
       let whole = length-append x y in
       absurd (elim (c.able refl) [ inl can ↦ sound can | inr short ↦ omega arith ]);
@@ -145,18 +122,24 @@ stopped_cut holds can_fail spare old new len e (Some zero) at blown is =
       room = omega (arith, ap spare inner);
     }
 
--- a call that is passed on counts one failure where it fails, and none else
-pub passed_count : {T : Type 0} (r s : Result T MediumFailed) (due : Bool) (old mid new : ℕ) → due ≡ false → s ≡ r
-    → mid ≡ (if due then raised old else old) → new ≡ (if is_err r then raised mid else mid) → new ≡ (if is_err s then raised old else old)
-passed_count (Ok u) (Ok v) false old mid new idle is first next = next ∙ first
-passed_count (Err e) (Err d) false old mid new idle is first next = next ∙ ap raised first
-passed_count (Ok u) (Err d) due old mid new idle is first next = absurd cc
-passed_count (Err e) (Ok v) due old mid new idle is first next = absurd cc
-passed_count r s true old mid new idle is first next = absurd cc
+-- A call that is counted and passed on: `seen` is the medium then, and `new` is the medium after it.
+module _ {M T : Type 0} {r s : Result T MediumFailed} {seen mid new : Fused M} {i j : M} {g h : Option ℕ} {k l : ℕ} {o p : Bool}
+    (seen_is : seen ≡ mid) (same : s ≡ r) where
+  -- it counts one failure where it fails, and none else
+  pub passed_count : (count : ℕ) {due b : Bool} → b ≡ due → b ≡ false
+      → mid ≡ record { inner = i; to_go = g; left = k; once = o; failures = if due then raised count else count }
+      → new ≡ record { inner = j; to_go = h; left = l; once = p; failures = if is_err r then raised seen.failures else seen.failures }
+      → new.failures ≡ (if is_err s then raised count else count)
+  passed_count count answer idle first next =
+      rw same (rw (rw (sym answer ∙ idle) at (ap (λ f. f.failures) (seen_is ∙ first))) at (ap (λ f. f.failures) next))
 
--- a call that is passed on and goes well leaves the count of the medium within
-pub passed_well : {S T : Type 0} (count : S → ℕ) (r s : Result T MediumFailed) (a b old new : S) → a ≡ old → new ≡ b → s ≡ r
-    → (count b ≡ count a) ⊎ IsErr r → OnOk s (count new ≡ count old)
-passed_well count (Ok u) (Ok v) a b old new from to is w = elim w [ inl same ↦ ap count to ∙ same ∙ ap count from | inr failed ↦ absurd cc ]
-passed_well count (Err e) (Ok v) a b old new from to is w = absurd cc
-passed_well count r (Err d) a b old new from to is w = tt
+  -- and where it goes well, it leaves the count of the medium within
+  pub passed_well : (within : M → ℕ) {f e : ℕ} → mid ≡ record { inner = i; to_go = g; left = k; once = o; failures = e }
+      → new ≡ record { inner = j; to_go = h; left = l; once = p; failures = f }
+      → (within j ≡ within seen.inner) ⊎ IsErr r → OnOk s (within new.inner ≡ within i)
+  passed_well within first next w =
+      rw same (kept r (elim w [ inl e ↦ inl (ap (λ f. within f.inner) next ∙ e ∙ ap (λ f. within f.inner) (seen_is ∙ first)) | inr failed ↦ inr failed ]))
+    where
+      kept : (x : Result T MediumFailed) {P : Type 0} → P ⊎ IsErr x → OnOk x P
+      kept (Ok u) w = elim w [ inl holds ↦ holds | inr failed ↦ absurd cc ]
+      kept (Err e) w = tt

@@ -1,19 +1,5 @@
 -- A reel whose medium is memory, as the tape that it is seen as.
-use Rattle.std.proofs.Common.{◌≡◌, ◌≢◌, ◌↔◌, ℕ, Bool, true, false, if◌then◌else◌, ◌==◌, ◌+◌, ◌*◌, ◌<◌, ◌≤◌, List, [], ◌∷◌, ◌++◌, length, take, replicate, Option, Some, None, MatchOption, Result, Ok, Err, MatchResult, inl, inr, refl, sym, ap, subst, ◌∙◌, append-nil, arith}
-use Rattle.std.proofs.lemmas.Bool.Decides.{nat_tests}
-use Rattle.std.specs.List.{slice_get}
-use Rattle.tape.specs.Failures.{Steps}
-use Rattle.tape.specs.Tape.{PlainEntry, Tape, TapeRequest, TapeAnswer, TapeStep, tape, entries_of, offset_of, op_request, done_answer}
-use Rattle.tape.specs.Tape.PlainEntry.{Record, Mark}
-use Rattle.tape.specs.Tape.TapeRequest.{Write, WriteMarks, ForwardFiles, BackFiles, ForwardRecords, BackRecords, Rewind, Nothing, Unknown}
-use Rattle.tape.specs.Tape.TapeAnswer.{Done, Fault}
-use Rattle.tape.specs.List.{IsListCall, IsListView, list_view, entry_at, entry_length}
-use Rattle.tape.specs.Media.{MemoryBytes, IsMemory, memory_kind}
-use Rattle.tape.specs.RecordFile.{SpellsReel, IsFile, FileTape, HoldsTape, tape_in, entries_in, image_added}
-use Rattle.tape.specs.Trouble.{ComesToDevice, left_by, left_after, put_by, DeviceStep, IsTroubleLeft}
-use Rattle.tape.specs.declared.fault.TapeFault.{TapeFault}
-use Rattle.tape.specs.declared.fault.TapeFault.TheVariants.{Device, Full, OutOfMemory}
-use Rattle.tape.specs.declared.trouble.Trouble.{Trouble}
+use Rattle.tape.proofs.Words.{◌≡◌, ◌≢◌, ◌↔◌, ℕ, Bool, true, false, if◌then◌else◌, ◌==◌, ◌+◌, ◌*◌, ◌<◌, ◌≤◌, List, [], ◌∷◌, ◌++◌, length, take, replicate, Option, Some, None, MatchOption, Result, Ok, Err, MatchResult, inl, inr, refl, sym, ap, subst, ◌∙◌, append-nil, arith, nat_tests, slice_get, Steps, PlainEntry, Tape, TapeRequest, TapeAnswer, TapeStep, tape, entries_of, offset_of, op_request, done_answer, Record, Mark, Write, WriteMarks, ForwardFiles, BackFiles, ForwardRecords, BackRecords, Rewind, Nothing, Unknown, Done, Fault, IsListCall, IsListView, list_view, entry_at, entry_length, MemoryBytes, IsMemory, memory_kind, SpellsReel, IsFile, FileTape, HoldsTape, tape_in, entries_in, image_added, ComesToDevice, left_by, left_after, put_by, DeviceStep, IsTroubleLeft, TapeFault, Device, Full, OutOfMemory, Trouble}
 use Rattle.tape.specs.declared.trouble.Trouble.TheVariants.{None as NoTrouble, Kept, Lost, Written}
 use Rattle.tape.proofs.Calls.{list_call}
 use Rattle.tape.proofs.Entries.{mark_told}
@@ -41,8 +27,10 @@ seen_step old new does held steps =
 seen_entries : (r : FileTape MemoryBytes) → IsListView r → entries_of (list_view r).tape ≡ entries_in r.medium.bytes
 seen_entries r h = spells_in h.0 (entries_of (list_view r).tape) h.2.spelled ∙ ap entries_in h.1.0
 
-pub entry_seen : (r : FileTape MemoryBytes) (file : List ℕ) (i : ℕ) → IsListView r → file ≡ r.medium.bytes → entry_at i (list_view r).tape ≡ slice_get (entries_in file) i
-entry_seen r file i held is = ap (λ es. slice_get es i) (seen_entries r held ∙ ap entries_in (sym is))
+pub entry_seen : (r : FileTape MemoryBytes) (medium : MemoryBytes) (file : List ℕ) (i : ℕ) (o : Option PlainEntry) → IsListView r → medium ≡ r.medium
+    → file ≡ medium.bytes → slice_get (entries_in file) i ≡ o → entry_at i (list_view r).tape ≡ o
+entry_seen r medium file i o held same is found =
+    ap (λ es. slice_get es i) (seen_entries r held ∙ ap entries_in (sym (is ∙ ap (λ (m : MemoryBytes). m.bytes) same))) ∙ found
 
 pub mark_seen : (r : FileTape MemoryBytes) (i : ℕ) → IsListView r → (entry_length (entry_at i (list_view r).tape) ≡ Some 0) ↔ (entry_at i (list_view r).tape ≡ Some Mark)
 mark_seen r i held = mark_told (entries_of (list_view r).tape) i held.2.spelled.lawful

@@ -1,17 +1,7 @@
 -- Lengths and images in a file.
-use Rattle.std.proofs.Common.{◌≡◌, ◌≢◌, ℕ, ◌+◌, ◌<◌, ◌≤◌, ◌^◌, List, [], ◌∷◌, ◌++◌, length, take, drop, Option, Some, None, refl, sym, ap, subst, ◌∙◌, append_assoc, length-append, length-drop, length-take, take-append-drop, drop-drop, arith}
-use Rattle.std.proofs.lemmas.List.{take_at, drop_at, take_all}
-use Rattle.std.proofs.lemmas.List.Elements.{All-head}
-use Rattle.std.specs.List.{All}
-use Rattle.std.specs.Int.{w32, from_le_bytes}
-use Rattle.rmt_wire.specs.declared.limits.TheConstants.{RECORD_LIMIT}
-use Rattle.tape.specs.Tape.{PlainEntry, Tape, IsTapeEntry, IsRecord}
-use Rattle.tape.specs.Tape.PlainEntry.{Record, Mark}
-use Rattle.tape.specs.List.{bytes_of}
-use Rattle.tape.specs.Medium.{IsReadAt}
-use Rattle.tape.specs.RecordFile.{length_bytes, image_of, images_of, IsTail, IsFile, first_in}
-use Rattle.tape.specs.FileSteps.{BeginsWith, first_length}
+use Rattle.tape.proofs.Words.{◌≡◌, ◌≢◌, ℕ, ◌+◌, ◌<◌, ◌≤◌, ◌^◌, List, [], ◌∷◌, ◌++◌, length, take, drop, Option, Some, None, refl, sym, ap, subst, ◌∙◌, append_assoc, length-append, length-drop, length-take, take-append-drop, drop-drop, arith, take_at, drop_at, take_all, All-head, All, w32, from_le_bytes, RECORD_LIMIT, PlainEntry, Tape, IsTapeEntry, IsRecord, Record, Mark, IsReadAt, length_bytes, image_of, images_of, IsTail, IsFile, first_in, BeginsWith, first_length, AreMediumCalls, MediumKind, true, false}
 use Rattle.tape.proofs.Spelling.{length_length_bytes, from_length_bytes, length_of, length_bound, body_of, image_parts, first_image}
+use Rattle.tape.proofs.MediumRuns.{run_as, run_then, no_error, no_bytes, no_bytes_twice}
 use Rattle.tape.proofs.Places.{parted, back_is}
 
 -- ---- lengths
@@ -23,13 +13,14 @@ read_length at n m given x four enough is fits read =
     let there : given ≡ take n (drop at x) = sym all ∙ read.1 in
     (fits, (drop n (drop at x), sym (take-append-drop n (drop at x)) ∙ ap (λ l. l ++ drop n (drop at x)) (sym there ∙ sym is)))
 
--- less than four bytes are there
-pub read_short : (at n : ℕ) (given x : List ℕ) → length given ≡ 4 → n < 4 → IsReadAt at given n x → BeginsWith (drop at x) None
-read_short at n given x four short read = let k = read.0 in omega (arith, length-drop at x)
-
+-- the length that stands there
 pub length_there : (bytes rest : List ℕ) (n : ℕ) → n < 2 ^ 32 → bytes ≡ length_bytes n ++ rest → from_le_bytes w32 (take 4 bytes) ≡ n
 length_there bytes rest n fits is =
     ap (λ l. from_le_bytes w32 (take 4 l)) is ∙ ap (from_le_bytes w32) (take_at (length_bytes n) rest 4 (length_length_bytes n)) ∙ from_length_bytes n fits
+
+-- and what follows it
+pub rest_is : (bytes rest : List ℕ) (n : ℕ) → bytes ≡ length_bytes n ++ rest → drop 4 bytes ≡ rest
+rest_is bytes rest n is = ap (drop 4) is ∙ drop_at (length_bytes n) rest 4 (length_length_bytes n)
 
 -- where a length stands, it is what the bytes begin with
 pub begins_one : (bytes rest : List ℕ) (n : ℕ) (o : Option ℕ) → n < 2 ^ 32 → bytes ≡ length_bytes n ++ rest → BeginsWith bytes o → o ≡ Some n
@@ -46,11 +37,7 @@ first_of x tail (d ∷ ds) e rest is is_tail lawful others there =
     let stands : x ≡ image_of d ++ (images_of ds ++ tail) = is ∙ append_assoc (image_of d) (images_of ds) tail in
     let one : Some e ≡ Some d = sym (ap first_in there ∙ first_image e rest lawful) ∙ ap first_in stands ∙ first_image d (images_of ds ++ tail) (others d ds refl) in
     let same : e ≡ d = cc in
-    ap (λ k. Some (length_of k)) same ∙ ap Some (length_bytes_of d)
-  where
-    length_bytes_of : (k : PlainEntry) → length_of k ≡ length (bytes_of k)
-    length_bytes_of (Record bytes) = refl
-    length_bytes_of Mark = refl
+    ap (λ k. Some (length_of k)) same
 
 none_of : (x tail : List ℕ) (after : List PlainEntry) → x ≡ images_of after ++ tail → IsTail x
     → ((d : PlainEntry) (ds : List PlainEntry) → after ≡ d ∷ ds → IsTapeEntry d) → None ≡ first_length after
@@ -86,47 +73,72 @@ long_tail x n long begins e rest lawful is =
     let other = length_there x (body_of e ++ rest) (length_of e) (omega arith) (is ∙ image_parts e rest) in
     absurd (omega arith)
 
--- the same length stands after the bytes of a record
-behind_of : (e : PlainEntry) (rest : List ℕ) (n : ℕ) → 0 < n → length_of e ≡ n → drop (4 + n) (image_of e ++ rest) ≡ length_bytes n ++ rest
-behind_of Mark rest n some is = absurd (omega arith)
-behind_of (Record bytes) rest n some is =
-    let whole : image_of (Record bytes) ++ rest ≡ (length_bytes (length bytes) ++ bytes) ++ (length_bytes (length bytes) ++ rest)
-    = image_parts (Record bytes) rest ∙ ap (λ l. length_bytes (length bytes) ++ l) (append_assoc bytes (length_bytes (length bytes)) rest)
-    ∙ sym (append_assoc (length_bytes (length bytes)) bytes (length_bytes (length bytes) ++ rest)) in
-    let long : length (length_bytes (length bytes) ++ bytes) ≡ 4 + n = omega (arith, length-append (length_bytes (length bytes)) bytes, length_length_bytes (length bytes)) in
-    ap (drop (4 + n)) whole ∙ drop_at (length_bytes (length bytes) ++ bytes) (length_bytes (length bytes) ++ rest) (4 + n) long
-    ∙ ap (λ k. length_bytes k ++ rest) is
-
-pub torn_tail : (bytes : List ℕ) (at n to : ℕ) (behind : Option ℕ) → 0 < n → to ≡ at + 4 + n → BeginsWith (drop at bytes) (Some n) → BeginsWith (drop to bytes) behind
-    → behind ≢ Some n → IsTail (drop at bytes)
-torn_tail bytes at n to behind some to_is begins ends not e rest lawful is =
-    let bound = length_bound e lawful in
-    let there = length_there (drop at bytes) begins.1.0 n begins.0 begins.1.1 in
-    let other = length_there (drop at bytes) (body_of e ++ rest) (length_of e) (omega arith) (is ∙ image_parts e rest) in
-    let same : length_of e ≡ n = sym other ∙ there in
-    let one : to ≡ at + (4 + n) = omega arith in
-    let stands : drop to bytes ≡ length_bytes n ++ rest
-    = ap (λ k. drop k bytes) one ∙ sym (drop-drop (4 + n) at bytes) ∙ ap (drop (4 + n)) is ∙ behind_of e rest n some same in
-    absurd (not (begins_one (drop to bytes) rest n behind begins.0 stands ends))
+-- nor with a length that does not stand again after so many bytes
+pub torn_tail : (x rest : List ℕ) (n : ℕ) (behind : Option ℕ) → n < 2 ^ 32 → x ≡ length_bytes n ++ rest → 0 < n → BeginsWith (drop n rest) behind
+    → behind ≢ Some n → IsTail x
+torn_tail x rest n behind small is some ends not Mark more lawful whole =
+    let there = length_there x rest n small is in
+    absurd (omega (arith, sym there ∙ length_there x more 0 (omega arith) whole))
+torn_tail x rest n behind small is some ends not (Record bytes) more lawful whole =
+    let bound = lawful.1 in
+    let parts = whole ∙ image_parts (Record bytes) more in
+    let size : length bytes ≡ n = sym (length_there x (body_of (Record bytes) ++ more) (length bytes) (omega arith) parts) ∙ length_there x rest n small is in
+    let left : rest ≡ bytes ++ (length_bytes (length bytes) ++ more)
+    = sym (rest_is x rest n is) ∙ rest_is x (body_of (Record bytes) ++ more) (length bytes) parts ∙ append_assoc bytes (length_bytes (length bytes)) more in
+    let stands : drop n rest ≡ length_bytes n ++ more
+    = ap (drop n) left ∙ drop_at bytes (length_bytes (length bytes) ++ more) n size ∙ ap (λ k. length_bytes k ++ more) size in
+    absurd (not (begins_one (drop n rest) more n behind small stands ends))
 
 -- a length, so many bytes and the length again are the image of a record
+pub record_image : (x rest behind : List ℕ) (n : ℕ) → x ≡ length_bytes n ++ rest → 0 < n → n ≤ RECORD_LIMIT → drop n rest ≡ length_bytes n ++ behind
+    → IsRecord (take n rest) × (x ≡ image_of (Record (take n rest)) ++ behind) × (length (take n rest) ≡ n)
+record_image x rest behind n is some small again =
+    let written = take n rest in
+    let long : n ≤ length rest = omega (arith, ap length again, length-drop n rest, length-append (length_bytes n) behind, length_length_bytes n) in
+    let size : length written ≡ n = omega (arith, length-take n rest) in
+    let P : ℕ → Type 0 = λ k. x ≡ length_bytes k ++ (written ++ (length_bytes k ++ behind)) in
+    let first : P n = is ∙ ap (λ l. length_bytes n ++ l) (sym (take-append-drop n rest) ∙ ap (λ l. written ++ l) again) in
+    let parts = ap (λ l. length_bytes (length written) ++ l) (append_assoc written (length_bytes (length written)) behind) in
+    ((omega arith, omega arith), subst P (sym size) first ∙ sym (image_parts (Record written) behind ∙ parts), size)
+
+-- the bytes behind a length at a place, and so many further
+behind_is : (bytes rest : List ℕ) (at n to : ℕ) → to ≡ at + 4 + n → drop at bytes ≡ length_bytes n ++ rest → drop n rest ≡ drop to bytes
+behind_is bytes rest at n to to_is is =
+    let one : at + 4 + n ≡ at + (4 + n) = omega arith in
+    sym (ap (λ k. drop k bytes) (to_is ∙ one) ∙ sym (drop-drop (4 + n) at bytes) ∙ sym (drop-drop n 4 (drop at bytes))
+    ∙ ap (drop n) (rest_is (drop at bytes) rest n is))
+
+-- the same at a place
+pub torn_there : (bytes : List ℕ) (at n to : ℕ) (behind : Option ℕ) → 0 < n → to ≡ at + 4 + n → BeginsWith (drop at bytes) (Some n)
+    → BeginsWith (drop to bytes) behind → behind ≢ Some n → IsTail (drop at bytes)
+torn_there bytes at n to behind some to_is (small, (rest, is)) ends not =
+    torn_tail (drop at bytes) rest n behind small is some (subst (λ l. BeginsWith l behind) (sym (behind_is bytes rest at n to to_is is)) ends) not
+
+-- where they stand at the place, the record is the first entry ahead
 pub record_there : (bytes : List ℕ) (at n to : ℕ) (t : Tape) → IsFile bytes at t → 0 < n → n ≤ RECORD_LIMIT → to ≡ at + 4 + n → BeginsWith (drop at bytes) (Some n)
     → BeginsWith (drop to bytes) (Some n) → Some n ≡ first_length t.after
-record_there bytes at n to t f some small to_is begins ends =
-    let rest = begins.1.0 in
-    let written = take n rest in
-    let one : to ≡ at + (4 + n) = omega arith in
-    let two : drop to bytes ≡ drop n rest
-    = ap (λ k. drop k bytes) one ∙ sym (drop-drop (4 + n) at bytes) ∙ sym (drop-drop n 4 (drop at bytes))
-    ∙ ap (λ l. drop n (drop 4 l)) begins.1.1 ∙ ap (drop n) (drop_at (length_bytes n) rest 4 (length_length_bytes n)) in
-    let behind : drop n rest ≡ length_bytes n ++ ends.1.0 = sym two ∙ ends.1.1 in
-    let long : n ≤ length rest = omega (arith, ap length behind, length-drop n rest, length-append (length_bytes n) ends.1.0, length_length_bytes n) in
-    let size : length written ≡ n = omega (arith, length-take n rest) in
-    let lawful : IsRecord written = (omega arith, omega arith) in
-    let P : ℕ → Type 0 = λ k. drop at bytes ≡ length_bytes k ++ (written ++ (length_bytes k ++ ends.1.0)) in
-    let first : P n = begins.1.1 ∙ ap (λ l. length_bytes n ++ l) (sym (take-append-drop n rest) ∙ ap (λ l. written ++ l) behind) in
-    let image : drop at bytes ≡ image_of (Record written) ++ ends.1.0
-    = subst P (sym size) first
-    ∙ ap (λ l. length_bytes (length written) ++ l) (sym (append_assoc written (length_bytes (length written)) ends.1.0))
-    ∙ sym (append_assoc (length_bytes (length written)) (written ++ length_bytes (length written)) ends.1.0) in
-    ap Some (sym size) ∙ file_first bytes at t (Record written) ends.1.0 f lawful image
+record_there bytes at n to t f some small to_is (_, (rest, is)) (_, (behind, again)) =
+    let r = record_image (drop at bytes) rest behind n is some small (behind_is bytes rest at n to to_is is ∙ again) in
+    ap Some (sym r.2) ∙ file_first bytes at t (Record (take n rest)) behind f r.0 r.1
+
+-- ---- what was read at a place
+
+-- one length was read, and what it tells of each tape with its place there
+pub looked : {S : Type 0} {m : MediumKind S} {a b : S} {at : ℕ} {read found : Option ℕ} {F : Type 0} {P : Tape → Type 0} (to : ℕ)
+    → AreMediumCalls m (λ x y. (y ≡ x) × BeginsWith (drop to x) read) 0 F a b → read ≡ found
+    → ((x : List ℕ) (t : Tape) → IsFile x at t → BeginsWith (drop to x) found → P t)
+    → AreMediumCalls m (λ x y. (y ≡ x) × ((t : Tape) → IsFile x at t → P t)) 0 F a b
+looked to run is tells =
+    run_as run (λ f. f) (λ f. f) no_bytes (λ x y held step. (step.0, λ t file. tells x t file (subst (BeginsWith (drop to x)) is step.1)))
+
+-- and then another
+pub looked_twice : {S : Type 0} {m : MediumKind S} {a b c : S} {at : ℕ} {read found other behind : Option ℕ} {F : Type 0} {P : Tape → Type 0}
+    (to on : ℕ) → AreMediumCalls m (λ x y. (y ≡ x) × BeginsWith (drop to x) read) 0 (false ≡ true) a b
+    → AreMediumCalls m (λ x y. (y ≡ x) × BeginsWith (drop on x) other) 0 F b c → read ≡ found → other ≡ behind
+    → ((x : List ℕ) (t : Tape) → IsFile x at t → BeginsWith (drop to x) found → BeginsWith (drop on x) behind → P t)
+    → AreMediumCalls m (λ x y. (y ≡ x) × ((t : Tape) → IsFile x at t → P t)) 0 F a c
+looked_twice {behind = behind} to on first next is also tells =
+    run_then first next no_error (λ f. f) (λ f. f) no_bytes_twice
+    (λ x y z held f n.
+    let P : List ℕ → Type 0 = λ l. BeginsWith (drop on l) behind in
+    (n.0 ∙ f.0, λ t file. tells x t file (subst (BeginsWith (drop to x)) is f.1) (subst P f.0 (subst (BeginsWith (drop on y)) also n.1))))

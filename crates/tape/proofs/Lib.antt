@@ -1,3 +1,4 @@
+mod Words
 pub mod Calls
 pub mod Entries
 pub mod Spacing

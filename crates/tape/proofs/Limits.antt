@@ -1,13 +1,5 @@
 -- A record file that was written with records up to a length spells the same entries where longer ones are allowed.
-use Rattle.std.proofs.Common.{◌≡◌, ◌↔◌, ℕ, ◌<◌, ◌≤◌, ◌^◌, List, [], ◌∷◌, ◌++◌, length, take, drop, refl, sym, ap, subst, ◌∙◌, append_assoc, length-append, arith}
-use Rattle.std.proofs.lemmas.List.{drop_at, append-nil}
-use Rattle.std.proofs.lemmas.List.Concat.{flat_map-append}
-use Rattle.std.proofs.lemmas.List.Elements.{All-nil, All-cons, All-head, All-tail, All-append}
-use Rattle.std.specs.Int.{w32, from_le_bytes}
-use Rattle.std.specs.List.{All}
-use Rattle.tape.specs.Tape.{PlainEntry, IsEntryUpTo}
-use Rattle.tape.specs.Tape.PlainEntry.{Record, Mark}
-use Rattle.tape.specs.RecordFile.{image_of, images_of, IsTailUpTo, SpellsReelUpTo, IsWrittenUpTo}
+use Rattle.tape.proofs.Words.{◌≡◌, ◌↔◌, ℕ, ◌<◌, ◌≤◌, ◌^◌, List, [], ◌∷◌, ◌++◌, length, take, drop, refl, sym, ap, subst, ◌∙◌, append_assoc, length-append, arith, drop_at, append-nil, flat_map-append, All-nil, All-cons, All-head, All-tail, All-append, w32, from_le_bytes, All, PlainEntry, IsEntryUpTo, Record, Mark, image_of, images_of, IsTailUpTo, SpellsReelUpTo, IsWrittenUpTo}
 use Rattle.tape.proofs.Spelling.{length_of, image_size, head_length, told, told_image}
 
 bound : (limit : ℕ) (e : PlainEntry) → IsEntryUpTo limit e → length_of e ≤ limit
@@ -29,7 +21,7 @@ same_rest d rest more is =
     sym (drop_at (image_of d) rest (length (image_of d)) refl) ∙ ap (drop (length (image_of d))) is ∙ drop_at (image_of d) more (length (image_of d)) refl
 
 -- a beginning of an image that is not all of it is a tail, under each limit
-begun_tail : (l m : ℕ) (next : PlainEntry) (begun unwritten : List ℕ) → l < 2 ^ 32 → m < 2 ^ 32 → IsEntryUpTo l next
+pub begun_tail : (l m : ℕ) (next : PlainEntry) (begun unwritten : List ℕ) → l < 2 ^ 32 → m < 2 ^ 32 → IsEntryUpTo l next
     → image_of next ≡ begun ++ unwritten → 0 < length unwritten → IsTailUpTo m begun
 begun_tail l m next begun unwritten small few lawful is some e rest good begins =
     let whole : image_of next ++ [] ≡ image_of e ++ (rest ++ unwritten)

@@ -1,7 +1,5 @@
 -- Calls of a medium in a row.
-use Rattle.std.proofs.Common.{◌≡◌, ◌≢◌, false, true, ℕ, ◌+◌, ◌<◌, ◌≤◌, List, inl, inr, refl, ◌∙◌, arith}
-use Rattle.tape.specs.Medium.{MediumCall, MediumStep, HasFailed, bytes_added, MediumKind, IsMediumCall}
-use Rattle.tape.specs.FileSteps.{AreMediumCalls}
+use Rattle.tape.proofs.Words.{◌≡◌, ◌≢◌, false, true, ℕ, ◌+◌, ◌<◌, ◌≤◌, List, inl, inr, refl, ◌∙◌, arith, MediumCall, MediumStep, HasFailed, bytes_added, MediumKind, IsMediumCall, AreMediumCalls}
 
 pub run_call : {S : Type 0} {m : MediumKind S} {old new : S} {call : MediumCall} → IsMediumCall m old call new
     → AreMediumCalls m (MediumStep call) (bytes_added call) (HasFailed call) old new
@@ -17,12 +15,6 @@ no_bytes = omega arith
 
 pub no_bytes_twice : 0 + 0 ≤ 0
 no_bytes_twice = omega arith
-
-pub more_bytes : (n : ℕ) → 0 ≤ n
-more_bytes n = omega arith
-
-pub next_bytes : (n : ℕ) → 0 + n ≤ n
-next_bytes n = omega arith
 
 pub some_bytes : {n : ℕ} → n ≢ 0 → 0 < n
 some_bytes {n} some = omega arith

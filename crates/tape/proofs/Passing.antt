@@ -1,21 +1,10 @@
 -- One entry of a record file that is passed.
-use Rattle.std.proofs.Common.{◌≡◌, ℕ, ◌+◌, ◌-◌, nat_eq, List, [], ◌∷◌, ◌++◌, length, reverse, Some, refl, sym, ap, subst, ◌∙◌, append_assoc, length-append, arith}
-use Rattle.std.specs.Prelude.{if◌then◌else◌}
-use Rattle.std.proofs.lemmas.Grind.{flat_map-append}
-use Rattle.std.proofs.lemmas.Bool.Decides.{nat_tests}
-use Rattle.std.proofs.lemmas.List.{reverse-append, reverse-reverse}
-use Rattle.std.proofs.lemmas.List.Elements.{All-head}
-use Rattle.tape.specs.Tape.{PlainEntry, Tape, tape, IsTapeEntry, mark_count, size_of}
-use Rattle.tape.specs.Tape.PlainEntry.{Record, Mark}
-use Rattle.tape.specs.List.{bytes_of}
-use Rattle.tape.specs.RecordFile.{IsFile, SpellsReel, image_of, images_of}
-use Rattle.tape.specs.FileSteps.{IsPassed, ahead, first_length, size_by_length}
-use Rattle.tape.specs.declared.file_reel.walk.Way.TheVariants.{Forward, Back}
+use Rattle.tape.proofs.Words.{◌≡◌, ℕ, ◌+◌, ◌-◌, nat_eq, List, [], ◌∷◌, ◌++◌, length, reverse, Some, refl, sym, ap, subst, ◌∙◌, append_assoc, length-append, arith, if◌then◌else◌, flat_map-append, nat_tests, reverse-append, reverse-reverse, All-head, PlainEntry, Tape, tape, IsTapeEntry, mark_count, size_of, Record, Mark, bytes_of, IsFile, SpellsReel, image_of, images_of, IsPassed, first_length, size_by_length, Forward, Back}
 use Rattle.tape.proofs.Places.{All_back}
 use Rattle.tape.proofs.Writing.{image_length}
 
 -- the size of an entry by its length
-size_is : (e : PlainEntry) (n : ℕ) → IsTapeEntry e → n ≡ length (bytes_of e) → size_by_length n ≡ size_of e
+pub size_is : (e : PlainEntry) (n : ℕ) → IsTapeEntry e → n ≡ length (bytes_of e) → size_by_length n ≡ size_of e
 size_is (Record bytes) n h is = let some = h.0 in grind (arith, nat_tests)
 size_is Mark n h is = grind (arith, nat_tests)
 
@@ -29,10 +18,10 @@ images_on before e =
     omega (arith, ap length (flat_map-append image_of before (e ∷ [])), length-append (images_of before) (images_of (e ∷ [])), length-append (image_of e) [], image_length e)
 
 -- what was passed forward, from the length that was found
-next_by : (bytes : List ℕ) (at n : ℕ) (before after : List PlainEntry) → IsFile bytes at (tape before after) → Some n ≡ first_length after
+pub next_passed : (bytes : List ℕ) (at n : ℕ) (before after : List PlainEntry) → IsFile bytes at (tape before after) → Some n ≡ first_length after
     → (u : Tape) × IsFile bytes (at + size_by_length n) u × IsPassed Forward (tape before after) (nat_eq n 0) u
-next_by bytes at n before [] f is = absurd cc
-next_by bytes at n before (e ∷ es) f is =
+next_passed bytes at n before [] f is = absurd cc
+next_passed bytes at n before (e ∷ es) f is =
     let long : n ≡ length (bytes_of e) = cc in
     let lawful = All-head IsTapeEntry e es (All_back IsTapeEntry before (e ∷ es) f.spelled.lawful) in
     let whole : (before ++ e ∷ []) ++ es ≡ before ++ (e ∷ es) = append_assoc before (e ∷ []) es in (
@@ -50,15 +39,11 @@ next_by bytes at n before (e ∷ es) f is =
       },
     )
 
-pub next_passed : (bytes : List ℕ) (at n : ℕ) (t : Tape) → IsFile bytes at t → Some n ≡ first_length (ahead Forward t)
-    → (u : Tape) × IsFile bytes (at + size_by_length n) u × IsPassed Forward t (nat_eq n 0) u
-next_passed bytes at n t f is = next_by bytes at n t.before t.after f is
-
 -- what was passed back
-last_by : (bytes : List ℕ) (at n : ℕ) (before after back : List PlainEntry) → back ≡ reverse before → IsFile bytes at (tape before after) → Some n ≡ first_length back
-    → (u : Tape) × IsFile bytes (at - size_by_length n) u × IsPassed Back (tape before after) (nat_eq n 0) u
-last_by bytes at n before after [] turned f is = absurd cc
-last_by bytes at n before after (e ∷ es) turned f is =
+pub last_passed : (bytes : List ℕ) (at n : ℕ) (before after back : List PlainEntry) → back ≡ reverse before → IsFile bytes at (tape before after)
+    → Some n ≡ first_length back → (u : Tape) × IsFile bytes (at - size_by_length n) u × IsPassed Back (tape before after) (nat_eq n 0) u
+last_passed bytes at n before after [] turned f is = absurd cc
+last_passed bytes at n before after (e ∷ es) turned f is =
     let long : n ≡ length (bytes_of e) = cc in
     let split : before ≡ reverse es ++ e ∷ [] = sym (reverse-reverse before) ∙ ap reverse (sym turned) ∙ reverse-append (e ∷ []) es in
     let whole : reverse es ++ (e ∷ after) ≡ before ++ after = sym (append_assoc (reverse es) (e ∷ []) after) ∙ ap (λ l. l ++ after) (sym split) in
@@ -78,7 +63,3 @@ last_by bytes at n before after (e ∷ es) turned f is =
         place = λ count. omega (arith, ap length split, length-append (reverse es) (e ∷ []));
       },
     )
-
-pub last_passed : (bytes : List ℕ) (at n : ℕ) (t : Tape) → IsFile bytes at t → Some n ≡ first_length (ahead Back t)
-    → (u : Tape) × IsFile bytes (at - size_by_length n) u × IsPassed Back t (nat_eq n 0) u
-last_passed bytes at n t f is = last_by bytes at n t.before t.after (reverse t.before) refl f is

@@ -1,11 +1,5 @@
 -- A file with a place in it: what stands before the place, and what stands from there on.
-use Rattle.std.proofs.Common.{◌≡◌, ℕ, List, [], ◌++◌, length, take, drop, refl, sym, ap, ap₂, subst, ◌∙◌, append_assoc, append-nil, arith}
-use Rattle.std.proofs.lemmas.List.{take_at, drop_at}
-use Rattle.std.proofs.lemmas.List.Elements.{All-append, All-take, All-drop}
-use Rattle.std.proofs.lemmas.Grind.{flat_map-append}
-use Rattle.std.specs.List.{All}
-use Rattle.tape.specs.Tape.{PlainEntry, Tape, IsTapeEntry, tape}
-use Rattle.tape.specs.RecordFile.{image_of, images_of, IsTail, SpellsReel, IsFile, tape_in}
+use Rattle.tape.proofs.Words.{◌≡◌, ℕ, List, [], ◌++◌, length, take, drop, refl, sym, ap, ap₂, subst, ◌∙◌, append_assoc, append-nil, arith, take_at, drop_at, All-append, All-take, All-drop, flat_map-append, All, PlainEntry, Tape, IsTapeEntry, tape, image_of, images_of, IsTail, SpellsReel, IsFile, tape_in}
 use Rattle.tape.proofs.Spelling.{spells_in, tail_short}
 
 pub All_front : (P : PlainEntry → Type 0) (xs ys : List PlainEntry) → All P (xs ++ ys) → All P xs

@@ -1,15 +1,5 @@
 -- From bytes that were written to the tape of a reel.
-use Rattle.std.proofs.Common.{◌≡◌, ℕ, ◌+◌, List, [], ◌∷◌, ◌++◌, length, take, Ok, Err, IsErr, refl, sym, ap, subst, ◌∙◌, arith}
-use Rattle.std.proofs.lemmas.List.Elements.{All-cons, All-nil}
-use Rattle.std.specs.List.{All}
-use Rattle.tape.specs.Failures.{Steps}
-use Rattle.tape.specs.Tape.{PlainEntry, IsRecord, IsTapeEntry, tape}
-use Rattle.tape.specs.Tape.PlainEntry.{Record}
-use Rattle.tape.specs.Medium.{MediumKind}
-use Rattle.tape.specs.RecordFile.{images_of, IsFile, FileTape}
-use Rattle.tape.specs.FileSteps.{AreMediumCalls, AreReelCalls, IsImageWritten, PutsEntries}
-use Rattle.tape.specs.declared.medium.MediumFailed.{MediumFailed}
-use Rattle.tape.specs.declared.fault.TapeFault.{TapeFault}
+use Rattle.tape.proofs.Words.{◌≡◌, ℕ, ◌+◌, List, [], ◌∷◌, ◌++◌, length, take, Ok, Err, IsErr, refl, sym, ap, subst, ◌∙◌, arith, All-cons, All-nil, All, Steps, PlainEntry, IsRecord, IsTapeEntry, tape, Record, MediumKind, images_of, IsFile, FileTape, AreMediumCalls, AreReelCalls, IsImageWritten, PutsEntries, MediumFailed, TapeFault}
 use Rattle.tape.proofs.MediumRuns.{run_as}
 use Rattle.tape.proofs.Writing.{written_whole, written_part}
 

@@ -1,21 +1,7 @@
 -- From a run of a reel on a medium to a call of a reel.
-use Rattle.std.proofs.Common.{◌≡◌, ◌↔◌, IsTrue, Bool, true, ℕ, ◌+◌, ◌*◌, ◌<◌, ◌≤◌, List, [], ◌∷◌, length, replicate, min, false, Result, Ok, Err, IsErr, IfErr, IfOk, inl, inr, refl, sym, ap, subst, ◌∙◌, arith}
-use Rattle.std.proofs.lemmas.Bool.{cases_lt}
-use Rattle.std.specs.Prelude.{◌-◌, MatchResult}
-use Rattle.tape.specs.Tape.{Tape, TapeRequest, TapeAnswer, TapeStep, SpaceStep, stands_at, marks_met, records_met, passed_for_marks, passed_for_records, tape, entries_of, done_answer}
-use Rattle.tape.specs.Tape.PlainEntry.{Record, Mark}
-use Rattle.tape.specs.Tape.TapeRequest.{Write, WriteMarks, ForwardFiles, BackFiles, ForwardRecords, BackRecords, Rewind, Nothing, Unknown}
-use Rattle.tape.specs.Tape.TapeAnswer.{Done, Fault}
-use Rattle.tape.specs.Call.{IsTapeCall, CanAnswer, CanSpace}
-use Rattle.tape.specs.Medium.{MediumKind}
-use Rattle.tape.specs.RecordFile.{IsFile, FileTape, EndsInEntries, file_reel_kind, image_added, entries_written}
-use Rattle.tape.specs.FileSteps.{AreMediumCalls, AreReelCalls, IsWalked, PutsEntries, ahead, place_after, files_request, records_request}
-use Rattle.tape.specs.declared.file_reel.walk.Way.{Way}
-use Rattle.tape.specs.declared.file_reel.walk.Way.TheVariants.{Forward, Back}
-use Rattle.tape.proofs.MediumRuns.{run_as}
-use Rattle.tape.specs.declared.fault.TapeFault.{TapeFault}
-use Rattle.tape.specs.declared.fault.TapeFault.TheVariants.{Device, Full, EndOrMark, BadOperation, OutOfMemory}
-use Rattle.tape.proofs.Devices.{left_of_one, first_marks}
+use Rattle.tape.proofs.Words.{◌≡◌, ◌↔◌, IsTrue, Bool, true, ℕ, ◌+◌, ◌*◌, ◌<◌, ◌≤◌, List, [], ◌∷◌, ◌++◌, length, replicate, false, Result, Ok, Err, IsErr, IfErr, IfOk, inl, inr, refl, sym, subst, arith, cases_lt, ◌-◌, MatchResult, Tape, TapeRequest, TapeAnswer, TapeStep, SpaceStep, stands_at, marks_met, records_met, passed_for_marks, passed_for_records, tape, entries_of, offset_of, done_answer, Record, Mark, Write, WriteMarks, ForwardFiles, BackFiles, ForwardRecords, BackRecords, Rewind, Nothing, Unknown, Done, Fault, IsTapeCall, CanAnswer, CanSpace, MediumKind, IsFile, FileTape, EndsInEntries, file_reel_kind, image_added, entries_written, AreMediumCalls, AreReelCalls, IsWalked, PutsEntries, ahead, place_after, files_request, records_request, Way, Forward, Back, TapeFault, Device, Full, EndOrMark, BadOperation, OutOfMemory}
+use Rattle.tape.proofs.MediumRuns.{run_as, run_none}
+use Rattle.tape.proofs.Devices.{HasFirst, record_short, marks_short}
 use Rattle.tape.proofs.Writing.{offset_at}
 
 -- a call of a reel on a medium
@@ -49,38 +35,31 @@ file_call old new request answer r to from can memory fits step ends = record {
 pub reel_none : {M : Type 0} (m : MediumKind M) (here : FileTape M) → AreReelCalls m (λ t u. u ≡ t) 0 ⊥ here here
 reel_none m here = record {
   step = λ t h. (t, h, refl);
-  calls = record {
-    step = λ x held. (x, held, tt);
-    failed = λ f. absurd f;
-    same = inl refl;
-    counted = omega arith;
-    able = λ f. absurd f;
-    quiet = λ x. x;
-    room = omega arith;
-  };
+  calls = run_none (λ f. f) (λ x held. tt);
   same_capacity = refl;
 }
+
+-- a call that puts entries at the place
+put_call : {M : Type 0} {m : MediumKind M} (old new : FileTape M) (request : TapeRequest) (r : Result Unit TapeFault) → IfErr r (λ fault. fault ≡ Device)
+    → AreReelCalls m (PutsEntries (entries_written request) r) (image_added request) (IsErr r) old new
+    → IfOk r (λ _. EndsInEntries m (entries_written request) old new) → CanAnswer request Done → CanAnswer request (Fault Device)
+    → ((t u : Tape) → offset_of t.before ≡ old.offset → u ≡ tape (t.before ++ entries_written request) [] → TapeStep old.capacity t request Done u)
+    → ((t u : Tape) → offset_of t.before ≡ old.offset → HasFirst t (entries_written request) u → TapeStep old.capacity t request (Fault Device) u)
+    → FileCall m old new request (done_answer r)
+put_call old new request (Ok x) device run ends can fails done short =
+    file_call old new request Done run (λ is. cc) (λ f. cc) can (λ is. cc) (omega arith)
+    (λ file t u f put. done t u (offset_at file old.offset t f) put) (λ is more. ends)
+put_call {m = m} old new request (Err fault) device run ends can fails done short =
+    subst (λ k. FileCall m old new request (Fault k)) (sym device)
+    (file_call old new request (Fault Device) run (λ _. refl) (λ _. refl) fails (λ out. cc) (omega arith)
+    (λ file t u f put. short t u (offset_at file old.offset t f) put) (λ is. cc))
 
 pub write_call : {M : Type 0} {m : MediumKind M} (old new : FileTape M) (bytes : List ℕ) (r : Result Unit TapeFault) → IfErr r (λ fault. fault ≡ Device)
     → old.offset + (length bytes + 8 + 4) ≤ old.capacity → AreReelCalls m (PutsEntries (Record bytes ∷ []) r) (length bytes + 8) (IsErr r) old new
     → IfOk r (λ _. EndsInEntries m (Record bytes ∷ []) old new) → FileCall m old new (Write bytes) (done_answer r)
-write_call old new bytes (Ok x) device room run ends =
-    file_call old new (Write bytes) Done run (λ is. cc) (λ f. cc) (inl refl) (λ is. cc) (omega arith)
-    (λ file t u f put. (omega (arith, offset_at file old.offset t f), put)) (λ is more. ends)
-write_call old new bytes (Err fault) device room run ends =
-    let is : fault ≡ Device = device in
-    file_call old new (Write bytes) (Fault fault) run (λ _. refl) (λ _. ap Fault is) (inr (inr (inl (ap Fault is)))) (λ out. cc) (omega arith)
-    (λ file t u f put. let P : TapeFault → Type 0 = λ k. TapeStep old.capacity t (Write bytes) (Fault k) u in
-    subst P (sym is) (
-      omega (arith, offset_at file old.offset t f),
-      (
-        put.0,
-        elim put.1 [
-          | inl same ↦ inl same
-          | inr some ↦ elim (left_of_one some.0 (Record bytes)) [ inl none ↦ inr (inl (some.1 ∙ none)) | inr all ↦ inr (inr (some.1 ∙ all)) ]
-        ],
-      ),
-    )) (λ is. cc)
+write_call old new bytes r device room run ends =
+    put_call old new (Write bytes) r device run ends (inl refl) (inr (inr (inl refl))) (λ t u at put. (omega arith, put))
+    (λ t u at put. (omega arith, record_short t u (Record bytes) put))
 
 pub full_call : {M : Type 0} (m : MediumKind M) (here : FileTape M) (bytes : List ℕ) → here.capacity < here.offset + (length bytes + 8 + 4)
     → FileCall m here here (Write bytes) (Fault Full)
@@ -91,21 +70,9 @@ full_call m here bytes short =
 pub marks_call : {M : Type 0} {m : MediumKind M} (old new : FileTape M) (count : ℕ) (r : Result Unit TapeFault) → IfErr r (λ fault. fault ≡ Device)
     → 0 < count → old.offset + 4 * count ≤ old.capacity → AreReelCalls m (PutsEntries (replicate count Mark) r) (4 * count) (IsErr r) old new
     → IfOk r (λ _. EndsInEntries m (replicate count Mark) old new) → FileCall m old new (WriteMarks count) (done_answer r)
-marks_call old new count (Ok x) device some room run ends =
-    file_call old new (WriteMarks count) Done run (λ is. cc) (λ f. cc) (inl refl) (λ is. cc) (omega arith)
-    (λ file t u f put. inr (some, omega (arith, offset_at file old.offset t f), put)) (λ is more. ends)
-marks_call old new count (Err fault) device some room run ends =
-    let is : fault ≡ Device = device in
-    file_call old new (WriteMarks count) (Fault fault) run (λ _. refl) (λ _. ap Fault is) (inr (some, inr (inl (ap Fault is)))) (λ out. cc) (omega arith)
-    (λ file t u f put. let P : TapeFault → Type 0 = λ k. TapeStep old.capacity t (WriteMarks count) (Fault k) u in
-    subst P (sym is) (
-      some,
-      omega (arith, offset_at file old.offset t f),
-      elim put.1 [
-        | inl same ↦ (0, omega arith, (put.0, inl same))
-        | inr part ↦ (min part.0 count, omega arith, (put.0, inr (inr (part.1 ∙ first_marks part.0 count))))
-      ],
-    )) (λ is. cc)
+marks_call old new count r device some room run ends =
+    put_call old new (WriteMarks count) r device run ends (inl refl) (inr (some, inr (inl refl))) (λ t u at put. inr (some, omega arith, put))
+    (λ t u at put. (some, omega arith, marks_short t u count put))
 
 pub full_marks : {M : Type 0} (m : MediumKind M) (here : FileTape M) (count : ℕ) → 0 < count → here.capacity < here.offset + 4 * count
     → FileCall m here here (WriteMarks count) (Fault Full)
@@ -113,17 +80,9 @@ full_marks m here count some short =
     file_call here here (WriteMarks count) (Fault Full) (reel_none m here) (λ is. cc) (λ f. absurd f) (inr (some, inl refl)) (λ is. cc) (omega arith)
     (λ file t u f same. (some, omega (arith, offset_at file here.offset t f), same)) (λ is. cc)
 
-pub no_marks : {M : Type 0} (m : MediumKind M) (here : FileTape M) (count : ℕ) → count ≡ 0 → FileCall m here here (WriteMarks count) Done
-no_marks m here count none =
-    file_call here here (WriteMarks count) Done (reel_none m here) (λ is. cc) (λ f. absurd f) (inl refl) (λ is. cc) (omega arith)
-    (λ file t u f same. inl (none, same)) (λ is more. absurd (omega arith))
-
 -- a room that is not there
-pub no_room : (need most : ℕ) (r : Bool) → (IsTrue r ↔ (need ≤ most)) → r ≡ false → most < need
-no_room need most r answer is = elim (cases_lt most need) [ inl short ↦ short | inr fits ↦ (let yes : r ≡ true = answer.1 fits in cc) ]
-
-pub the_room : (need most : ℕ) (r : Bool) → (IsTrue r ↔ (need ≤ most)) → r ≡ true → need ≤ most
-the_room need most r answer is = answer.0 is
+pub no_room : {need most : ℕ} {r : Bool} → (IsTrue r ↔ (need ≤ most)) → r ≡ false → most < need
+no_room {need} {most} {r} answer is = elim (cases_lt most need) [ inl short ↦ short | inr fits ↦ (let yes : r ≡ true = answer.1 fits in cc) ]
 
 pub rewind_call : {M : Type 0} (m : MediumKind M) (old : FileTape M) → FileCall m old (record old { offset = 0 }) Rewind Done
 rewind_call {M} m old =

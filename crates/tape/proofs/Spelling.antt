@@ -1,17 +1,5 @@
 -- Each list of bytes spells one list of entries.
-use Rattle.std.proofs.Common.{◌≡◌, ◌↔◌, ℕ, zero, suc, ◌+◌, ◌<◌, ◌≤◌, ◌^◌, Bool, true, false, ◌&&◌, ◌==◌, if◌then◌else◌, nat_eq, nat_le, List, [], ◌∷◌, ◌++◌, length, take, drop, Option, Some, None, refl, sym, ap, subst, ◌∙◌, append_assoc, length-append, length-drop, length-take, arith, leb-true, le-leb}
-use Rattle.std.proofs.lemmas.Bool.{and_parts}
-use Rattle.std.proofs.lemmas.Bool.Decides.{nat_tests, Decides-eqb}
-use Rattle.std.proofs.lemmas.List.{take_at, drop_at}
-use Rattle.std.proofs.lemmas.List.Elements.{All-nil, All-cons, All-head, All-tail}
-use Rattle.std.proofs.lemmas.Nat.{from_le_bytes-to_le_bytes_4}
-use Rattle.std.proofs.lemmas.Slice.Eq.{starts_is}
-use Rattle.std.specs.Int.{w32, from_le_bytes}
-use Rattle.std.specs.List.{All, starts_with}
-use Rattle.tape.specs.Tape.{PlainEntry, IsEntryUpTo, IsTapeEntry}
-use Rattle.rmt_wire.specs.declared.limits.TheConstants.{RECORD_LIMIT}
-use Rattle.tape.specs.Tape.PlainEntry.{Record, Mark}
-use Rattle.tape.specs.RecordFile.{length_bytes, image_of, images_of, IsTail, SpellsReel, first_in, entries_within, entries_in}
+use Rattle.tape.proofs.Words.{◌≡◌, ◌↔◌, ℕ, zero, suc, ◌+◌, ◌<◌, ◌≤◌, ◌^◌, Bool, true, false, ◌&&◌, ◌==◌, if◌then◌else◌, nat_eq, nat_le, List, [], ◌∷◌, ◌++◌, length, take, drop, Option, Some, None, refl, sym, ap, subst, ◌∙◌, append_assoc, length-append, length-drop, length-take, arith, leb-true, le-leb, and_parts, nat_tests, Decides-eqb, take_at, drop_at, All-nil, All-cons, All-head, All-tail, from_le_bytes-to_le_bytes_4, starts_is, w32, from_le_bytes, All, starts_with, PlainEntry, IsEntryUpTo, IsTapeEntry, RECORD_LIMIT, Record, Mark, bytes_of, length_bytes, image_of, images_of, IsTail, SpellsReel, first_in, entries_within, entries_in}
 
 pub length_length_bytes : (n : ℕ) → length (length_bytes n) ≡ 4
 unfolding length_bytes
@@ -23,8 +11,7 @@ from_length_bytes n fits = from_le_bytes-to_le_bytes_4 n fits
 
 -- the length that an image begins with
 abbrev pub length_of : PlainEntry → ℕ
-length_of (Record bytes) = length bytes
-length_of Mark = 0
+length_of e = length (bytes_of e)
 
 pub length_bound : (e : PlainEntry) → IsTapeEntry e → length_of e ≤ RECORD_LIMIT
 length_bound (Record bytes) lawful = lawful.1

@@ -1,10 +1,5 @@
 -- What stands after a write, as the entries of a reel that is opened again.
-use Rattle.std.proofs.Common.{◌≡◌, ◌≤◌, ℕ, replicate, arith, List, [], ◌∷◌, ◌++◌, inl, inr, ap, ◌∙◌, append-nil}
-use Rattle.tape.specs.Tape.{PlainEntry, Tape, TapeAnswer, IsCutShort, MarksStep, WriteStep, entries_of}
-use Rattle.tape.specs.Tape.PlainEntry.{Record, Mark}
-use Rattle.tape.specs.Tape.TapeAnswer.{Done, Gave, Fault}
-use Rattle.tape.specs.Stops.{StandsAfterMarks, StandsAfterWrite}
-use Rattle.tape.specs.declared.fault.TapeFault.TheVariants.{Device, Full, EndOrMark, BadOperation, OutOfMemory}
+use Rattle.tape.proofs.Words.{◌≡◌, ◌≤◌, ℕ, replicate, arith, List, [], ◌∷◌, ◌++◌, inl, inr, ap, ◌∙◌, append-nil, PlainEntry, Tape, TapeAnswer, IsCutShort, MarksStep, WriteStep, entries_of, Record, Mark, Done, Fault, StandsAfterMarks, StandsAfterWrite, Device, Full, OutOfMemory}
 
 both : (t u : Tape) (l : List PlainEntry) → u.before ≡ t.before → u.after ≡ l → entries_of u ≡ t.before ++ l
 both t u l front back = ap (λ b. b ++ u.after) front ∙ ap (λ a. t.before ++ a) back
@@ -21,12 +16,10 @@ short_stood t u written short = elim short.1 [
 pub write_stood : (capacity : ℕ) (bytes : List ℕ) (t u : Tape) (answer : TapeAnswer) → WriteStep capacity bytes t answer u
     → StandsAfterWrite t (Record bytes ∷ []) answer (entries_of u)
 write_stood capacity bytes t u Done step = ap entries_of step.1 ∙ append-nil (t.before ++ Record bytes ∷ [])
-write_stood capacity bytes t u (Gave given) step = absurd step
 write_stood capacity bytes t u (Fault Device) step = short_stood t u (Record bytes ∷ []) step.1
 write_stood capacity bytes t u (Fault Full) step = ap entries_of step.1
-write_stood capacity bytes t u (Fault EndOrMark) step = absurd step
-write_stood capacity bytes t u (Fault BadOperation) step = absurd step
 write_stood capacity bytes t u (Fault OutOfMemory) step = ap entries_of step.1
+write_stood capacity bytes t u answer step = absurd step
 
 marks_short : (t u : Tape) (count some : ℕ) → some ≤ count → IsCutShort t (replicate some Mark) u → StandsAfterMarks t count (Fault Device) (entries_of u)
 marks_short t u count some few short = elim short.1 [
@@ -42,9 +35,7 @@ marks_stood capacity count t u Done step = elim step [
   | inl none ↦ inl (none.0, ap entries_of none.1)
   | inr some ↦ inr (some.0, ap entries_of some.2 ∙ append-nil (t.before ++ replicate count Mark))
 ]
-marks_stood capacity count t u (Gave given) step = absurd step
 marks_stood capacity count t u (Fault Device) step = marks_short t u count step.2.0 step.2.1 step.2.2
 marks_stood capacity count t u (Fault Full) step = ap entries_of step.2
-marks_stood capacity count t u (Fault EndOrMark) step = absurd step
-marks_stood capacity count t u (Fault BadOperation) step = absurd step
 marks_stood capacity count t u (Fault OutOfMemory) step = ap entries_of step.2
+marks_stood capacity count t u answer step = absurd step

@@ -1,27 +1,10 @@
 -- A record that is read at the place.
-use Rattle.std.proofs.Common.{◌≡◌, Bool, false, true, ℕ, ◌+◌, ◌<◌, ◌≤◌, min, List, [], ◌∷◌, ◌++◌, length, take, drop, Option, Some, Ok, Err, inl, inr, refl, sym, ap, subst, ◌∙◌, append_assoc, length-append, length-drop, length-take, drop-drop, arith}
-use Rattle.std.proofs.lemmas.List.{take_at, drop_at, take_all, take_min, append_cancel_right, take-append-le}
-use Rattle.tape.specs.Tape.{PlainEntry, Tape, Passes, tape, mark_count}
-use Rattle.tape.specs.Tape.PlainEntry.{Record, Mark}
-use Rattle.tape.specs.Tape.TapeRequest.{Read}
-use Rattle.tape.specs.Tape.TapeAnswer.{Gave, Fault}
-use Rattle.tape.specs.List.{bytes_of}
-use Rattle.tape.specs.Medium.{MediumKind, IsReadAt, IsMediumCall}
-use Rattle.tape.specs.Medium.MediumCall.{ReadAt}
-use Rattle.tape.specs.declared.medium.MediumFailed.{MediumFailed}
-use Rattle.tape.specs.RecordFile.{length_bytes, image_of, images_of, IsFile, FileTape}
-use Rattle.tape.specs.FileSteps.{AreMediumCalls, AreReelCalls, IsPassed, first_length, size_by_length}
-use Rattle.tape.specs.declared.fault.TapeFault.TheVariants.{Device}
-use Rattle.tape.specs.declared.file_reel.walk.Way.TheVariants.{Forward}
+use Rattle.tape.proofs.Words.{◌≡◌, Bool, false, true, ℕ, ◌+◌, ◌<◌, ◌≤◌, min, List, [], ◌∷◌, ◌++◌, length, take, drop, Option, Some, Ok, Err, inl, inr, refl, sym, ap, subst, ◌∙◌, append_assoc, length-append, length-drop, length-take, drop-drop, arith, take_at, drop_at, take_all, take_min, append_cancel_right, take-append-le, PlainEntry, Tape, Passes, tape, mark_count, Record, Mark, Read, Gave, Fault, bytes_of, MediumKind, IsReadAt, IsMediumCall, ReadAt, MediumFailed, length_bytes, image_of, images_of, IsFile, FileTape, AreMediumCalls, AreReelCalls, IsPassed, first_length, size_by_length, Device, Forward}
 use Rattle.tape.proofs.Spelling.{length_length_bytes, body_of, image_parts}
 use Rattle.tape.proofs.Places.{parted, back_is}
 use Rattle.tape.proofs.MediumRuns.{no_error, run_as, run_call, run_then}
 use Rattle.tape.proofs.ReelCalls.{FileCall, file_call}
 use Rattle.tape.proofs.Passing.{next_passed}
-
--- nothing is given
-pub none_given : (n : ℕ) → 0 ≤ n
-none_given n = omega arith
 
 pub gave_call : {M : Type 0} {m : MediumKind M} {does : List ℕ → List ℕ → Type 0} {F : Type 0} (old new : FileTape M) (count : ℕ) (bytes : List ℕ)
     → AreMediumCalls m does 0 F old.medium new.medium → (F → ⊥) → length bytes ≤ count → new.capacity ≡ old.capacity
@@ -79,7 +62,7 @@ pub mark_passes : (x : List ℕ) (at n want : ℕ) (t : Tape) → IsFile x at t 
     → (u : Tape) × IsFile x (at + 4) u × Passes want t.after t [] u
 mark_passes x at n want t f is zero_is =
     let first : Some 0 ≡ first_length t.after = ap Some (sym zero_is) ∙ is in
-    let p = next_passed x at 0 t f first in
+    let p = next_passed x at 0 t.before t.after f first in
     (p.0, p.1, passes_of want t p.0 _ [] p.2 (mark_empty p.2.entry want p.2.mark))
 
 after_four : (e : PlainEntry) (rest : List ℕ) → (more : List ℕ) × (drop 4 (image_of e ++ rest) ≡ bytes_of e ++ more)
@@ -106,7 +89,7 @@ pub read_whole : (x : List ℕ) (at n got count want : ℕ) (given rest : List �
     → length given ≡ count → count ≤ got → IsReadAt (at + 4) given got x
     → (u : Tape) × IsFile x (at + size_by_length n) u × Passes want t.after t (take count (given ++ rest)) u
 read_whole x at n got count want given rest t f is least long enough read =
-    let p = next_passed x at n t f is in
+    let p = next_passed x at n t.before t.after f is in
     let e = p.2.entry in
     let k = content x at n t e p.0.after f is p.2.way_is in
     let size : n ≡ length (bytes_of e) = k.2 in

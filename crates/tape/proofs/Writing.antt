@@ -1,20 +1,7 @@
 -- Bytes that are added after a place, and the entries that they are.
-use Rattle.std.proofs.Common.{◌≡◌, ◌⊎◌, ℕ, zero, suc, ◌+◌, ◌-◌, ◌*◌, ◌<◌, ◌≤◌, min, List, [], ◌∷◌, ◌++◌, length, take, drop, replicate, Some, Result, Ok, Err, inl, inr, refl, sym, ap, subst, ◌∙◌, append_assoc, append-nil, length-append, length-take, take-append-drop, arith}
-use Rattle.std.proofs.lemmas.List.{take_min, take-append-le, length-replicate, take-replicate, replicate-append-replicate}
-use Rattle.std.proofs.lemmas.List.Elements.{All-head, All-tail, All-nil, All-append}
-use Rattle.std.proofs.lemmas.List.Sums.{sum_by-cons}
-use Rattle.std.proofs.lemmas.Grind.{flat_map-append}
-use Rattle.std.proofs.lemmas.Bool.{cases_lt}
-use Rattle.std.specs.List.{All}
-use Rattle.tape.specs.Tape.{PlainEntry, Tape, IsTapeEntry, tape, size_of, offset_of}
-use Rattle.tape.specs.Tape.PlainEntry.{Record, Mark}
-use Rattle.tape.specs.Medium.{MediumStep}
-use Rattle.tape.specs.Medium.MediumCall.{Append, Cut}
-use Rattle.tape.specs.RecordFile.{length_bytes, image_of, images_of, IsTail, SpellsReel, IsFile, first_in}
-use Rattle.tape.specs.FileSteps.{IsImageWritten}
-use Rattle.tape.specs.declared.medium.MediumFailed.{MediumFailed}
-use Rattle.tape.proofs.Spelling.{length_length_bytes, first_image, tail_spells, tail_short, more_spells}
-use Rattle.tape.proofs.Appends.{beyond}
+use Rattle.tape.proofs.Words.{◌≡◌, ◌⊎◌, ℕ, zero, suc, ◌+◌, ◌-◌, ◌*◌, ◌<◌, ◌≤◌, min, List, [], ◌∷◌, ◌++◌, length, take, drop, replicate, Result, Ok, Err, inl, inr, refl, sym, ap, subst, ◌∙◌, append_assoc, append-nil, length-append, length-drop, length-take, take-append-drop, arith, take_min, take-append-le, length-replicate, take-replicate, replicate-append-replicate, All-head, All-tail, All-nil, All-append, sum_by-cons, flat_map-append, cases_lt, All, PlainEntry, Tape, IsTapeEntry, tape, size_of, offset_of, Record, Mark, MediumStep, Append, Cut, length_bytes, image_of, images_of, IsTail, SpellsReel, IsFile, IsImageWritten, MediumFailed, take-append-add, RECORD_LIMIT}
+use Rattle.tape.proofs.Spelling.{length_length_bytes, tail_spells, tail_short, more_spells}
+use Rattle.tape.proofs.Limits.{begun_tail}
 use Rattle.tape.proofs.Places.{parted, joined, front_is}
 
 -- ---- a cut and an append
@@ -31,12 +18,9 @@ cut_failed at image e d x y step = elim step [ inl same ↦ inl same | inr gone 
 
 -- a part of an image is no image
 part_tail : (e : PlainEntry) (n : ℕ) → IsTapeEntry e → n < length (image_of e) → IsTail (take n (image_of e))
-part_tail e n lawful short d rest other is =
-    let whole : image_of e ++ [] ≡ image_of d ++ (rest ++ drop n (image_of e))
-    = append-nil (image_of e) ∙ sym (take-append-drop n (image_of e)) ∙ ap (λ l. l ++ drop n (image_of e)) is ∙ append_assoc (image_of d) rest (drop n (image_of e)) in
-    let one : Some e ≡ Some d = sym (first_image e [] lawful) ∙ ap first_in whole ∙ first_image d (rest ++ drop n (image_of e)) other in
-    let same : e ≡ d = cc in
-    absurd (omega (arith, ap length is, ap (λ k. length (image_of k)) same, length-append (image_of d) rest, length-take n (image_of e)))
+part_tail e n lawful short =
+    begun_tail RECORD_LIMIT RECORD_LIMIT e (take n (image_of e)) (drop n (image_of e)) (omega arith) (omega arith) lawful
+    (sym (take-append-drop n (image_of e))) (omega (arith, length-drop n (image_of e)))
 
 -- the first bytes of the images of entries spell the first of the entries
 pub torn : (written : List PlainEntry) (n : ℕ) → All IsTapeEntry written → (k : ℕ) × SpellsReel (take n (images_of written)) (take k written)
@@ -50,7 +34,7 @@ torn (e ∷ es) n lawful = elim (cases_lt n (length (image_of e))) [
       let others = torn es (n - length (image_of e)) (All-tail IsTapeEntry e es lawful) in
       let size : n ≡ length (image_of e) + (n - length (image_of e)) = omega arith in
       let all : take n (image_of e ++ images_of es) ≡ image_of e ++ take (n - length (image_of e)) (images_of es)
-      = ap (λ k. take k (image_of e ++ images_of es)) size ∙ beyond (n - length (image_of e)) (image_of e) (images_of es) in
+      = ap (λ k. take k (image_of e ++ images_of es)) size ∙ take-append-add (image_of e) (images_of es) (n - length (image_of e)) in
       (suc others.0, more_spells (take n (image_of e ++ images_of es)) (take (n - length (image_of e)) (images_of es)) e (take others.0 es) (All-head IsTapeEntry e es lawful) all others.1)
 ]
 

@@ -44,18 +44,20 @@ abbrev pub reel_kind : {S : Type 0} → (S → Tape → Type 0) → (S → ℕ) 
 reel_kind holds capacity failures can_fail makes grows =
     record { holds = holds; capacity = capacity; failures = failures; can_fail = can_fail; makes = makes; grows = grows }
 
--- One call of a reel, with its answer.
+-- What every call of a reel promises: about its answer, the tape, the device and the count of
+-- failures.
 pub record IsTapeCall {S : Type 0} (r : ReelKind S) (old new : S) (request : TapeRequest) (answer : TapeAnswer) : Type 0 where
-  -- If the tape is known before the call, it is known after it, and the call is a step of the tape.
+  -- If the tape is known before the call, the tape is known after the call, and `TapeStep` says how
+  -- the call changed the tape.
   pub step : Steps r.holds old new (λ t u. TapeStep (r.capacity old) t request answer u)
-  -- Even if the tape is unknown, the answer is one of those that a call of this kind can have.
+  -- Even if the tape is unknown, the answer is one that `CanAnswer` allows for this kind of call.
   pub can : CanAnswer request answer
   -- The answer is `Device` only if the device failed in the call.
   pub device : answer ≡ Fault Device → HasRisen (r.failures old) (r.failures new)
   -- If the device failed in the call, the answer is `Device`.
   pub failed : (r.failures new ≡ r.failures old) ⊎ (answer ≡ Fault Device)
   -- The answer is `Device` only if the device can fail. If the device cannot fail before the call,
-  -- it cannot fail after the call.
+  -- the device cannot fail after the call.
   pub able : answer ≡ Fault Device → r.can_fail old
   pub quiet : r.can_fail new → r.can_fail old
   -- The answer is `OutOfMemory` only if the reel can allocate.
@@ -63,5 +65,5 @@ pub record IsTapeCall {S : Type 0} (r : ReelKind S) (old new : S) (request : Tap
   -- The count of failures does not fall, and the capacity does not change.
   pub counted : r.failures old ≤ r.failures new
   pub same_capacity : r.capacity new ≡ r.capacity old
-  -- The call also keeps the further promises that this kind of reel makes.
+  -- The call also keeps the promises that only this kind of reel makes.
   pub made : r.makes old new request answer

@@ -37,7 +37,8 @@ pub enum TapeFault {
 }
 
 impl From<AllocError> for TapeFault {
-    // from_gives: A failed allocation becomes `OutOfMemory`. A failed medium becomes `Device`.
+    // from_gives: `from` turns an `AllocError` into `OutOfMemory`, and a `MediumFailed` into
+    // `Device`.
 
     ghost use Rattle.std.specs.Prelude.{◌≡◌};
     ghost use Rattle.tape.specs.declared.fault.TapeFault.TheVariants.{OutOfMemory};

@@ -42,32 +42,35 @@ impl<M: Medium> Model for FileReel<M> {
 }
 
 impl<M: Medium> FileReel<M> {
-    /// Returns the medium that the reel is on.
+    /// Returns a reference to the medium that stores the reel's entries.
     pub fn medium(&self) -> &M
-        // `medium` returns a reference to the reel's medium. The types allow only this body, so
-        // there is no edit.
+        // `medium` returns a reference to the reel's medium. The types allow no other body, so no
+        // wrong body is tried.
         ensures { result.now ≡ self.now.medium }
     {
         &self.medium
     }
 
-    /// Returns the medium that the reel was on. Makes no call of the medium.
+    /// Consumes the reel, and returns the medium that stores the reel's entries. Makes no call of
+    /// the medium.
     pub fn into_medium(self) -> M
-        // `into_medium` returns the medium unchanged, so that the reel can be opened again.
+        // `into_medium` returns the reel's medium unchanged. So `FileReel::open` can open the reel
+        // again on this medium.
         ensures { result ≡ self.medium }
     {
         let FileReel { medium, .. } = self;
         medium
     }
 
-    /// Opens the reel that is on this medium, with a capacity in bytes. The place is at the
-    /// beginning. Makes no call of the medium.
+    /// Opens the reel whose entries are on the given medium, with the given capacity in bytes. The
+    /// place is at the beginning. Makes no call of the medium.
     ///
     /// Ignores bytes after the last whole entry; the next write cuts them off. Entries beyond the
     /// capacity can be read like others.
     pub fn open(medium: M, capacity: u64) -> FileReel<M>
-        // The opened reel has the entries that the medium's bytes spell, and the place is at the
-        // beginning. The reel has the given medium and capacity.
+        // If the medium's bytes are known, the opened reel has the entries that these bytes encode.
+        // The place is at the beginning. The opened reel has the given medium and the given
+        // capacity.
         ensures told { (bytes : List ℕ) (entries : List PlainEntry) →
             M.holds medium bytes → SpellsReel bytes entries → HoldsTape M.holds result (tape [] entries) }
         ensures medium { result.medium ≡ medium }
@@ -118,6 +121,7 @@ impl<M: Medium> FileReel<M> {
     ///
     /// Fails with `Device` if the medium fails. The place is unchanged then. After it remain the
     /// old entries, none, or the record.
+    #[tactic(auto, using(crate::proofs::Putting::ends_in))]
     pub(crate) fn put_record(&mut self, bytes: &[u8]) -> Result<(), TapeFault>
         requires record_is { IsRecord bytes.now }
         requires room { self.old.offset + (length bytes.now + 8) < 2 ^ 64 }
@@ -199,17 +203,19 @@ impl FileReel<MemoryMedium> {
 }
 
 impl<M: Medium> Reel for FileReel<M> {
-    // write, read, op, rewind: If the medium's bytes are known, each call is a step of the tape
-    // that these bytes spell. No call allocates.
+    // write, read, op, rewind: If the medium's bytes are known, they encode a tape. Each call then
+    // answers and changes this tape as `TapeStep` allows. No call allocates.
     //
     // failures: Each call keeps the promises that every reel keeps (`IsTapeCall`), even if the
-    // medium's bytes are not known. The reel's count of failures is that of its medium.
+    // medium's bytes are not known. The reel's count of failures is the medium's count of failures.
     //
-    // makes: A call fails with `Device` only if the medium can fail, or has too little room for the
-    // bytes that the call is to write (`IsFileCall`). If the medium cannot fail before a call, it
-    // cannot fail after the call. Only written bytes use up room. If the medium's bytes are known, a
-    // successful call that writes a record or marks leaves no byte after them. It leaves the bytes
-    // before the place unchanged.
+    // makes: Each call also keeps the promises of `IsFileCall`. A call fails with `Device` only if
+    // the medium can fail, or if the medium has too little room for the bytes that the call is to
+    // write. If the medium cannot fail before a call, the medium cannot fail after the call. A call
+    // reduces the medium's room at most by the number of bytes that the call is to write. Suppose
+    // that the medium's bytes are known. A successful write of a record, or of at least one mark,
+    // replaces all bytes from the place on by the written bytes. The bytes before the place do not
+    // change.
 
     ghost holds = { HoldsTape M.holds };
 
@@ -267,6 +273,7 @@ impl<M: Medium> Reel for FileReel<M> {
         }
     }
 
+    #[tactic(auto, using(crate::proofs::ReelCalls::rewind_call))]
     fn rewind(&mut self) {
         self.offset = 0;
     }

@@ -41,15 +41,15 @@ impl<M: Medium> Model for FuseMedium<M> {
 }
 
 impl<M: Medium> FuseMedium<M> {
-    /// Wraps `inner` in a medium that makes call number `at` fail, counted from 0.
+    /// Wraps `inner` in a medium whose call number `at`, counted from 0, fails.
     ///
     /// If `once`, no later call is made to fail; else each later call fails too. An append that is
     /// due to fail adds its first `left` bytes.
     pub fn new(inner: M, at: u64, left: usize, once: bool) -> FuseMedium<M>
         // The new medium wraps the given inner medium. The argument `at` of `new` is the number of
-        // the call that is to fail. The argument `once` says whether only this call is to fail, or
-        // all later calls too. The argument `left` says how many bytes a failing append adds to the
-        // inner medium.
+        // the call that is to fail. If the argument `once` is true, only this call is to fail. If
+        // `once` is false, all later calls are to fail too. The argument `left` says how many bytes
+        // an append still adds to the inner medium if the append is to fail.
         ensures { result ≡ record { inner = inner; to_go = Some at; left = left; once = once; failures = 0 } }
     {
         FuseMedium {
@@ -61,10 +61,10 @@ impl<M: Medium> FuseMedium<M> {
         }
     }
 
-    /// Returns the inner medium. Makes no call of it.
+    /// Consumes the `FuseMedium`, and returns the inner medium. Makes no call of it.
     pub fn into_inner(self) -> M
-        // `into_inner` returns the inner medium unchanged, so that a reel can be opened on this
-        // medium again.
+        // `into_inner` returns the inner medium unchanged, so that a reel can be opened on the
+        // inner medium.
         ensures { result ≡ self.inner }
     {
         let FuseMedium { inner, .. } = self;
@@ -107,36 +107,37 @@ impl<M: Medium> FuseMedium<M> {
 }
 
 impl<M: Medium> Medium for FuseMedium<M> {
-    // counted: The medium numbers its calls from 0. A call of `append_framed` is one call. The
-    // argument `at` of `new` is the number of the call that is *due to fail*. If the argument
-    // `once` is false, all later calls are due to fail too. If `once` is true, no later call is due
-    // to fail.
+    // counted: The medium numbers its calls from 0. A call of `append_framed` counts as one call.
+    // The argument `at` of `new` is the number of the call that is *due to fail*. If the argument
+    // `once` of `new` is false, all later calls are due to fail too. If `once` is true, no later
+    // call is due to fail.
     //
     // stopped: A call that is due to fail does fail.
     //
-    // passed: A call that is not due to fail can still fail. Such a call fails only if the inner
-    // medium can fail, or has too little room for the bytes that the call is to add.
+    // passed: If a call is not due to fail, the call fails only if the inner medium can fail, or if
+    // the inner medium has too little room for the bytes that the call is to add.
     //
-    // append, append_framed, left: Suppose that an append, with a frame or without, is due to fail.
-    // The append then adds only its first bytes: at most `left` bytes, where `left` is an argument
-    // of `new`. If the inner medium cannot fail and has room, the append adds exactly `left` bytes,
-    // or all of its bytes if it has fewer.
+    // append, append_framed, left: Suppose that a call of `append` or `append_framed` is due to
+    // fail. The call adds at most the first `left` (an argument of `new`) of the bytes that it is
+    // to add. If the inner medium cannot fail and has room, the call adds exactly these first
+    // `left` bytes, or all bytes if there are fewer.
     //
-    // cut, kept, made: If a cut is due to fail, the argument `left` of `new` decides what the cut
-    // does. If `left` is 0, the cut changes nothing. If `left` is at least 1 and the inner medium
-    // cannot fail, the inner medium is cut.
+    // cut, kept, made: A call of `cut` that is due to fail takes the argument `left` of `new` as a
+    // switch. If `left` is 0, the call leaves the inner medium unchanged. If `left` is at least 1
+    // and the inner medium cannot fail, the call cuts the inner medium and then fails.
     //
-    // len, read_at, kept, buffer: If `len` or `read_at` is due to fail, it makes no call of the
-    // inner medium and leaves the buffer unchanged.
+    // len, read_at, kept, buffer: If a call of `len` or `read_at` is due to fail, the call changes
+    // neither the inner medium nor the caller's buffer.
     //
     // failures: Each call that fails raises the count of failures by one, up to the greatest `u64`.
     // No other call changes this count.
     //
-    // unfailed: A call that is not due to fail makes calls of the inner medium. The call succeeds
-    // only if none of these inner calls failed. So a failed inner call is not repeated.
+    // unfailed: A call that is not due to fail calls the inner medium. If the inner medium then
+    // fails, the call fails too. So a call cannot hide a failure of the inner medium by trying
+    // again.
     //
-    // call, same: Each call keeps the promises that every medium keeps (`IsMediumCall`). The bytes
-    // of a `FuseMedium` are those of the inner medium, if they are known.
+    // call, same: Each call keeps the promises that every medium keeps (`IsMediumCall`). If the
+    // inner medium's bytes are known, they are also the bytes of the `FuseMedium`.
 
     ghost holds = { λ f bytes. M.holds f.inner bytes };
 

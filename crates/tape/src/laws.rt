@@ -12,17 +12,18 @@ ghost use Rattle.tape.specs.declared.laws.TheConstants.{OLDER_RECORD_LIMIT};
 
 use rmt_wire::RECORD_LIMIT;
 
-/// Law: each step of a device (`DeviceStep`) is a step of its tape (`TapeStep`), whatever trouble
-/// (an injected fault) is set.
+/// Law: `TapeStep` allows all that a call can do to a reel with a trouble (an injected fault).
 ///
 /// With `Trouble::None`, no step fails with `Device`. Each step of a `TroubledReel` keeps the
 /// promises of every `Reel`.
 ///
 /// It does nothing: its contract is a law of the definitions.
+#[tactic(auto, using(crate::proofs::Devices::tape_step, crate::proofs::Devices::untroubled, crate::proofs::Devices::troubled_call))]
 pub fn device_steps()
-    // Whatever trouble is set for a device, every step of the device is a step of its tape.
+    // `DeviceStep` describes the possible effects of a call while a given trouble is set.
+    // `TapeStep` allows each of these effects.
     ensures step { (capacity : ℕ) (trouble : Trouble) → AreTapeSteps capacity (DeviceStep capacity trouble) }
-    // If no trouble is set, no step fails with `Device`.
+    // If no trouble is set, `DeviceStep` does not allow a call to fail with `Device`.
     ensures untroubled { (capacity : ℕ) (t : Tape) (request : TapeRequest) (answer : TapeAnswer) (u : Tape) →
         DeviceStep capacity None t request answer u → answer ≢ Fault Device }
     // Each call of a `TroubledReel` keeps the promises that every reel keeps (`IsTapeCall`).
@@ -30,16 +31,16 @@ pub fn device_steps()
         TroubledStep old new request answer → IsTroubledCall old new request answer }
 {}
 
-/// Law: each list of bytes spells one list of entries. Together with an offset, the bytes spell at
-/// most one tape.
+/// Law: each list of bytes encodes exactly one list of entries. Together with an offset, the bytes
+/// spell at most one tape.
 ///
 /// It does nothing: its contract is a law of the definitions.
 pub fn one_spelling()
-    // The *image* of an entry is its bytes in a record file. Each list of bytes spells exactly one
-    // list of entries. The bytes are the images of these entries, one after the other, and then a
-    // tail that does not begin with an image.
+    // The *image* of an entry is its bytes in a record file. Each list of bytes encodes exactly one
+    // list of entries. The list of bytes consists of the images of these entries, in order, and
+    // then a tail that does not begin with an image.
     ensures entries { (bytes : List ℕ) (entries : List PlainEntry) → SpellsReel bytes entries ↔ (entries ≡ entries_in bytes) }
-    // If the offset of the place is given too, the bytes spell at most one tape.
+    // A list of bytes and the offset of the place together encode at most one tape.
     ensures tape { (bytes : List ℕ) (offset : ℕ) (t : Tape) → IsFile bytes offset t → t ≡ tape_in offset bytes }
 {}
 
@@ -48,8 +49,8 @@ pub fn one_spelling()
 /// It is the only limit that servers of earlier versions wrote reels with.
 pub const OLDER_RECORD_LIMIT: usize = 65536;
 
-/// Law: raising the limit on the length of records does not change which entries an older reel
-/// spells.
+/// Law: a reel that was written under the older limit on the length of records has the same entries
+/// under the new limit.
 ///
 /// The older limit is `OLDER_RECORD_LIMIT`, the new one `rmt_wire::RECORD_LIMIT`. The law also
 /// covers a reel whose last write was stopped halfway. It follows that raising the limit changes
@@ -57,9 +58,9 @@ pub const OLDER_RECORD_LIMIT: usize = 65536;
 ///
 /// It does nothing: its contract is a law of the definitions.
 pub fn older_reels()
-    // Suppose that a record file was written with records of at most 65,536 bytes
-    // (`OLDER_RECORD_LIMIT`). Then the file's bytes spell the same entries under the limit
-    // `OLDER_RECORD_LIMIT` as under `RECORD_LIMIT`. This holds even if the last write stopped
+    // The older limit is 65,536 bytes (`OLDER_RECORD_LIMIT`), and the new limit is 262,144 bytes
+    // (`RECORD_LIMIT`). If a record file was written under the older limit, the file's bytes encode
+    // the same entries under both limits. The entries are the same even if the last write stopped
     // halfway.
     ensures { (bytes : List ℕ) (entries : List PlainEntry) →
         IsWrittenUpTo OLDER_RECORD_LIMIT bytes → SpellsReelUpTo OLDER_RECORD_LIMIT bytes entries ↔ SpellsReel bytes entries }
@@ -71,6 +72,7 @@ pub fn older_reels()
 /// entries under any larger limit `newer` below 2^32.
 ///
 /// `older_reels` is this law for the two limits that servers have had.
+#[tactic(auto, using(crate::proofs::Limits::same_entries))]
 fn same_entries(older: usize, newer: usize)
     requires order { older ≤ newer }
     requires range { newer < 2 ^ 32 }

@@ -40,7 +40,7 @@ impl Model for ListReel {
 }
 
 impl ListReel {
-    /// Makes an empty reel with this capacity, in bytes. Allocates nothing yet.
+    /// Makes an empty reel with the given capacity in bytes. Allocates nothing yet.
     pub fn new(alloc: Global, capacity: u64) -> ListReel
         // The new reel is empty and has the given capacity. The place is at the beginning.
         ensures blank { result.tape ≡ tape [] [] }
@@ -57,13 +57,14 @@ impl ListReel {
     /// Copies the first bytes of the record to the front of `into`, as many as fit. The rest of
     /// `into` is unchanged.
     pub fn entry(&self, i: usize, into: &mut [u8]) -> Option<usize>
-        // `entry` takes the number of an entry. `entry` returns the entry's length and copies the
-        // entry's first bytes to the buffer. A mark has length 0. The rest of the buffer is
-        // unchanged.
+        // `entry` returns the length of entry number `i`. If there is no entry with this number,
+        // `entry` returns `None`. The length is 0 if and only if the entry is a mark. `entry`
+        // copies the first bytes of the entry, as many as fit, to the front of the buffer `into`.
+        // The rest of the buffer is unchanged.
         ensures told { result ≡ entry_length (entry_at i self.now.tape) }
         ensures copied { into.new ≡ with_front (entry_bytes (entry_at i self.now.tape)) into.old }
         ensures mark { (result ≡ Some 0) ↔ (entry_at i self.now.tape ≡ Some Mark) }
-        // A record has 1 to 262,144 bytes.
+        // Each record of the reel has 1 to 262,144 bytes.
         ensures records { All IsTapeEntry (entries_of self.now.tape) }
     {
         let bytes = nth_entry(self.reel.medium().bytes(), i)?;
@@ -111,22 +112,25 @@ impl ListReel {
 
 impl Reel for ListReel {
     // write, step: A write puts one record at the place and removes all entries that were after the
-    // place. A write fails with `Full` if and only if the record and a mark after it do not fit. A
-    // write fails with `OutOfMemory` only if the record and the mark fit.
+    // place. A write fails with `Full` if and only if the reel has no room for the record and one
+    // mark. Without this room, a write never fails with `OutOfMemory`.
     //
-    // read, step, bound: A read returns the beginning of the record at the place and moves past the
-    // record. At a mark, a read returns no bytes and moves past the mark. At the end, a read
-    // returns no bytes and the place does not change.
+    // read, step, bound: If the next entry is a record, a read returns the first bytes of the
+    // record and moves past the record. If the next entry is a mark, a read returns no bytes and
+    // moves past the mark. If there is no next entry, a read returns no bytes and the place does
+    // not change.
     //
-    // op, rewind, step: `op` writes marks, rewinds, or does nothing (`MTNOP`), as mtio says. `op`
-    // fails with `BadOperation` if its number is not an operation of a reel.
+    // op, rewind, step: `op` writes marks for `MTWEOF`, moves to the beginning for `MTREW`, and
+    // does nothing for `MTNOP`. `rewind` moves to the beginning. `op` fails with `BadOperation` for
+    // a number that is not an operation of a reel.
     //
-    // op, step: Spacing moves over `count` marks or records, in either direction. If there are
-    // fewer than `count` marks or records, spacing stops at the mark, the end or the beginning that
-    // it met, and fails with `EndOrMark`. Spacing does not change the entries.
+    // op, step: Spacing (`MTFSF`, `MTBSF`, `MTFSR` and `MTBSR`) moves past `count` marks or `count`
+    // records, forward or back. If spacing over records reaches a mark first, spacing stops just
+    // past the mark and fails with `EndOrMark`. If spacing reaches the end or the beginning first,
+    // spacing stops there and fails with `EndOrMark`. Spacing does not change the entries.
     //
-    // device, failures, GROWS: The device of a reel in memory never fails, and the count of
-    // failures is always 0. A call of the reel may allocate.
+    // device, failures, GROWS: A call of a reel in memory never fails with `Device`, and the reel's
+    // count of failures is always 0. A call of the reel can allocate memory.
     //
     // call: Each call keeps the promises that every reel keeps (`IsTapeCall`).
 

@@ -50,7 +50,7 @@ pub trait Reel {
         ensures { IsTapeCall (reel_kind holds capacity failures can_fail makes GROWS) self.old self.new
             (Write bytes.now) (done_answer result) };
 
-    /// Reads the record at the place and moves past it.
+    /// Reads the record at the place and moves past the record.
     ///
     /// Copies the first bytes of the record to the front of `into`, as many as fit, and skips the
     /// rest of the record. Returns how many bytes it copied. At a mark it moves past the mark and
@@ -64,7 +64,7 @@ pub trait Reel {
         ensures call { IsTapeCall (reel_kind holds capacity failures can_fail makes GROWS) self.old self.new
             (Read (length into.old)) (given_answer result into.new) };
 
-    /// Carries out the operation that has the number `op` in mtio, as for rmt(8)'s `I` request.
+    /// Carries out the mtio operation with the number `op`, as the `I` request of rmt(8) does.
     ///
     /// - 0, `MTWEOF`: writes `count` marks, of 4 bytes each, at the place. All entries from there
     ///   on are lost. The place is then after the marks, at the end.
@@ -95,14 +95,14 @@ pub trait Reel {
         ensures { IsTapeCall (reel_kind holds capacity failures can_fail makes GROWS) self.old self.new
             (op_request op count) (done_answer result) };
 
-    /// Moves to the beginning. The entries are unchanged. Never fails.
+    /// Moves the place to the beginning of the tape. The entries are unchanged. Never fails.
     fn rewind(&mut self)
         // `rewind` keeps the promises that every call of a reel keeps (`IsTapeCall`), and never
         // fails.
         ensures { IsTapeCall (reel_kind holds capacity failures can_fail makes GROWS) self.old self.new Rewind Done };
 
-    /// Returns how often the device has failed. The count stops at the greatest `u64`.
+    /// Returns how often the reel's device has failed. The count stops at the greatest `u64`.
     fn failures(&self) -> u64
-        // `failures` returns the count of failures.
+        // `failures` returns the reel's count of failures.
         ensures { result ≡ failures self.now };
 }

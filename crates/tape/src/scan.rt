@@ -14,9 +14,10 @@ use std::alloc::{AllocError, Global};
 /// Reads the entries of a record file, from the first entry to the last whole entry.
 ///
 /// Ignores the bytes after that entry. Fails with `AllocError` if an allocation fails.
+#[tactic(auto, using(crate::proofs::Scanning::shorter, crate::proofs::Scanning::read_more, crate::proofs::Scanning::read_all))]
 pub fn read_entries(alloc: Global, file: &[u8]) -> Result<Vec<Entry>, AllocError>
-    // `read_entries` returns the list of entries that the bytes of a record file spell. The private
-    // function `nth_entry` returns one entry, given by its number.
+    // `read_entries` returns the list of entries that the bytes of a record file encode. The
+    // private function `nth_entry` returns only the entry with a given number.
     ensures { IfOk result (λ entries. SpellsReel file.now (plain_entries entries.items)) }
 {
     let mut entries = Vec::new(alloc);
@@ -32,6 +33,7 @@ pub fn read_entries(alloc: Global, file: &[u8]) -> Result<Vec<Entry>, AllocError
 /// Returns the bytes of entry number `i` of a record file, counted from 0. A mark has none.
 ///
 /// Returns `None` if there are at most `i` entries.
+#[tactic(auto, using(crate::proofs::Scanning::nth_more, crate::proofs::Scanning::nth_some))]
 pub(crate) fn nth_entry(file: &[u8], i: usize) -> Option<&[u8]>
     ensures { MatchOption result (slice_get (entries_in file.now) i ≡ None) (λ bytes. IsNth file.now i bytes.now) }
 {
@@ -58,6 +60,7 @@ fn entry_of(alloc: Global, bytes: &[u8]) -> Result<Entry, AllocError>
 /// Returns the bytes of the first entry, and what follows its image.
 ///
 /// Returns `None` if the bytes do not begin with the image of an entry.
+#[tactic(auto, using(crate::proofs::Spelling::tail_short, crate::proofs::Scanning::first_mark))]
 fn first_entry(bytes: &[u8]) -> Option<(&[u8], &[u8])>
     ensures { MatchOption result (IsTail bytes.now) (λ p. IsFirst bytes.now p.0.now p.1.now) }
 {
@@ -92,6 +95,7 @@ fn split_record(length: usize, rest: &[u8]) -> Option<(&[u8], &[u8])>
 /// Returns the length that these bytes begin with, and what follows it.
 ///
 /// Returns `None` if there are fewer than 4 bytes.
+#[tactic(auto, using(crate::proofs::Scanning::read_length))]
 fn split_length(bytes: &[u8]) -> Option<(usize, &[u8])>
     ensures { MatchOption result (length bytes.now < 4) (λ p. (p.0 < 2 ^ 32) × (bytes.now ≡ length_bytes p.0 ++ p.1.now)) }
 {

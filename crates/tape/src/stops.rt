@@ -11,10 +11,11 @@ ghost use Rattle.tape.specs.declared.fault.TapeFault.TheVariants.{Device, OutOfM
 use crate::{FileReel, FuseMedium, Medium, Reel, TapeFault};
 use rmt_wire::mtio::MTWEOF;
 
-/// Opens the reel again on the inner medium of its `FuseMedium`, with a capacity in bytes.
+/// Takes a reel on a `FuseMedium`, and opens the reel again on the inner medium, with the given
+/// capacity in bytes.
 pub fn reopened<M: Medium>(reel: FileReel<FuseMedium<M>>, capacity: u64) -> FileReel<M>
-    // `reopened` takes a reel on a `FuseMedium`, and opens a reel on the inner medium with the
-    // given capacity. The opened reel has the same entries, and the place is at the beginning.
+    // `reopened` opens a reel on the inner medium, with the given capacity. The opened reel has the
+    // same entries as the reel on the `FuseMedium`. The place is at the beginning.
     ensures stood { Reopens M.holds reel result (λ t u. u ≡ entries_of t) }
     ensures medium { result.medium ≡ reel.medium.inner }
     ensures capacity { result.capacity ≡ capacity }
@@ -22,7 +23,7 @@ pub fn reopened<M: Medium>(reel: FileReel<FuseMedium<M>>, capacity: u64) -> File
     FileReel::open(reel.into_medium().into_inner(), capacity)
 }
 
-/// Writes a record to a reel whose medium fails at a chosen call, and opens the reel again. The
+/// Writes a record to a reel whose medium fails in a chosen call, and opens the reel again. The
 /// reel is opened on what remains there, with a capacity in bytes.
 ///
 /// Returns the result of the write, and the reel. Whichever call stops, the entries before the
@@ -36,15 +37,17 @@ pub fn write_and_reopen<M: Medium>(
     requires { IsRecord bytes.now }
     // `write_and_reopen` writes a record to a reel on a `FuseMedium`, and then opens the reel
     // again. The entries before the place of the write never change. It does not matter which calls
-    // are due to fail, or how many bytes a failed call leaves on the medium. The result of the
-    // write decides what is after that place. If the write succeeded, the record is there. If the
-    // device failed, the old entries, no entries, or the record are there. If the write failed for
-    // another reason, the old entries are there.
+    // are due to fail, or how many bytes a failed call leaves on the medium. The entries after the
+    // place of the write depend on the result of the write. If the write succeeds, only the record
+    // is after the place. If the device fails, one of three things is after the place: the old
+    // entries, nothing, or only the record. If the write fails for another reason, the old entries
+    // are after the place.
     ensures stood { Reopens M.holds reel result.1 (λ t u. StandsAfterWrite t (Record bytes.now ∷ []) (done_answer result.0) u) }
-    // One step of the tape can have the same result as the write, and leave the same entries.
+    // `TapeStep` allows this write to have the returned result and to leave the entries of the
+    // opened reel.
     ensures step { Reopens M.holds reel result.1 (λ t u. StandsAfterStep reel.capacity t (Write bytes.now) (done_answer result.0) u) }
-    // The write fails with `Device` only if a call is due to fail, or if the inner medium can fail
-    // or has too little room.
+    // The write fails with `Device` only if a call of the `FuseMedium` is due to fail, or if the
+    // inner medium can fail or has too little room.
     ensures cause { result.0 ≡ Err Device →
         (M.can_fail reel.medium.inner ⊎ CanStop reel.medium.to_go) ⊎ (M.spare reel.medium.inner < length bytes.now + 8) }
     // The write never fails with `OutOfMemory`.
@@ -57,7 +60,7 @@ pub fn write_and_reopen<M: Medium>(
     (written, reopened(reel, capacity))
 }
 
-/// Writes marks to a reel whose medium fails at a chosen call, and opens the reel again. The reel
+/// Writes marks to a reel whose medium fails in a chosen call, and opens the reel again. The reel
 /// is opened on what remains there, with a capacity in bytes.
 ///
 /// Returns the result of the write, and the reel. Whichever call stops, the entries before the
@@ -70,16 +73,17 @@ pub fn mark_and_reopen<M: Medium>(
 ) -> (Result<(), TapeFault>, FileReel<M>)
     // `mark_and_reopen` writes marks to a reel on a `FuseMedium`, and then opens the reel again.
     // The entries before the place of the write never change. It does not matter which calls are
-    // due to fail, or how many bytes a failed call leaves on the medium. The result of the write
-    // decides what is after that place. If the count of marks is 0, the old entries are there. If a
-    // write of at least 1 mark succeeded, all of the marks are there. If the device failed, the old
-    // entries or any number of the marks are there. If the write failed for another reason, the old
-    // entries are there.
+    // due to fail, or how many bytes a failed call leaves on the medium. The entries after the
+    // place of the write depend on the result of the write. If the count of marks is 0, the old
+    // entries are after the place. If a write of at least 1 mark succeeds, only the new marks are
+    // after the place. If the device fails, one of two things is after the place: the old entries,
+    // or some number of the new marks, from none to all. If the write fails for another reason, the
+    // old entries are after the place.
     ensures stood { Reopens M.holds reel result.1 (λ t u. StandsAfterMarks t count (done_answer result.0) u) }
-    // One step of the tape can have the same result, and leave the same entries. The write fails
-    // with `Device` only if a call is due to fail, or if the inner medium can fail or has too
-    // little room. The write never fails with `OutOfMemory`. The opened reel has the given
-    // capacity.
+    // `TapeStep` allows this write to have the returned result and to leave the entries of the
+    // opened reel. The write fails with `Device` only if a call of the `FuseMedium` is due to fail,
+    // or if the inner medium can fail or has too little room. The write never fails with
+    // `OutOfMemory`. The opened reel has the given capacity.
     ensures step { Reopens M.holds reel result.1 (λ t u. StandsAfterStep reel.capacity t (WriteMarks count) (done_answer result.0) u) }
     ensures cause { result.0 ≡ Err Device →
         (M.can_fail reel.medium.inner ⊎ CanStop reel.medium.to_go) ⊎ (M.spare reel.medium.inner < 4 * count) }

@@ -39,10 +39,10 @@ impl Model for TroubledReel {
 }
 
 impl TroubledReel {
-    /// Wraps `reel` in a reel that has no trouble set and has counted no failed device call.
+    /// Wraps `reel` in a reel that has no trouble set and has counted no failure.
     pub fn new(reel: ListReel) -> TroubledReel
-        // The new reel has the tape and the capacity of the given reel. No trouble (an injected
-        // fault) is set, and no failure was counted.
+        // The new reel has the tape and the capacity of the given reel. The new reel has no trouble
+        // (an injected fault) set, and has counted no failure.
         ensures tape { result.tape ≡ reel.tape }
         ensures capacity { result.capacity ≡ reel.capacity }
         ensures trouble { result.trouble ≡ None }
@@ -55,15 +55,17 @@ impl TroubledReel {
         }
     }
 
-    /// Sets how the next device call fails. This replaces what was set before.
+    /// Sets how the next call that reaches the reel's device fails. This replaces what was set
+    /// before.
     pub fn set(&mut self, trouble: Trouble)
-        // `set` replaces the reel's trouble by the given one. Nothing else changes.
+        // `set` replaces the reel's trouble by the given trouble. Nothing else changes.
         ensures { self.new ≡ record self.old { trouble = trouble } }
     {
         self.trouble = trouble;
     }
 
-    /// Returns how the next device call fails. After a failure it is `Trouble::None`.
+    /// Returns how the next call that reaches the reel's device fails. After a failure it is
+    /// `Trouble::None`.
     pub fn next_trouble(&self) -> Trouble
         // `next_trouble` returns the trouble that is set.
         ensures { result ≡ self.now.trouble }
@@ -77,9 +79,10 @@ impl TroubledReel {
     /// Copies the first bytes of the record to the front of `into`, as many as fit. The rest of
     /// `into` is unchanged. It makes no device call and never fails.
     pub fn entry(&self, i: usize, into: &mut [u8]) -> Option<usize>
-        // `entry` takes the number of an entry. `entry` returns the entry's length and copies the
-        // entry's first bytes to the buffer. The length is 0 for a mark, and from 1 to 262,144 for
-        // a record. The rest of the buffer is unchanged.
+        // `entry` returns the length of entry number `i`: 0 for a mark, and 1 to 262,144 for a
+        // record. If there is no entry with this number, `entry` returns `None`. `entry` copies the
+        // first bytes of the entry, as many as fit, to the front of the buffer `into`. The rest of
+        // the buffer is unchanged.
         ensures told { result ≡ entry_length (entry_at i self.now.tape) }
         ensures copied { into.new ≡ with_front (entry_bytes (entry_at i self.now.tape)) into.old }
         ensures mark { (result ≡ Some 0) ↔ (entry_at i self.now.tape ≡ Some Mark) }
@@ -121,17 +124,18 @@ impl TroubledReel {
 impl Reel for TroubledReel {
     // step: A call fails with `Device` if and only if a trouble is set and the call reaches the
     // device. Every read reaches the device. Spacing reaches the device if its count is at least 1.
-    // A write reaches the device if there is room for it and no allocation fails. A write of at
-    // least one mark reaches the device if there is room for the marks and no allocation fails.
+    // A write of a record reaches the device if there is room for the record and no allocation
+    // fails. A write of at least one mark reaches the device if there is room for the marks and no
+    // allocation fails.
     //
-    // step: A call that fails with `Device` changes neither the place nor the entries before the
-    // place. The trouble decides what a failed write leaves after the place: the old entries, no
-    // entries, or some of the new entries from the first one on. A failed read and a failed spacing
-    // leave the old entries after the place.
+    // step: If a call fails with `Device`, the place and the entries before the place do not
+    // change. The trouble decides what a failed write leaves after the place: the old entries,
+    // nothing, or some of the new entries, from the first on. A failed read or a failed spacing
+    // leaves the old entries after the place.
     //
-    // step, failures: A call that fails with `Device` raises the count of failures, up to the
-    // greatest `u64`, and clears the trouble. No other call changes the count or the trouble, even
-    // if an allocation fails.
+    // step, failures: A call that fails with `Device` raises the count of failures by one, up to
+    // the greatest `u64`, and clears the trouble. Every other call leaves the count and the trouble
+    // unchanged, even a call in which an allocation fails.
     //
     // step: A call that does not fail with `Device` has the same effect as on a reel whose device
     // never fails.
@@ -175,6 +179,7 @@ impl Reel for TroubledReel {
         self.reel.read(into)
     }
 
+    #[tactic(auto, using(crate::proofs::Devices::troubled_call))]
     fn op(&mut self, op: u32, count: u32) -> Result<(), TapeFault>
         ensures call { IsTroubledCall self.old self.new (op_request op count) (done_answer result) }
         ensures step { TroubledStep self.old self.new (op_request op count) (done_answer result) }

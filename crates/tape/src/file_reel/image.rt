@@ -24,10 +24,11 @@ const LENGTH_LIMIT: u32 = RECORD_LIMIT as u32;
 /// How many zero bytes are written at once.
 const ROW: usize = 4096;
 
-/// Returns how many bytes an entry of this length takes in a record file. A mark has the length 0.
+/// Returns how many bytes an entry of the given length takes in a record file. A mark has the
+/// length 0.
 pub fn entry_size(length: u32) -> u64
-    // For a mark, which has length 0, `entry_size` returns 4. For a record, `entry_size` returns
-    // the length plus 8.
+    // For length 0, which is the length of a mark, `entry_size` returns 4. For the length of a
+    // record, `entry_size` returns the length plus 8.
     ensures { result ≡ size_by_length length }
 {
     if length == 0 {
@@ -38,6 +39,7 @@ pub fn entry_size(length: u32) -> u64
 }
 
 /// Returns the length that these bytes encode, in little-endian order.
+#[tactic(auto, using(std::proofs::lemmas::Nat::le_bytes_4), unfolding(crate::specs::RecordFile::length_bytes))]
 fn length_in(bytes: [u8; 4]) -> u32
     ensures { length_bytes result ≡ bytes }
 {
@@ -64,14 +66,14 @@ fn length_at<M: Medium>(medium: &mut M, at: u64) -> Result<Option<u32>, MediumFa
 ///
 /// Fails with `MediumFailed` if a call of the medium failed.
 pub fn next_length<M: Medium>(medium: &mut M, at: u64) -> Result<Option<u32>, MediumFailed>
-    // Suppose that the medium's bytes are known. If an entry begins at the offset, `next_length`
-    // returns the entry's length, or 0 for a mark. If the entries end at the offset, `next_length`
-    // returns `None`. The bytes are unchanged. `next_length` fails if and only if one of its calls
-    // of the medium failed.
+    // If the medium's bytes are known and an entry begins at offset `at`, `next_length` returns the
+    // entry's length, or 0 for a mark. If the bytes are known and the entries end at offset `at`,
+    // `next_length` returns `None`. If the bytes are known, `next_length` does not change them.
+    // `next_length` fails if and only if the medium failed in a call that `next_length` made.
     ensures run { LooksAlong (medium_kind_of M.Medium) at result
         (λ bytes t length. length ≡ first_length t.after) medium.old medium.new }
-    // If `next_length` returns a length, the length is at most `RECORD_LIMIT` and the offset is
-    // below 2^63.
+    // If `next_length` returns a length, this length is at most 262,144 (`RECORD_LIMIT`), and the
+    // offset `at` is below 2^63.
     ensures limit { IfOk result (λ length. IfSome length (λ n. (n ≤ RECORD_LIMIT) × (at < 2 ^ 63))) }
 {
     if at >= OFFSET_LIMIT {

@@ -1,6 +1,4 @@
-use Rattle.std.proofs.Common.{◌≡◌, ℕ, ◌+◌}
-use Rattle.std.specs.List.{slice_get}
-use Rattle.tape.specs.RecordFile.{entries_in}
+use Rattle.tape.proofs.Words.{◌≡◌, ℕ, ◌+◌, slice_get, entries_in}
 use Rattle.tape.proofs.scan.nth_entry.Given as goal
 
 abbrev pub invariant-loop : goal.invariant-loop

@@ -1,6 +1,4 @@
-use Rattle.std.proofs.Common.{◌≡◌, ◌++◌, length}
-use Rattle.tape.specs.List.{plain_entries}
-use Rattle.tape.specs.RecordFile.{entries_in}
+use Rattle.tape.proofs.Words.{◌≡◌, ◌++◌, length, plain_entries, entries_in}
 use Rattle.tape.proofs.scan.read_entries.Given as goal
 
 abbrev pub invariant-loop-bytes : goal.invariant-loop-bytes

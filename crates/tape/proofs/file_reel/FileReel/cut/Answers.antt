@@ -1,7 +1,4 @@
-use Rattle.std.proofs.Common.{[], refl, arith, append-nil, sym, ◌∙◌}
-use Rattle.std.proofs.lemmas.List.Elements.{All-nil}
-use Rattle.std.proofs.lemmas.Result.{err_from_is_err_and}
-use Rattle.tape.specs.Tape.{IsTapeEntry}
+use Rattle.tape.proofs.Words.{[], refl, arith, append-nil, sym, ◌∙◌, All-nil, err_from_is_err_and, IsTapeEntry}
 use Rattle.tape.proofs.MediumRuns.{run_call, run_as, no_bytes}
 use Rattle.tape.proofs.Writing.{cut_failed}
 use Rattle.tape.proofs.Putting.{puts_whole, puts_part}

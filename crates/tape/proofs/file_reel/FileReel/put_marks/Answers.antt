@@ -1,9 +1,4 @@
-use Rattle.std.proofs.Common.{◌*◌, ℕ, replicate, refl, arith}
-use Rattle.std.proofs.lemmas.List.{length-replicate}
-use Rattle.std.proofs.lemmas.List.Elements.{All-replicate}
-use Rattle.std.proofs.lemmas.Result.{err_from_is_err_and}
-use Rattle.tape.specs.Tape.{IsTapeEntry}
-use Rattle.tape.specs.Tape.PlainEntry.{Mark}
+use Rattle.tape.proofs.Words.{◌*◌, ℕ, replicate, refl, arith, length-replicate, All-replicate, err_from_is_err_and, IsTapeEntry, Mark}
 use Rattle.tape.proofs.Writing.{marks_image}
 use Rattle.tape.proofs.Putting.{puts_whole, puts_part, ends_in}
 use Rattle.tape.proofs.file_reel.FileReel.put_marks.Goals as goal

@@ -1,9 +1,6 @@
-use Rattle.std.proofs.Common.{◌+◌, [], ◌∷◌, length, refl, sym, append-nil, arith}
-use Rattle.std.proofs.lemmas.Result.{err_from_is_err_and}
-use Rattle.tape.specs.Tape.PlainEntry.{Record}
-use Rattle.tape.specs.RecordFile.{image_of}
+use Rattle.tape.proofs.Words.{◌+◌, [], ◌∷◌, length, refl, sym, append-nil, arith, err_from_is_err_and, Record, image_of}
 use Rattle.tape.proofs.Writing.{image_length}
-use Rattle.tape.proofs.Putting.{puts_whole, puts_part, ends_in, one_record}
+use Rattle.tape.proofs.Putting.{puts_whole, puts_part, one_record}
 use Rattle.tape.proofs.file_reel.FileReel.put_record.Goals as goal
 
 pub returns-in_err-put_record-clause-run : goal.returns-in_err-put_record-clause-run
@@ -20,9 +17,3 @@ returns-clause-run g c =
     let image = image_of (Record c.args.bytes.now) in
     rw (← c.self.view_is) (puts_whole _ _ written image (length c.args.bytes.now + 8) c.in_ok-put_record.field-0 tt (one_record c.args.bytes.now c.requires.record_is)
     (sym (append-nil image)) (omega (arith, image_length (Record c.args.bytes.now))) refl c.in_ok-put_record.ensures)
-
-pub returns-clause-exact : goal.returns-clause-exact
-returns-clause-exact g c =
-    let image = image_of (Record c.args.bytes.now) in
-    rw (← c.self.view_is) (ends_in _ _ _ (Record c.args.bytes.now ∷ []) image c.in_ok-put_record.field-0
-    (sym (append-nil image)) c.in_ok-put_record.ensures)

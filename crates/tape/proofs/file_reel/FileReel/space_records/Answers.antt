@@ -1,4 +1,4 @@
-use Rattle.std.proofs.Common.{sym}
+use Rattle.tape.proofs.Words.{sym}
 use Rattle.tape.proofs.MediumRuns.{no_error}
 use Rattle.tape.proofs.ReelCalls.{records_spaced}
 use Rattle.tape.proofs.file_reel.FileReel.space_records.Goals as goal

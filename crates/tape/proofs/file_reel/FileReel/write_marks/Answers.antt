@@ -1,18 +1,13 @@
-use Rattle.std.proofs.Common.{◌+◌, ◌*◌, arith}
-use Rattle.tape.specs.RecordFile.{medium_kind_of}
-use Rattle.tape.proofs.ReelCalls.{marks_call, full_marks, no_marks, no_room, the_room}
+use Rattle.tape.proofs.Words.{arith, medium_kind_of}
+use Rattle.tape.proofs.ReelCalls.{marks_call, full_marks, no_room}
 use Rattle.tape.proofs.file_reel.FileReel.write_marks.Goals as goal
-
-pub returns-then-count-eq0 : goal.returns-then-count-eq0
-returns-then-count-eq0 g c =
-    no_marks (medium_kind_of g.M.Medium) c.args.self.now c.args.count c.if-count-eq0.true
 
 pub returns-then-not-has_room : goal.returns-then-not-has_room
 returns-then-not-has_room g c =
-    let short = no_room (c.args.self.now.offset + c.from.result * 4) c.args.self.now.capacity c.has_room.result c.has_room.ensures.answer c.if-not-has_room.true in
+    let short = no_room c.has_room.ensures.answer c.if-not-has_room.true in
     full_marks (medium_kind_of g.M.Medium) c.args.self.now c.args.count (omega arith) (omega arith)
 
 pub returns : goal.returns
 returns g c =
-    let room = the_room (c.args.self.now.offset + c.from.result * 4) c.args.self.now.capacity c.has_room.result c.has_room.ensures.answer c.if-not-has_room.false in
+    let room = c.has_room.ensures.answer.0 c.if-not-has_room.false in
     marks_call c.args.self.now c.put_marks.new.self c.args.count c.put_marks.result c.put_marks.ensures.device (omega arith) (omega arith) c.put_marks.ensures.run c.put_marks.ensures.exact

@@ -1,8 +1,4 @@
-use Rattle.std.proofs.Common.{◌≡◌, arith}
-use Rattle.std.proofs.lemmas.Bool.Decides.{nat_tests}
-use Rattle.tape.specs.Tape.{op_request}
-use Rattle.tape.specs.Tape.TapeRequest.{Unknown}
-use Rattle.tape.specs.RecordFile.{medium_kind_of}
+use Rattle.tape.proofs.Words.{◌≡◌, arith, nat_tests, op_request, Unknown, medium_kind_of}
 use Rattle.tape.proofs.ReelCalls.{nothing_call, unknown_call}
 use Rattle.tape.proofs.file_reel.FileReelReel.op.Goals as goal
 

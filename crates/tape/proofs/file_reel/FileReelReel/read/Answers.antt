@@ -1,9 +1,7 @@
-use Rattle.std.proofs.Common.{◌+◌, List, ℕ, [], length, drop, refl, sym, subst, ap, ◌∙◌, length-take, arith}
-use Rattle.std.proofs.lemmas.Result.{err_from_is_err_and}
-use Rattle.tape.specs.RecordFile.{IsFile}
+use Rattle.tape.proofs.Words.{◌+◌, List, ℕ, [], length, drop, refl, sym, subst, ap, ◌∙◌, length-take, arith, err_from_is_err_and, IsFile}
 use Rattle.tape.proofs.MediumRuns.{no_error}
 use Rattle.tape.proofs.Before.{nothing_ahead}
-use Rattle.tape.proofs.Taking.{none_given, gave_call, failed_read, failed_behind, read_run, cut_short, given_whole, end_passes, mark_passes}
+use Rattle.tape.proofs.Taking.{gave_call, failed_read, failed_behind, read_run, cut_short, given_whole, end_passes, mark_passes}
 use Rattle.tape.proofs.file_reel.FileReelReel.read.Goals as goal
 
 pub returns-in_err-length-clause-call : goal.returns-in_err-length-clause-call
@@ -13,14 +11,14 @@ returns-in_err-length-clause-call g c =
 
 pub returns-in_default-clause-call : goal.returns-in_default-clause-call
 returns-in_default-clause-call g c =
-    rw (← c.self.view_is) (gave_call _ _ (length c.args.into.now) [] c.in_ok-length.ensures.run no_error (none_given (length c.args.into.now)) refl
+    rw (← c.self.view_is) (gave_call _ _ (length c.args.into.now) [] c.in_ok-length.ensures.run no_error (omega arith) refl
     (λ x y t f s.
     let P : List ℕ → Type 0 = λ l. IsFile l c.self.inside.offset t in
     (t, subst P (sym s.0) f, end_passes t.after (length c.args.into.now) t (nothing_ahead t.after (sym c.in_default.is ∙ s.1 t f)))))
 
 pub returns-then-length-eq0-clause-call : goal.returns-then-length-eq0-clause-call
 returns-then-length-eq0-clause-call g c =
-    rw (← c.self.view_is) (gave_call _ _ (length c.args.into.now) [] c.in_ok-length.ensures.run no_error (none_given (length c.args.into.now)) refl
+    rw (← c.self.view_is) (gave_call _ _ (length c.args.into.now) [] c.in_ok-length.ensures.run no_error (omega arith) refl
     (λ x y t f s.
     let m = mark_passes x c.self.inside.offset c.in-Some.length (length c.args.into.now) t f (sym c.in-Some.is ∙ s.1 t f) c.if-length-eq0.true in
     let P : List ℕ → Type 0 = λ l. IsFile l (c.self.inside.offset + 4) m.0 in

@@ -1,7 +1,4 @@
-use Rattle.std.proofs.Common.{◌≡◌, ◌++◌, List, ℕ, length, length-append, subst, ap, arith}
-use Rattle.tape.specs.Medium.{MediumStep}
-use Rattle.tape.specs.Medium.MediumCall.{Append}
-use Rattle.tape.specs.RecordFile.{length_bytes}
+use Rattle.tape.proofs.Words.{◌≡◌, ◌++◌, List, ℕ, length, length-append, subst, ap, arith, MediumStep, Append, length_bytes}
 use Rattle.tape.proofs.MediumRuns.{run_call, run_as}
 use Rattle.tape.proofs.file_reel.image.append_record.Goals as goal
 

@@ -1,6 +1,4 @@
-use Rattle.std.proofs.Common.{◌≡◌, ◌≤◌, ◌-◌, ◌++◌, replicate, List, ℕ}
-use Rattle.tape.specs.RecordFile.{medium_kind_of}
-use Rattle.tape.specs.FileSteps.{AreMediumCalls}
+use Rattle.tape.proofs.Words.{◌≡◌, ◌≤◌, ◌-◌, ◌++◌, replicate, List, ℕ, medium_kind_of, AreMediumCalls}
 use Rattle.tape.proofs.file_reel.image.append_zeros.Given as goal
 
 abbrev pub invariant-loop-done : goal.invariant-loop-done

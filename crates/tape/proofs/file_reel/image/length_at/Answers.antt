@@ -1,4 +1,4 @@
-use Rattle.std.proofs.Common.{arith}
+use Rattle.tape.proofs.Words.{arith}
 use Rattle.tape.proofs.MediumRuns.{run_call, run_as, no_bytes}
 use Rattle.tape.proofs.Images.{read_length}
 use Rattle.tape.proofs.file_reel.image.length_at.Goals as goal

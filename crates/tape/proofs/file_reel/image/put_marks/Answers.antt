@@ -1,15 +1,11 @@
-use Rattle.std.proofs.Common.{◌≡◌, ◌*◌, ℕ, replicate, refl, arith, subst}
-use Rattle.std.proofs.lemmas.Result.{err_from_is_err_and}
-use Rattle.tape.specs.Medium.{MediumStep}
-use Rattle.tape.specs.Medium.MediumCall.{Append}
-use Rattle.tape.proofs.MediumRuns.{run_call, run_as, run_then, more_bytes, no_error}
+use Rattle.tape.proofs.Words.{◌≡◌, ◌*◌, ℕ, replicate, refl, arith, subst, err_from_is_err_and, MediumStep, Append}
+use Rattle.tape.proofs.MediumRuns.{run_call, run_as, run_then, no_error}
 use Rattle.tape.proofs.Writing.{cut_append, cut_failed}
 use Rattle.tape.proofs.file_reel.image.put_marks.Goals as goal
 
 pub returns-in_err-cut : goal.returns-in_err-cut
 returns-in_err-cut g c =
-    let p = err_from_is_err_and c.from_residual.result c.from_residual.ensures.1 in
-    rw (p.1) (run_as (run_call c.in_err-cut.ensures) (λ f. refl) (λ f. refl) (more_bytes _)
+    rw ((err_from_is_err_and c.from_residual.result c.from_residual.ensures.1).1) (run_as (run_call c.in_err-cut.ensures) (λ f. refl) (λ f. refl) (omega arith)
     (λ x y held step. cut_failed c.args.at (replicate (4 * c.args.count) 0) _ _ x y step))
 
 pub returns : goal.returns

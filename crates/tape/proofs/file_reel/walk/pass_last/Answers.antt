@@ -1,8 +1,4 @@
-use Rattle.std.proofs.Common.{◌-◌, ◌==◌, ℕ, reverse, arith, subst, sym, ◌∙◌}
-use Rattle.tape.specs.Tape.{Tape}
-use Rattle.tape.specs.RecordFile.{IsFile}
-use Rattle.tape.specs.FileSteps.{IsPassed}
-use Rattle.tape.specs.declared.file_reel.walk.Way.TheVariants.{Back}
+use Rattle.tape.proofs.Words.{◌-◌, ◌==◌, ℕ, reverse, arith, subst, sym, refl, ◌∙◌, Tape, IsFile, IsPassed, Back}
 use Rattle.tape.proofs.MediumRuns.{run_as}
 use Rattle.tape.proofs.Before.{nothing_ahead}
 use Rattle.tape.proofs.Passing.{last_passed}
@@ -20,5 +16,6 @@ returns-clause-run g c =
       step.0,
       λ t file.
           let P : ℕ → Type 0 = λ k. (u : Tape) × IsFile x (c.args.at - k) u × IsPassed Back t (c.in-Some.length == 0) u in
-          subst P (sym c.entry_size.ensures) (last_passed x c.args.at c.in-Some.length t file (sym c.in-Some.is ∙ step.1 t file)),
+          subst P (sym c.entry_size.ensures) (last_passed x c.args.at c.in-Some.length t.before t.after (reverse t.before) refl file
+          (sym c.in-Some.is ∙ step.1 t file)),
     ))

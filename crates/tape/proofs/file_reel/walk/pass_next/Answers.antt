@@ -1,8 +1,4 @@
-use Rattle.std.proofs.Common.{◌+◌, ◌==◌, ℕ, arith, subst, sym, ◌∙◌}
-use Rattle.tape.specs.Tape.{Tape}
-use Rattle.tape.specs.RecordFile.{IsFile}
-use Rattle.tape.specs.FileSteps.{IsPassed}
-use Rattle.tape.specs.declared.file_reel.walk.Way.TheVariants.{Forward}
+use Rattle.tape.proofs.Words.{◌+◌, ◌==◌, ℕ, arith, subst, sym, ◌∙◌, Tape, IsFile, IsPassed, Forward}
 use Rattle.tape.proofs.MediumRuns.{run_as}
 use Rattle.tape.proofs.Before.{nothing_ahead}
 use Rattle.tape.proofs.Passing.{next_passed}
@@ -20,5 +16,5 @@ returns-clause-run g c =
       step.0,
       λ t file.
           let P : ℕ → Type 0 = λ k. (u : Tape) × IsFile x (c.args.at + k) u × IsPassed Forward t (c.in-Some.length == 0) u in
-          subst P (sym c.entry_size.ensures) (next_passed x c.args.at c.in-Some.length t file (sym c.in-Some.is ∙ step.1 t file)),
+          subst P (sym c.entry_size.ensures) (next_passed x c.args.at c.in-Some.length t.before t.after file (sym c.in-Some.is ∙ step.1 t file)),
     ))

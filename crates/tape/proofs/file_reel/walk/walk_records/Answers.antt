@@ -1,49 +1,28 @@
-use Rattle.std.proofs.lemmas.Result.{err_from_is_err_and}
-use Rattle.tape.proofs.MediumRuns.{run_none, no_error}
-use Rattle.tape.proofs.Walks.{goes_none, goes_on, goes_stop, goes_end, goes_out, goes_wrong, records_from, records_far, mark_stops, record_passes, records_over, records_gone, nearer_on, all_left, some_left, fewer_left, none_left, none_met}
+use Rattle.tape.proofs.Words.{refl, ◌-◌, arith, ahead}
+use Rattle.tape.proofs.MediumRuns.{no_error}
+use Rattle.tape.proofs.Spacing.{records_end}
+use Rattle.tape.proofs.Walks.{goes_on, goes_end, goes_out, mark_stops, record_passes, records_over}
 use Rattle.tape.proofs.file_reel.walk.walk_records.Goals as goal
-
-pub loop-left-init : goal.loop-left-init
-loop-left-init g c = record {
-  run = run_none (λ f. f) (λ x held. goes_none c.args.way c.args.count c.args.offset (records_from c.args.way) (records_far c.args.way) x);
-  within = all_left c.args.count;
-}
-
-pub returns-in_err-passed-clause-run : goal.returns-in_err-passed-clause-run
-returns-in_err-passed-clause-run g c =
-    let p = err_from_is_err_and c.from_residual.result c.from_residual.ensures.1 in
-    rw (p.1) (goes_wrong (records_from c.args.way) (records_far c.args.way) c.loop-left.invariant.run c.in_err-passed.ensures.run (λ f. f) (λ f. f))
-
-pub returns-in_err-passed-clause-within : goal.returns-in_err-passed-clause-within
-returns-in_err-passed-clause-within g c =
-    let p = err_from_is_err_and c.from_residual.result c.from_residual.ensures.1 in
-    rw (p.1) (some_left c.loop-left-test.true c.loop-left.invariant.within)
 
 pub returns-in_default-clause-run : goal.returns-in_default-clause-run
 returns-in_default-clause-run g c =
-    goes_out (records_from c.args.way) (records_far c.args.way) c.loop-left.invariant.run c.in_ok-passed.ensures.run (λ f. f) (λ f. f) c.in_default.is (records_gone c.args.way c.loop-left.left)
-
-pub returns-in_default-clause-within : goal.returns-in_default-clause-within
-returns-in_default-clause-within g c = c.loop-left.invariant.within
+    goes_out c.loop-left.invariant.run c.in_ok-passed.ensures.run (λ f. f) (λ f. f) c.in_default.is
+    (λ t is. records_end c.loop-left.left (ahead c.args.way t) is)
 
 pub returns-then-passed-clause-run : goal.returns-then-passed-clause-run
 returns-then-passed-clause-run g c =
-    goes_stop (records_from c.args.way) (records_far c.args.way) c.loop-left.invariant.run c.in_ok-passed.ensures.run (λ f. f) (λ f. f) c.in-Some.is
-    (λ t u p. mark_stops c.args.way c.loop-left.left t u c.in-Some.passed.is_mark c.loop-left-test.true c.if-passed.true p)
-
-pub returns-then-passed-clause-within : goal.returns-then-passed-clause-within
-returns-then-passed-clause-within g c = c.loop-left.invariant.within
-
-pub loop-left-smaller : goal.loop-left-smaller
-loop-left-smaller g c = nearer_on c.args.way c.loop-left.at c.in-Some.is c.in_ok-passed.ensures.nearer
+    goes_end
+    (goes_on {met_next = λ _. 0} {far_next = λ _. 0} c.loop-left.invariant.run c.in_ok-passed.ensures.run no_error c.in-Some.is
+    (λ t u p. mark_stops c.args.way c.loop-left.left t u c.in-Some.passed.is_mark c.loop-left-test.true c.if-passed.true p))
+    no_error (λ t. refl) (λ t. omega arith)
 
 pub loop-left-preserved : goal.loop-left-preserved
 loop-left-preserved g c = record {
-  run = goes_on (records_from c.args.way) (records_far c.args.way) c.loop-left.invariant.run c.in_ok-passed.ensures.run no_error c.in-Some.is
+  run = goes_on c.loop-left.invariant.run c.in_ok-passed.ensures.run no_error c.in-Some.is
       (λ t u p. record_passes c.args.way c.loop-left.left t u c.in-Some.passed.is_mark c.loop-left-test.true c.if-passed.false p);
-  within = fewer_left c.loop-left.invariant.within;
+  within = omega arith;
 }
 
 pub returns-clause-run : goal.returns-clause-run
 returns-clause-run g c =
-    goes_end (records_from c.args.way) (records_far c.args.way) c.loop-left.invariant.run no_error (records_over c.args.way c.loop-left.left (none_left c.loop-left-test.false)) (λ t. none_met _ c.loop-left-test.false)
+    goes_end c.loop-left.invariant.run no_error (records_over c.args.way c.loop-left.left (omega arith)) (λ t. omega arith)

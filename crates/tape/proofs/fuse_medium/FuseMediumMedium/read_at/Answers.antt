@@ -1,19 +1,10 @@
-use Rattle.std.proofs.Common.{ap, refl, sym, ◌∙◌}
 use Rattle.tape.proofs.Fuses.{passed_count, passed_well}
 use Rattle.tape.proofs.fuse_medium.FuseMediumMedium.read_at.Goals as goal
 
-pub returns-then-count_call-clause-kept : goal.returns-then-count_call-clause-kept
-returns-then-count_call-clause-kept g c = λ due. ap (λ f. f.inner) c.count_call.ensures.new
-
-pub returns-then-count_call-clause-buffer : goal.returns-then-count_call-clause-buffer
-returns-then-count_call-clause-buffer g c = λ due. refl
-
 pub returns-clause-failures : goal.returns-clause-failures
 returns-clause-failures g c =
-    passed_count _ _ _ _ _ _ (sym c.count_call.ensures.answer ∙ c.if-count_call.false) c.pass.ensures.same (ap (λ f. f.failures) (c.self.view_is ∙ c.count_call.ensures.new))
-    (ap (λ f. f.failures) c.pass.ensures.new)
+    passed_count c.self.view_is c.pass.ensures.same _ c.count_call.ensures.answer c.if-count_call.false c.count_call.ensures.new c.pass.ensures.new
 
 pub returns-clause-unfailed : goal.returns-clause-unfailed
 returns-clause-unfailed g c = λ idle.
-    passed_well g.M.Medium.failures _ _ _ _ _ _ (ap (λ f. f.inner) (c.self.view_is ∙ c.count_call.ensures.new))
-    (ap (λ f. f.inner) c.pass.ensures.new) c.pass.ensures.same c.read_at-found.ensures.call.same
+    passed_well c.self.view_is c.pass.ensures.same g.M.Medium.failures c.count_call.ensures.new c.pass.ensures.new c.read_at-found.ensures.call.same

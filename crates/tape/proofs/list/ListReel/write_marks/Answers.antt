@@ -1,38 +1,33 @@
-use Rattle.std.proofs.Common.{◌+◌, ◌*◌, arith}
-use Rattle.std.proofs.lemmas.Result.{err_from_is_err_and}
+use Rattle.tape.proofs.Words.{arith, err_from_is_err_and}
 use Rattle.tape.proofs.Held.{marks_full, marks_refused, marks_put}
-use Rattle.tape.proofs.ReelCalls.{no_room, the_room}
+use Rattle.tape.proofs.ReelCalls.{no_room}
 use Rattle.tape.proofs.list.ListReel.write_marks.Goals as goal
 
 pub returns-then-not-has_room-clause-step : goal.returns-then-not-has_room-clause-step
 returns-then-not-has_room-clause-step c =
-    let reel = c.self.inside.reel in
-    let short = no_room (reel.offset + c.from-size.result * 4) reel.capacity c.has_room.result c.has_room.ensures.answer c.if-not-has_room.true in
+    let short = no_room c.has_room.ensures.answer c.if-not-has_room.true in
     let same = c.from-size.ensures in
-    rw (← c.self.view_is) (marks_full reel c.args.trouble c.args.count c.self.invariant (omega arith) (omega arith))
+    rw (← c.self.view_is) (marks_full c.self.inside.reel c.args.trouble c.args.count c.self.invariant (omega arith) (omega arith))
 
 pub returns-in_err-reserve-clause-step : goal.returns-in_err-reserve-clause-step
 returns-in_err-reserve-clause-step c =
-    let reel = c.self.inside.reel in
-    let room = the_room (reel.offset + c.from-size.result * 4) reel.capacity c.has_room.result c.has_room.ensures.answer c.if-not-has_room.false in
+    let room = c.has_room.ensures.answer.0 c.if-not-has_room.false in
     let same = c.from-size.ensures in
     let p = err_from_is_err_and c.from_residual.result c.from_residual.ensures.1 in
     let refused = c.in_err-reserve.ensures.room in
     rw (← c.self.view_is, p.1, p.2, refused.0)
-    (marks_refused reel c.reserve.new.self c.args.trouble c.args.count c.self.invariant (omega arith) (omega arith) refused.1)
+    (marks_refused c.self.inside.reel c.reserve.new.self c.args.trouble c.args.count c.self.invariant (omega arith) (omega arith) refused.1)
 
 pub invariant_of-self-2 : goal.invariant_of-self-2
 invariant_of-self-2 c =
-    let reel = c.self.inside.reel in
-    let room = the_room (reel.offset + c.from-size.result * 4) reel.capacity c.has_room.result c.has_room.ensures.answer c.if-not-has_room.false in
+    let room = c.has_room.ensures.answer.0 c.if-not-has_room.false in
     let same = c.from-size.ensures in
-    (marks_put reel c.reserve.new.self c.put_marks.new.reel c.args.trouble c.args.count c.put_marks.result c.self.invariant
+    (marks_put c.self.inside.reel c.reserve.new.self c.put_marks.new.reel c.args.trouble c.args.count c.put_marks.result c.self.invariant
     c.reserve.ensures.bytes c.reserve.ensures.offset c.put_marks.ensures.step c.put_marks.ensures.answer (omega arith) (omega arith)).0
 
 pub returns-clause-step : goal.returns-clause-step
 returns-clause-step c =
-    let reel = c.self.inside.reel in
-    let room = the_room (reel.offset + c.from-size.result * 4) reel.capacity c.has_room.result c.has_room.ensures.answer c.if-not-has_room.false in
+    let room = c.has_room.ensures.answer.0 c.if-not-has_room.false in
     let same = c.from-size.ensures in
-    rw (← c.self.view_is) (marks_put reel c.reserve.new.self c.put_marks.new.reel c.args.trouble c.args.count c.put_marks.result c.self.invariant
+    rw (← c.self.view_is) (marks_put c.self.inside.reel c.reserve.new.self c.put_marks.new.reel c.args.trouble c.args.count c.put_marks.result c.self.invariant
     c.reserve.ensures.bytes c.reserve.ensures.offset c.put_marks.ensures.step c.put_marks.ensures.answer (omega arith) (omega arith)).1

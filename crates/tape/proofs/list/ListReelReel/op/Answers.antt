@@ -1,4 +1,4 @@
-use Rattle.tape.specs.Tape.{op_request, done_answer}
+use Rattle.tape.proofs.Words.{op_request, done_answer}
 use Rattle.tape.proofs.Held.{seen_kept, seen_tape, seen_call, op_adds}
 use Rattle.tape.proofs.list.ListReelReel.op.Goals as goal
 

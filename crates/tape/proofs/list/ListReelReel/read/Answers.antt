@@ -1,6 +1,4 @@
-use Rattle.std.proofs.Common.{refl, length}
-use Rattle.tape.specs.Tape.{given_answer}
-use Rattle.tape.specs.Tape.TapeRequest.{Read}
+use Rattle.tape.proofs.Words.{refl, length, given_answer, Read}
 use Rattle.tape.proofs.Held.{seen_kept, seen_tape, seen_call}
 use Rattle.tape.proofs.list.ListReelReel.read.Goals as goal
 

@@ -1,6 +1,4 @@
-use Rattle.std.proofs.Common.{refl}
-use Rattle.tape.specs.Tape.TapeRequest.{Rewind}
-use Rattle.tape.specs.Tape.TapeAnswer.{Done}
+use Rattle.tape.proofs.Words.{refl, Rewind, Done}
 use Rattle.tape.proofs.Held.{seen_kept, seen_tape, seen_call}
 use Rattle.tape.proofs.list.ListReelReel.rewind.Goals as goal
 

@@ -1,7 +1,4 @@
-use Rattle.std.proofs.Common.{replicate, sym, subst}
-use Rattle.std.proofs.lemmas.List.{length-replicate, take-replicate}
-use Rattle.tape.specs.Tape.PlainEntry.{Mark}
-use Rattle.tape.specs.Trouble.{IsTroubleLeft}
+use Rattle.tape.proofs.Words.{replicate, sym, subst, length-replicate, take-replicate, Mark, IsTroubleLeft}
 use Rattle.tape.proofs.Held.{IsLeft, IsSettled, settled, left_none, left_some}
 use Rattle.tape.proofs.list.device.put_marks.Goals.{in-Some+in_ok-put_marks, in_default}
 use Rattle.tape.proofs.list.device.put_marks.Goals as goal

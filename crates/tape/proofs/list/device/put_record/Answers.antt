@@ -1,6 +1,4 @@
-use Rattle.std.proofs.Common.{◌≡◌, [], ◌∷◌, take, sym, subst, ap, arith}
-use Rattle.std.proofs.lemmas.List.{take_all}
-use Rattle.tape.specs.Tape.PlainEntry.{Record}
+use Rattle.tape.proofs.Words.{◌≡◌, [], ◌∷◌, take, sym, subst, ap, arith, take_all, Record}
 use Rattle.tape.proofs.Held.{IsLeft, IsSettled, settled, left_none, left_some}
 use Rattle.tape.proofs.list.device.put_record.Goals.{in-Some+then-left-gt0+in_ok-put_record, in-Some+else-left-gt0+in_ok-cut, in_default}
 use Rattle.tape.proofs.list.device.put_record.Goals as goal
