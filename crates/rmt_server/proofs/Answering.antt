@@ -1,30 +1,23 @@
 -- Requests answered one after another.
-use Rattle.std.proofs.Common.{◌≡◌, ℕ, ◌≤◌, List, [], ◌∷◌, ◌++◌, take, Option, Some, None, Result, Ok, Err, refl, sym, ap, subst, ◌∙◌, arith, append_assoc, append-nil, Bool, IsTrue}
+use Rattle.std.proofs.Common.{◌≡◌, ℕ, List, [], ◌∷◌, ◌++◌, take, Option, Some, None, Result, Ok, Err, refl, sym, ap, subst, ◌∙◌, arith, append_assoc}
+use Rattle.std.proofs.Common.{append-nil, Bool, IsTrue}
 use Rattle.std.proofs.lemmas.List.{map-append}
 use Rattle.std.proofs.lemmas.Grind.{flat_map-append}
 use Rattle.std.proofs.KnownBytes.{Appends-nil, Appends-trans}
 use Rattle.std.specs.Io.KnownBytes.{Appends, Consumes}
-use Rattle.rmt_wire.specs.Request.{PlainRequest, SpellsRequest}
-use Rattle.rmt_wire.specs.Request.PlainRequest.{Open, Close, Write, WriteDropped, Read, Op}
-use Rattle.rmt_wire.specs.Reply.{PlainReply, reply_text, ReplyHasSpelling}
+use Rattle.rmt_wire.specs.RequestReader.{dropped_line}
+use Rattle.rmt_server.proofs.Names.{PlainRequest, SpellsRequest, Close, Op, PlainReply, reply_text, ReplyHasSpelling}
+use Rattle.rmt_server.proofs.Names.{plain_request, RequestHeld, Unread, IsNext, plain_next_result, Kinds, State, HasView, IsSayable, IsClosed}
+use Rattle.rmt_server.proofs.Names.{IsCarriedOut, MayFail, MayShare, SessionView, ServeRun, no_steps, one_step, streams, streams_kind, Exchange, requests_of}
+use Rattle.rmt_server.proofs.Names.{replies_text, IsAnswered, IsCutOff, Advances, AnswersAs, CarryRun, IsSettled, IsFaulty, EndsAs, IsServedAs, none, one_more}
 use Rattle.rmt_wire.specs.RequestParts.{Spelled, HasNoSpelling, HasFault}
 use Rattle.std.specs.Result.{IsErr, IsErrAnd}
 use Rattle.rmt_wire.specs.Counted.{Counting, HasRisen}
 use Rattle.rmt_wire.specs.declared.reply.writer.OutputFault.{OutputFault}
-use Rattle.rmt_wire.specs.Lent.{plain_request}
-use Rattle.rmt_wire.specs.RequestReader.{RequestHeld, Unread, IsNext, dropped_line, plain_next_result}
 use Rattle.rmt_wire.specs.declared.request.Request.{Request}
 use Rattle.rmt_wire.specs.declared.fault.WireFault.{WireFault}
-use Rattle.drives.specs.Opening.{Kinds}
-use Rattle.rmt_server.specs.State.{State, HasView}
-use Rattle.rmt_server.specs.Replies.{IsSayable}
-use Rattle.rmt_server.specs.Opening.{IsClosed}
-use Rattle.rmt_server.specs.Carrying.{IsCarriedOut, MayFail, MayShare}
-use Rattle.rmt_server.proofs.Alone.{may_share, may_find}
-use Rattle.rmt_server.specs.Session.{SessionView, ServeRun, none as no_steps, one_more as one_step}
-use Rattle.rmt_server.specs.Stream.{streams, streams_kind, Exchange, requests_of, replies_text, IsAnswered, IsCutOff, Advances, AnswersAs, CarryRun, IsSettled, IsFaulty, EndsAs, IsServedAs, none, one_more}
+use Rattle.rmt_server.proofs.Sound.{may_share, may_find}
 use Rattle.rmt_server.specs.declared.stream.Served.{Served}
-use Rattle.rmt_server.specs.declared.stream.Served.TheVariants.{Broken}
 use Rattle.rmt_server.specs.declared.stream.ServeFault.{ServeFault}
 use Rattle.rmt_server.specs.declared.stream.ServeFault.TheVariants.{Output}
 
@@ -94,18 +87,10 @@ cut_then known now after bytes rest piece later done more a b = record {
       (Appends-trans known now after (replies_text done) (replies_text b.before ++ take b.count (reply_text b.last.1)) a.written b.written);
 }
 
--- a count that has risen since later has risen since before
-pub risen_since : (first before now : ℕ) → first ≤ before → HasRisen before now → HasRisen first now
-risen_since first before now e h = omega arith
-
 -- the count of an operation that is spelled can be said in a reply
 pub sayable : (text : List ℕ) (request : PlainRequest) → SpellsRequest text request → IsSayable request
-sayable text (Open device mode) s = tt
-sayable text Close s = tt
-sayable text (Write bytes) s = tt
-sayable text (WriteDropped count) s = tt
-sayable text (Read count) s = tt
 sayable text (Op op count) s = s.3.small
+sayable text request s = tt
 
 module _ {H S Seat R : Type 0} {k : Kinds H Seat S R} {old : State H S Seat R} where
   -- from nothing done
@@ -158,9 +143,7 @@ next_none old new result n e bytes u =
 pub next_some : (old new : RequestHeld) (result : Result (Option Request) WireFault) (request : Request) → IsNext old (plain_next_result result) new → result ≡ Ok (Some request) → (bytes : List ℕ) → Unread old bytes
     → (rest : List ℕ) × Unread new rest × (text : List ℕ) × SpellsRequest text (plain_request request) × (bytes ≡ text ++ rest)
 next_some old new result request n e bytes u =
-    let m = subst (λ a. IsNext old (plain_next_result a) new) e n in
-    let w = m.continues bytes u in
-    (w.0, w.1, w.2.0, w.2.1, w.2.2)
+    let w = (subst (λ a. IsNext old (plain_next_result a) new) e n).continues bytes u in (w.0, w.1, w.2.0, w.2.1, w.2.2)
 
 -- where the output failed
 pub output_ends : {In W : Type 0} (remaining : In → Option (List ℕ)) (contents : W → Option (List ℕ)) (result : Result Served ServeFault) (input input' : Counting In) (output output' : Counting W)
@@ -173,46 +156,6 @@ output_ends remaining contents (Err fault) input input' output output' read done
 -- where bytes are no request
 pub broken_ends : (rest : List ℕ) (fault : WireFault) → IsFaulty rest fault → HasFault rest fault × HasNoSpelling rest
 broken_ends rest fault f = subst (λ t. HasFault t fault × HasNoSpelling t) (append-nil rest) (f [])
-
--- What became of the bytes read so far and one piece more.
-module _ {H S Seat R : Type 0} {k : Kinds H Seat S R} {old between new : State H S Seat R} where
-  pub read_cut : {In W : Type 0} (remaining : In → Option (List ℕ)) (contents : W → Option (List ℕ)) (result : Result Served ServeFault) (input input' : Counting In) (first out out' : Counting W) (wire : RequestHeld) (read part : List ℕ)
-      → IsErrAnd result (λ e. e ≡ Output) → first.failures ≤ out.failures
-      → Advances k old between (λ done rest. IsAnswered (contents first.inner) (contents out.inner) read done rest × IsSettled wire rest)
-      → ((rest : List ℕ) → IsSettled wire rest → Advances k between new
-      (λ more later. IsCutOff (contents out.inner) (contents out'.inner) (rest ++ part) more later × HasRisen out.failures out'.failures))
-      → Advances k old new (EndsAs (streams_kind remaining contents) result (streams input first) (streams input' out') (read ++ part))
-  read_cut remaining contents result input input' first out out' wire read part failed since a f =
-      advances_then a (λ done rest p.
-      let b = f rest p.1 in
-      record {
-        done = b.done;
-        rest = b.rest;
-        run = b.run;
-        outcome = output_ends remaining contents result input input' first out' (read ++ part) (done ++ b.done) b.rest failed
-            (cut_then _ _ _ read rest part b.rest done b.done p.0 b.outcome.0) (risen_since first.failures out.failures out'.failures since b.outcome.1);
-      })
-
-  pub read_faulty : {In W : Type 0} (remaining : In → Option (List ℕ)) (contents : W → Option (List ℕ)) (fault : WireFault) (input input' : Counting In) (first out out' : Counting W) (wire : RequestHeld) (read part : List ℕ)
-      → Advances k old between (λ done rest. IsAnswered (contents first.inner) (contents out.inner) read done rest × IsSettled wire rest)
-      → ((rest : List ℕ) → IsSettled wire rest → Advances k between new
-      (λ more later. IsAnswered (contents out.inner) (contents out'.inner) (rest ++ part) more later × IsFaulty later fault))
-      → Advances k old new (EndsAs (streams_kind remaining contents) (Ok (Broken fault)) (streams input first) (streams input' out') (read ++ part))
-  read_faulty remaining contents fault input input' first out out' wire read part a f =
-      advances_then a (λ done rest p.
-      let b = f rest p.1 in
-      let e = broken_ends b.rest fault b.outcome.1 in
-      record { done = b.done; rest = b.rest; run = b.run; outcome = (answered_then _ _ _ read rest part b.rest done b.done p.0 b.outcome.0, e.0, e.1) })
-
-  pub read_answered : {W : Type 0} (contents : W → Option (List ℕ)) (first out out' : Counting W) (wire wire' : RequestHeld) (read part : List ℕ)
-      → Advances k old between (λ done rest. IsAnswered (contents first.inner) (contents out.inner) read done rest × IsSettled wire rest)
-      → ((rest : List ℕ) → IsSettled wire rest → Advances k between new
-      (λ more later. IsAnswered (contents out.inner) (contents out'.inner) (rest ++ part) more later × IsSettled wire' later))
-      → Advances k old new (λ done rest. IsAnswered (contents first.inner) (contents out'.inner) (read ++ part) done rest × IsSettled wire' rest)
-  read_answered contents first out out' wire wire' read part a f =
-      advances_then a (λ done rest p.
-      let b = f rest p.1 in
-      record { done = b.done; rest = b.rest; run = b.run; outcome = (answered_then _ _ _ read rest part b.rest done b.done p.0 b.outcome.0, b.outcome.1) })
 
 -- Where stacks and reel tell, a run of requests carried out is a run of serve steps
 pub run_steps : {H S Seat R : Type 0} {k : Kinds H Seat S R} {old last : State H S Seat R} {done : List Exchange}
@@ -251,18 +194,11 @@ served_as remaining contents result input input' output output' {last = last} re
   steps = λ fails shared may share start tells. (let w = run_steps a.run fails shared may share start tells in (w.0, w.1, ended.step w.0 w.2));
 }
 
-no_letter : (b : ℕ) (bytes : List ℕ) → [] ≡ b ∷ bytes → ⊥
-no_letter b bytes e = absurd cc
-
 -- each request begins with its letter
 no_text : (text rest : List ℕ) (request : PlainRequest) → [] ≡ text ++ rest → SpellsRequest text request → ⊥
 no_text (b ∷ text) rest request e s = absurd cc
-no_text [] rest (Open device mode) e s = absurd (no_letter _ _ s.3)
-no_text [] rest Close e s = absurd (no_letter _ _ s.2)
-no_text [] rest (Write bytes) e s = absurd (no_letter _ _ s.3)
-no_text [] rest (WriteDropped count) e s = absurd (no_letter _ _ s.5)
-no_text [] rest (Read count) e s = absurd (no_letter _ _ s.2)
-no_text [] rest (Op op count) e s = absurd (no_letter _ _ s.4)
+no_text [] rest (Op op count) e s = absurd cc
+no_text [] rest request e s = absurd cc
 
 -- a reader that holds nothing is at the beginning of a request
 pub settled_empty : (wire : RequestHeld) → Unread wire [] → IsSettled wire []

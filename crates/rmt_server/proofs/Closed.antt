@@ -1,23 +1,34 @@
--- What closing does to the stacks.
-use Rattle.std.proofs.Common.{◌≡◌, ◌≢◌, ◌⊎◌, ℕ, Option, Some, None, sym, ap, subst, ◌∙◌, inl, inr, arith}
-use Rattle.tape.specs.declared.reel.Reel.{Ghosts as ReelPromise}
-use Rattle.drives.specs.Calls.{StacksKind}
-use Rattle.drives.specs.Calls.StacksCall.{LayBack}
-use Rattle.drives.specs.TapeLibrary.{TapeLibrary}
-use Rattle.drives.specs.Stacking.{HasLatched, ReelCanFail, IsStacksCall}
-use Rattle.rmt_server.specs.declared.access.Access.{Access}
-use Rattle.rmt_server.specs.Session.{PlainSession, closed_library}
-use Rattle.rmt_server.specs.State.{State, drive_of, online_drive, reel_of, IsAt, IsSeenWith, IsViewedAs, IsReelCall}
-use Rattle.rmt_server.specs.declared.session.session_state.Opened.{Opened}
-use Rattle.drives.specs.Holding.{HoldsJust, given, holder_after_give}
-use Rattle.drives.specs.Opening.{Kinds}
-use Rattle.drives.specs.declared.view.View.{View}
-use Rattle.rmt_server.proofs.Seats.{HoldsJust_given}
-use Rattle.tape.specs.Tape.{entries_of}
+-- What a seat holds after its steps, and what closing does to the stacks.
+use Rattle.std.proofs.Common.{◌≡◌, ◌≢◌, ◌⊎◌, ℕ, ◌<◌, ◌≤◌, false, IsTrue, length, slice_set, Option, Some, None, sym, ap, subst, ◌∙◌, inl, inr, arith}
+use Rattle.std.proofs.Common.{length-set, get_or-set_same, get_or-set_other}
+use Rattle.std.proofs.lemmas.List.{get_or_past}
+use Rattle.rmt_server.proofs.Names.{ReelPromise, StacksKind, LayBack, TapeLibrary, HasLatched, ReelCanFail, IsStacksCall, Access, PlainSession, closed_library}
+use Rattle.rmt_server.proofs.Names.{State, drive_of, online_drive, reel_of, IsAt, IsSeenWith, IsViewedAs, IsReelCall, Opened, has, HoldsJust, given}
+use Rattle.rmt_server.proofs.Names.{holder_after_give, Kinds, View, entries_of, Did, after_unlatch, LaysBack, LaysBackOpened, IsClosed, view_after_close}
 use Rattle.tape.specs.Tape.TapeRequest.{Rewind}
-use Rattle.tape.specs.Tape.TapeAnswer.{Done as Did}
-use Rattle.drives.specs.TapeLibrary.{after_unlatch}
-use Rattle.rmt_server.specs.Opening.{LaysBack, LaysBackOpened, IsClosed, view_after_close}
+
+le_or_lt : (m n : ℕ) → (m < n) ⊎ (n ≤ m)
+le_or_lt m n = grind arith
+
+pub eq_or_ne : (m n : ℕ) → (m ≡ n) ⊎ (m ≢ n)
+eq_or_ne m n = grind arith
+
+-- a drive that was given back is not held
+has_given : (v : View) (d : ℕ) → has (given v d) d ≡ false
+has_given v d = elim (le_or_lt d (length v.held)) [
+  | inl l ↦ get_or-set_same v.held d false false l
+  | inr p ↦ get_or_past (slice_set v.held d false) d false (rw length-set p)
+]
+
+-- after its one drive was given back a seat holds none
+pub HoldsJust_given : (v : View) (d : ℕ) → HoldsJust v (Some d) → HoldsJust (given v d) None
+HoldsJust_given v d h e =
+    let none : IsTrue (has (given v d) e) → ⊥ = λ t. elim (eq_or_ne e d) [
+      | inl same ↦ (let n : has (given v d) e ≡ false = ap (has (given v d)) same ∙ has_given v d in cc)
+      | inr other ↦ (let n : has (given v d) e ≡ has v e = get_or-set_other v.held d e false false other in
+          let m : Some d ≡ Some e = (h e).0 (rw (← n) t) in let k : d ≡ e = cc in other (sym k))
+    ] in
+    (λ t. absurd (none t), λ n. cc)
 
 -- what laying a reel back keeps
 pub record IsLaid {S R : Type 0} (s : StacksKind S R) (r : ReelPromise R) (old : S) (drive : ℕ) (reel : Option R) (new : S) : Type 0 where

@@ -1,22 +1,13 @@
-mod Alone
 mod Answering
 mod Closed
-mod Moved
+mod Names
 mod Opens
-mod Seats
-mod Seen
+mod Outcomes
 pub mod ServeSteps
 mod Sharing
 mod Sound
 pub mod Spelling
-mod Staying
-mod Steps
-mod Takes
-mod TroubledHolders
-mod TroubledLying
-mod TroubledOpening
-mod TroubledReels
+mod TroubledDrives
 mod TroubledServing
 mod TroubledSteps
 mod Troubles
-mod Wanting

@@ -1,72 +1,39 @@
--- An open that is carried out is a serve step where the stacks tell.
-use Rattle.std.proofs.Common.{◌≡◌, ◌≢◌, ℕ, ◌<◌, ◌≤◌, Bool, true, false, IsTrue, List, [], Option, Some, Result, Ok, Err, refl, ap, subst, inl, inr, arith}
-use Rattle.tape.specs.Tape.{Tape, tape}
+-- An open that is carried out: a serve step where the stacks tell, and the steps of the seat.
+use Rattle.std.proofs.Common.{◌≡◌, ◌≢◌, ℕ, ◌<◌, ◌≤◌, Bool, true, false, IsTrue, List, [], Option, Some, None, Result, Ok, Err, refl, ap, subst, inl, inr, arith}
+use Rattle.rmt_server.proofs.Names.{PlainReply, Error, Tape, tape, ReelPromise, Access, View, DriveFault, NoSuchDrive, Busy, Device, NameTaken, last_drive}
+use Rattle.rmt_server.proofs.Names.{last_step, taken, TapeLibrary, Latch, HasLatched, ReelCanFail, IsStacksCall, Kinds, OpenStep, SeatStep, LatchesFor}
+use Rattle.rmt_server.proofs.Names.{drive_asked, found_in_open, Invalid, refused, PlainReel, plain_reel, IsOpenExcused, open_reply, session_after, IsViewedAs}
+use Rattle.rmt_server.proofs.Names.{reel_of, drive_of, online_drive, opened_by, view_after_close, HasTaken, TakesFor}
+use Rattle.rmt_server.proofs.Names.{Trouble, IsOpenCause}
 use Rattle.tape.specs.Failures.{HasRisen}
-use Rattle.tape.specs.declared.reel.Reel.{Ghosts as ReelPromise}
-use Rattle.rmt_server.specs.declared.access.Access.{Access}
-use Rattle.drives.specs.declared.view.View.{View}
-use Rattle.drives.specs.declared.fault.DriveFault.{DriveFault}
-use Rattle.drives.specs.declared.fault.DriveFault.TheVariants.{NoSuchDrive, Busy, NoReel, Device, OutOfMemory, NameTaken}
 use Rattle.drives.specs.declared.view.StepKind.TheVariants.{Take}
-use Rattle.drives.specs.Holding.{last_drive, last_step}
-use Rattle.drives.specs.TapeLibrary.{TapeLibrary}
-use Rattle.drives.specs.Calls.StacksCall.{Latch}
-use Rattle.drives.specs.Stacking.{HasLatched, ReelCanFail, IsStacksCall}
-use Rattle.drives.specs.Opening.{Kinds, OpenStep, SeatStep, LatchesFor, drive_asked, found_in_open}
-use Rattle.rmt_server.specs.Session.{PlainReel, plain_reel, IsOpenExcused, open_reply, session_after}
-use Rattle.rmt_server.specs.State.{IsViewedAs, reel_of, online_drive}
-use Rattle.rmt_server.specs.Opening.{opened_by}
 
 -- the stacks' device is at fault
-pub is_device : {R : Type 0} → Result (ℕ × R) DriveFault → Bool
+abbrev pub is_device : {R : Type 0} → Result (ℕ × R) DriveFault → Bool
 is_device (Err Device) = true
 is_device result = false
 
 pub is_device_is : {R : Type 0} (result : Result (ℕ × R) DriveFault) → IsTrue (is_device result) → result ≡ Err Device
-unfolding is_device
-is_device_is (Ok taken) t = absurd cc
-is_device_is (Err NoSuchDrive) t = absurd cc
-is_device_is (Err (Busy n)) t = absurd cc
-is_device_is (Err NoReel) t = absurd cc
 is_device_is (Err Device) t = refl
-is_device_is (Err OutOfMemory) t = absurd cc
-is_device_is (Err NameTaken) t = absurd cc
-
--- a count that has risen since later has risen since earlier
-pub HasRisen_earlier : (a b c : ℕ) → a ≤ b → HasRisen b c → HasRisen a c
-HasRisen_earlier a b c l h = omega arith
+is_device_is result t = absurd cc
 
 -- what the drives answered has its cause
 pub is_excused : {R : Type 0} (result : Result (ℕ × R) DriveFault) (v w : View) → SeatStep result v w → IsOpenExcused (is_device result) result
-unfolding is_device
-is_excused (Ok taken) v w s = tt
-is_excused (Err NoSuchDrive) v w s = tt
 is_excused (Err (Busy n)) v w s = s.0
-is_excused (Err NoReel) v w s = tt
 is_excused (Err Device) v w s = refl
-is_excused (Err OutOfMemory) v w s = tt
 is_excused (Err NameTaken) v w s = s
+is_excused result v w s = tt
 
 -- the drive that was asked for is that of the seat's last step
 pub asked_last : {R : Type 0} (result : Result (ℕ × R) DriveFault) (v : View) (d : ℕ) → drive_asked result v ≡ Some d → last_drive v ≡ Some d
-asked_last (Ok taken) v d e = e
 asked_last (Err NoSuchDrive) v d e = absurd cc
-asked_last (Err (Busy n)) v d e = e
-asked_last (Err NoReel) v d e = e
-asked_last (Err Device) v d e = e
-asked_last (Err OutOfMemory) v d e = e
-asked_last (Err NameTaken) v d e = e
+asked_last result v d e = e
 
 -- a take that found another seat was of a drive, and is the seat's last step
 pub busy_asked : {R : Type 0} (result : Result (ℕ × R) DriveFault) (v w : View) → SeatStep result v w → 0 < found_in_open result
     → (d : ℕ) × (drive_asked result w ≡ Some d) × (w.last ≡ Some (last_step Take d (found_in_open result)))
-busy_asked (Ok taken) v w s x = absurd (omega arith)
-busy_asked (Err NoSuchDrive) v w s x = absurd (omega arith)
 busy_asked (Err (Busy n)) v w s x = (s.1.0, ap last_drive s.1.1, ap (λ (v : View). v.last) s.1.1)
-busy_asked (Err NoReel) v w s x = absurd (omega arith)
-busy_asked (Err Device) v w s x = absurd (omega arith)
-busy_asked (Err OutOfMemory) v w s x = absurd (omega arith)
-busy_asked (Err NameTaken) v w s x = absurd (omega arith)
+busy_asked result v w s x = absurd (omega arith)
 
 -- what an open answered and left, as it is seen
 pub record OpenSeen {R : Type 0} (r : ReelPromise R) (device : List ℕ) (access : Access) (asked : Option ℕ) (result : Result (ℕ × R) DriveFault) (library library' : TapeLibrary) : Type 0 where
@@ -74,27 +41,26 @@ pub record OpenSeen {R : Type 0} (r : ReelPromise R) (device : List ℕ) (access
   pub step : OpenStep (λ (reel : PlainReel) (t : Tape). reel.tape ≡ t) (λ (reel : PlainReel). reel.capacity) device asked plain library library'
   pub found : found_in_open result ≡ found_in_open plain
   pub excused : IsOpenExcused (is_device result) plain
+  pub cause : (trouble : Trouble) (held : ℕ) → IsOpenCause trouble held result → IsOpenCause trouble held plain
   pub reply : open_reply result ≡ open_reply plain
   pub seen : IsViewedAs r (opened_by access result) (session_after access plain)
 
 pub open_seen : {R : Type 0} (r : ReelPromise R) (device : List ℕ) (access : Access) (asked : Option ℕ) (result : Result (ℕ × R) DriveFault) (library library' : TapeLibrary)
     → IsOpenExcused (is_device result) result
     → OpenStep r.holds r.capacity device asked result library library' → OpenSeen r device access asked result library library'
-unfolding is_device
-open_seen r device access asked (Ok taken) library library' x h = record {
-  plain = Ok (taken.0, plain_reel (tape [] h.2.0.entries) (r.capacity taken.1));
+open_seen r device access asked (Ok opened) library library' x h = record {
+  plain = Ok (opened.0, plain_reel (tape [] h.2.0.entries) (r.capacity opened.1));
   step = (h.0, h.1, (h.2.0, h.2.1, h.2.2, refl, h.2.4));
   found = refl;
   excused = x;
+  cause = λ trouble held q. q;
   reply = refl;
   seen = (tape [] h.2.0.entries, h.2.3, refl);
 }
-open_seen r device access asked (Err NoSuchDrive) library library' x h = record { plain = Err NoSuchDrive; step = h; found = refl; excused = x; reply = refl; seen = refl }
-open_seen r device access asked (Err (Busy n)) library library' x h = record { plain = Err (Busy n); step = h; found = refl; excused = x; reply = refl; seen = refl }
-open_seen r device access asked (Err NoReel) library library' x h = record { plain = Err NoReel; step = h; found = refl; excused = x; reply = refl; seen = refl }
-open_seen r device access asked (Err Device) library library' x h = record { plain = Err Device; step = h; found = refl; excused = x; reply = refl; seen = refl }
-open_seen r device access asked (Err OutOfMemory) library library' x h = record { plain = Err OutOfMemory; step = h; found = refl; excused = x; reply = refl; seen = refl }
-open_seen r device access asked (Err NameTaken) library library' x h = record { plain = Err NameTaken; step = h; found = refl; excused = x; reply = refl; seen = refl }
+open_seen r device access asked (Err NoSuchDrive) library library' x h =
+    record { plain = Err NoSuchDrive; step = h; found = refl; excused = x; cause = λ t n q. q; reply = refl; seen = refl }
+open_seen r device access asked (Err fault) library library' x h =
+    record { plain = Err fault; step = h; found = refl; excused = x; cause = λ t n q. q; reply = refl; seen = refl }
 
 -- what an open keeps of the stacks, by the latch that it asked for
 err_is : {X : Type 0} (r : Result X DriveFault) (a b : DriveFault) → r ≡ Err a → r ≡ Err b → a ≡ b
@@ -149,17 +115,31 @@ latching k old asked (Ok opened) new call = record {
 }
 latching k old asked (Err NoSuchDrive) new e = no_latch k old NoSuchDrive new (λ x. absurd cc) e
 latching k old asked (Err (Busy n)) new e = no_latch k old (Busy n) new (λ x. absurd cc) e
-latching k old asked (Err NoReel) new (d, a, call) = bad_latch k old d NoReel new call
-latching k old asked (Err Device) new (d, a, call) = bad_latch k old d Device new call
-latching k old asked (Err OutOfMemory) new (d, a, call) = bad_latch k old d OutOfMemory new call
-latching k old asked (Err NameTaken) new (d, a, call) = bad_latch k old d NameTaken new call
+latching k old asked (Err fault) new (d, a, call) = bad_latch k old d fault new call
 
--- an open leaves the seat its number
-pub open_number : {R : Type 0} (result : Result (ℕ × R) DriveFault) (rested after : View) → SeatStep result rested after → after.number ≡ rested.number
-open_number (Ok opened) rested after s = ap (λ (v : View). v.number) s.3
-open_number (Err NoSuchDrive) rested after s = ap (λ (v : View). v.number) s
-open_number (Err (Busy n)) rested after s = ap (λ (v : View). v.number) s.1.1
-open_number (Err NoReel) rested after s = ap (λ (v : View). v.number) s.1
-open_number (Err Device) rested after s = ap (λ (v : View). v.number) s.1
-open_number (Err OutOfMemory) rested after s = ap (λ (v : View). v.number) s.1
-open_number (Err NameTaken) rested after s = absurd s
+-- one take, after a give where a drive was open
+taken_after : (before : View) (given_back : Option ℕ) (d n : ℕ) (rested after : View) → rested ≡ view_after_close before given_back → after ≡ taken rested d n → HasTaken before given_back d n after
+taken_after before None d n rested after e t = rw (t, e) (refl, refl)
+taken_after before (Some given) d n rested after e t = rw (t, e) (refl, refl)
+
+-- the number of an error, and 0 of any other reply
+abbrev pub error_of : PlainReply → ℕ
+error_of (Error n t) = n
+error_of reply = 0
+
+pub open_takes : {R : Type 0} (before : View) (given_back : Option ℕ) (access : Access) (result : Result (ℕ × R) DriveFault) (rested after : View)
+    → rested ≡ view_after_close before given_back → SeatStep result rested after
+    → TakesFor before given_back (open_reply result) after (drive_of (opened_by access result))
+open_takes before given_back access (Ok opened) rested after e s = record {
+  accepted = λ r. (opened.0, refl, taken_after before given_back opened.0 0 rested after e s.3);
+  busy = λ r. absurd cc;
+}
+open_takes before given_back access (Err (Busy n)) rested after e s = record {
+  accepted = λ r. absurd cc;
+  busy = λ r. (s.1.0, n, s.0, taken_after before given_back s.1.0 n rested after e s.1.1);
+}
+open_takes before given_back access (Err fault) rested after e s = record { accepted = λ r. absurd cc; busy = λ r. absurd (omega (arith, ap error_of r)) }
+
+-- an open for no access takes nothing
+pub invalid_takes : (before after : View) (given_back opened : Option ℕ) → TakesFor before given_back (refused Invalid) after opened
+invalid_takes before after given_back opened = record { accepted = λ r. absurd cc; busy = λ r. absurd (omega (arith, ap error_of r)) }

@@ -1,54 +1,90 @@
 -- Each request that is carried out is a serve step where stacks and reel tell.
-use Rattle.std.proofs.Common.{◌≡◌, ℕ, ◌<◌, Bool, true, false, IsTrue, List, Option, Some, None, MatchOption, Result, Ok, Err, refl, sym, ap, subst, ◌∙◌, inl, inr, arith}
-use Rattle.rmt_wire.specs.Request.{PlainRequest}
-use Rattle.rmt_wire.specs.Request.PlainRequest.{Open, Close, Write, WriteDropped, Read, Op}
-use Rattle.rmt_wire.specs.Reply.{PlainReply}
-use Rattle.rmt_wire.specs.Reply.PlainReply.{Done}
-use Rattle.tape.specs.Tape.{Tape}
-use Rattle.drives.specs.declared.fault.DriveFault.{DriveFault}
-use Rattle.drives.specs.declared.fault.DriveFault.TheVariants.{NoSuchDrive, Busy, NoReel, Device, OutOfMemory, NameTaken}
-use Rattle.drives.specs.Stacking.{IsMoveFault}
-use Rattle.drives.specs.Opening.{Kinds, drive_asked, found_in_open}
-use Rattle.rmt_server.specs.declared.access.Access.{Access}
-use Rattle.rmt_server.specs.declared.refusal.Refusal.{Refusal}
-use Rattle.rmt_server.specs.declared.refusal.Refusal.TheVariants.{BadDescriptor}
-use Rattle.rmt_server.specs.declared.session.session_state.Opened.{Opened}
-use Rattle.rmt_server.specs.Access.{access_of}
-use Rattle.rmt_server.specs.Refusals.{refused}
-use Rattle.rmt_server.specs.Session.{SessionView, session_view, plain_reel, status_of, refusal, is_offline, closed, session_after, IsMoveExcused, move_reply, ServeStep}
-use Rattle.rmt_server.specs.Session.PlainSession.{Offline, Online}
-use Rattle.rmt_server.specs.State.{State, drive_of, reel_of, status_in, status_at, IsAt, IsSeenWith, IsViewedAs, HasView, SessionCanFail}
-use Rattle.rmt_server.specs.Opening.{view_after_close, IsClosed, OpensFor}
-use Rattle.rmt_server.specs.Moving.{IsTakenOff, MovesIn, MovesReel}
-use Rattle.rmt_server.specs.Serving.{Serves}
-use Rattle.rmt_server.specs.Carrying.{Operates, CarriesOut, HasTrouble, is_of_stacks, IsServed, TakesFor, SeatSteps, IsCarriedOut}
-use Rattle.rmt_server.proofs.Opens.{is_device, is_device_is, HasRisen_earlier, asked_last, busy_asked, is_excused, open_seen, latching}
+use Rattle.std.proofs.Common.{◌≡◌, ℕ, ◌<◌, Bool, true, false, IsTrue, List, Option, Some, None, MatchOption, Result, Ok, Err, refl, sym, ap, subst, ◌∙◌, inl}
+use Rattle.std.proofs.Common.{inr, arith}
+use Rattle.rmt_server.proofs.Names.{PlainRequest, Open, Close, Op, PlainReply, Tape, TapeAnswer, Fault, ReelPromise, TapeLibrary, DriveFault, Device}
+use Rattle.rmt_server.proofs.Names.{OutOfMemory, NameTaken, IsMoveFault, ReelCanFail, Kinds, drive_asked, found_in_open, Access, Refusal, Opened, access_of}
+use Rattle.rmt_server.proofs.Names.{refused, PlainSession, SessionView, session_view, plain_reel, status_of, refusal, is_offline, closed, session_after}
+use Rattle.rmt_server.proofs.Names.{IsExcused, ReelStep, IsMoveExcused, move_reply, ServeStep, Offline, Online, State, drive_of, reel_of, status_at, IsAt}
+use Rattle.rmt_server.proofs.Names.{IsViewedAs, HasView, SessionCanFail, view_after_close, IsClosed, Closes, OpensFor, IsTakenOff, ReelServes, Serves, Operates}
+use Rattle.rmt_server.proofs.Names.{CarriesOut, ReelFailed, HasTrouble, is_of_stacks, IsServed, TakesFor, SeatSteps, IsCarriedOut}
+use Rattle.tape.specs.declared.fault.TapeFault.TheVariants as fault
+use Rattle.rmt_server.proofs.Opens.{is_device, is_device_is, asked_last, busy_asked, is_excused, open_seen, latching, open_takes, invalid_takes}
+use Rattle.rmt_server.proofs.Outcomes.{IsCalled, serves_is, moves_is, closes_is, online_seen, status_seen}
 use Rattle.rmt_server.proofs.Sound.{carried_sound}
-use Rattle.rmt_server.proofs.Steps.{ReelServed, reel_serves, status_seen}
-use Rattle.rmt_server.proofs.Takes.{open_takes, invalid_takes}
+
+-- the reel's device is at fault
+abbrev is_reel_device : TapeAnswer → Bool
+is_reel_device (Fault fault.Device) = true
+is_reel_device answer = false
+
+reel_device_means : (answer : TapeAnswer) → IsTrue (is_reel_device answer) → answer ≡ Fault fault.Device
+reel_device_means (Fault fault.Device) t = refl
+reel_device_means answer t = absurd cc
+
+reel_excused : (grows : Bool) (answer : TapeAnswer) → (answer ≡ Fault fault.OutOfMemory → IsTrue grows) → IsExcused (is_reel_device answer) grows answer
+reel_excused grows (Fault fault.Device) h = refl
+reel_excused grows (Fault fault.OutOfMemory) h = h refl
+reel_excused grows answer h = tt
+
+-- what a request that the reel serves leaves of a session that is seen so
+record ReelServed {R : Type 0} (r : ReelPromise R) (reel : Option R) (new : Option (Opened R)) (library : TapeLibrary) (session : PlainSession)
+    (refused_by : Option Refusal) (request : PlainRequest) (reply : PlainReply) : Type 0 where
+  after : PlainSession
+  seen : IsViewedAs r new after
+  troubled : Bool
+  trouble : IsTrue troubled → ReelFailed r reel (reel_of new)
+  able : IsTrue troubled → ReelCanFail r reel
+  step : MatchOption refused_by (ReelStep troubled r.GROWS (session_view library session) request reply (session_view library after))
+      (λ x. (reply ≡ refused x) × (session_view library after ≡ session_view library session))
+
+module _ {R : Type 0} (r : ReelPromise R) (old new : Option (Opened R)) (library : TapeLibrary) (session : PlainSession)
+    (request : PlainRequest) (reply : PlainReply) where
+  called : (c : IsCalled r old new request reply) → IsViewedAs r old session → ReelServed r (Some c.reel) new library session None request reply
+  called c seen =
+      let s = online_seen r old c.device c.reel session c.opens c.online seen in
+      let u = c.call.step s.0 s.1 in
+      record {
+        after = Online c.device.drive c.device.access (plain_reel u.0 (r.capacity c.moved));
+        seen = rw c.after (u.0, u.1, refl);
+        troubled = is_reel_device c.answer;
+        trouble = rw c.after (λ d. c.call.device (reel_device_means c.answer d));
+        able = λ d. c.call.able (reel_device_means c.answer d);
+        step = (
+          c.device.drive,
+          c.device.access,
+          plain_reel s.0 (r.capacity c.reel),
+          c.answer,
+          u.0,
+          s.2,
+          u.2,
+          reel_excused r.GROWS c.answer c.call.memory,
+          c.replied,
+          ap (λ x. session_view library (Online c.device.drive c.device.access (plain_reel u.0 x))) c.call.same_capacity,
+        );
+      }
+
+  -- a request that the reel serves, where stacks and reel tell
+  reel_serves : ReelServes r old new request reply → IsViewedAs r old session
+      → ReelServed r (reel_of old) new library session (refusal (status_of session) request) request reply
+  reel_serves serves seen = rw (status_seen r old session seen) (elim (serves_is r old new request reply serves) [
+    | inl x ↦ rw x.1 (record { after = session; seen = rw x.3 seen; troubled = false; trouble = λ t. absurd cc; able = λ t. absurd cc; step = (x.2, refl) })
+    | inr c ↦ rw (c.free, c.opens, c.online) (called c seen)
+  ])
 
 -- the device of the stacks is at fault
-is_move_device : Result (Unit {0}) DriveFault → Bool
+abbrev is_move_device : Result (Unit {0}) DriveFault → Bool
 is_move_device (Err Device) = true
 is_move_device result = false
 
 move_device : (why : DriveFault) → IsTrue (is_move_device (Err why)) → Some why ≡ Some Device
-unfolding is_move_device
-move_device NoSuchDrive t = absurd cc
-move_device (Busy n) t = absurd cc
-move_device NoReel t = absurd cc
 move_device Device t = refl
-move_device OutOfMemory t = absurd cc
-move_device NameTaken t = absurd cc
+move_device why t = absurd cc
 
 move_excused : (why : DriveFault) → IsMoveFault (Some why) → IsMoveExcused (is_move_device (Err why)) why
-unfolding is_move_device
-move_excused NoSuchDrive f = elim f [ inl e ↦ absurd cc | inr (inl e) ↦ absurd cc | inr (inr (inl e)) ↦ absurd cc | inr (inr (inr e)) ↦ absurd cc ]
-move_excused (Busy n) f = elim f [ inl e ↦ absurd cc | inr (inl e) ↦ absurd cc | inr (inr (inl e)) ↦ absurd cc | inr (inr (inr e)) ↦ absurd cc ]
-move_excused NoReel f = elim f [ inl e ↦ absurd cc | inr (inl e) ↦ absurd cc | inr (inr (inl e)) ↦ absurd cc | inr (inr (inr e)) ↦ absurd cc ]
 move_excused Device f = refl
 move_excused OutOfMemory f = tt
 move_excused NameTaken f = tt
+move_excused why f = elim f [ inl e ↦ absurd cc | inr (inl e) ↦ absurd cc | inr (inr (inl e)) ↦ absurd cc | inr (inr (inr e)) ↦ absurd cc ]
 
 module _ {H S Seat R : Type 0} (k : Kinds H Seat S R) (old : State H S Seat R) (before : SessionView) (tells : HasView k old before) where
   -- a refused request
@@ -79,7 +115,7 @@ module _ {H S Seat R : Type 0} (k : Kinds H Seat S R) (old : State H S Seat R) (
         after = session_view st.0 (session_after access seen.plain);
         tells = record { library = st.1; session = rw o.opens seen.seen };
         troubled = is_device result;
-        trouble = λ t. HasRisen_earlier _ _ _ c.kept.counted (latch.device (is_device_is result t));
+        trouble = λ t. omega (arith, c.kept.counted, latch.device (is_device_is result t));
         able = λ t. c.quiet (inl (latch.able (is_device_is result t)));
         asked = drive_asked result (k.holds.shows new.seat);
         found = found_in_open result;
@@ -107,38 +143,37 @@ module _ {H S Seat R : Type 0} (k : Kinds H Seat S R) (old : State H S Seat R) (
     step = step;
   }
 
-  -- nothing refuses the close of a device that is open
-  not_refused : (access : Access) (reel : Option R) → refusal (status_in access reel) Close ≡ None
-  not_refused access None = refl
-  not_refused access (Some reel) = refl
+  -- what the checks see
+  checked : (request : PlainRequest) → refusal (status_of before.session) request ≡ refusal (status_at old.opened) request
+  checked request = ap (λ s. refusal s request) (status_seen k.reels old.opened before.session tells.session)
 
-  closes : (opened : Option (Opened R)) (reply : PlainReply) (new : State H S Seat R) → old.opened ≡ opened
-      → MatchOption opened ((reply ≡ refused BadDescriptor) × (new ≡ old)) (λ device. (reply ≡ Done 0) × IsClosed k old new)
-      → IsServed k old Close reply new before
-  closes None reply new o (e, n) =
-      let idle : status_of before.session ≡ status_at {R = R} None = status_seen k.reels None before.session (subst (λ p. IsViewedAs k.reels p before.session) o tells.session) in
-      served Close reply new before false (refused_tells new n) (λ t. absurd cc) (λ t. absurd cc) (rw idle (e, refl))
-  closes (Some device) reply new o (e, c) =
-      let open_at : status_of before.session ≡ status_at (Some device) = status_seen k.reels (Some device) before.session (subst (λ p. IsViewedAs k.reels p before.session) o tells.session) in
-      served Close reply new (closed before) false (record { library = c.step before tells; session = rw c.nothing refl }) (λ t. absurd cc) (λ t. absurd cc)
-      (rw (open_at, not_refused device.access device.reel) (e, refl))
+  closes : (reply : PlainReply) (new : State H S Seat R) → Closes k old reply new → IsServed k old Close reply new before
+  closes reply new c = elim (closes_is k old new reply c) [
+    | inl x ↦ served Close reply new before false (refused_tells new x.2) (λ t. absurd cc) (λ t. absurd cc) (rw (checked Close, x.0) (x.1, refl))
+    | inr x ↦ served Close reply new (closed before) false
+        (record { library = x.2.step before tells; session = rw x.2.nothing refl }) (λ t. absurd cc) (λ t. absurd cc)
+        (rw (checked Close, x.0) (x.1, refl))
+  ]
 
   -- a request that the reel serves
-  reel_parts : (request : PlainRequest) (reply : PlainReply) (new : State H S Seat R) → Serves k old request reply new
-      → ReelServed k.reels (reel_of old.opened) new.opened before.library before.session (refusal (status_of before.session) request) request reply
-  reel_parts request reply new (n, e, serves) = reel_serves k.reels old.opened new.opened before.library before.session request reply serves tells.session
-
-  reel_tells : (request : PlainRequest) (reply : PlainReply) (new : State H S Seat R) (by : Option Refusal) → new.drives ≡ old.drives
-      → (p : ReelServed k.reels (reel_of old.opened) new.opened before.library before.session by request reply) → HasView k new (session_view before.library p.after)
-  reel_tells request reply new by n p = record { library = rw n tells.library; session = p.seen }
+  reel_step : (request : PlainRequest) (reply : PlainReply) (new : State H S Seat R) → Serves k old request reply new → is_of_stacks request ≡ false
+      → ((troubled : Bool) (after : SessionView) → MatchOption (refusal (status_of before.session) request)
+      (ReelStep troubled k.reels.GROWS before request reply after)
+      (λ x. (reply ≡ refused x) × (after ≡ before)) → ServeStep troubled k.reels.GROWS None 0 before request reply after)
+      → IsServed k old request reply new before
+  reel_step request reply new (n, e, serves) its step =
+      let p = reel_serves k.reels old.opened new.opened before.library before.session request reply serves tells.session in
+      let after : SessionView = session_view before.library p.after in
+      served request reply new after p.troubled (record { library = rw n tells.library; session = p.seen }) (λ t. rw its (p.trouble t)) (λ t. inr (p.able t))
+      (step p.troubled after p.step)
 
   -- a reel that was taken off its drive, or stays
   taken : (device : Opened R) (reel : R) (op count : ℕ) (reply : PlainReply) (result : Result (Unit {0}) DriveFault) (new : State H S Seat R)
-      → old.opened ≡ Some device → is_offline op ≡ true → (refusal (status_of before.session) (Op op count) ≡ None)
+      → is_offline op ≡ true → (refusal (status_of before.session) (Op op count) ≡ None)
       → reply ≡ move_reply count result → IsTakenOff k old device reel result new
       → (t : Tape) → k.reels.holds reel t → before.session ≡ Online device.drive device.access (plain_reel t (k.reels.capacity reel))
       → IsServed k old (Op op count) reply new before
-  taken device reel op count reply (Ok x) new o off free e m t held seen =
+  taken device reel op count reply (Ok x) new off free e m t held seen =
       let u = m.rewound.step t held in
       let v = m.call.step u.0 u.1 before.library tells.library in
       served (Op op count) reply new (session_view v.0 (Offline device.drive device.access)) false
@@ -152,7 +187,7 @@ module _ {H S Seat R : Type 0} (k : Kinds H Seat S R) (old : State H S Seat R) (
         e,
         ap (λ w. session_view w (Offline device.drive device.access)) (v.2 ∙ rw (u.2, m.rewound.same_capacity) refl),
       ))
-  taken device reel op count reply (Err why) new o off free e m t held seen =
+  taken device reel op count reply (Err why) new off free e m t held seen =
       let u = m.rewound.step t held in
       let v = m.call.step before.library tells.library in
       served (Op op count) reply new (session_view v.0 (Online device.drive device.access (plain_reel u.0 (k.reels.capacity m.rested)))) (is_move_device (Err why))
@@ -168,50 +203,21 @@ module _ {H S Seat R : Type 0} (k : Kinds H Seat S R) (old : State H S Seat R) (
         (move_excused why m.call.can, v.2, rw (u.2, m.rewound.same_capacity) refl),
       ))
 
-  moves_in : (device : Opened R) (lying : Option R) (op count : ℕ) (reply : PlainReply) (new : State H S Seat R)
-      → old.opened ≡ Some device → is_offline op ≡ true → refusal (status_of before.session) (Op op count) ≡ None
-      → MovesIn k old device lying count reply new → IsSeenWith k.reels device.drive device.access lying before.session
-      → IsServed k old (Op op count) reply new before
-  moves_in device None op count reply new o off free m seen = absurd m
-  moves_in device (Some reel) op count reply new o off free (result, e, m) (t, held, seen) = taken device reel op count reply result new o off free e m t held seen
-
-  moves_reel : (opened : Option (Opened R)) (op count : ℕ) (reply : PlainReply) (new : State H S Seat R)
-      → old.opened ≡ opened → is_offline op ≡ true → refusal (status_of before.session) (Op op count) ≡ None
-      → MovesReel k old opened count reply new → IsViewedAs k.reels opened before.session
-      → IsServed k old (Op op count) reply new before
-  moves_reel None op count reply new o off free m seen = absurd m
-  moves_reel (Some device) op count reply new o off free m seen = moves_in device device.reel op count reply new o off free m seen
-
-  moves_by : (by : Option Refusal) (op count : ℕ) (reply : PlainReply) (new : State H S Seat R)
-      → refusal (status_of before.session) (Op op count) ≡ by → is_offline op ≡ true
-      → MatchOption by (MovesReel k old old.opened count reply new) (λ x. (reply ≡ refused x) × (new ≡ old))
-      → IsServed k old (Op op count) reply new before
-  moves_by None op count reply new free off m = moves_reel old.opened op count reply new refl off free m tells.session
-  moves_by (Some x) op count reply new free off (e, n) =
-      served (Op op count) reply new before false (refused_tells new n) (λ t. absurd cc) (λ t. absurd cc) (rw free (e, refl))
-
   op_served : (offline : Bool) (op count : ℕ) (reply : PlainReply) (new : State H S Seat R) → is_offline op ≡ offline
       → Operates k offline old op count reply new → IsServed k old (Op op count) reply new before
-  op_served true op count reply new off m =
-      moves_by (refusal (status_at old.opened) (Op op count)) op count reply new (ap (λ s. refusal s (Op op count)) (status_seen k.reels old.opened before.session tells.session)) off m
-  op_served false op count reply new off serves =
-      let p = reel_parts (Op op count) reply new serves in
-      served (Op op count) reply new (session_view before.library p.after) p.troubled (reel_tells (Op op count) reply new _ serves.0 p)
-      (λ t. rw off (p.trouble t)) (λ t. inr (p.able t)) (rw off p.step)
+  op_served true op count reply new off m = elim (moves_is k old new reply op count m) [
+    | inl x ↦ served (Op op count) reply new before false (refused_tells new x.3) (λ t. absurd cc) (λ t. absurd cc)
+        (rw (checked (Op op count), x.1) (x.2, refl))
+    | inr c ↦ (let s = online_seen k.reels old.opened c.device c.reel before.session c.opens c.online tells.session in
+        taken c.device c.reel op count reply c.result new off (checked (Op op count) ∙ c.free) c.replied c.taken s.0 s.1 s.2)
+  ]
+  op_served false op count reply new off serves = reel_step (Op op count) reply new serves off (λ troubled after step. rw off step)
 
   pub serves_step : (request : PlainRequest) (reply : PlainReply) (new : State H S Seat R) → CarriesOut k old request reply new → IsServed k old request reply new before
   serves_step (Open device mode) reply new (between, c, o) = opens device mode (access_of mode) refl reply between new c o
-  serves_step Close reply new c = closes old.opened reply new refl c
-  serves_step (Write bytes) reply new serves =
-      let p = reel_parts (Write bytes) reply new serves in
-      served (Write bytes) reply new (session_view before.library p.after) p.troubled (reel_tells (Write bytes) reply new _ serves.0 p) p.trouble (λ t. inr (p.able t)) p.step
-  serves_step (WriteDropped count) reply new serves =
-      let p = reel_parts (WriteDropped count) reply new serves in
-      served (WriteDropped count) reply new (session_view before.library p.after) p.troubled (reel_tells (WriteDropped count) reply new _ serves.0 p) p.trouble (λ t. inr (p.able t)) p.step
-  serves_step (Read count) reply new serves =
-      let p = reel_parts (Read count) reply new serves in
-      served (Read count) reply new (session_view before.library p.after) p.troubled (reel_tells (Read count) reply new _ serves.0 p) p.trouble (λ t. inr (p.able t)) p.step
+  serves_step Close reply new c = closes reply new c
   serves_step (Op op count) reply new c = op_served (is_offline op) op count reply new refl c
+  serves_step request reply new serves = reel_step request reply new serves refl (λ troubled after step. step)
 
 module _ {H S Seat R : Type 0} (k : Kinds H Seat S R) (old : State H S Seat R) where
   -- the steps of the seat
@@ -222,34 +228,21 @@ module _ {H S Seat R : Type 0} (k : Kinds H Seat S R) (old : State H S Seat R) w
   opens_steps between new (Some access) device reply v (result, e, o) =
       rw (e, o.opens) (open_takes (k.holds.shows old.seat) (drive_of old.opened) access result (k.holds.shows between.seat) (k.holds.shows new.seat) v o.opening.view)
 
-  closes_steps : (opened : Option (Opened R)) (reply : PlainReply) (new : State H S Seat R) → old.opened ≡ opened
-      → MatchOption opened ((reply ≡ refused BadDescriptor) × (new ≡ old)) (λ device. (reply ≡ Done 0) × IsClosed k old new)
+  closes_steps : (reply : PlainReply) (new : State H S Seat R) → Closes k old reply new
       → k.holds.shows new.seat ≡ view_after_close (k.holds.shows old.seat) (drive_of old.opened)
-  closes_steps None reply new o (e, n) = rw (n, o) refl
-  closes_steps (Some device) reply new o (e, c) = c.view
-
-  taken_seat : (device : Opened R) (lying : Option R) (count : ℕ) (reply : PlainReply) (new : State H S Seat R) → MovesIn k old device lying count reply new → new.seat ≡ old.seat
-  taken_seat device None count reply new m = absurd m
-  taken_seat device (Some reel) count reply new (result, e, m) = m.same_seat
-
-  moved_seat : (opened : Option (Opened R)) (by : Option Refusal) (count : ℕ) (reply : PlainReply) (new : State H S Seat R)
-      → MatchOption by (MovesReel k old opened count reply new) (λ x. (reply ≡ refused x) × (new ≡ old)) → new.seat ≡ old.seat
-  moved_seat None None count reply new m = absurd m
-  moved_seat (Some device) None count reply new m = taken_seat device device.reel count reply new m
-  moved_seat opened (Some x) count reply new (e, n) = ap (λ (x : State H S Seat R). x.seat) n
+  closes_steps reply new c = elim (closes_is k old new reply c) [ inl x ↦ rw (x.2, x.0) refl | inr x ↦ x.2.view ]
 
   op_seat : (offline : Bool) (op count : ℕ) (reply : PlainReply) (new : State H S Seat R) → Operates k offline old op count reply new → new.seat ≡ old.seat
-  op_seat true op count reply new m = moved_seat old.opened (refusal (status_at old.opened) (Op op count)) count reply new m
+  op_seat true op count reply new m =
+      elim (moves_is k old new reply op count m) [ inl x ↦ ap (λ (y : State H S Seat R). y.seat) x.3 | inr c ↦ c.taken.same_seat ]
   op_seat false op count reply new serves = serves.1
 
   carried_steps : (request : PlainRequest) (reply : PlainReply) (new : State H S Seat R) → CarriesOut k old request reply new
       → SeatSteps request (k.holds.shows old.seat) (drive_of old.opened) reply (k.holds.shows new.seat) (drive_of new.opened)
   carried_steps (Open device mode) reply new (between, c, o) = opens_steps between new (access_of mode) device reply c.view o
-  carried_steps Close reply new c = closes_steps old.opened reply new refl c
-  carried_steps (Write bytes) reply new serves = ap k.holds.shows serves.1
-  carried_steps (WriteDropped count) reply new serves = ap k.holds.shows serves.1
-  carried_steps (Read count) reply new serves = ap k.holds.shows serves.1
+  carried_steps Close reply new c = closes_steps reply new c
   carried_steps (Op op count) reply new c = ap k.holds.shows (op_seat (is_offline op) op count reply new c)
+  carried_steps request reply new serves = ap k.holds.shows serves.1
 
   -- a request that was carried out, with all that follows
   pub carried : (request : PlainRequest) (reply : PlainReply) (new : State H S Seat R) → IsAt k old → CarriesOut k old request reply new → IsCarriedOut k old request reply new

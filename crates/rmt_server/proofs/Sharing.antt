@@ -1,50 +1,47 @@
--- Several sessions at the drives of one thread.
-use Rattle.std.proofs.Common.{◌≡◌, ◌≢◌, ℕ, ◌<◌, ◌==◌, true, IsTrue, length, slice_index, Option, Some, None, sym, ◌∙◌, arith}
+-- A session still fits its drives after what is not its own, and several sessions at the drives of one thread.
+use Rattle.std.proofs.Common.{◌≡◌, ◌≢◌, ℕ, ◌<◌, ◌≤◌, ◌==◌, Bool, true, IsTrue, length, slice_index, Option, Some, None, refl, sym, subst, ◌∙◌, arith}
 use Rattle.std.proofs.lemmas.Bool.Decides.{nat_tests}
-use Rattle.tape.specs.declared.reel.Reel.{Ghosts as ReelPromise}
+use Rattle.rmt_server.proofs.Names.{TroubledTape, of_reel, ReelPromise, ListLibrary, HasLatched, of_stacks, DriveTable, View, has, Holders, holders, IsSeatOf}
+use Rattle.rmt_server.proofs.Names.{IsHeldBy, Kinds, kinds, Opened, state, drive_of, online_in, online_drive, IsAt, KeepsDrives}
+use Rattle.drives.specs.declared.holds.Holds.{Ghosts as HoldsPromise}
 use Rattle.drives.specs.declared.stacks.Stacks.{Ghosts as StacksPromise}
-use Rattle.drives.specs.declared.table.DriveTable.{DriveTable}
-use Rattle.drives.specs.declared.view.View.{View}
-use Rattle.drives.specs.Holding.{has}
-use Rattle.drives.specs.Local.{Holders, IsSeatOf, IsHeldBy}
-use Rattle.drives.specs.Opening.{Kinds, kinds}
 use Rattle.drives.specs.contracts.local.LocalHoldsHolds.TheImpl.{ghosts as of_holds}
-use Rattle.rmt_server.specs.declared.session.session_state.Opened.{Opened}
 use Rattle.rmt_server.specs.declared.session.session_state.SessionState.{SessionState}
-use Rattle.rmt_server.specs.State.{State, state, drive_of, online_in, online_drive, IsAt, KeepsDrives}
 
-same_number : (n a b : ℕ) → (n == a) ≡ true → (n == b) ≡ true → a ≡ b
-same_number n a b e f = grind (arith, nat_tests)
+number_is : (n a : ℕ) → (n == a) ≡ true → n ≡ a
+number_is n a e = grind (arith, nat_tests)
 
 -- two seats do not hold one drive
 two_seats : (all : Holders) (v w : View) (d : ℕ) → IsSeatOf all v → IsSeatOf all w → v.number ≢ w.number → d < length all.numbers
     → IsTrue (has v d) → IsTrue (has w d) → ⊥
 two_seats all v w d a b n l x y =
-    n (same_number (slice_index all.numbers d) v.number w.number (sym (a.agrees d l) ∙ x) (sym (b.agrees d l) ∙ y))
-
-stays_online_in : {R : Type 0} (drive : ℕ) (reel : Option R) (d : ℕ) → online_in drive reel ≡ Some d → Some drive ≡ Some d
-stays_online_in drive None d e = absurd cc
-stays_online_in drive (Some reel) d e = e
+    let number = slice_index all.numbers d in n (sym (number_is number v.number (sym (a.agrees d l) ∙ x)) ∙ number_is number w.number (sym (b.agrees d l) ∙ y))
 
 pub drive_is_online : {R : Type 0} (opened : Option (Opened R)) (d : ℕ) → online_drive opened ≡ Some d → drive_of opened ≡ Some d
 drive_is_online None d e = absurd cc
-drive_is_online (Some device) d e = stays_online_in device.drive device.reel d e
+drive_is_online (Some device) d e =
+    elim device.reel as (λ l. online_in device.drive l ≡ Some d → Some device.drive ≡ Some d) [ None ↦ λ x. absurd cc | Some reel ↦ λ x. x ] e
 
--- what one session does at its drives leaves those of another
-stays_at : {H S Seat R : Type 0} (k : Kinds H Seat S R) (old new : State H S Seat R) (other : SessionState Seat R)
-    → IsAt k (state old.drives other) → KeepsDrives k old new → (k.holds.shows other.seat).number ≢ (k.holds.shows old.seat).number
-    → ((d : ℕ) → drive_of other.opened ≡ Some d → drive_of old.opened ≢ Some d) → ((d : ℕ) → drive_of other.opened ≡ Some d → drive_of new.opened ≢ Some d)
-    → IsAt k (state new.drives other)
-stays_at k old new other at kept n before after = record {
-  own = kept.others other.seat n at.own;
-  enough = omega (arith, at.enough, kept.same_holds, kept.same_stacks);
-  held = at.held;
-  below = rw kept.same_stacks at.below;
-  latched = λ d e. kept.elsewhere d (before d (drive_is_online other.opened d e)) (after d (drive_is_online other.opened d e)) (at.latched d e);
-}
+module _ {H S Seat R : Type 0} (k : Kinds H Seat S R) (old new : DriveTable H S Seat R) (session_state : SessionState Seat R) (at : IsAt k (state old session_state)) where
+  -- the seat still belongs to the holds, the counts of drives are as before, and the open reel is still latched
+  pub still : k.holds.belongs new.holds session_state.seat → k.holds.drives new.holds ≡ k.holds.drives old.holds → k.stacks.drives new.stacks ≡ k.stacks.drives old.stacks
+      → ((d : ℕ) → online_drive session_state.opened ≡ Some d → HasLatched k.stacks.holds old.stacks d → HasLatched k.stacks.holds new.stacks d)
+      → IsAt k (state new session_state)
+  still own same_holds same_stacks latched = record {
+    own = own;
+    enough = omega (arith, at.enough, same_holds, same_stacks);
+    held = at.held;
+    below = rw same_stacks at.below;
+    latched = λ d e. latched d e (at.latched d e);
+  }
 
-number_is : (n a : ℕ) → (n == a) ≡ true → n ≡ a
-number_is n a e = grind (arith, nat_tests)
+  -- what was done at a drive that is not open here
+  pub still_elsewhere : (d : ℕ) → drive_of session_state.opened ≢ Some d → k.holds.belongs new.holds session_state.seat
+      → k.holds.drives new.holds ≡ k.holds.drives old.holds → k.stacks.drives new.stacks ≡ k.stacks.drives old.stacks
+      → ((e : ℕ) → e ≢ d → HasLatched k.stacks.holds old.stacks e → HasLatched k.stacks.holds new.stacks e)
+      → IsAt k (state new session_state)
+  still_elsewhere d other own same_holds same_stacks elsewhere =
+      still own same_holds same_stacks (λ e is. elsewhere e (λ same. other (subst (λ x. drive_of session_state.opened ≡ Some x) same (drive_is_online session_state.opened e is))))
 
 module _ {S R : Type 0} (s : StacksPromise S R) (r : ReelPromise R) where
   abbrev local : Kinds Holders View S R
@@ -74,6 +71,25 @@ module _ {S R : Type 0} (s : StacksPromise S R) (r : ReelPromise R) where
       → IsAt local (state old one) → IsAt local (state old other) → other.seat.number ≢ one.seat.number
       → IsAt local (state new after) → KeepsDrives local (state old one) (state new after) → IsAt local (state new other)
   others_stay old new one after other a b n a' kept =
-      stays_at local (state old one) (state new after) other b kept n
-      (λ d x y. has_one_holder old one other d a b (λ z. n (sym z)) y x)
-      (λ d x y. two_seats new.holds after.seat other.seat d a'.own (kept.others other.seat n b.own) (λ z. n (sym z ∙ kept.number)) (omega (arith, a'.below d y, a'.enough)) ((a'.held d).1 y) ((b.held d).1 x))
+      let own = kept.others other.seat n b.own in
+      still local old new other b own kept.same_holds kept.same_stacks (λ d e.
+      let there = drive_is_online other.opened d e in
+      kept.elsewhere d (λ y. has_one_holder old one other d a b (λ z. n (sym z)) y there)
+      (λ y. two_seats new.holds after.seat other.seat d a'.own own (λ z. n (sym z ∙ kept.number)) (omega (arith, a'.below d y, a'.enough))
+      ((a'.held d).1 y) ((b.held d).1 there)))
+
+-- seats of those drives are so where more seats were given
+more_seats : (all : Holders) (last : ℕ) (v : View) → all.last ≤ last → IsSeatOf all v → IsSeatOf (holders all.numbers last) v
+more_seats all last v l own = record { numbered = own.numbered; made = omega (arith, own.made); marks = own.marks; agrees = own.agrees }
+
+pub still_seated : {S R : Type 0} (s : StacksPromise S R) (r : ReelPromise R) (old : DriveTable Holders S View R) (session_state : SessionState View R) (last : ℕ)
+    → IsAt (kinds of_holds s r) (state old session_state) → old.holds.last ≤ last
+    → IsAt (kinds of_holds s r) (state (record old { holds = holders old.holds.numbers last }) session_state)
+still_seated s r old session_state last at l =
+    still (kinds of_holds s r) old (record old { holds = holders old.holds.numbers last }) session_state at (more_seats old.holds last session_state.seat l at.own) refl refl (λ d e h. h)
+
+pub still_troubled : {H Seat : Type 0} (h : HoldsPromise H Seat) (old : DriveTable H ListLibrary Seat TroubledTape) (session_state : SessionState Seat TroubledTape) (on : Bool)
+    → IsAt (kinds h of_stacks of_reel) (state old session_state)
+    → IsAt (kinds h of_stacks of_reel) (state (record old { stacks = record old.stacks { trouble = on } }) session_state)
+still_troubled h old session_state on at =
+    still (kinds h of_stacks of_reel) old (record old { stacks = record old.stacks { trouble = on } }) session_state at at.own refl refl (λ d e l. l)

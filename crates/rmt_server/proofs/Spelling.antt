@@ -1,20 +1,15 @@
 -- Each reply has a spelling, which is short.
-use Rattle.std.proofs.Common.{◌≡◌, ℕ, ◌≤◌, ◌==◌, Bool, true, false, cond, List, [], ◌∷◌, ◌++◌, length, Result, Ok, Err, refl, arith, length-append, length-take, take, decimal}
-use Rattle.rmt_wire.specs.declared.limits.TheConstants.{RECORD_LIMIT}
+use Rattle.std.proofs.Common.{◌≡◌, ℕ, ◌≤◌, ◌==◌, Bool, true, false, cond, List, [], ◌∷◌, ◌++◌, length, Result, Ok, Err, refl, arith, length-append, length-take}
+use Rattle.std.proofs.Common.{take, decimal}
 use Rattle.std.proofs.lemmas.Bool.Decides.{nat_tests}
 use Rattle.std.proofs.lemmas.Fmt.{length-decimal-le}
 use Rattle.rmt_wire.specs.Number.{HasNoLineFeed, line_feed}
-use Rattle.rmt_wire.specs.Reply.{ReplyHasSpelling, reply_text}
-use Rattle.rmt_wire.specs.Reply.PlainReply.{Done, Error}
-use Rattle.rmt_wire.specs.declared.limits.TheConstants.{READER_LIMIT}
-use Rattle.rmt_server.specs.declared.refusal.Refusal.{Refusal}
-use Rattle.rmt_server.specs.declared.refusal.Refusal.TheVariants.{NoSuchFile, InputOutput, NotConfigured, BadDescriptor, NoMemory, Permission, Busy, Invalid, NoSpace}
+use Rattle.rmt_server.proofs.Names.{ReplyHasSpelling, reply_text, Done, RECORD_LIMIT, READER_LIMIT, Refusal, NoSuchFile, Number, Bytes, refused, text_of}
+use Rattle.rmt_server.proofs.Names.{number_of}
+use Rattle.rmt_server.proofs.Names.{outcome_reply, IsOutcomeSayable}
 use Rattle.rmt_server.specs.declared.session.dispatch.Given.{Given}
-use Rattle.rmt_server.specs.declared.session.dispatch.Given.TheVariants.{Number, Bytes}
-use Rattle.rmt_server.specs.Refusals.{refused, text_of}
-use Rattle.rmt_server.specs.Replies.{outcome_reply, IsOutcomeSayable}
 
-is_line : List ℕ → Bool
+abbrev is_line : List ℕ → Bool
 is_line [] = true
 is_line (b ∷ bs) = cond (b == 10) false (is_line bs)
 
@@ -23,7 +18,6 @@ both true c e = absurd cc
 both false c e = (refl, e)
 
 is_line_means : (text : List ℕ) → is_line text ≡ true → HasNoLineFeed text
-unfolding is_line
 is_line_means [] e = tt
 is_line_means (b ∷ bs) e =
     let p = both (b == 10) (is_line bs) e in
@@ -31,16 +25,8 @@ is_line_means (b ∷ bs) e =
 
 -- the text of an error is one short line
 refused_spelled : (r : Refusal) → ReplyHasSpelling (refused r)
-unfolding is_line
 refused_spelled NoSuchFile = (omega arith, omega arith, is_line_means (text_of NoSuchFile) refl)
-refused_spelled InputOutput = (omega arith, omega arith, is_line_means (text_of InputOutput) refl)
-refused_spelled NotConfigured = (omega arith, omega arith, is_line_means (text_of NotConfigured) refl)
-refused_spelled BadDescriptor = (omega arith, omega arith, is_line_means (text_of BadDescriptor) refl)
-refused_spelled NoMemory = (omega arith, omega arith, is_line_means (text_of NoMemory) refl)
-refused_spelled Permission = (omega arith, omega arith, is_line_means (text_of Permission) refl)
-refused_spelled Busy = (omega arith, omega arith, is_line_means (text_of Busy) refl)
-refused_spelled Invalid = (omega arith, omega arith, is_line_means (text_of Invalid) refl)
-refused_spelled NoSpace = (omega arith, omega arith, is_line_means (text_of NoSpace) refl)
+refused_spelled r = (omega arith, omega arith, is_line_means (text_of r) refl)
 
 pub outcome_spelled : (outcome : Result Given Refusal) (buffer : List ℕ) → length buffer ≡ RECORD_LIMIT → IsOutcomeSayable outcome → ReplyHasSpelling (outcome_reply outcome buffer)
 outcome_spelled (Ok (Number n)) buffer l h = h
@@ -54,9 +40,6 @@ decimal_short n small = length-decimal-le 10 n (omega arith) (omega arith) (omeg
 pub number_short : (n : ℕ) → n ≤ 2147483647 → length (reply_text (Done n)) ≤ READER_LIMIT
 number_short n small = omega (arith, length-append (decimal n) (line_feed ∷ []), decimal_short n small)
 
-error_short : (n : ℕ) (text : List ℕ) → n ≤ 2147483647 → length text ≤ 255 → length (reply_text (Error n text)) ≤ READER_LIMIT
-error_short n text small few = omega (arith, length-append (decimal n) (line_feed ∷ (text ++ line_feed ∷ [])), length-append text (line_feed ∷ []), decimal_short n small)
-
 pub outcome_short : (outcome : Result Given Refusal) (buffer : List ℕ) → length buffer ≡ RECORD_LIMIT → IsOutcomeSayable outcome
     → length (reply_text (outcome_reply outcome buffer)) ≤ READER_LIMIT
 outcome_short (Ok (Number n)) buffer l h = number_short n h
@@ -65,4 +48,11 @@ outcome_short (Ok (Bytes n)) buffer l h =
     omega (arith, length-append (decimal (length (take n buffer))) (line_feed ∷ take n buffer), few, decimal_short (length (take n buffer)) (omega (arith, few)))
 outcome_short (Err r) buffer l h =
     let s = refused_spelled r in
-    error_short _ _ s.0 s.1
+    let text = text_of r in
+    omega (
+      arith,
+      length-append (decimal (number_of r)) (line_feed ∷ (text ++ line_feed ∷ [])),
+      length-append text (line_feed ∷ []),
+      decimal_short (number_of r) s.0,
+      s.1,
+    )

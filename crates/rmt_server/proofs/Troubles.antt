@@ -1,29 +1,41 @@
--- Troubles that are set and taken back leave drives, session, and what is told of them.
-use Rattle.std.proofs.Common.{◌≡◌, ℕ, Bool, true, false, Option, Some, None, MatchOption, refl, sym, ◌∙◌}
-use Rattle.rmt_wire.specs.Request.{PlainRequest}
-use Rattle.rmt_wire.specs.Request.PlainRequest.{Open, Close, Write, WriteDropped, Read, Op}
-use Rattle.tape.specs.Trouble.{TroubledTape}
-use Rattle.tape.specs.declared.trouble.Trouble.{Trouble}
-use Rattle.tape.specs.declared.trouble.Trouble.TheVariants.{None as NoTrouble}
-use Rattle.tape.specs.contracts.troubled.TroubledReelReel.TheImpl.{ghosts as of_reel}
-use Rattle.drives.specs.ListLibrary.{troubled_in, is_set}
-use Rattle.rmt_server.specs.declared.session.session_state.Opened.{Opened}
-use Rattle.rmt_server.specs.Session.{PlainSession, SessionView, is_offline}
-use Rattle.rmt_server.specs.State.{drive_of, online_in, online_drive, reel_of, IsAt, IsSeenWith, IsViewedAs, HasView}
-use Rattle.rmt_server.specs.Opening.{IsClosed}
+-- Drives and reels in memory: the one view that they have, and what stays where troubles are set and taken back.
+use Rattle.std.proofs.Common.{◌≡◌, ℕ, Bool, true, false, Option, Some, None, MatchOption, refl, sym, ap, ◌∙◌}
+use Rattle.rmt_server.proofs.Names.{PlainRequest, Close, TroubledTape, Trouble, NoTrouble, of_reel, TapeLibrary, library_of, troubled_in, is_set, IsLibrary}
+use Rattle.rmt_server.proofs.Names.{Opened, Access, PlainSession, plain_reel, SessionView, session_view, Online, is_of_stacks, drive_of, online_in}
+use Rattle.rmt_server.proofs.Names.{online_drive, reel_of, IsAt, IsSeenWith, IsViewedAs, HasView, IsClosed, MemoryState, in_memory, session_with, session_seen}
+use Rattle.rmt_server.proofs.Names.{session_view_seen, IsTroubled, IsSetAt, IsSetFor, with_troubles, set_at, set_for, IsEnded}
 use Rattle.rmt_server.specs.Troubling.{troubled, with_trouble}
-use Rattle.rmt_server.specs.Memory.{MemoryState, in_memory}
-use Rattle.rmt_server.specs.TroubledServe.{IsTroubled, IsSetAt, IsSetFor, with_troubles, set_at, set_for, IsEnded}
-use Rattle.rmt_server.proofs.TroubledLying.{LyingLaw}
+use Rattle.rmt_server.proofs.TroubledDrives.{LyingLaw}
 use Rattle.rmt_server.proofs.TroubledServing.{closed_lying, closed_held, closed_tells}
 
-reel_set : (trouble : Trouble) (reel : Option TroubledTape) → MatchOption (troubled trouble reel) (Unit {0}) (λ r. r.trouble ≡ trouble)
-reel_set trouble None = tt
-reel_set trouble (Some reel) = refl
+opened_seen : (opened : Option (Opened TroubledTape)) → IsViewedAs of_reel opened (session_seen opened)
+opened_seen None = refl
+opened_seen (Some device) =
+    elim device.reel as (λ l. IsSeenWith of_reel device.drive device.access l (session_with device.drive device.access l))
+    [ None ↦ refl | Some reel ↦ (reel.tape, refl, refl) ]
+
+with_only : (drive : ℕ) (access : Access) (reel : Option TroubledTape) (session : PlainSession) → IsSeenWith of_reel drive access reel session
+    → session ≡ session_with drive access reel
+with_only drive access None session seen = seen
+with_only drive access (Some reel) session (t, held, seen) = seen ∙ ap (λ u. Online drive access (plain_reel u reel.capacity)) (sym held)
+
+opened_only : (opened : Option (Opened TroubledTape)) (session : PlainSession) → IsViewedAs of_reel opened session → session ≡ session_seen opened
+opened_only None session seen = seen
+opened_only (Some device) session seen = with_only device.drive device.access device.reel session seen
+
+-- they tell it where each reel stands once
+pub seen_told : (x : MemoryState) → IsLibrary x.drives.stacks (library_of x.drives.stacks) → HasView in_memory x (session_view_seen x)
+seen_told x told = record { library = told; session = opened_seen x.opened }
+
+-- and no other
+pub seen_only : (x : MemoryState) (v : SessionView) → HasView in_memory x v → v ≡ session_view_seen x
+seen_only x v tells =
+    ap (λ (s : TapeLibrary). session_view s v.session) tells.library.0 ∙ ap (λ (p : PlainSession). session_view (library_of x.drives.stacks) p) (opened_only x.opened v.session tells.session)
 
 opened_set : (trouble : Trouble) (opened : Option (Opened TroubledTape)) → MatchOption (reel_of (with_trouble trouble opened)) (Unit {0}) (λ r. r.trouble ≡ trouble)
 opened_set trouble None = tt
-opened_set trouble (Some device) = reel_set trouble device.reel
+opened_set trouble (Some device) =
+    elim device.reel as (λ l. MatchOption (troubled trouble l) (Unit {0}) (λ r. r.trouble ≡ trouble)) [ None ↦ tt | Some reel ↦ refl ]
 
 pub troubles_are_set : (reel : Trouble) (stacks : Bool) (x : MemoryState) → troubled_in x.drives.stacks.library ≡ 0 → IsTroubled reel stacks (with_troubles reel stacks x)
 troubles_are_set reel stacks x none = record { online = opened_set reel x.opened; next = refl; lying = none }
@@ -34,21 +46,15 @@ set_by false trouble x none = troubles_are_set trouble false x none
 
 -- the trouble that a request meets
 pub request_set : (trouble : Trouble) (request : PlainRequest) (x : MemoryState) → troubled_in x.drives.stacks.library ≡ 0 → IsSetFor trouble request (set_for trouble request x)
-request_set trouble (Open device mode) x none = set_by true trouble x none
 request_set trouble Close x none = troubles_are_set NoTrouble false x none
-request_set trouble (Write bytes) x none = set_by false trouble x none
-request_set trouble (WriteDropped count) x none = set_by false trouble x none
-request_set trouble (Read count) x none = set_by false trouble x none
-request_set trouble (Op op count) x none = set_by (is_offline op) trouble x none
-
-same_seen_with : (trouble : Trouble) (device : Opened TroubledTape) (reel : Option TroubledTape) (session : PlainSession)
-    → IsSeenWith of_reel device.drive device.access reel session → IsSeenWith of_reel device.drive device.access (troubled trouble reel) session
-same_seen_with trouble device None session seen = seen
-same_seen_with trouble device (Some reel) session seen = seen
+request_set trouble request x none = set_by (is_of_stacks request) trouble x none
 
 same_seen : (trouble : Trouble) (opened : Option (Opened TroubledTape)) (session : PlainSession) → IsViewedAs of_reel opened session → IsViewedAs of_reel (with_trouble trouble opened) session
 same_seen trouble None session seen = seen
-same_seen trouble (Some device) session seen = same_seen_with trouble device device.reel session seen
+same_seen trouble (Some device) session seen =
+    elim device.reel as (λ l. IsSeenWith of_reel device.drive device.access l session
+    → IsSeenWith of_reel device.drive device.access (troubled trouble l) session)
+    [ None ↦ λ s. s | Some reel ↦ λ s. s ] seen
 
 -- what is told stays
 pub troubles_told : (reel : Trouble) (stacks : Bool) (x : MemoryState) (v : SessionView) → HasView in_memory x v → HasView in_memory (with_troubles reel stacks x) v
@@ -58,13 +64,10 @@ same_drive : (trouble : Trouble) (opened : Option (Opened TroubledTape)) → dri
 same_drive trouble None = refl
 same_drive trouble (Some device) = refl
 
-same_online_in : (trouble : Trouble) (drive : ℕ) (reel : Option TroubledTape) → online_in drive (troubled trouble reel) ≡ online_in drive reel
-same_online_in trouble drive None = refl
-same_online_in trouble drive (Some reel) = refl
-
 same_online : (trouble : Trouble) (opened : Option (Opened TroubledTape)) → online_drive (with_trouble trouble opened) ≡ online_drive opened
 same_online trouble None = refl
-same_online trouble (Some device) = same_online_in trouble device.drive device.reel
+same_online trouble (Some device) =
+    elim device.reel as (λ l. online_in device.drive (troubled trouble l) ≡ online_in device.drive l) [ None ↦ refl | Some reel ↦ refl ]
 
 -- the drives are still those of the session
 pub troubles_at : (reel : Trouble) (stacks : Bool) (x : MemoryState) → IsAt in_memory x → IsAt in_memory (with_troubles reel stacks x)

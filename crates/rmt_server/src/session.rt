@@ -56,8 +56,8 @@ impl<H: Holds, S: Stacks> Session<H, S> {
     /// seat.
     pub fn new(alloc: Global, seat: H::Seat) -> Result<Session<H, S>, (H::Seat, AllocError)>
         requires { HoldsJust (H.shows seat) None }
-        // The new session has the given seat and nothing open. If an allocation fails, `new` hands
-        // the seat back.
+        // The new session has the given seat and nothing open. If an allocation fails, `new`
+        // returns the seat with the error.
         ensures made { MatchResult result (λ s. s ≡ record { seat = seat; opened = None }) (λ refused. refused.0 ≡ seat) }
         // Drives match the new session if two conditions hold. First, the seat belongs to the
         // drives' hold record. Second, the stacks have no more drives than the hold record.
@@ -108,61 +108,69 @@ impl<H: Holds, S: Stacks> Session<H, S> {
     /// open is theirs. Its stacks must not have more drives than its holds.
     pub fn carry_out(&mut self, drives: &mut DriveTable<H, S>, request: Request<'_>) -> Reply<'_>
         requires { IsAt (kinds H.Holds S.Stacks S.Reel.Reel) (state drives.old self.old) }
-        // The session checks a request, and refuses the request at the first check that fails. If
-        // no check fails, the request has its effect (field `effect`). If the content of stacks and
-        // reel is known, the request and its reply are one serve step (field `step`).
+        // The session makes the checks of a request in a fixed order, and refuses the request at
+        // the first check that fails. If no check fails, the session carries out the request (field
+        // `effect`). If the content of the stacks and of the open reel is known, the request and
+        // its reply make one serve step: an allowed change of this content (field `step`).
         //
         // The reply says what was done, with the numbers and texts of the protocol.
         //
         // A write accepts 1 to 262,144 bytes. A record on a reel has the same limits
         // (`tape::is_record`; field `effect`).
         //
-        // Suppose that the reply reports a device fault. Then some device was able to fail before
-        // the request, and a failure was counted during the request (field `step`: `trouble`,
-        // `able`). A count of failures that is already the greatest `u64` does not change. If no
-        // device can fail before the request, no device can fail after the request (field `quiet`).
+        // Suppose that the content of the stacks and of the open reel is known, and that the reply
+        // reports a device fault. Then a device was able to fail before the request, and the count
+        // of the device's failures rose (field `step`: `trouble`, `able`). A count that is already
+        // the greatest `u64` stays the same. If no device can fail before a request, no device can
+        // fail after the request (field `quiet`).
         //
         // If a latch, a move or a call of the reel fails, the reply reports the failure. The
         // session does not try the failed call again (field `effect`). A close does not change the
         // stacks' count of failures.
         //
-        // Operation 6 (MTOFFL) rewinds the reel and moves it to the bin (fields `effect` and
-        // `step`). The drive stays open and held. If the move is refused, the reel stays open, at
-        // its beginning.
+        // Operation 6 (MTOFFL) rewinds the open reel and moves this reel to the bin (fields
+        // `effect` and `step`). The drive stays open and held. If the move fails, the reel stays
+        // open, at its beginning.
         //
-        // The session's seat holds the open drive and no other drive (fields `at` and `steps`).
-        // After an open that succeeded, the seat's last step is a take of the opened drive. This
-        // take found 0 (no holder). After an open that found the drive busy, the seat's last step
-        // is a take that found a number above 0 (a holder). An open makes one step of the seat, or
-        // two steps if the open first gave a drive back. A close of a drive makes one step, a give.
-        // Other requests make no step.
+        // The session's seat holds the open drive and no other drive (fields `at` and `steps`). A
+        // seat makes one step when it takes a drive, gives a drive back, or looks at a drive's
+        // holder. After an open that succeeded, the seat's last step is a take of the opened drive.
+        // This take found 0 (no holder). After an open that found the drive busy, the seat's last
+        // step is a take that found a number above 0 (a holder). In both cases, the take is the
+        // only step of the seat, unless the session first gave a drive back. This give is a step
+        // too. A close of a drive makes one step, a give. Requests other than open and close make
+        // no step.
         //
-        // If an open found a number above 0 at a drive, the last step of the session's seat is the
-        // take that found this number (field `step`: `taken`).
+        // Suppose that the content of the stacks and of the open reel is known. If an open tries to
+        // take a drive and finds a number above 0 (a holder), this take is the last step of the
+        // session's seat in this open (field `step`: `taken`).
         //
-        // Each seat with another number still belongs to the hold record (field `kept`). The hold
-        // record and the stacks have as many drives after the request as before. The count of the
-        // stacks' failures never falls. A reel that is latched at a drive stays latched, unless the
-        // session has this drive open before or after the request.
+        // A seat that belonged to the hold record before the request belongs to it afterwards too,
+        // if the session's seat has another number (field `kept`). The hold record and the stacks
+        // have as many drives after the request as before. The stacks' count of failures never
+        // falls. A reel that is latched at a drive stays latched, unless the session has this drive
+        // open before or after the request.
         //
-        // No request assigns a number to a seat (field `same_seats`), and the seat keeps its number
-        // (field `kept`: `number`). A session calls only `take`, `give` and `holder` of the hold
-        // record, and these calls assign no number. In the edits that are refused here, `take` or
-        // `give` of `LocalHolds` assigns a number.
+        // No request assigns a seat number (field `same_seats`). The session's seat keeps its
+        // number (field `kept`: `number`). A session calls only `take`, `give` and `holder` of the
+        // hold record, and these calls assign no seat number. In the edits that are refused here,
+        // `take` or `give` of `LocalHolds` assigns a seat number.
         //
-        // Each kind of reel or stacks can make further promises for its calls (`makes`). If a
-        // request makes such a call, these promises are kept too (field `effect`: `made`). For
-        // example, if stacks are in memory and a trouble is set, the next latch or move fails and
-        // clears the trouble.
+        // A type of reels or of stacks can make further promises for its calls (`makes`). The calls
+        // that a request makes keep these promises too (field `effect`: `made`). For example,
+        // suppose that a trouble is set for stacks in memory. Then the next move, or the next latch
+        // that finds a reel, fails and clears the trouble.
         //
-        // A close rewinds the open reel once, makes no other call of this reel, and lays the reel
-        // back on the stack (field `effect`: `IsClosed`, `laid`). If nothing is open or the reel is
-        // in the bin, a close leaves the stacks unchanged.
+        // A close rewinds the open reel once and lays this reel back on the stack (field `effect`:
+        // `IsClosed`, `laid`). A close makes no other call of this reel. If nothing is open or the
+        // reel is in the bin, a close leaves the stacks unchanged.
         ensures* rests { sem 𝓛 (LendsReply H.row S.row H.Seat.row S.Reel.row H.Holds S.Stacks S.Reel.Reel self.entry
             drives.old drives.new request.entry result) }
-        // If the request has a spelling, the reply has a spelling.
+        // If the protocol can express the request in bytes, the protocol can express the reply in
+        // bytes.
         ensures spelling { IsSayable (plain_request request.entry) → ReplyHasSpelling (plain_reply result) }
-        // If the request has a spelling, the reply fits into a `ReplyReader`.
+        // If the protocol can express the request in bytes, the reply fits into a `ReplyReader` of
+        // `rmt_wire`.
         ensures short { IsSayable (plain_request request.entry) → length (reply_text (plain_reply result)) ≤ READER_LIMIT }
     {
         let outcome = dispatch(
@@ -186,19 +194,20 @@ impl<H: Holds, S: Stacks> Session<H, S> {
     /// `drives` must match this session: its seat belongs to them, and what is open is theirs.
     pub fn end(&mut self, drives: &mut DriveTable<H, S>)
         requires { IsAt (kinds H.Holds S.Stacks S.Reel.Reel) (state drives.old self.old) }
-        // `end` closes what is open and frees the drive, as a close does. `end` assigns no number
-        // to a seat (field `same_seats`), and the session's seat keeps its number (field `number`).
+        // `end` does what the request to close does: it lays the open reel back and gives the drive
+        // back. `end` assigns no seat number (field `same_seats`). The session's seat keeps its
+        // number (field `kept`: `number`).
         ensures { IsClosed (kinds H.Holds S.Stacks S.Reel.Reel) (state drives.old self.old) (state drives.new self.new) }
     {
         opening::close(drives, &mut self.session_state);
     }
 
     /// Returns the seat of a session that has nothing open, so that another session can start with
-    /// it.
+    /// this seat.
     pub fn into_seat(self) -> H::Seat
         requires { self.opened ≡ None }
-        // `into_seat` returns the seat of a session that has nothing open. `into_seat` does not
-        // change the seat. You cannot call `into_seat` for a session that may have something open.
+        // `into_seat` returns the session's seat unchanged. A caller must prove that the session
+        // has nothing open.
         ensures { result ≡ self.seat }
     {
         self.session_state.seat
@@ -207,8 +216,8 @@ impl<H: Holds, S: Stacks> Session<H, S> {
     /// Returns the number of the open drive, and the open reel. Returns `None` if nothing is open
     /// or the reel is in the bin.
     pub fn reel(&self) -> Option<(usize, &S::Reel)>
-        // `reel` lends the open reel, and returns the number of its drive. If nothing is open or
-        // the reel is in the bin, `reel` returns `None`.
+        // `reel` returns a reference to the open reel, and the number of the open drive. If nothing
+        // is open or the reel is in the bin, `reel` returns `None`.
         ensures { MatchOption result (online_drive self.now.opened ≡ None) (λ told. IsOnline self.now.opened told.0 told.1.now) }
     {
         let device = self.session_state.opened.as_ref()?;

@@ -34,7 +34,7 @@ pub enum ServeFault {
 }
 
 impl From<OutputFault> for ServeFault {
-    // from_gives: `from` turns each failed output into `ServeFault::Output`.
+    // from_gives: `from` turns every `OutputFault` into `ServeFault::Output`.
 
     ghost use Rattle.std.specs.Prelude.{◌≡◌};
     ghost use Rattle.rmt_server.specs.declared.stream.ServeFault.TheVariants.{Output};
@@ -105,7 +105,8 @@ fn converse<R: Read, W: Write, H: Holds, S: Stacks>(
     }
 }
 
-/// Serves one stream: carries out its requests in order, writes the replies, then ends the session.
+/// Serves one stream of requests: carries out the requests in order, writes the replies, then ends
+/// the session.
 ///
 /// The stream ends between two requests (`End`), inside a request (`Truncated`), which is not
 /// carried out, or at bytes that are no request (`Broken`). Fails with `Input` if a read failed,
@@ -124,29 +125,30 @@ pub fn serve<R: Read, W: Write, H: Holds, S: Stacks>(
     requires at { IsAt (kinds H.Holds S.Stacks S.Reel.Reel) (state drives.old session.old) }
     // the reader holds no unread bytes
     requires empty { Unread wire.old [] }
-    // The output consists only of the replies to the requests that were read, in order. The
-    // requests were carried out one after the other. Each reply has a spelling.
+    // `serve` carries out the requests that it reads, one after the other. It writes only the
+    // replies to these requests, in order. The protocol can express each reply in bytes.
     //
-    // If a write failed, a beginning of the last reply was written, and no further request was
+    // If a write failed, only a beginning of the last reply was written, and no further request was
     // carried out.
     //
-    // `serve` ends if the input ends, between two requests or inside a request. `serve` also ends
-    // at bytes that are no request, and at a failed read or write. The result of `serve` says which
-    // of these happened.
+    // `serve` ends in five cases: the input ends between two requests, the input ends inside a
+    // request, the bytes are no request, a read fails, or a write fails. The result of `serve` says
+    // which case it was.
     //
-    // If the content of stacks and reel is known, the requests and replies are a sequence of serve
-    // steps (field `steps`). If no device can fail at the start, no device fails in these steps. If
-    // no other seat can hold a drive, no drive is busy in these steps.
+    // If the content of the stacks and of the open reel is known, the requests and replies make a
+    // sequence of serve steps (field `steps`). If no device can fail at the start, no device fails
+    // in these steps. If it is known at the start that no other seat holds a drive, no open in
+    // these steps finds a busy drive.
     //
-    // `serve` assigns no number to a seat (field `same_seats`), and the session's seat keeps its
-    // number (field `number`).
+    // `serve` assigns no seat number (field `same_seats`). The session's seat keeps its number
+    // (field `number`).
     //
-    // However the stream ends, `serve` closes what was open.
+    // However the stream ends, `serve` closes what the session has open.
     ensures served { ServesAs (kinds H.Holds S.Stacks S.Reel.Reel) R.Read W.Write result
         (serving input.old output.old drives.old session.old) (serving input.new output.new drives.new session.new) }
-    // If `serve` reports no failure, no read and no write failed.
+    // If `serve` returns `Ok`, no read and no write failed.
     ensures steady { OnOk result (NoneFailed (streams input.old output.old) (streams input.new output.new)) }
-    // However the stream ends, `serve` closes what was open.
+    // However the stream ends, `serve` closes what the session has open.
     ensures nothing { session.new.opened ≡ None }
 {
     let ending = converse(input, output, wire, session, drives);

@@ -27,13 +27,13 @@ impl<H: Holds> Session<H, ListStacks> {
     /// does nothing if no reel is open. The trouble stays with the reel until a device call meets
     /// it. A close lays the reel on these stacks along with its trouble.
     pub fn trouble(&mut self, trouble: Trouble)
-        // The seat does not change, and the drives still match the session.
+        // The seat does not change. Drives that matched the session still match the session.
         ensures seat { self.new.seat ≡ self.old.seat }
         ensures at { (drives : Drives H ListLibrary H.Seat TroubledTape) →
             IsAt (kinds H.Holds of_stacks of_reel) (state drives self.old) →
             IsAt (kinds H.Holds of_stacks of_reel) (state drives self.new) }
         // For reels in memory, `trouble` sets how the next device call of the open reel fails.
-        // `trouble` changes nothing else of the open drive and reel.
+        // Nothing else of the open drive and its reel changes.
         ensures set { self.new.opened ≡ with_trouble trouble self.old.opened }
     {
         if let Some(device) = &mut self.session_state.opened {

@@ -1,5 +1,5 @@
 use Rattle.std.proofs.Common.{Ok, refl, arith, ap, ◌∙◌}
-use Rattle.rmt_server.proofs.Answering.{advances_none, advances_as, advances_one, answered_none, answered_one, cut_one, cut_as, risen_since, sayable, next_none, next_some}
+use Rattle.rmt_server.proofs.Answering.{advances_none, advances_as, advances_one, answered_none, answered_one, cut_one, cut_as, sayable, next_none, next_some}
 use Rattle.rmt_server.proofs.stream.answer_all.Goals as goal
 
 pub loop-fault-init : goal.loop-fault-init
@@ -44,7 +44,6 @@ pub returns-in_err-write_reply-in-Ok-Some-clause-answers : goal.returns-in_err-w
 returns-in_err-write_reply-in-Ok-Some-clause-answers g c = λ bytes u.
     let at_some = c.in-Ok-Some.is ∙ ap Ok c.in-Ok-Some.field-0-is in
     let cut = c.in_err-write_reply-in-Ok-Some.ensures.beginning in
-    let risen = risen_since c.args.output.now.failures c.loop-fault.output.failures c.write_reply.new.out.failures (omega (arith, c.loop-fault.invariant.1)) c.in_err-write_reply-in-Ok-Some.ensures.fault in
     let held = c.loop-fault.invariant.2 in
     let w = next_some c.loop-fault.wire c.next.follows.lender-at-none c.next.result c.in-Ok-Some.request c.next.follows.holds-at-none at_some held.0 held.1 in
     advances_one _ _ (c.loop-fault.invariant.3 bytes u) c.carry_out.follows.holds-at-none (c.carry_out.ensures.spelling (sayable w.2 _ w.3))
@@ -52,5 +51,6 @@ returns-in_err-write_reply-in-Ok-Some-clause-answers g c = λ bytes u.
     let v = next_some c.loop-fault.wire c.next.follows.lender-at-none c.next.result c.in-Ok-Some.request c.next.follows.holds-at-none at_some rest p.1 in (
       v.0,
       cut_as g.W.Write.contents c.from_residual.result c.args.output.now c.write_reply.new.out c.next.follows.lender-at-none bytes _ v.0 c.from_residual.ensures.0
-          (cut_one _ _ _ bytes rest v.0 v.2 done _ _ cut.0 p.0 v.3 v.4 cut.1) risen,
+          (cut_one _ _ _ bytes rest v.0 v.2 done _ _ cut.0 p.0 v.3 v.4 cut.1)
+          (omega (arith, c.loop-fault.invariant.1, c.in_err-write_reply-in-Ok-Some.ensures.fault)),
     ))

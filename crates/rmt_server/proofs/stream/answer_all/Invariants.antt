@@ -1,8 +1,5 @@
 use Rattle.std.proofs.Common.{◌≡◌, ℕ, List, length}
-use Rattle.rmt_wire.specs.RequestReader.{Unread}
-use Rattle.drives.specs.Opening.{kinds}
-use Rattle.rmt_server.specs.State.{state, IsAt}
-use Rattle.rmt_server.specs.Stream.{Advances, IsAnswered}
+use Rattle.rmt_server.proofs.Names.{Unread, kinds, state, IsAt, Advances, IsAnswered}
 use Rattle.rmt_server.proofs.stream.answer_all.Given as goal
 
 abbrev pub invariant-loop-fault : goal.invariant-loop-fault

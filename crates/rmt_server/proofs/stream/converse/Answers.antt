@@ -1,8 +1,8 @@
-use Rattle.std.proofs.Common.{rules, ◌++◌, [], refl, sym, subst, arith, ◌∙◌}
+use Rattle.std.proofs.Common.{◌++◌, [], refl, sym, subst, arith, ◌∙◌}
 use Rattle.std.proofs.KnownBytes.{Consumes-nil, Consumes-trans, Consumes-kept}
-use Rattle.std.proofs.lemmas.Grind.{common_steps}
 use Rattle.rmt_wire.specs.RequestReader.{Unread}
-use Rattle.rmt_server.proofs.Answering.{advances_none, advances_as, answered_none, settled_empty, read_cut, read_faulty, read_answered}
+use Rattle.rmt_server.proofs.Answering.{advances_none, advances_as, answered_none, settled_empty, advances_then, answered_then, cut_then, output_ends}
+use Rattle.rmt_server.proofs.Answering.{broken_ends}
 use Rattle.rmt_server.proofs.stream.converse.Goals as goal
 
 pub loop-wire-init : goal.loop-wire-init
@@ -17,19 +17,17 @@ loop-wire-init g c = (
   ),
 )
 
-pub fill-requires : goal.fill-requires
-fill-requires g c =
-    let settled = c.loop-wire.invariant.3.2.outcome.1 in
-    (_, settled.unread, settled.room)
-
 pub returns-in_err-fault-in-Ok-clause-converses : goal.returns-in_err-fault-in-Ok-clause-converses
 returns-in_err-fault-in-Ok-clause-converses g c =
     let so_far = c.loop-wire.invariant.3 in
     let more = c.in-Ok.ensures.came in (
       so_far.0 ++ more.came,
       Consumes-trans _ _ _ so_far.0 more.came so_far.1 more.consumed,
-      read_cut g.R.Read.remaining g.W.Write.contents c.from_residual.result c.args.input.now c.fill.new.stream c.args.output.now c.loop-wire.output c.answer_all.new.output c.loop-wire.wire so_far.0 more.came
-          c.from_residual.ensures.1 (omega (arith, c.loop-wire.invariant.2)) so_far.2 (λ rest settled. c.in_err-fault-in-Ok.ensures.answers _ (more.unread rest settled.unread)),
+      advances_then so_far.2 (λ done rest p.
+          advances_as (c.in_err-fault-in-Ok.ensures.answers _ (more.unread rest p.1.unread)) (λ others later q.
+          output_ends g.R.Read.remaining g.W.Write.contents c.from_residual.result c.args.input.now c.fill.new.stream c.args.output.now c.answer_all.new.output
+          (so_far.0 ++ more.came) (done ++ others) later c.from_residual.ensures.1 (cut_then _ _ _ so_far.0 rest more.came later done others p.0 q.0)
+          (omega (arith, c.loop-wire.invariant.2, q.1)))),
     )
 
 pub returns-in-Some-clause-converses : goal.returns-in-Some-clause-converses
@@ -38,8 +36,10 @@ returns-in-Some-clause-converses g c =
     let more = c.in-Ok.ensures.came in (
       so_far.0 ++ more.came,
       Consumes-trans _ _ _ so_far.0 more.came so_far.1 more.consumed,
-      read_faulty g.R.Read.remaining g.W.Write.contents c.in-Some.fault c.args.input.now c.fill.new.stream c.args.output.now c.loop-wire.output c.answer_all.new.output c.loop-wire.wire so_far.0 more.came
-          so_far.2 (λ rest settled. let w = c.in_ok-fault-in-Ok.ensures.answers _ (more.unread rest settled.unread) in rw c.in-Some.is at w),
+      advances_then so_far.2 (λ done rest p.
+          advances_as (let w = c.in_ok-fault-in-Ok.ensures.answers _ (more.unread rest p.1.unread) in rw c.in-Some.is at w) (λ others later q.
+          let broken = broken_ends later c.in-Some.fault q.1 in
+          (answered_then _ _ _ so_far.0 rest more.came later done others p.0 q.0, broken.0, broken.1))),
     )
 
 pub loop-wire-preserved : goal.loop-wire-preserved
@@ -54,21 +54,11 @@ loop-wire-preserved g c =
       (
         so_far.0 ++ more.came,
         Consumes-trans _ _ _ so_far.0 more.came so_far.1 more.consumed,
-        read_answered g.W.Write.contents c.args.output.now c.loop-wire.output c.answer_all.new.output c.loop-wire.wire c.answer_all.new.wire so_far.0 more.came
-            so_far.2 (λ rest settled. let w = c.in_ok-fault-in-Ok.ensures.answers _ (more.unread rest settled.unread) in rw c.in_default.is at w),
+        advances_then so_far.2 (λ done rest p.
+            advances_as (let w = c.in_ok-fault-in-Ok.ensures.answers _ (more.unread rest p.1.unread) in rw c.in_default.is at w) (λ others later q.
+            (answered_then _ _ _ so_far.0 rest more.came later done others p.0 q.0, q.1))),
       ),
     )
-
-pub answer_all-requires-clause-held : goal.answer_all-requires-clause-held
-answer_all-requires-clause-held g c =
-    let settled = c.loop-wire.invariant.3.2.outcome.1 in
-    (_, c.in-Ok.ensures.came.unread _ settled.unread)
-
-pub returns-in-Err-clause-converses : goal.returns-in-Err-clause-converses
-returns-in-Err-clause-converses g c = search rules
-
-pub returns-in-Err-clause-steady : goal.returns-in-Err-clause-steady
-returns-in-Err-clause-steady g c = search rules
 
 pub returns-in-Ok-eq0-clause-converses : goal.returns-in-Ok-eq0-clause-converses
 returns-in-Ok-eq0-clause-converses g c =
@@ -91,6 +81,3 @@ returns-in-Ok-eq0-2-clause-converses g c =
           let held = subst (λ w. Unread w rest) (sym ended.1.1) p.1.unread in
           (p.0, λ empty. let yes = (c.is_empty.ensures.value rest held).1 empty in absurd cc, p.1.begins, p.1.none, ended.0)),
     )
-
-pub loop-wire-smaller : goal.loop-wire-smaller
-loop-wire-smaller g c = grind (arith, common_steps)

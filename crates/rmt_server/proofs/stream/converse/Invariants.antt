@@ -1,8 +1,6 @@
 use Rattle.std.proofs.Common.{◌≡◌, ℕ, List}
 use Rattle.std.specs.Io.KnownBytes.{Consumes}
-use Rattle.drives.specs.Opening.{kinds}
-use Rattle.rmt_server.specs.State.{state, IsAt}
-use Rattle.rmt_server.specs.Stream.{Advances, IsAnswered, IsSettled}
+use Rattle.rmt_server.proofs.Names.{kinds, state, IsAt, Advances, IsAnswered, IsSettled}
 use Rattle.rmt_server.proofs.stream.converse.Given as goal
 
 abbrev pub invariant-loop-wire : goal.invariant-loop-wire

@@ -5,6 +5,3 @@ pub returns-clause-served : goal.returns-clause-served
 returns-clause-served g c =
     let all = c.converse-ending.ensures.converses in
     served_as g.R.Read.remaining g.W.Write.contents c.converse-ending.result c.args.input.now c.converse-ending.new.input c.args.output.now c.converse-ending.new.output all.0 all.1 all.2 c.end.ensures
-
-pub returns-clause-nothing : goal.returns-clause-nothing
-returns-clause-nothing g c = c.end.ensures.nothing

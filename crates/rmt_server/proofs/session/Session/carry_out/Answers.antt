@@ -1,13 +1,6 @@
 use Rattle.std.proofs.Common.{◌≡◌, length, take, refl, Ok, Err, rules, arith}
 use Rattle.std.proofs.lemmas.Grind.{common_steps}
-use Rattle.drives.specs.Opening.{kinds}
-use Rattle.rmt_wire.specs.Lent.{plain_request}
-use Rattle.rmt_wire.specs.declared.limits.TheConstants.{RECORD_LIMIT}
-use Rattle.rmt_wire.specs.Reply.PlainReply.{Data}
-use Rattle.rmt_server.specs.State.{state}
-use Rattle.rmt_server.specs.Carrying.{CarriesOut}
-use Rattle.rmt_server.specs.Refusals.{refused}
-use Rattle.rmt_server.specs.declared.session.dispatch.Given.TheVariants.{Bytes}
+use Rattle.rmt_server.proofs.Names.{kinds, plain_request, RECORD_LIMIT, Data, state, CarriesOut, refused, Bytes}
 use Rattle.rmt_server.proofs.ServeSteps.{carried}
 use Rattle.rmt_server.proofs.Spelling.{outcome_spelled, outcome_short, number_short}
 use Rattle.rmt_server.proofs.session.Session.carry_out.Goals as goal
@@ -28,12 +21,6 @@ returns-in-Ok-Bytes g c =
         short = λ s. outcome_short (Ok (Bytes c.in-Ok-Bytes.count)) c.dispatch-outcome.new.buffer full tt;
       },
     )
-
-pub invariant_of-self : goal.invariant_of-self
-invariant_of-self g c = grind (arith, common_steps)
-
-pub invariant_of-self-in-Ok-Bytes : goal.invariant_of-self-in-Ok-Bytes
-invariant_of-self-in-Ok-Bytes g c = grind (arith, common_steps)
 
 pub returns-in-Ok-Number : goal.returns-in-Ok-Number
 returns-in-Ok-Number g c =
@@ -56,12 +43,3 @@ returns-in-Err g c =
       (refl, λ x. tt, carried k old (plain_request c.args.request) _ new c.requires effect),
       record { rests = tt; spelling = λ s. outcome_spelled (Err c.in-Err.refusal) buffer full tt; short = λ s. outcome_short (Err c.in-Err.refusal) buffer full tt },
     )
-
-pub dispatch-outcome-requires-clause-at : goal.dispatch-outcome-requires-clause-at
-dispatch-outcome-requires-clause-at g c = rw c.self.view_is c.requires
-
-pub dispatch-outcome-requires-clause-room : goal.dispatch-outcome-requires-clause-room
-dispatch-outcome-requires-clause-room g c = omega (arith, c.self.invariant)
-
-pub slice_bounds-self-end : goal.slice_bounds-self-end
-slice_bounds-self-end g c = grind (arith, common_steps)

@@ -1,18 +1,13 @@
-use Rattle.std.proofs.Common.{refl, sym, subst, arith}
-use Rattle.drives.specs.Opening.{kinds}
-use Rattle.rmt_server.specs.State.{state, IsAt}
+use Rattle.std.proofs.Common.{sym, ap, arith}
+use Rattle.rmt_server.proofs.Names.{kinds, state, drive_of}
 use Rattle.rmt_server.proofs.Closed.{closed_by}
 use Rattle.rmt_server.proofs.session.opening.close.Goals as goal
 
 pub put_back-requires-clause-drive : goal.put_back-requires-clause-drive
-put_back-requires-clause-drive g c =
-    let at = subst (λ o. IsAt (kinds g.H.Holds g.S.Stacks g.S.Reel.Reel) (state c.args.drives.now (record { seat = c.args.session_state.now.seat; opened = o }))) (sym c.in-Some.ensures.value) c.requires in
-    at.below _ refl
+put_back-requires-clause-drive g c = c.requires.below _ (ap drive_of (sym c.in-Some.ensures.value))
 
 pub give-requires-clause-drive : goal.give-requires-clause-drive
-give-requires-clause-drive g c =
-    let at = subst (λ o. IsAt (kinds g.H.Holds g.S.Stacks g.S.Reel.Reel) (state c.args.drives.now (record { seat = c.args.session_state.now.seat; opened = o }))) (sym c.in-Some.ensures.value) c.requires in
-    omega (arith, at.below _ refl, at.enough)
+give-requires-clause-drive g c = omega (arith, c.requires.below _ (ap drive_of (sym c.in-Some.ensures.value)), c.requires.enough)
 
 pub returns : goal.returns
 returns g c =

@@ -1,22 +1,13 @@
--- Who holds the drives of one thread after a close, after an open, and where nothing was taken or given back.
-use Rattle.std.proofs.Common.{◌≡◌, ◌≢◌, ◌⊎◌, ℕ, ◌<◌, true, false, cond, ◌==◌, List, length, slice_set, slice_index, Option, Some, None, Result, Ok, Err, IfOk, refl, sym, ap, subst, ◌∙◌, inl, inr, arith, length-set, get_or-set_same, get_or-set_other}
+-- Drives of one thread with stacks in memory: who holds them after each request, and that no reel that lies there gets a trouble.
+use Rattle.std.proofs.Common.{◌≡◌, ℕ, ◌<◌, true, false, cond, ◌==◌, List, length, slice_set, slice_index, Option, Some, None, Result, Ok, Err, IfOk, refl, sym}
+use Rattle.std.proofs.Common.{ap, subst, ◌∙◌, inl, inr, arith, length-set, get_or-set_same, get_or-set_other}
 use Rattle.std.proofs.lemmas.List.{ext_get_or}
 use Rattle.std.proofs.lemmas.Bool.Decides.{nat_tests}
-use Rattle.drives.specs.declared.fault.DriveFault.{DriveFault}
-use Rattle.drives.specs.Local.{Holders, IsHeldBy}
-use Rattle.drives.specs.Opening.{holder_after_open}
-use Rattle.tape.specs.Trouble.{TroubledTape}
-use Rattle.drives.specs.contracts.list.ListStacksStacks.TheImpl.{ghosts as of_stacks}
-use Rattle.tape.specs.contracts.troubled.TroubledReelReel.TheImpl.{ghosts as of_reel}
-use Rattle.rmt_server.specs.declared.access.Access.{Access}
-use Rattle.rmt_server.specs.State.{drive_of, IsAt}
-use Rattle.rmt_server.specs.Opening.{holder_after_close, opened_by}
-use Rattle.rmt_server.specs.Memory.{MemoryState, in_memory}
-use Rattle.rmt_server.specs.TroubledServe.{with_holder}
+use Rattle.rmt_server.proofs.Names.{DriveFault, Holders, IsHeldBy, holder_after_open, Latch, LayBack, Move, ListLibrary, troubled_in}
+use Rattle.rmt_server.proofs.Names.{troubles_of, is_set, IsListStacksCall, TroubledTape, Trouble, NoTrouble, of_stacks, of_reel, Access}
+use Rattle.rmt_server.proofs.Names.{drive_of, IsAt, holder_after_close, opened_by, MemoryState, in_memory, with_holder, MovesTroubles, HasReelAt}
+use Rattle.rmt_server.proofs.Closed.{eq_or_ne}
 use Rattle.rmt_server.proofs.Sharing.{open_held}
-
-eq_or_ne : (m n : ℕ) → (m ≡ n) ⊎ (m ≢ n)
-eq_or_ne m n = grind arith
 
 set_at : (xs : List ℕ) (e n d : ℕ) → d < length xs → slice_index (slice_set xs e n) d ≡ cond (d == e) n (slice_index xs d)
 set_at xs e n d l = elim (eq_or_ne d e) [
@@ -67,3 +58,45 @@ kept_numbers (Some e) number numbers own =
 -- the open drive is held by the session's seat
 pub own_held : (x : MemoryState) → IsAt in_memory x → (d : ℕ) → drive_of x.opened ≡ Some d → slice_index x.drives.holds.numbers d ≡ x.seat.number
 own_held x at d e = (open_held of_stacks of_reel x.drives (record { seat = x.seat; opened = x.opened }) d at e).1
+
+-- how many reels lie with a trouble after each call, as `drives::lying_troubles` says
+pub record LyingLaw : Type 0 where
+  pub latched : (old new : ListLibrary) (d : ℕ) (result : Result TroubledTape DriveFault)
+      → d < length old.library.drives → MovesTroubles old (Latch d result) new
+  pub laid_back : (old new : ListLibrary) (d : ℕ) (reel : TroubledTape) → HasReelAt old d → MovesTroubles old (LayBack d reel) new
+  pub moved : (old new : ListLibrary) (d : ℕ) (reel : TroubledTape) (result : Result (Unit {0}) DriveFault)
+      → HasReelAt old d → MovesTroubles old (Move d reel result) new
+
+-- a trouble that is set is one
+pub unset : (trouble : Trouble) → is_set trouble ≡ false → trouble ≡ NoTrouble
+unset NoTrouble e = refl
+unset trouble e = absurd cc
+
+unset_of : (trouble : Trouble) → ◌≡◌ {A = ℕ} (cond (is_set trouble) 1 0) 0 → trouble ≡ NoTrouble
+unset_of NoTrouble e = refl
+unset_of trouble e = absurd cc
+
+no_trouble_of : (reel : TroubledTape) → reel.trouble ≡ NoTrouble → troubles_of (Some reel) ≡ 0
+no_trouble_of reel e = ap (λ t. cond (is_set t) 1 0) e
+
+module _ (law : LyingLaw) (old new : ListLibrary) (d : ℕ) where
+  -- a reel that is laid back
+  pub laid_lying : (reel : TroubledTape) → HasReelAt old d → IsListStacksCall old new (LayBack d reel) → troubled_in old.library ≡ 0 → reel.trouble ≡ NoTrouble
+      → troubled_in new.library ≡ 0
+  laid_lying reel there h none t = omega (arith, law.laid_back old new d reel there h, no_trouble_of reel t)
+
+  -- a reel that is latched, or is not
+  pub latched_lying : (result : Result TroubledTape DriveFault) → d < length old.library.drives → IsListStacksCall old new (Latch d result)
+      → troubled_in old.library ≡ 0 → troubled_in new.library ≡ 0
+  latched_lying result l h none = omega (arith, law.latched old new d result l h)
+
+  -- and a reel that is latched has none
+  pub latched_untroubled : (reel : TroubledTape) → d < length old.library.drives → IsListStacksCall old new (Latch d (Ok reel)) → troubled_in old.library ≡ 0
+      → reel.trouble ≡ NoTrouble
+  latched_untroubled reel l h none = unset_of reel.trouble (omega (arith, law.latched old new d (Ok reel) l h))
+
+  -- a reel that is moved to the bin, or is not
+  pub moved_lying : (reel : TroubledTape) (result : Result (Unit {0}) DriveFault) → HasReelAt old d → IsListStacksCall old new (Move d reel result)
+      → troubled_in old.library ≡ 0 → reel.trouble ≡ NoTrouble → troubled_in new.library ≡ 0
+  moved_lying reel (Ok done) there h none t = omega (arith, law.moved old new d reel (Ok done) there h, no_trouble_of reel t)
+  moved_lying reel (Err why) there h none t = omega (arith, law.moved old new d reel (Err why) there h)
