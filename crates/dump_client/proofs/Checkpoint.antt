@@ -1,11 +1,10 @@
 -- Where the next volume begins.
-use Rattle.std.proofs.Common.{◌≡◌, ◌⊎◌, inl, inr, ℕ, ◌+◌, ◌-◌, ◌<◌, ◌≤◌, List, [], ◌∷◌, ◌++◌, length, length-append, refl, sym, ◌∙◌, ap, subst, arith}
-use Rattle.dump_run.specs.Run.{PlainRun}
+use Rattle.std.proofs.Common.{◌≡◌, ◌⊎◌, inl, inr, ℕ, ◌+◌, ◌-◌, ◌<◌, ◌≤◌, List, [], ◌∷◌, ◌++◌, length, length-append, refl, sym, subst, arith}
 use Rattle.dump_client.specs.Script.{IsCount}
 use Rattle.dump_client.specs.Position.{Covers, CoversFrom}
-use Rattle.dump_client.specs.Standing.{checkpoint_after, checkpoint_of, count_to, counted_to}
+use Rattle.dump_client.specs.Standing.{checkpoint_after, count_to, counted_to}
 use Rattle.dump_client.specs.Lawful.{AreVolumes, IsUnfinishedRun}
-use Rattle.dump_run.specs.declared.count.VolumeCount.{VolumeCount}
+use Rattle.dump_client.proofs.Attempt.{PlainRun, checkpoint_of, VolumeCount}
 
 -- the checkpoint is after the last count
 pub checkpoint_behind : (volume first : ℕ) (rest : List VolumeCount) (c : VolumeCount) → checkpoint_after volume first (rest ++ c ∷ []) ≡ (c.volume + 1, c.first + c.count)
@@ -18,8 +17,7 @@ behind_last counts c rest h = subst (λ l. checkpoint_of l ≡ (c.volume + 1, c.
 -- the counts after the first one go on from its end
 pub volumes_behind : (run : PlainRun) (volume first : ℕ) (c : VolumeCount) (counts : List VolumeCount) → AreVolumes run volume first (c ∷ counts)
     → AreVolumes run (c.volume + 1) (c.first + c.count) counts
-volumes_behind run volume first c counts v =
-    subst (λ f. AreVolumes run (c.volume + 1) (f + c.count) counts) (sym v.1) (subst (λ w. AreVolumes run (w + 1) (first + c.count) counts) (sym v.0) v.4)
+volumes_behind run volume first c counts v = rw (v.0, v.1) v.4
 
 -- it lies within the run
 pub first_within : (run : PlainRun) (volume first : ℕ) (counts : List VolumeCount) → first ≤ run.blocks → AreVolumes run volume first counts
@@ -41,18 +39,9 @@ volume_within run volume first (c ∷ d ∷ counts) at h v =
     let number : c.volume ≡ volume = v.0 in
     let same : c.first ≡ first = v.1 in
     let below : first + c.count ≤ run.blocks = let n = v.2 in n.0 in
-    let some : first + c.count < run.blocks = left_behind v.3 in
-    let whole : (0 < c.count) ⊎ (run.blocks ≡ 0) = let n = v.2 in n.1 in
-    let more : 0 < c.count = has_block whole some in
+    let some : first + c.count < run.blocks = grind (arith, v.3) in
+    let more : 0 < c.count = grind (arith, v.2) in
     volume_within run (c.volume + 1) (c.first + c.count) (d ∷ counts) (omega (arith, number, same, more)) (omega (arith, same, below)) (volumes_behind run volume first c (d ∷ counts) v)
-  where
-    left_behind : ((d ∷ counts ≡ []) ⊎ (first + c.count < run.blocks)) → first + c.count < run.blocks
-    left_behind (inl none) = let no : length (d ∷ counts) ≡ 0 = ap length none in absurd (omega (arith, no))
-    left_behind (inr some) = some
-
-    has_block : ((0 < c.count) ⊎ (run.blocks ≡ 0)) → first + c.count < run.blocks → 0 < c.count
-    has_block (inl more) some = more
-    has_block (inr none) some = absurd (omega (arith, none, some))
 
 pub last_within : (run : PlainRun) (counts : List VolumeCount) → AreVolumes run 1 0 counts
     → ((checkpoint_of counts).0 ≤ run.blocks + 2) × ((checkpoint_of counts).1 ≤ run.blocks)
@@ -62,18 +51,12 @@ last_within run counts v = (volume_within run 1 0 counts (omega arith) (omega ar
 covers_from : (run : PlainRun) (volume first : ℕ) (counts : List VolumeCount) → AreVolumes run volume first counts
     → (checkpoint_after volume first counts).1 ≡ run.blocks → CoversFrom run.blocks volume first counts
 covers_from run volume first [] v h = h
-covers_from run volume first (c ∷ counts) v h = (
-  v.0,
-  v.1,
-  covers_from run (volume + 1) (first + c.count) counts v.4
-      (subst (λ f. (checkpoint_after (volume + 1) (f + c.count) counts).1 ≡ run.blocks) v.1 (subst (λ w. (checkpoint_after (w + 1) (c.first + c.count) counts).1 ≡ run.blocks) v.0 h)),
-)
+covers_from run volume first (c ∷ counts) v h =
+    (v.0, v.1, covers_from run (volume + 1) (first + c.count) counts v.4 (rw (v.0, v.1) at h))
 
 covered_to : (blocks volume first : ℕ) (counts : List VolumeCount) → CoversFrom blocks volume first counts → (checkpoint_after volume first counts).1 ≡ blocks
 covered_to blocks volume first [] h = h
-covered_to blocks volume first (c ∷ counts) h =
-    subst (λ w. (checkpoint_after (w + 1) (c.first + c.count) counts).1 ≡ blocks) (sym h.0)
-    (subst (λ f. (checkpoint_after (volume + 1) (f + c.count) counts).1 ≡ blocks) (sym h.1) (covered_to blocks (volume + 1) (first + c.count) counts h.2))
+covered_to blocks volume first (c ∷ counts) h = rw (h.0, h.1) (covered_to blocks (volume + 1) (first + c.count) counts h.2)
 
 pub covers_at : (run : PlainRun) (counts : List VolumeCount) → AreVolumes run 1 0 counts → 0 < length counts → (checkpoint_of counts).1 ≡ run.blocks → Covers run counts
 covers_at run counts v some h = (some, covers_from run 1 0 counts v h)
@@ -81,28 +64,19 @@ covers_at run counts v some h = (some, covers_from run 1 0 counts v h)
 pub covers_up_to : (run : PlainRun) (counts : List VolumeCount) → Covers run counts → (checkpoint_of counts).1 ≡ run.blocks
 covers_up_to run counts h = covered_to run.blocks 1 0 counts h.1
 
+-- a run that its counts do not cover is not finished
 pub left_of : (run : PlainRun) (counts : List VolumeCount) → AreVolumes run 1 0 counts → (Covers run counts → ⊥) → IsUnfinishedRun run counts
 left_of run [] v h = inl refl
-left_of run (c ∷ counts) v h = inr (below (last_within run (c ∷ counts) v) (λ same. h (covers_at run (c ∷ counts) v (omega arith) same)))
-  where
-    below : ((checkpoint_of (c ∷ counts)).0 ≤ run.blocks + 2) × ((checkpoint_of (c ∷ counts)).1 ≤ run.blocks) → ((checkpoint_of (c ∷ counts)).1 ≡ run.blocks → ⊥) → (checkpoint_of (c ∷ counts)).1 < run.blocks
-    below within other = omega (arith, within.1, other)
+left_of run (c ∷ counts) v h =
+    let within = last_within run (c ∷ counts) v in
+    let other : (checkpoint_of (c ∷ counts)).1 ≡ run.blocks → ⊥ = λ same. h (covers_at run (c ∷ counts) v (omega arith) same) in
+    inr (omega (arith, within.1, other))
 
 -- blocks are left after the first volume, where they are left at the checkpoint
-left_at_all : (run : PlainRun) (first at : ℕ) (c : VolumeCount) (counts : List VolumeCount) → (c ∷ counts ≡ []) ⊎ (at < run.blocks) → at < run.blocks
-left_at_all run first at c counts (inl none) = let no : length (c ∷ counts) ≡ 0 = ap length none in absurd (omega (arith, no))
-left_at_all run first at c counts (inr some) = some
-
 left_behind : (run : PlainRun) (volume first : ℕ) (counts : List VolumeCount) → (counts ≡ []) ⊎ (first < run.blocks)
     → (checkpoint_after volume first counts).1 < run.blocks → first < run.blocks
 left_behind run volume first [] other some = some
-left_behind run volume first (d ∷ counts) (inl none) some = let no : length (d ∷ counts) ≡ 0 = ap length none in absurd (omega (arith, no))
-left_behind run volume first (d ∷ counts) (inr less) some = less
-
-at_next : (volume first : ℕ) (c : VolumeCount) (counts : List VolumeCount) → c.volume ≡ volume → c.first ≡ first
-    → checkpoint_after (c.volume + 1) (c.first + c.count) counts ≡ checkpoint_after (volume + 1) (first + c.count) counts
-at_next volume first c counts v f =
-    ap (λ w. checkpoint_after (w + 1) (c.first + c.count) counts) v ∙ ap (λ g. checkpoint_after (volume + 1) (g + c.count) counts) f
+left_behind run volume first (d ∷ counts) left some = grind (arith, left)
 
 -- one more volume after the checkpoint
 volumes_with : (run : PlainRun) (volume first : ℕ) (counts : List VolumeCount) (next : ℕ) → AreVolumes run volume first counts
@@ -111,17 +85,16 @@ volumes_with : (run : PlainRun) (volume first : ℕ) (counts : List VolumeCount)
     → AreVolumes run volume first (counts ++ count_to (checkpoint_after volume first counts) next ∷ [])
 volumes_with run volume first [] next v left h = (refl, refl, h, inl refl, tt)
 volumes_with run volume first (c ∷ counts) next v left h =
-    let at : checkpoint_after (c.volume + 1) (c.first + c.count) counts ≡ checkpoint_after (volume + 1) (first + c.count) counts = at_next volume first c counts v.0 v.1 in
-    let some : (checkpoint_after (volume + 1) (first + c.count) counts).1 < run.blocks =
-    subst (λ p. p.1 < run.blocks) at (left_at_all run first (checkpoint_after (c.volume + 1) (c.first + c.count) counts).1 c counts left) in (
+    let some : (checkpoint_after (c.volume + 1) (c.first + c.count) counts).1 < run.blocks = grind (arith, left) in
+    let more : (checkpoint_after (volume + 1) (first + c.count) counts).1 < run.blocks = rw (v.0, v.1) at some in (
       v.0,
       v.1,
       v.2,
-      inr (left_behind run (volume + 1) (first + c.count) counts v.3 some),
-      subst (λ p. AreVolumes run (volume + 1) (first + c.count) (counts ++ count_to p next ∷ [])) (sym at)
-          (volumes_with run (volume + 1) (first + c.count) counts next v.4 (inr some) (subst (λ p. IsCount run p.1 (next - p.1)) at h)),
+      inr (left_behind run (volume + 1) (first + c.count) counts v.3 more),
+      rw (v.0, v.1) (volumes_with run (volume + 1) (first + c.count) counts next v.4 (inr more) (rw (v.0, v.1) at h)),
     )
 
+-- the counts with that of the next volume are volumes in order
 pub volumes_to : (run : PlainRun) (counts : List VolumeCount) (next : ℕ) → AreVolumes run 1 0 counts → IsUnfinishedRun run counts
     → IsCount run (checkpoint_of counts).1 (next - (checkpoint_of counts).1) → AreVolumes run 1 0 (counted_to counts next)
 volumes_to run counts next v left h = volumes_with run 1 0 counts next v left h

@@ -1,18 +1,12 @@
--- What comes next follows the script.
-use Rattle.std.proofs.Common.{◌≡◌, inl, inr, ℕ, zero, suc, ◌+◌, ◌<◌, ◌≤◌, Bool, true, false, if◌then◌else◌, nat_lt, List, [], ◌∷◌, ◌++◌, refl, ◌∙◌, ap, arith}
+-- Each wanted reply leads to the next step of the script, and any other fails the attempt.
+use Rattle.std.proofs.Common.{◌≡◌, inl, inr, ℕ, zero, suc, ◌+◌, ◌<◌, ◌≤◌, Bool, true, false, if◌then◌else◌, nat_lt, List, [], ◌∷◌, ◌++◌, refl, ◌∙◌, ap, arith, ◌⊎◌}
 use Rattle.std.proofs.lemmas.Bool.Decides.{nat_tests}
-use Rattle.rmt_wire.specs.Reply.{PlainReply}
-use Rattle.dump_run.specs.Run.{PlainRun, IsRun}
+use Rattle.rmt_wire.specs.Reply.{AnswersTo, data_length}
 use Rattle.dump_run.specs.Label.{label_bytes}
-use Rattle.dump_run.specs.declared.count.VolumeCount.{VolumeCount}
-use Rattle.dump_client.specs.Script.{Wish, Grants, IsCount, block_steps, refused_step, last_steps, steps_of}
-use Rattle.dump_client.specs.Script.Wish.{Number, NoRoom}
-use Rattle.dump_client.specs.Position.{RepliesFollow, after_reply, block_or_mark}
-use Rattle.dump_client.specs.declared.step.Step.{Step}
-use Rattle.dump_client.specs.declared.step.Step.TheVariants.{Open, Operation, Look, Label, Block, Close}
-use Rattle.dump_client.specs.declared.step.TapeOp.TheVariants.{Rewind, RewindAgain, Mark, Unload}
-use Rattle.dump_client.specs.declared.outcome.Outcome.TheVariants.{GoesOn}
-use Rattle.dump_client.proofs.Outcomes.{does, full_marks}
+use Rattle.dump_client.specs.Script.{Grants, IsCount, block_steps, refused_step, last_steps, steps_of, wanted_of}
+use Rattle.dump_client.specs.Position.{RepliesFollow, after_reply, block_or_mark, IsWantedAt, CanBeHeard, IsFailure}
+use Rattle.dump_client.proofs.Attempt.{PlainReply, Done, Data, PlainRun, IsRun, VolumeCount, Wish, Number, NoRoom, Step, Open, Operation, Look, Label, Block, Close, Rewind, RewindAgain, Mark, Unload, GoesOn, Reply}
+use Rattle.dump_client.proofs.Outcomes.{does, full_marks, wish_of, led}
 
 module _ (run : PlainRun) (counts : List VolumeCount) (first : ℕ) where
   -- a step that leads to a block, or to the mark
@@ -64,3 +58,37 @@ module _ (run : PlainRun) (counts : List VolumeCount) (first : ℕ) where
           ),
         ),
       )
+
+wanted : (run : PlainRun) (counts : List VolumeCount) (first : ℕ) (reply : PlainReply) (step : Step) → Grants run counts (wish_of run step) reply
+    → IsWantedAt run counts first step reply
+wanted run counts first reply (Block number) g = inl g
+wanted run counts first reply step g = g
+
+pub other_replies : (run : PlainRun) (counts : List VolumeCount) (first : ℕ) (step : Step) (reply : PlainReply)
+    → IsWantedAt run counts first step reply ⊎ IsFailure (after_reply run counts first step reply)
+other_replies run counts first step reply =
+    led run counts first (Reply reply) (λ s o. IsWantedAt run counts first s reply ⊎ IsFailure o)
+    (record {
+      done = λ s g. inl (wanted run counts first reply s g);
+      full = λ number more g. inl (inr (more, g));
+      fails = λ s fault can. inr tt;
+    })
+    step
+
+-- a reply that is wanted is of the kind that is waited for
+block_data : (A : Type 0) → ⊥ ⊎ (A × ⊥) → ⊥
+block_data A (inl none) = none
+block_data A (inr none) = none.1
+
+pub can_be_heard : (run : PlainRun) (counts : List VolumeCount) (first : ℕ) (step : Step) (reply : PlainReply) → CanBeHeard run counts first step reply
+can_be_heard run counts first Close reply = tt
+can_be_heard run counts first Look (Done n) = λ wanted few. absurd wanted
+can_be_heard run counts first Look (Data bytes) = λ wanted few. few
+can_be_heard run counts first (Block number) (Data bytes) = λ wanted few. absurd (block_data (first < number) wanted)
+can_be_heard run counts first step (Data bytes) = λ wanted few. absurd wanted
+can_be_heard run counts first step reply = λ wanted few. tt
+
+pub brief : (step : Step) (reply : PlainReply) → AnswersTo reply (wanted_of step) → data_length reply ≤ label_bytes
+brief Look (Data bytes) is = is
+brief step (Data bytes) is = absurd is
+brief step reply is = omega arith

@@ -2,10 +2,9 @@
 use Rattle.std.proofs.Common.{◌≡◌, ℕ, ◌+◌, ◌-◌, ◌<◌, ◌≤◌, ◌↔◌, Bool, true, false, not, nat_lt, min, List, [], ◌∷◌, ◌++◌, length, take, drop, Option, Some, None, Result, Ok, Err, refl, sym, ap, subst, ◌∙◌, arith, append_assoc, rules}
 use Rattle.std.proofs.lemmas.Bool.Decides.{nat_tests}
 use Rattle.std.specs.Result.{IsErrAnd}
-use Rattle.std.proofs.lemmas.List.{take-append-drop, length-drop}
+use Rattle.std.proofs.lemmas.List.{take-append-drop, length-drop, length-take}
 use Rattle.std.proofs.Math.Seq.{take-add}
 use Rattle.rmt_wire.specs.Reply.{Wanted}
-use Rattle.rmt_wire.specs.Reply.PlainReply.{Done, Data, Error}
 use Rattle.rmt_wire.specs.Reply.Wanted.{Number, DataUpTo}
 use Rattle.rmt_wire.specs.Lent.{plain_reply}
 use Rattle.rmt_wire.specs.declared.limits.TheConstants.{READER_LIMIT}
@@ -14,12 +13,10 @@ use Rattle.rmt_wire.specs.ReplyParts.{ReplyParsesAs, ReplyHasNoSpelling}
 use Rattle.rmt_wire.specs.ReplyFront.{kept_of}
 use Rattle.rmt_wire.specs.ReplyReader.{ReplyHeld, ReplyUnread, reply_taken_of, plain_reply_result, ReplyIsNext, ReplyStaysFaulty}
 use Rattle.rmt_wire.specs.declared.reply.Reply.{Reply}
-use Rattle.rmt_wire.specs.declared.fault.WireFault.{WireFault}
-use Rattle.dump_run.specs.Run.{PlainRun}
-use Rattle.dump_run.specs.declared.count.VolumeCount.{VolumeCount}
 use Rattle.dump_client.specs.Listening.{IsReaderWaiting, IsReplyHeard, IsFeedResult, is_more}
 use Rattle.dump_client.specs.declared.listen.HeardReply.{HeardReply}
 use Rattle.dump_client.specs.declared.listen.FeedResult.TheVariants as feed_result
+use Rattle.dump_client.proofs.Attempt.{Done, Data, Error, WireFault, PlainRun, VolumeCount}
 
 -- the bytes so far and a piece of the rest
 piece_then : (bytes text part : List ℕ) (at count : ℕ) → part ≡ drop at text → (bytes ++ take at text) ++ take count part ≡ bytes ++ take (at + count) text
@@ -45,6 +42,16 @@ rest_goes_on text at =
     let same : nat_lt at (length text) ≡ nat_lt 0 (length (drop at text)) = grind (arith, nat_tests) in
     same ∙ sym (goes_on (drop at text))
 
+-- a reader that waits takes some of a piece that is not at its end
+pub takes : (wanted : Wanted) (h : ReplyHeld) (bytes text : List ℕ) (at count : ℕ) → IsReaderWaiting wanted h bytes
+    → count ≡ min (length (take (length text - at) (drop at text))) (READER_LIMIT - reply_taken_of (Some wanted) bytes) → at < length text
+    → (0 < count) × (at + count ≤ length text)
+takes wanted h bytes text at count w e some =
+    let room : reply_taken_of (Some wanted) bytes < READER_LIMIT = subst (λ l. length l < READER_LIMIT) w.unread.keeps w.room in
+    let slice = length-take (length text - at) (drop at text) in
+    let rest = length-drop at text in
+    (omega arith, omega arith)
+
 module _ (run : PlainRun) (counts : List VolumeCount) (wanted : Wanted) where
   -- one call of `next`, by what it answered
   pub next_none : (old new : ReplyHeld) (result : Result (Option Reply) WireFault) → ReplyIsNext old (plain_reply_result result) new → result ≡ Ok None
@@ -65,13 +72,6 @@ module _ (run : PlainRun) (counts : List VolumeCount) (wanted : Wanted) where
       → IsReplyHeard run counts wanted bytes result new
   next_fault old new fault (Ok answer) stays is bytes u = absurd is
   next_fault old new fault (Err e) stays is bytes u = λ more. subst (λ f. ReplyParsesAs (Some wanted) (bytes ++ more) (Err f) (bytes ++ more)) (sym is) (stays (Some wanted) bytes more u)
-
-  -- a reader that waits takes some of a piece that is not empty
-  pub push_some : (h : ReplyHeld) (bytes : List ℕ) (count len : ℕ) → IsReaderWaiting wanted h bytes
-      → count ≡ min len (READER_LIMIT - reply_taken_of (Some wanted) bytes) → 0 < len → (0 < count) × (count ≤ len)
-  push_some h bytes count len w e some =
-      let room : reply_taken_of (Some wanted) bytes < READER_LIMIT = subst (λ l. length l < READER_LIMIT) w.unread.keeps w.room in
-      (omega arith, omega arith)
 
   -- what is heard of the bytes so far, with a piece of the rest
   pub so_far : (bytes text part : List ℕ) (at count : ℕ) (result : Result (Option HeardReply) WireFault) (new : ReplyHeld) → part ≡ drop at text
@@ -131,6 +131,7 @@ no_reply_in_nothing (DataUpTo most) text rest (Data bytes) e s = let is = s.3 in
 no_reply_in_nothing wanted text rest (Error n words) e s = let is = s.5 in absurd cc
 no_reply_in_nothing wanted text rest reply e s = absurd s
 
+-- a reader of which a reply is asked anew waits
 pub waiting_anew : (wanted : Wanted) (h : ReplyHeld) → ReplyUnread h (Some wanted) [] → IsReaderWaiting wanted h []
 waiting_anew wanted h u = record {
   unread = u;

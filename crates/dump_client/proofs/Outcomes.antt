@@ -1,24 +1,26 @@
--- The one table of an attempt: what is heard at a step does it, shows the reel's end, or fails the attempt.
-use Rattle.std.proofs.Common.{◌≡◌, ℕ, ◌<◌, ◌==◌, true, false, if◌then◌else◌, nat_lt, List, Option, Some, None, refl, sym, ap, subst, arith}
+-- What is heard at a step does it, shows the reel's end, or fails the attempt: one table, and what holds at the close.
+use Rattle.std.proofs.Common.{◌≡◌, ℕ, ◌<◌, ◌==◌, Bool, true, false, if◌then◌else◌, nat_lt, refl, arith, List, Option, Some, None, sym, ap, subst, ◌≢◌, ◌+◌}
 use Rattle.std.proofs.lemmas.Bool.Decides.{nat_tests}
-use Rattle.rmt_wire.specs.Reply.{PlainReply}
-use Rattle.rmt_wire.specs.Reply.PlainReply.{Done, Data, Error}
 use Rattle.rmt_wire.specs.declared.errno.TheConstants.{ENOSPC}
-use Rattle.dump_run.specs.Run.{PlainRun}
 use Rattle.dump_run.specs.Label.{label_bytes}
-use Rattle.dump_run.specs.declared.count.VolumeCount.{VolumeCount}
-use Rattle.dump_client.specs.Script.{Wish, Grants, counted_label}
-use Rattle.dump_client.specs.Script.Wish.{AnyNumber, Number, NoRoom, OtherLabel, Anything}
-use Rattle.dump_client.specs.Position.{Received, outcome, after_step, after_reply, after_label, at_end_of_reel}
-use Rattle.dump_client.specs.Position.Received.{Reply, Noise, End}
-use Rattle.dump_client.specs.declared.step.Step.{Step}
-use Rattle.dump_client.specs.declared.step.Step.TheVariants.{Open, Operation, Look, Label, Block, Close}
-use Rattle.dump_client.specs.declared.step.TapeOp.TheVariants.{Mark}
-use Rattle.dump_client.specs.declared.outcome.Outcome.{Outcome}
-use Rattle.dump_client.specs.declared.outcome.Outcome.TheVariants.{GoesOn, Fails}
-use Rattle.dump_client.specs.declared.fault.AttemptFault.{AttemptFault}
-use Rattle.dump_client.specs.declared.fault.AttemptFault.TheVariants.{Refused, Botched, ConnectionEnded, ShortWrite, ReelTooSmall, CountedReel}
-use Rattle.dump_client.proofs.Branches.{same_or, less_or}
+use Rattle.dump_client.specs.Script.{Grants, counted_label}
+use Rattle.dump_client.specs.Position.{outcome, after_step, after_reply, after_label, at_end_of_reel, after_noise, after_end}
+use Rattle.dump_client.proofs.Attempt.{PlainReply, Done, Data, Error, PlainRun, VolumeCount, Outcome, Wish, AnyNumber, Number, NoRoom, OtherLabel, Anything, Received, Reply, Noise, End, Step, Open, Operation, Look, Label, Block, Close, Mark, Unload, GoesOn, Fails, Counted, Ended, AttemptFault, Refused, Botched, ConnectionEnded, ShortWrite, ReelTooSmall, CountedReel}
+
+-- a test of numbers, and what holds of both its sides
+pub same_or : (P : Outcome → Type 0) (m n : ℕ) (same other : Outcome) → (m ≡ n → P same) → P other → P (if m == n then same else other)
+same_or P m n same other h k = by (m == n) refl
+  where
+    by : (b : Bool) → (m == n) ≡ b → P (if b then same else other)
+    by true eq = h (grind (arith, nat_tests))
+    by false eq = k
+
+pub less_or : (P : Outcome → Type 0) (m n : ℕ) (less other : Outcome) → (m < n → P less) → P other → P (if nat_lt m n then less else other)
+less_or P m n less other h k = by (nat_lt m n) refl
+  where
+    by : (b : Bool) → nat_lt m n ≡ b → P (if b then less else other)
+    by true lt = h (grind (arith, nat_tests))
+    by false lt = k
 
 -- the reply that does a step
 abbrev pub wish_of : PlainRun → Step → Wish
@@ -135,3 +137,56 @@ full_marks run counts first number size h (Done n) k =
 full_marks run counts first number size h (Error n text) k =
     subst (λ m. after_reply run counts first (Block number) (Error m text) ≡ GoesOn (Operation (Mark number))) (sym k) (end_marks first number h)
 full_marks run counts first number size h (Data bytes) k = absurd k
+
+-- at the close whatever is heard ends the attempt
+pub close_ends : (run : PlainRun) (counts : List VolumeCount) (first : ℕ) (heard : Received) → outcome run counts first Close heard ≡ Ended
+close_ends run counts first (Reply (Done n)) = refl
+close_ends run counts first (Reply (Data bytes)) = refl
+close_ends run counts first (Reply (Error n text)) = refl
+close_ends run counts first heard = refl
+
+-- before it noise and the connection's end fail it
+pub noise_fails : (run : PlainRun) (counts : List VolumeCount) (first : ℕ) (step : Step) → step ≢ Close → outcome run counts first step Noise ≡ Fails Botched
+noise_fails run counts first Close before = absurd (before refl)
+noise_fails run counts first step before = refl
+
+pub cut_fails : (run : PlainRun) (counts : List VolumeCount) (first : ℕ) (step : Step) → step ≢ Close
+    → outcome run counts first step End ≡ Fails ConnectionEnded
+cut_fails run counts first Close before = absurd (before refl)
+cut_fails run counts first step before = refl
+
+-- no request follows: the attempt fails, or is over
+abbrev pub IsFinal : Outcome → Type 0
+IsFinal (GoesOn step) = ⊥
+IsFinal (Counted next) = ⊥
+IsFinal outcome = Unit {0}
+
+pub noise_final : (step : Step) → IsFinal (after_noise step)
+noise_final Close = tt
+noise_final step = tt
+
+pub end_final : (step : Step) → IsFinal (after_end step)
+end_final Close = tt
+end_final step = tt
+
+-- the close is sent after the count alone
+abbrev pub IsBefore : Outcome → Type 0
+IsBefore (GoesOn step) = NotClose step
+IsBefore outcome = Unit {0}
+
+block_before : (b : Bool) (number : ℕ) → IsBefore (GoesOn (if b then Block number else Operation (Mark number)))
+block_before true number = tt
+block_before false number = tt
+
+step_before : (run : PlainRun) (first : ℕ) (step : Step) → IsBefore (after_step run first step)
+step_before run first Label = block_before (nat_lt first run.blocks) first
+step_before run first (Block number) = block_before (nat_lt (number + 1) run.blocks) (number + 1)
+step_before run first (Operation (Unload next)) = tt
+step_before run first step = tt
+
+-- a reply leads to the close only with the count
+pub reply_before : (run : PlainRun) (counts : List VolumeCount) (first : ℕ) (step : Step) (reply : PlainReply)
+    → IsBefore (after_reply run counts first step reply)
+reply_before run counts first step reply =
+    led run counts first (Reply reply) (λ s o. IsBefore o)
+    (record { done = λ s does. step_before run first s; full = λ number more full. tt; fails = λ s fault can. tt }) step

@@ -1,29 +1,73 @@
--- What comes of bytes is the same however they are cut.
-use Rattle.std.proofs.Common.{◌≡◌, ◌≢◌, inl, inr, ℕ, Bool, true, false, List, [], ◌∷◌, ◌++◌, Option, Some, None, Result, Ok, Err, refl, sym, ap, subst, ◌∙◌, append_assoc}
-use Rattle.rmt_wire.specs.Reply.{PlainReply}
-use Rattle.rmt_wire.specs.ReplyParts.{ReplyParsesAs}
-use Rattle.rmt_wire.specs.declared.fault.WireFault.{WireFault}
-use Rattle.dump_run.specs.Run.{PlainRun}
+-- What comes of bytes is the same however they are cut; a fault of bytes is one of all that begin with them.
+use Rattle.std.proofs.Common.{◌≡◌, ◌⊎◌, inl, inr, ℕ, List, [], ◌∷◌, ◌++◌, Some, Err, refl, sym, ap, subst, ◌∙◌, append_assoc, ◌≢◌, Bool, true, false, Option, None, Result, Ok}
+use Rattle.rmt_wire.specs.Reply.{Wanted, SpellsReply}
+use Rattle.rmt_wire.specs.ReplyParts.{ReplyHasFault, ReplyHasNoSpelling, ReplyParsesAs}
 use Rattle.dump_client.specs.Client.{unanswered}
 use Rattle.dump_client.specs.Listening.{is_more}
 use Rattle.dump_client.specs.Script.{wanted_of}
-use Rattle.dump_client.specs.Position.{outcome, after_noise, after_end}
-use Rattle.dump_client.specs.Position.Received.{Reply, Noise}
-use Rattle.dump_client.specs.Standing.{Standing, standing, checkpoint_of, counted_to, IsOver, Becomes, ReceivesAt, Makes, FedAt, CutAt}
-use Rattle.dump_client.specs.declared.step.Step.{Step}
-use Rattle.dump_client.specs.declared.step.Step.TheVariants.{Close}
-use Rattle.dump_client.specs.declared.outcome.Outcome.{Outcome}
-use Rattle.dump_client.specs.declared.outcome.Outcome.TheVariants.{GoesOn, Fails, Counted, Ended}
-use Rattle.dump_client.specs.declared.stage.Stage.{Stage}
-use Rattle.dump_client.specs.declared.stage.Stage.TheVariants.{ToSend, Waiting, Asking}
-use Rattle.dump_client.specs.declared.stage.Progress.{Progress}
+use Rattle.dump_client.specs.Position.{outcome, after_noise}
+use Rattle.dump_client.specs.Standing.{counted_to, IsOver, Becomes, ReceivesAt, Makes, FedAt}
 use Rattle.dump_client.specs.declared.stage.Progress.TheVariants as moved
-use Rattle.dump_run.specs.declared.count.VolumeCount.{VolumeCount}
-use Rattle.dump_client.specs.declared.fault.AttemptFault.{AttemptFault}
-use Rattle.dump_client.specs.declared.fault.AttemptFault.TheVariants.{Botched}
-use Rattle.dump_client.proofs.Close.{IsFinal, IsBefore, noise_final, reply_before}
-use Rattle.dump_client.proofs.Faults.{stays_faulty}
-use Rattle.dump_client.proofs.Outcomes.{NotClose}
+use Rattle.dump_client.proofs.Attempt.{PlainReply, WireFault, PlainRun, VolumeCount, Reply, Noise, Standing, standing, checkpoint_of, Step, Close, Outcome, GoesOn, Fails, Counted, Ended, Stage, ToSend, Waiting, Asking, Progress, Botched}
+use Rattle.dump_client.proofs.Outcomes.{IsFinal, IsBefore, noise_final, reply_before, NotClose}
+
+-- of two beginnings of one text, one begins the other
+abbrev Begins : List ℕ → List ℕ → Type 0
+Begins p q = (t : List ℕ) × (q ≡ p ++ t)
+
+begins_cons : (a b : ℕ) (p q : List ℕ) → a ≡ b → Begins p q → Begins (a ∷ p) (b ∷ q)
+begins_cons a b p q same w = (w.0, (let f = w.1 in cc))
+
+head_same : (a b : ℕ) (p q : List ℕ) → a ∷ p ≡ b ∷ q → a ≡ b
+head_same a b p q e = cc
+
+tail_same : (a b : ℕ) (p q : List ℕ) → a ∷ p ≡ b ∷ q → p ≡ q
+tail_same a b p q e = cc
+
+two_fronts : (p q r s : List ℕ) → p ++ r ≡ q ++ s → Begins q p ⊎ Begins p q
+two_fronts [] q r s e = inr (q, refl)
+two_fronts (a ∷ p) [] r s e = inl (a ∷ p, refl)
+two_fronts (a ∷ p) (b ∷ q) r s e = either (two_fronts p q r s (tail_same a b (p ++ r) (q ++ s) e))
+  where
+    same : a ≡ b
+    same = head_same a b (p ++ r) (q ++ s) e
+
+    either : Begins q p ⊎ Begins p q → Begins (b ∷ q) (a ∷ p) ⊎ Begins (a ∷ p) (b ∷ q)
+    either (inl w) = inl (begins_cons b a q p (sym same) w)
+    either (inr w) = inr (begins_cons a b p q same w)
+
+-- the byte that leaves no reply possible ends what was seen
+up_to_byte : (seen later more : List ℕ) (byte : ℕ) (bytes : List ℕ) → bytes ≡ seen ++ byte ∷ later → bytes ++ more ≡ (seen ++ byte ∷ []) ++ (later ++ more)
+up_to_byte seen later more byte bytes e = ap (λ t. t ++ more) e ∙ append_assoc seen (byte ∷ later) more ∙ sym (append_assoc seen (byte ∷ []) (later ++ more))
+
+fault_behind : (wanted : Wanted) (bytes more : List ℕ) (fault : WireFault) → ReplyHasFault wanted bytes fault → ReplyHasFault wanted (bytes ++ more) fault
+fault_behind wanted bytes more fault f = record {
+  seen = f.seen;
+  byte = f.byte;
+  later = f.later ++ more;
+  split = ap (λ t. t ++ more) f.split ∙ append_assoc f.seen (f.byte ∷ f.later) more;
+  open_before = f.open_before;
+  hopeless = f.hopeless;
+  cause = f.cause;
+}
+
+-- a reply would end within the bytes, or begin with a hopeless text
+no_spelling_behind : (wanted : Wanted) (bytes more : List ℕ) (fault : WireFault) → ReplyHasFault wanted bytes fault → ReplyHasNoSpelling wanted bytes → ReplyHasNoSpelling wanted (bytes ++ more)
+no_spelling_behind wanted bytes more fault f none text rest reply e s = neither (two_fronts text front rest (f.later ++ more) (sym e ∙ up_to_byte f.seen f.later more f.byte bytes f.split))
+  where
+    front : List ℕ
+    front = f.seen ++ f.byte ∷ []
+
+    whole : bytes ≡ front ++ f.later
+    whole = f.split ∙ sym (append_assoc f.seen (f.byte ∷ []) f.later)
+
+    neither : Begins front text ⊎ Begins text front → ⊥
+    neither (inl w) = f.hopeless (w.0, reply, subst (λ t. SpellsReply t reply wanted) w.1 s)
+    neither (inr w) = none text (w.0 ++ f.later) reply (whole ∙ ap (λ t. t ++ f.later) w.1 ∙ append_assoc text w.0 f.later) s
+
+-- bytes that begin no reply begin none with more bytes after them
+pub stays_faulty : (wanted : Wanted) (bytes more rest : List ℕ) (fault : WireFault) → ReplyParsesAs (Some wanted) bytes (Err fault) rest → ReplyParsesAs (Some wanted) (bytes ++ more) (Err fault) (bytes ++ more)
+stays_faulty wanted bytes more rest fault g = (fault_behind wanted bytes more fault g.0, no_spelling_behind wanted bytes more fault g.0 g.1, refl)
 
 -- a further piece is fed, where these bytes were fed since the request
 abbrev IsFed : List ℕ → List ℕ → Progress → Standing → Standing → Type 0
@@ -73,28 +117,25 @@ early at step progress new before h = h
 abbrev Comes : Standing → Outcome → List ℕ → Standing → Type 0
 Comes old o rest new = (whole : Progress) × Becomes old o (is_more rest) whole new
 
-behind_step : (old : Standing) (step : Step) (q : List ℕ) (later : Progress) (new : Standing) → NotClose step
-    → FedAt (ToSend step) (standing old.run old.counts (ToSend step)) [] q later new
-    → Comes old (GoesOn step) q new
-behind_step old step [] later new before (inl h) = (moved.Send, (refl, h.2))
-behind_step old step [] later new before (inr h) = absurd (h.0 refl)
-behind_step old step (b ∷ q) later new before (inl h) = let none : b ∷ q ≡ [] = h.0 in absurd (cc)
-behind_step old step (b ∷ q) later new before (inr h) = (later, early (standing old.run old.counts (ToSend step)) step later new before h.1)
-
-behind_count : (old : Standing) (next : ℕ) (q : List ℕ) (later : Progress) (new : Standing)
-    → FedAt (ToSend Close) (standing old.run (counted_to old.counts next) (ToSend Close)) [] q later new → Comes old (Counted next) q new
-behind_count old next [] later new (inl h) = (moved.Send, (refl, h.2))
-behind_count old next [] later new (inr h) = absurd (h.0 refl)
-behind_count old next (b ∷ q) later new (inl h) = let none : b ∷ q ≡ [] = h.0 in absurd (cc)
-behind_count old next (b ∷ q) later new (inr h) = (later, h.1)
+-- the next request is to be sent, and then this came
+behind_send : (old : Standing) (o : Outcome) (counts : List VolumeCount) (step : Step) (q : List ℕ) (later : Progress) (new : Standing)
+    → Becomes old o false moved.Send (standing old.run counts (ToSend step))
+    → (ReceivesAt (standing old.run counts (ToSend step)) step Noise false later new → Becomes old o true later new)
+    → FedAt (ToSend step) (standing old.run counts (ToSend step)) [] q later new → Comes old o q new
+behind_send old o counts step [] later new sends fails (inl h) = (moved.Send, subst (Becomes old o false moved.Send) (sym h.2) sends)
+behind_send old o counts step [] later new sends fails (inr h) = absurd (h.0 refl)
+behind_send old o counts step (b ∷ q) later new sends fails (inl h) = let none : b ∷ q ≡ [] = h.0 in absurd (cc)
+behind_send old o counts step (b ∷ q) later new sends fails (inr h) = (later, fails h.1)
 
 behind_last : (old : Standing) (o : Outcome) (bytes q : List ℕ) (first later : Progress) (middle new : Standing) → IsBefore o
     → Becomes old o false first middle → IsFed bytes q later new middle
     → Comes old o q new
-behind_last old (GoesOn step) bytes q first later middle new before h f = behind_step old step q later new before (subst (IsFed bytes q later new) h.1 f)
-behind_last old (Fails fault) bytes q first later middle new before h f = (first, behind_more old (Fails fault) bytes q first later middle new h f)
-behind_last old (Counted next) bytes q first later middle new before h f = behind_count old next q later new (subst (IsFed bytes q later new) h.1 f)
-behind_last old Ended bytes q first later middle new before h f = (first, behind_more old Ended bytes q first later middle new h f)
+behind_last old (GoesOn step) bytes q first later middle new before h f =
+    behind_send old (GoesOn step) old.counts step q later new (refl, refl) (early (standing old.run old.counts (ToSend step)) step later new before)
+    (subst (IsFed bytes q later new) h.1 f)
+behind_last old (Counted next) bytes q first later middle new before h f =
+    behind_send old (Counted next) (counted_to old.counts next) Close q later new (refl, refl) (λ closes. closes) (subst (IsFed bytes q later new) h.1 f)
+behind_last old o bytes q first later middle new before h f = (first, behind_more old o bytes q first later middle new h f)
 
 behind_reply : (old : Standing) (o : Outcome) (rest bytes q : List ℕ) (first later : Progress) (middle new : Standing) → IsBefore o
     → Becomes old o (is_more rest) first middle → IsFed bytes q later new middle
@@ -156,45 +197,7 @@ fed_at (ToSend step) old middle new bytes p q first later at h f = sent old midd
 fed_at (Waiting step) old middle new bytes p q first later at h f = waited old middle new step bytes p q h.1 h.0 first later at h.2 h.3 f
 fed_at stage old middle new bytes p q first later at h f = (later, idle stage old middle new (bytes ++ p) q later at h.1 f)
 
+-- two pieces do what both do as one
 pub fed_in_pieces : (old middle new : Standing) (bytes p q : List ℕ) (first later : Progress) → FedAt old.stage old bytes p first middle
     → FedAt middle.stage middle (unanswered middle.stage (bytes ++ p)) q later new → (whole : Progress) × FedAt old.stage old bytes (p ++ q) whole new
 fed_in_pieces old middle new bytes p q first later h f = fed_at old.stage old middle new bytes p q first later refl h f
-
--- a failure leaves the counts
-failed_becomes : (old : Standing) (o : Outcome) (more : Bool) (fault : AttemptFault) (new : Standing) → Becomes old o more (moved.Failed fault) new
-    → new.counts ≡ old.counts
-failed_becomes old (GoesOn step) false fault new h = let e : moved.Failed fault ≡ moved.Send = h.0 in absurd (cc)
-failed_becomes old (GoesOn step) true fault new h = ap (λ (s : Standing). s.counts) h.1
-failed_becomes old (Fails other) more fault new h = ap (λ (s : Standing). s.counts) h.1
-failed_becomes old (Counted next) false fault new h = let e : moved.Failed fault ≡ moved.Send = h.0 in absurd (cc)
-failed_becomes old (Counted next) true fault new h = let e : moved.Failed fault ≡ moved.Ended = h.0 in absurd (cc)
-failed_becomes old Ended more fault new h = let e : moved.Failed fault ≡ moved.Ended = h.0 in absurd (cc)
-
-failed_makes : (old : Standing) (step : Step) (bytes rest : List ℕ) (seen : Result (Option PlainReply) WireFault) (fault : AttemptFault) (new : Standing)
-    → Makes old step bytes seen rest (moved.Failed fault) new → new.counts ≡ old.counts
-failed_makes old step bytes rest (Ok None) fault new m = ap (λ (s : Standing). s.counts) m.1
-failed_makes old step bytes rest (Ok (Some reply)) fault new m = failed_becomes old (outcome old.run old.counts (checkpoint_of old.counts).1 step (Reply reply)) (is_more rest) fault new m
-failed_makes old step bytes rest (Err wire) fault new m = failed_becomes old (after_noise step) false fault new m
-
-failed_sent : (old new : Standing) (step : Step) (bytes p : List ℕ) (fault : AttemptFault) → FedAt (ToSend step) old bytes p (moved.Failed fault) new
-    → new.counts ≡ old.counts
-failed_sent old new step bytes p fault (inl h) = ap (λ (s : Standing). s.counts) h.2
-failed_sent old new step bytes p fault (inr h) = failed_becomes old (after_noise step) false fault new h.1
-
-failed_at : (stage : Stage) (old new : Standing) (bytes p : List ℕ) (fault : AttemptFault) → FedAt stage old bytes p (moved.Failed fault) new
-    → new.counts ≡ old.counts
-failed_at (ToSend step) old new bytes p fault h = failed_sent old new step bytes p fault h
-failed_at (Waiting step) old new bytes p fault h = failed_makes old step (bytes ++ p) h.1 h.0 fault new h.3
-failed_at stage old new bytes p fault h = ap (λ (s : Standing). s.counts) h.1
-
-pub failed_keeps : (old new : Standing) (bytes p : List ℕ) (fault : AttemptFault) → FedAt old.stage old bytes p (moved.Failed fault) new
-    → new.counts ≡ old.counts
-failed_keeps old new bytes p fault h = failed_at old.stage old new bytes p fault h
-
-cut_at : (stage : Stage) (old new : Standing) (fault : AttemptFault) → CutAt stage old (moved.Failed fault) new → new.counts ≡ old.counts
-cut_at (ToSend step) old new fault h = failed_becomes old (after_end step) false fault new h
-cut_at (Waiting step) old new fault h = failed_becomes old (after_end step) false fault new h
-cut_at stage old new fault h = ap (λ (s : Standing). s.counts) h.1
-
-pub cut_keeps : (old new : Standing) (fault : AttemptFault) → CutAt old.stage old (moved.Failed fault) new → new.counts ≡ old.counts
-cut_keeps old new fault h = cut_at old.stage old new fault h

@@ -1,22 +1,55 @@
--- What an outcome makes of a client: told once for the crates above, which do not see outcomes.
-use Rattle.std.proofs.Common.{◌≡◌, ◌⊎◌, ℕ, ◌+◌, Bool, true, false, List, [], ◌∷◌, None, refl, inl, inr, arith}
+-- What an outcome makes of a client, and what is unanswered then: told once for the crates above, which do not see outcomes.
+use Rattle.std.proofs.Common.{◌≡◌, inl, inr, ℕ, Bool, true, false, List, [], refl, sym, ap, subst, None, ◌⊎◌, ◌+◌, ◌∷◌, arith}
 use Rattle.std.proofs.lemmas.Bool.Decides.{eqb_tells}
-use Rattle.rmt_wire.specs.ReplyReader.{reply_held, ReplyUnread}
-use Rattle.dump_run.specs.Run.{PlainRun}
-use Rattle.dump_run.specs.declared.count.VolumeCount.{VolumeCount}
+use Rattle.rmt_wire.specs.ReplyReader.{ReplyUnread, reply_held}
+use Rattle.rmt_wire.specs.ReplyReader as reader
 use Rattle.dump_client.specs.Position.{CoversFrom, Covers}
-use Rattle.dump_client.specs.Standing.{Standing, standing, counted_to, Becomes, IsOver}
+use Rattle.dump_client.specs.Standing.{IsOver, Becomes, counted_to}
 use Rattle.dump_client.specs.Client.{HasFedAt, unanswered}
-use Rattle.dump_client.specs.declared.fault.AttemptFault.{AttemptFault}
-use Rattle.dump_client.specs.declared.fault.AttemptFault.TheVariants.{Botched}
-use Rattle.dump_client.specs.declared.outcome.Outcome.{Outcome}
-use Rattle.dump_client.specs.declared.outcome.Outcome.TheVariants.{GoesOn, Fails, Counted, Ended}
-use Rattle.dump_client.specs.declared.step.Step.{Step}
-use Rattle.dump_client.specs.declared.step.Step.TheVariants.{Close}
-use Rattle.dump_client.specs.declared.stage.Stage.{Stage}
-use Rattle.dump_client.specs.declared.stage.Stage.TheVariants.{Ready, ToSend, Asking, Finished}
-use Rattle.dump_client.specs.declared.stage.Progress.{Progress}
 use Rattle.dump_client.specs.declared.stage.Progress.TheVariants as moved
+use Rattle.dump_client.proofs.Attempt.{PlainRun, VolumeCount, Standing, standing, Outcome, GoesOn, Fails, Counted, Ended, Progress, Step, AttemptFault, Botched, Close, Stage, Ready, ToSend, Asking, Finished}
+use Rattle.dump_client.proofs.Outcomes.{IsFinal}
+
+-- between attempts and in a step that is to be sent, nothing is
+abbrev pub IsUnanswered : Standing → reader.ReplyHeld → List ℕ → Type 0
+IsUnanswered s reader bytes = HasFedAt s.stage reader (unanswered s.stage bytes)
+
+over_fed : (run : PlainRun) (counts : List VolumeCount) (new : Standing) (r : reader.ReplyHeld) (bytes : List ℕ) → IsOver run counts new
+    → IsUnanswered new r bytes
+over_fed run counts new r bytes (inl h) = subst (λ n. IsUnanswered n r bytes) (sym h.1) refl
+over_fed run counts new r bytes (inr h) = subst (λ n. IsUnanswered n r bytes) (sym h.1) refl
+
+over_run : (run : PlainRun) (counts : List VolumeCount) (new : Standing) → IsOver run counts new → new.run ≡ run
+over_run run counts new (inl h) = ap (λ n. n.run) h.1
+over_run run counts new (inr h) = ap (λ n. n.run) h.1
+
+-- the run stays the same
+pub becomes_run : (old : Standing) (outcome : Outcome) (more : Bool) (progress : Progress) (new : Standing) → Becomes old outcome more progress new
+    → new.run ≡ old.run
+becomes_run old (GoesOn step) false progress new h = ap (λ n. n.run) h.1
+becomes_run old (GoesOn step) true progress new h = ap (λ n. n.run) h.1
+becomes_run old (Fails fault) more progress new h = ap (λ n. n.run) h.1
+becomes_run old (Counted next) false progress new h = ap (λ n. n.run) h.1
+becomes_run old (Counted next) true progress new h = over_run old.run (Rattle.dump_client.specs.Standing.counted_to old.counts next) new h.1
+becomes_run old Ended more progress new h = over_run old.run old.counts new h.1
+
+-- after an outcome no byte is unanswered
+pub becomes_fed : (old : Standing) (outcome : Outcome) (more : Bool) (progress : Progress) (new : Standing) (r : reader.ReplyHeld) (bytes : List ℕ)
+    → Becomes old outcome more progress new
+    → (more ≡ false → ReplyUnread r None []) → HasFedAt new.stage r (unanswered new.stage bytes)
+becomes_fed old (GoesOn step) false progress new r bytes h k = subst (λ n. IsUnanswered n r bytes) (sym h.1) (k refl, refl)
+becomes_fed old (GoesOn step) true progress new r bytes h k = subst (λ n. IsUnanswered n r bytes) (sym h.1) refl
+becomes_fed old (Fails fault) more progress new r bytes h k = subst (λ n. IsUnanswered n r bytes) (sym h.1) refl
+becomes_fed old (Counted next) false progress new r bytes h k = subst (λ n. IsUnanswered n r bytes) (sym h.1) (k refl, refl)
+becomes_fed old (Counted next) true progress new r bytes h k = over_fed old.run (Rattle.dump_client.specs.Standing.counted_to old.counts next) new r bytes h.1
+becomes_fed old Ended more progress new r bytes h k = over_fed old.run old.counts new r bytes h.1
+
+-- after bytes that are no reply, and the end of the connection, nothing is to be sent
+pub final_fed : (old : Standing) (o : Outcome) (more : Bool) (progress : Progress) (new : Standing) (r : reader.ReplyHeld) (bytes : List ℕ) → IsFinal o
+    → Becomes old o more progress new → HasFedAt new.stage r (unanswered new.stage bytes)
+final_fed old (Fails fault) more progress new r bytes final h = subst (λ n. IsUnanswered n r bytes) (sym h.1) refl
+final_fed old Ended more progress new r bytes final h = over_fed old.run old.counts new r bytes h.1
+final_fed old o more progress new r bytes final h = absurd final
 
 -- The attempt failed, goes on to a step, counted its volume and goes on to its close, or is over, with the count where bytes
 -- follow the reply to MTOFFL.
@@ -28,6 +61,7 @@ pub data HeardAs (old new : Standing) (more : Bool) (progress : Progress) : Type
   has_ended : progress ≡ moved.Ended → IsOver old.run old.counts new → HeardAs old new more progress
   counted_last : (end : ℕ) → more ≡ true → progress ≡ moved.Ended → IsOver old.run (counted_to old.counts end) new → HeardAs old new more progress
 
+-- each outcome is one of these
 pub heard_as : (old new : Standing) (o : Outcome) (more : Bool) (progress : Progress) → Becomes old o more progress new → HeardAs old new more progress
 heard_as old new (GoesOn step) false progress (tells, is) = goes_to step refl tells is
 heard_as old new (GoesOn step) true progress (tells, is) = has_failed Botched tells is

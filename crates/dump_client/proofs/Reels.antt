@@ -4,24 +4,14 @@ use Rattle.std.proofs.lemmas.Fmt.{decimal_injective}
 use Rattle.std.proofs.lemmas.List.{append_cancel_left}
 use Rattle.std.proofs.lemmas.List.Elements.{Contains-append_cases, Contains-append_right, Contains-append_left, Contains-push_cases, Contains-push, All-contains}
 use Rattle.std.proofs.lemmas.Slice.Eq.{bytes_eq-Decides}
-use Rattle.rmt_wire.specs.Reply.{PlainReply}
-use Rattle.rmt_wire.specs.Reply.PlainReply.{Done, Data, Error}
-use Rattle.dump_run.specs.Run.{PlainRun, IsRun}
 use Rattle.dump_run.specs.Counts.{AreVolumes}
 use Rattle.dump_run.specs.Checkpoint.{AreNumbers}
 use Rattle.dump_run.specs.Label.{line_of, label, label_lines}
-use Rattle.dump_run.specs.declared.count.VolumeCount.{VolumeCount}
 use Rattle.dump_run.proofs.FieldCut.{one_cut, lacks_decimal}
 use Rattle.dump_run.proofs.Ordering.{volumes_numbers}
 use Rattle.dump_client.specs.Script.{counted_label}
-use Rattle.dump_client.specs.Position.{IsFailure, ShowsCounted, Received, outcome, after_step, after_label, after_reply}
-use Rattle.dump_client.specs.declared.step.Step.{Step}
-use Rattle.dump_client.specs.declared.step.Step.TheVariants.{Operation, Look}
-use Rattle.dump_client.specs.declared.step.TapeOp.TheVariants.{Unload}
-use Rattle.dump_client.specs.declared.outcome.Outcome.{Outcome}
-use Rattle.dump_client.specs.declared.outcome.Outcome.TheVariants.{Fails}
-use Rattle.dump_client.specs.declared.fault.AttemptFault.{AttemptFault}
-use Rattle.dump_client.specs.declared.fault.AttemptFault.TheVariants.{Refused, CountedReel}
+use Rattle.dump_client.specs.Position.{IsFailure, ShowsCounted, outcome, after_step, after_label, after_reply}
+use Rattle.dump_client.proofs.Attempt.{PlainReply, Done, Data, Error, PlainRun, IsRun, VolumeCount, Received, Step, Operation, Look, Unload, Outcome, Fails, AttemptFault, CountedReel}
 use Rattle.dump_client.proofs.Outcomes.{CanFail, led}
 
 -- texts that begin with the same line
@@ -38,10 +28,6 @@ same_last run v f w g zeros more is =
     cancel (line_of (codes "since") (decimal run.since)) _ _ zeros more
     (cancel (line_of (codes "date") (decimal run.date)) _ _ zeros more
     (cancel (line_of (codes "level") (decimal run.level)) _ _ zeros more (cancel (line_of (codes "name") run.name) _ _ zeros more is)))
-
--- the number of the volume, and what follows its digits
-abbrev digits_then : ℕ → ℕ → List ℕ → List ℕ
-digits_then volume first zeros = (decimal volume ++ 10 ∷ []) ++ line_of (codes "first") (decimal first) ++ zeros
 
 digits_first : (v : ℕ) (rest zeros : List ℕ) → ((decimal v ++ 10 ∷ []) ++ rest) ++ zeros ≡ decimal v ++ 10 ∷ (rest ++ zeros)
 digits_first v rest zeros = append_assoc (decimal v ++ 10 ∷ []) rest zeros ∙ append_assoc (decimal v) (10 ∷ []) (rest ++ zeros)
@@ -62,15 +48,8 @@ nowhere : (x : VolumeCount) → Contains [] x → ⊥
 nowhere x h = let lt = h.1 in absurd (omega arith)
 
 in_rest : (d c : VolumeCount) (counts : List VolumeCount) → Contains (d ∷ counts) c → (d ≡ c) ⊎ Contains counts c
-in_rest d c counts h = by (Contains-append_cases (d ∷ []) counts c h)
-  where
-    here : Contains [] c ⊎ (d ≡ c) → (d ≡ c) ⊎ Contains counts c
-    here (inl none) = absurd (nowhere c none)
-    here (inr same) = inl same
-
-    by : Contains (d ∷ []) c ⊎ Contains counts c → (d ≡ c) ⊎ Contains counts c
-    by (inl first) = here (Contains-push_cases [] d c first)
-    by (inr rest) = inr rest
+in_rest d c counts h =
+    grind (arith, Contains-append_cases (d ∷ []) counts c h, Contains-push_cases [] d c, nowhere c)
 
 abbrev IsLabelOf : PlainRun → List VolumeCount → ℕ → List ℕ → Type 0
 IsLabelOf run counts volume bytes = (c : VolumeCount) × Contains counts c × (c.volume ≡ volume) × (bytes ≡ label run c.volume c.first)
@@ -130,19 +109,18 @@ shows : (run : PlainRun) (counts : List VolumeCount) (first volume : ℕ) (reply
 shows run counts first volume reply few (c, has, same, is) =
     ap (after_reply run counts first Look) is ∙ ap (after_label run first) (finds run counts c few has ∙ ap Some same)
 
+-- the look fails with `CountedReel` if and only if it reads the label of a counted volume
 pub exactly : (run : PlainRun) (counts : List VolumeCount) (first volume : ℕ) (reply : PlainReply) → IsRun run → AreVolumes run 1 0 counts
     → (after_reply run counts first Look reply ≡ Fails (CountedReel volume)) ↔ ShowsCounted run counts volume reply
 exactly run counts first volume reply good v =
     (shown run counts first volume reply, shows run counts first volume reply (volumes_numbers run counts good v))
 
+-- the label of a counted volume fails the attempt, whatever else is counted
 pub stops : (run : PlainRun) (counts : List VolumeCount) (first volume : ℕ) (reply : PlainReply) → ShowsCounted run counts volume reply
     → IsFailure (after_reply run counts first Look reply)
 stops run counts first volume reply (c, has, same, is) =
     let met = meets run counts c has in
     subst IsFailure (sym (ap (after_reply run counts first Look) is ∙ ap (after_label run first) met.1)) tt
-
-pub refused : (run : PlainRun) (counts : List VolumeCount) (first n : ℕ) (text : List ℕ) → after_reply run counts first Look (Error n text) ≡ Fails (Refused n)
-refused run counts first n text = refl
 
 -- no other step fails so
 abbrev IsReel : Outcome → Type 0
@@ -158,6 +136,7 @@ only_look Look fault can reel = refl
 only_look step (CountedReel volume) can reel = absurd can
 only_look step fault can reel = absurd reel
 
+-- a step other than the look never fails with `CountedReel`
 pub alone : (run : PlainRun) (counts : List VolumeCount) (first volume : ℕ) (step : Step) (heard : Received) → step ≢ Look
     → outcome run counts first step heard ≢ Fails (CountedReel volume)
 alone run counts first volume step heard other is =

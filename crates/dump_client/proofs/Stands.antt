@@ -1,25 +1,72 @@
--- A lawful client stands at a position of its attempt's volume.
-use Rattle.std.proofs.Common.{◌≡◌, ℕ, ◌+◌, ◌-◌, ◌<◌, List, [], ◌∷◌, ◌++◌, length, map, take, Contains, refl, sym, ◌∙◌, ap, subst, arith, append_assoc, length-append}
+-- A lawful client stands at a position of its attempt's volume, where MTOFFL is among the requests only after its mark.
+use Rattle.std.proofs.Common.{All, rules, ◌≡◌, ℕ, zero, suc, ◌-◌, ◌<◌, Bool, true, false, if◌then◌else◌, nat_lt, List, [], ◌∷◌, ◌++◌, map, Contains, sym, ap, subst, arith, ◌+◌, length, take, refl, ◌∙◌, append_assoc, length-append}
 use Rattle.std.proofs.lemmas.List.{map-append}
+use Rattle.std.proofs.lemmas.List.Elements.{All-from_recursion, All-nil, All-append, All-push, All-weaker, All-map, All-contains, Contains-append_right, Contains-push}
+use Rattle.std.specs.List.{AllByRecursion as ByRecursion}
 use Rattle.std.proofs.Math.Seq.{take-length, take-append_seam}
 use Rattle.rmt_wire.specs.Request.{PlainRequest}
 use Rattle.rmt_wire.specs.Request.PlainRequest.{Op}
-use Rattle.rmt_wire.specs.declared.mtio.TheConstants.{MTOFFL}
-use Rattle.dump_run.specs.Run.{PlainRun}
-use Rattle.dump_client.specs.Script.{Wish, IsCount, request_of, steps_of, script}
+use Rattle.rmt_wire.specs.declared.mtio.TheConstants.{MTOFFL, MTWEOF}
+use Rattle.dump_client.specs.Script.{request_of, IsCount, steps_of, script}
+use Rattle.dump_client.specs.Lawful.{blocks_from, steps_to_block, steps_to, steps_before, AreVolumes, StepFits, StageFits, IsLawful, counts_before, attempt_at, sent_before, sent_with, StandsAtStep, StandsAt}
 use Rattle.dump_client.specs.Position.{Position}
-use Rattle.dump_client.specs.Standing.{Standing, checkpoint_after, checkpoint_of}
-use Rattle.dump_client.specs.Lawful.{AreVolumes, StepFits, StageFits, IsLawful, steps_before, counts_before, attempt_at, sent_before, sent_with, StandsAtStep, StandsAt}
-use Rattle.dump_client.specs.declared.step.Step.{Step}
-use Rattle.dump_client.specs.declared.step.Step.TheVariants.{Close}
-use Rattle.dump_client.specs.declared.stage.Stage.{Stage}
-use Rattle.dump_client.specs.declared.stage.Stage.TheVariants.{ToSend, Waiting}
-use Rattle.dump_run.specs.declared.count.VolumeCount.{VolumeCount}
-use Rattle.dump_client.proofs.Checkpoint.{checkpoint_behind, volumes_behind}
-use Rattle.dump_client.proofs.Order.{left_begins, fits_left, fits_within}
+use Rattle.dump_client.specs.Standing.{checkpoint_after}
+use Rattle.dump_client.proofs.Attempt.{PlainRun, VolumeCount, Wish, Step, Operation, Block, Close, Mark, Unload, Standing, checkpoint_of, Stage, ToSend, Waiting}
 use Rattle.dump_client.proofs.Outcomes.{NotClose}
+use Rattle.dump_client.proofs.Checkpoint.{checkpoint_behind, volumes_behind}
+use Rattle.dump_client.proofs.Order.{left_begins, fits_within}
 use Rattle.dump_client.proofs.Steps.{Reaches, plain_then, reaches, reaches_close}
-use Rattle.dump_client.proofs.Unloaded.{not_unloaded, unloaded}
+
+-- the number of the operation that is asked for, and 0 where none is
+abbrev op_of : PlainRequest → ℕ
+op_of (Op op count) = op
+op_of request = 0
+
+-- a step that unloads nothing
+abbrev NotUnload : Step → Type 0
+NotUnload (Operation (Unload next)) = ⊥
+NotUnload step = Unit {0}
+
+no_blocks : (first count : ℕ) → ByRecursion NotUnload (blocks_from first count)
+no_blocks first zero = tt
+no_blocks first (suc count) = (tt, no_blocks (suc first) count)
+
+no_refused : (next : ℕ) (left : Bool) → All NotUnload (if left then Block next ∷ [] else [])
+no_refused next true = All-from_recursion NotUnload (Block next ∷ []) (tt, tt)
+no_refused next false = All-nil NotUnload
+
+to_block : (first number : ℕ) → All NotUnload (steps_to_block first number)
+to_block first number = All-from_recursion NotUnload (steps_to_block first number) (tt, (tt, (tt, (tt, (tt, no_blocks first (number - first))))))
+
+to_mark : (run : PlainRun) (first next : ℕ) → All NotUnload (steps_to run first next)
+to_mark run first next = All-append NotUnload (steps_to_block first next) _ (to_block first next) (no_refused next (nat_lt next run.blocks))
+
+-- before the close there is none
+no_unload : (run : PlainRun) (first next : ℕ) (step : Step) → NotClose step → All NotUnload (steps_before run first next step)
+no_unload run first next (Block number) other = to_block first number
+no_unload run first next (Operation (Mark end)) other = to_mark run first end
+no_unload run first next (Operation (Unload end)) other = All-push NotUnload (steps_to run first end) (Operation (Mark end)) (to_mark run first end) tt
+no_unload run first next Close other = absurd other
+no_unload run first next step other = All-from_recursion NotUnload (steps_before run first next step) (search rules)
+
+module _ (run : PlainRun) (payload : List (List ℕ)) (volume first : ℕ) where
+  other_op : (step : Step) → NotUnload step → op_of (request_of run payload volume first step) < 6
+  other_op (Operation (Unload next)) other = absurd other
+  other_op step other = omega arith
+
+  pub not_unloaded : (next : ℕ) (step : Step) → NotClose step
+      → Contains (map (request_of run payload volume first) (steps_before run first next step)) (Op MTOFFL 1) → ⊥
+  not_unloaded next step other h =
+      let small = All-weaker NotUnload (λ s. op_of (request_of run payload volume first s) < 6) other_op _ (no_unload run first next step other) in
+      let six : op_of (Op MTOFFL 1) < 6 = All-contains (λ r. op_of r < 6) _ _ (All-map (λ r. op_of r < 6) (request_of run payload volume first) _ small) h in
+      absurd (omega arith)
+
+  -- at the close it is
+  pub unloaded : (next : ℕ) → Contains (map (request_of run payload volume first) (steps_before run first next Close)) (Op MTOFFL 1)
+  unloaded next =
+      let sent : Step → PlainRequest = request_of run payload volume first in
+      subst (λ l. Contains l (Op MTOFFL 1)) (sym (map-append sent (steps_to run first next) (Operation (Mark next) ∷ Operation (Unload next) ∷ [])))
+      (Contains-append_right (map sent (steps_to run first next)) (Op MTWEOF 1 ∷ Op MTOFFL 1 ∷ []) (Op MTOFFL 1) (Contains-push (Op MTWEOF 1 ∷ []) (Op MTOFFL 1)))
 
 -- the requests of steps
 sent_of : (f : Step → PlainRequest) (steps : List (Step × Wish))
@@ -121,7 +168,8 @@ before_stands : (run : PlainRun) (payload : List (List ℕ)) (counts : List Volu
     → (count : ℕ) × Position run payload (checkpoint_of counts).0 (checkpoint_of counts).1 count sent got × (Contains (take got sent) (Op MTOFFL 1) → ⊥)
 before_stands run payload counts step sent got other fits places =
     let first = (checkpoint_of counts).1 in
-    let r = reaches run first (left_begins run counts (fits_left run counts step other fits)) step (fits_within run counts step other fits) in
+    let here = fits_within run counts step other fits in
+    let r = reaches run first (left_begins run counts here.0) step here.1 in
     let placed = places r.0 r.1 in
     (r.0, placed.0, subst (λ l. Contains l (Op MTOFFL 1) → ⊥) (sym placed.1) (not_unloaded run payload (checkpoint_of counts).0 first first step other))
 
@@ -154,5 +202,6 @@ stage_stands run payload counts (Waiting step) v fits =
     (waiting run payload (attempt_at step counts).0 (attempt_at step counts).1 (checkpoint_of counts).1 step)
 stage_stands run payload counts stage v fits = tt
 
+-- a lawful client is at a position of its volume's script
 pub stands : (s : Standing) (payload : List (List ℕ)) → IsLawful s → StandsAt s.run payload s.counts s.stage
 stands s payload lawful = stage_stands s.run payload s.counts s.stage lawful.counts lawful.stage

@@ -2,20 +2,11 @@
 use Rattle.std.proofs.Common.{◌≡◌, ◌⊎◌, inl, inr, ℕ, zero, suc, ◌+◌, ◌-◌, ◌<◌, ◌≤◌, Bool, true, false, if◌then◌else◌, nat_lt, List, [], ◌∷◌, ◌++◌, map, take, refl, sym, ◌∙◌, ap, arith, append_assoc}
 use Rattle.std.proofs.lemmas.Bool.Decides.{nat_tests}
 use Rattle.std.proofs.lemmas.List.{append-nil, map-append}
-use Rattle.rmt_wire.specs.Reply.{PlainReply}
-use Rattle.dump_run.specs.Run.{PlainRun}
-use Rattle.dump_run.specs.declared.count.VolumeCount.{VolumeCount}
-use Rattle.dump_client.specs.Script.{Wish, Grants, IsCount, block_steps, refused_step, last_steps, first_steps, steps_of}
-use Rattle.dump_client.specs.Script.Wish.{Number, NoRoom, Anything}
+use Rattle.dump_client.specs.Script.{Grants, IsCount, block_steps, refused_step, last_steps, first_steps, steps_of}
 use Rattle.dump_client.specs.Position.{after_step, after_reply, block_or_mark}
-use Rattle.dump_client.specs.Position.Received.{Reply}
 use Rattle.dump_client.specs.Lawful.{blocks_from, steps_to, steps_before}
 use Rattle.dump_client.specs.Replies.{EndsAt}
-use Rattle.dump_client.specs.declared.step.Step.{Step}
-use Rattle.dump_client.specs.declared.step.Step.TheVariants.{Open, Operation, Look, Label, Block, Close}
-use Rattle.dump_client.specs.declared.step.TapeOp.TheVariants.{Rewind, RewindAgain, Mark, Unload}
-use Rattle.dump_client.specs.declared.outcome.Outcome.{Outcome}
-use Rattle.dump_client.specs.declared.outcome.Outcome.TheVariants.{GoesOn, Fails, Counted, Ended}
+use Rattle.dump_client.proofs.Attempt.{PlainReply, PlainRun, VolumeCount, Wish, Number, NoRoom, Anything, Reply, Step, Open, Operation, Look, Label, Block, Close, Rewind, RewindAgain, Mark, Unload, Outcome, GoesOn, Fails, Counted, Ended}
 use Rattle.dump_client.proofs.Outcomes.{NotClose, wish_of, led}
 
 -- a volume can begin at this block, and end before that one
@@ -65,22 +56,15 @@ plain_refused : (next : ℕ) (left : Bool)
 plain_refused next true = refl
 plain_refused next false = refl
 
-plain_to_block : (run : PlainRun) (first number : ℕ) → map (λ s. s.0) (before_block run first number) ≡ steps_before run first first (Block number)
-plain_to_block run first number = ap (λ l. map (λ (s : Step × Wish). s.0) first_steps ++ l) (plain_blocks run first (number - first))
-
-plain_mark : (run : PlainRun) (first end : ℕ) → map (λ s. s.0) (before_mark run first end) ≡ steps_to run first end
-plain_mark run first end =
-    map-append (λ s. s.0) (before_block run first end) (refused_step run end)
-    ∙ ap (λ l. l ++ map (λ s. s.0) (refused_step run end)) (plain_to_block run first end)
-    ∙ ap (λ l. steps_before run first first (Block end) ++ l) (plain_refused end (nat_lt end run.blocks))
-
 plain_after : (run : PlainRun) (first end : ℕ) (rest : List (Step × Wish))
     → map (λ s. s.0) (before_mark run first end ++ rest) ≡ steps_to run first end ++ map (λ s. s.0) rest
-plain_after run first end rest = map-append (λ s. s.0) (before_mark run first end) rest ∙ ap (λ l. l ++ map (λ s. s.0) rest) (plain_mark run first end)
+plain_after run first end rest =
+    let mark : map (λ s. s.0) (before_mark run first end) ≡ steps_to run first end = simp (map-append, plain_blocks, plain_refused) in
+    map-append (λ s. s.0) (before_mark run first end) rest ∙ ap (λ l. l ++ map (λ s. s.0) rest) mark
 
 pub plain_before : (run : PlainRun) (first next : ℕ) (step : Step) → map (λ s. s.0) (before run first next step) ≡ steps_before run first next step
-plain_before run first next (Block number) = plain_to_block run first number
-plain_before run first next (Operation (Mark end)) = plain_mark run first end
+plain_before run first next (Block number) = simp plain_blocks
+plain_before run first next (Operation (Mark end)) = simp (map-append, plain_blocks, plain_refused)
 plain_before run first next (Operation (Unload end)) = plain_after run first end ((Operation (Mark end), Number 1) ∷ [])
 plain_before run first next Close = plain_after run first next ((Operation (Mark next), Number 1) ∷ (Operation (Unload next), Number 1) ∷ [])
 plain_before run first next step = refl

@@ -57,15 +57,15 @@ impl<B: Blocks> Model for Client<B> {
 }
 
 impl<B: Blocks + Drop> Client<B> {
-    /// Makes a client of this run, with nothing counted, in state `Ready`.
+    /// Makes a client for the given run. The client has counted nothing, and is in state `Ready`.
     ///
     /// If the source's blocks are known, they must be as many as the run has, each of its size. It
     /// reserves `rmt_wire::READER_LIMIT` bytes for replies, and fails only if that allocation
     /// fails.
     pub fn new(alloc: Global, run: Run, source: B) -> Result<Client<B>, AllocError>
         requires { (payload : List (List ℕ)) → B.holds source payload → IsPayload run payload }
-        // Returns a client with the given run and source. The client is ready and has counted
-        // nothing.
+        // Returns a client with the given run and source. The client is in state `Ready`, and has
+        // counted nothing.
         ensures made { IfOk result (λ c. c.at ≡ standing run [] stages.Ready) }
         ensures given { IfOk result (λ c. c.source ≡ source) }
     {
@@ -74,6 +74,7 @@ impl<B: Blocks + Drop> Client<B> {
 
     /// Makes a client with this ledger, which must be in no attempt. Fails only if the allocation
     /// for replies fails.
+    #[tactic(auto, using(crate::proofs::Feeding::idle_fed))]
     fn of_ledger(alloc: Global, ledger: Ledger, source: B) -> Result<Client<B>, AllocError>
         requires blocks { (payload : List (List ℕ)) → B.holds source payload → IsPayload ledger.at.run payload }
         requires idle { IsIdle ledger.at.stage }
@@ -90,8 +91,7 @@ impl<B: Blocks + Drop> Client<B> {
 }
 
 impl<B: Blocks + Drop> Client<B> {
-    /// Makes a client from the text of a checkpoint, with the run and the counts of that
-    /// checkpoint.
+    /// Makes a client with the run and the counts that a checkpoint's text contains.
     ///
     /// The client is `Finished` if the counts are the whole run, and `Ready` otherwise. If the
     /// source's blocks are known, they must be as many as the run has, each of its size.
@@ -102,18 +102,18 @@ impl<B: Blocks + Drop> Client<B> {
     pub fn resume(alloc: Global, bytes: &[u8], source: B) -> Result<Client<B>, ResumeFault>
         requires { (run : PlainRun) (counts : List VolumeCount) (payload : List (List ℕ)) → SpellsCheckpoint bytes.now run counts →
             B.holds source payload → IsPayload run payload }
-        // Returns a client with the run and the counts of the given checkpoint text, and with the
-        // given source.
+        // Returns a client with the run and the counts that the checkpoint's text contains.
         ensures spelled { IfOk result (λ c. SpellsCheckpoint bytes.now c.at.run c.at.counts) }
-        // The client is finished if and only if its counts cover the whole run. Otherwise the
-        // client is ready.
+        // The client is in state `Finished` if and only if its counts cover the whole run.
+        // Otherwise the client is in state `Ready`.
         ensures over { IfOk result (λ c. IsOver c.at.run c.at.counts c.at) }
         // If the call returns a client, this client has the given source.
         ensures given { IfOk result (λ c. c.source ≡ source) }
-        // If the text is bad, the call returns the error that `Checkpoint::read` returns.
+        // If the given bytes are not the text of a checkpoint, the call returns the error that
+        // `Checkpoint::read` returns.
         ensures refused { IfErr result (HasResumeFault bytes.now) }
-        // If the text is the checkpoint of a run and its counts, the call returns a client with
-        // this run and these counts, or `OutOfMemory`.
+        // If the given bytes are the checkpoint text of a run and its counts, the call returns a
+        // client with this run and these counts, or the error `OutOfMemory`.
         ensures resumes { (run : PlainRun) (counts : List VolumeCount) → SpellsCheckpoint bytes.now run counts →
             ResumesAs run counts result }
     {
@@ -125,7 +125,7 @@ impl<B: Blocks + Drop> Client<B> {
         }
     }
 
-    /// Makes a client from a checkpoint, with the run and the counts of that checkpoint.
+    /// Makes a client with the run and the counts of a checkpoint.
     ///
     /// The client is `Finished` if the counts are the whole run, and `Ready` otherwise. If the
     /// source's blocks are known, they must be as many as the run has, each of its size. It
@@ -137,8 +137,8 @@ impl<B: Blocks + Drop> Client<B> {
         source: B,
     ) -> Result<Client<B>, AllocError>
         requires { (payload : List (List ℕ)) → B.holds source payload → IsPayload checkpoint.run payload }
-        // The client is finished if and only if its counts cover the whole run. Otherwise the
-        // client is ready.
+        // The client is in state `Finished` if and only if its counts cover the whole run.
+        // Otherwise the client is in state `Ready`.
         ensures over { IfOk result (λ c. IsOver checkpoint.run checkpoint.counts c.at) }
         // Returns a client with the run and the counts of the checkpoint, and with the given
         // source.
@@ -152,14 +152,16 @@ impl<B: Blocks + Drop> Client<B> {
 }
 
 impl<B: Blocks> Client<B> {
-    /// Returns the state: what the client waits for.
+    /// Returns the client's state, which says what the client waits for.
     pub fn state(&self) -> State
         // Returns the state of the client.
         ensures state { result ≡ state_of self.now.at.stage }
-        // Each client is *lawful*: its run is within the limits of a run, its counts are in order,
-        // and its stage fits the run and the counts.
+        // Every client is *lawful*: its run is within the limits of `Run::new`, its counts are in
+        // order, and its stage fits this run and these counts. For example, the client is finished
+        // only if the counts cover the run.
         ensures lawful { IsLawful self.now.at }
-        // The client holds the reply bytes that arrived after its last request. There may be none.
+        // While the client waits for a reply, the client holds the bytes of this reply that have
+        // arrived, perhaps none.
         ensures fed { (bytes : List ℕ) × HasFed self.now bytes }
     {
         let stage = self.ledger.stage();
@@ -168,7 +170,7 @@ impl<B: Blocks> Client<B> {
 
     /// Returns the run.
     pub fn run(&self) -> &Run
-        // Returns the client's run. The types allow only this body, so there is no edit.
+        // Returns the client's run. The types allow no other body, so no wrong body is tried.
         ensures { result.now ≡ self.now.at.run }
     {
         self.ledger.run()
@@ -176,7 +178,7 @@ impl<B: Blocks> Client<B> {
 
     /// Returns the source of the blocks.
     pub fn source(&self) -> &B
-        // Returns the client's source. The types allow only this body, so there is no edit.
+        // Returns the client's source. The types allow no other body, so no wrong body is tried.
         ensures { result.now ≡ self.now.source }
     {
         &self.source
@@ -198,22 +200,23 @@ impl<B: Blocks> Client<B> {
         self.ledger.checkpoint()
     }
 
-    /// Appends the text of the client's checkpoint. `resume` makes a client with the same run and
-    /// counts from it.
+    /// Appends the text of the client's checkpoint to `out`. `resume` makes a client with the same
+    /// run and counts from it.
     ///
     /// Fails if an allocation fails. Nothing is appended then.
     pub fn checkpoint_text(&self, out: &mut Vec<u8>) -> Result<(), AllocError>
-        // Appends the text of the client's run and counts. If the call fails, it appends nothing.
+        // Appends the checkpoint text of the client's run and counts. If the call fails, it appends
+        // nothing.
         ensures appended { OnOk result (out.new.items ≡ out.old.items ++ texts.checkpoint_text self.now.at.run self.now.at.counts) }
         ensures unchanged { OnErr result (out.new.items ≡ out.old.items) }
     {
         push_checkpoint(self.ledger.run(), self.ledger.counted(), out)
     }
 
-    /// Returns the run's entry for dumpdates, if the run is finished.
+    /// Returns the run's entry for the dumpdates file, if the run is finished.
     pub fn finished(&self) -> Option<Entry<'_>>
-        // If the run is finished, returns the run's entry for dumpdates. Otherwise the call returns
-        // `None`.
+        // If the run is finished, returns the run's entry for the dumpdates file. Otherwise the
+        // call returns `None`.
         ensures { TellsEntry self.now.at.stage self.now.at.run result }
     {
         match self.ledger.stage() {
@@ -225,30 +228,29 @@ impl<B: Blocks> Client<B> {
         }
     }
 
-    /// Starts an attempt on a new connection, and reserves room for the count of the attempt's
-    /// volume.
+    /// Starts an attempt on a new connection, and reserves memory for one more count.
     ///
     /// Returns `WrongState` unless the client is `Ready`, and `OutOfMemory` if the allocation
     /// fails. Nothing has changed then.
     pub fn start(&mut self) -> Result<(), StartFault>
-        // Starts an attempt if the client is ready. The first request of the attempt is the open.
-        // If the client is not ready, nothing changes.
+        // In state `Ready`, the call starts an attempt or returns `OutOfMemory`. The first request
+        // of the attempt is the open. In any other state, the call changes nothing.
         //
         // When an attempt starts, the client holds no bytes of an earlier connection.
         //
-        // If the attempt starts, the client has room to count the attempt's volume. If the client
-        // had this room before, the call does not return `OutOfMemory`.
+        // If the attempt starts, the client has memory for one more count. If the client had this
+        // memory before the call, the call does not return `OutOfMemory`.
         ensures started { StartedAt self.old.at.stage self.old.at self.old.room result self.new.at }
         // When an attempt starts, the client holds no bytes of an earlier connection.
         ensures fed { (bytes : List ℕ) → HasFed self.old bytes → HasFed self.new bytes }
-        // If the call fails, the client's room for counts and its reply reader stay as they were.
-        // The source stays as it was, whether or not the call fails.
+        // If the call fails, the client's free room for counts does not change. The part of the
+        // client that reads replies does not change either. The call never changes the source.
         ensures same_source { self.new.source ≡ self.old.source }
-        // If the attempt starts, the client has room to count the attempt's volume. If the client
-        // had this room before, the call does not return `OutOfMemory`.
+        // If the attempt starts, the client has memory for one more count. If the client had this
+        // memory before the call, the call does not return `OutOfMemory`.
         ensures room { OnOk result (0 < self.new.room) }
-        // If the call fails, the client's room for counts and its reply reader stay as they were.
-        // The source stays as it was, whether or not the call fails.
+        // If the call fails, the client's free room for counts does not change. The part of the
+        // client that reads replies does not change either. The call never changes the source.
         ensures same_room { OnErr result (self.new.room ≡ self.old.room) }
         ensures same_reader { OnErr result (self.new.reader ≡ self.old.reader) }
     {
@@ -257,7 +259,7 @@ impl<B: Blocks> Client<B> {
         Ok(())
     }
 
-    /// Appends the next request to `out`, and then waits for its reply.
+    /// Appends the attempt's next request to `out`.
     ///
     /// Returns true if a request was appended. In any state but `ToSend` it returns false and does
     /// nothing. A block is read into its place in `out`, after the room for its write is reserved.
@@ -269,38 +271,40 @@ impl<B: Blocks> Client<B> {
     ///
     /// The close comes after the count, so there a failed allocation is no error. It returns false
     /// then, and the attempt is over.
+    #[tactic(auto, using(crate::proofs::Feeding::read_done, crate::proofs::Feeding::read_failed, crate::proofs::Listening::waiting_anew))]
     pub fn next_request(&mut self, out: &mut Vec<u8>) -> Result<bool, AttemptFault>
-        // If the client is in state `ToSend`, appends the text of the attempt's next request. The
-        // client then waits for the reply. In any other state, the call does nothing.
+        // In state `ToSend`, the call appends the text of the attempt's next request. The client
+        // then waits for the reply. In any other state, the call does nothing.
         //
-        // If the call returns an error, it appends nothing, and the attempt has failed.
+        // If the call returns an error, it has appended nothing, and the attempt has failed.
         //
-        // The only errors of the call are the source's error and `OutOfMemory`. The call returns
-        // `OutOfMemory` only if the buffer's spare room is smaller than the text of the request. If
-        // the request is the close, and an allocation for the close fails, the call returns no
-        // error, and the attempt is over.
+        // The call can return two errors: `SourceFault` and `OutOfMemory`. The call returns
+        // `OutOfMemory` only if the request's text is longer than the spare room in `out`. If an
+        // allocation for the close (the attempt's last request) fails, the call returns no error,
+        // and the attempt is over.
         ensures asked { NextRequestAt self.old.at.stage (B.holds self.old.source) self.old.at (vec_capacity out.old) out.old.items
             result out.new.items self.new.at }
-        // If the request writes a block, the call reads this block once from the source, by its
-        // number, and appends the bytes of the block. The call reads nothing else from the source,
-        // and the source's blocks stay as they were. If an allocation for the request fails, the
-        // call does not read the source.
+        // If the request writes a block, the call reads this block from the source once, by the
+        // block's number. The request that the call appends contains the bytes that were read. The
+        // call reads nothing else from the source. If an allocation for the request fails, the call
+        // does not read the source.
         //
-        // The call returns the source's error if and only if the read of the block failed.
+        // The call returns `SourceFault` if and only if the source failed to read the block.
         ensures read { ReadAt self.old.at.stage self.old.at.run.block_bytes B.reads self.old.source out.old.items
             result self.new.source out.new.items }
-        // The blocks of the source stay as they were.
+        // The call does not change the source's blocks.
         ensures same_blocks { (payload : List (List ℕ)) → B.holds self.old.source payload ↔ B.holds self.new.source payload }
-        // If the read fails, the source adds 1 to its number of failures. Otherwise this number
-        // stays as it was. A read fails only if the source can fail. If a source cannot fail before
-        // a read, it cannot fail after the read.
+        // If the read of the block fails, the source's number of failures grows by 1, but not
+        // beyond `u64::MAX`. Otherwise this number stays the same. `can_fail` says whether the
+        // source's next read can fail. The read fails only if `can_fail` is true before the call.
+        // The call does not change `can_fail` from false to true.
         ensures counted { B.failures self.new.source ≡ failures_after result (B.failures self.old.source) }
         ensures able { is_source_fault result ≡ true → B.can_fail self.old.source }
         ensures quiet { B.can_fail self.new.source → B.can_fail self.old.source }
-        // If the client is in state `ToSend`, appends the text of the attempt's next request. The
-        // client then waits for the reply. In any other state, the call does nothing.
+        // In state `ToSend`, the call appends the text of the attempt's next request. The client
+        // then waits for the reply. In any other state, the call does nothing.
         ensures fed { (bytes : List ℕ) → HasFed self.old bytes → HasFed self.new bytes }
-        // The number of places for counts, used and free together, stays the same.
+        // The total room for counts, used and free, stays the same.
         ensures slots { self.new.room + length self.new.at.counts ≡ self.old.room + length self.old.at.counts }
     {
         let Stage::ToSend(step) = self.ledger.stage() else {
@@ -323,47 +327,48 @@ impl<B: Blocks> Client<B> {
         }
     }
 
-    /// Takes a piece of the bytes that the server sends.
+    /// Takes the next piece of the bytes that the server sends.
     ///
     /// Before the count, bytes that are no reply fail the attempt, and so do bytes that come while
     /// no reply is awaited. After the count such bytes end the attempt, as any reply does. An empty
     /// piece changes nothing. If no attempt is under way, no piece changes anything.
     pub fn feed(&mut self, piece: &[u8]) -> Progress
         // Takes a piece of the server's reply. The effect depends on all bytes that arrived after
-        // the last request, this piece included. If the reply is not complete, the client keeps
-        // waiting. After a wanted reply, the client can send the next request. If no attempt is
-        // under way, the piece has no effect.
+        // the last request, including this piece. If the reply is not complete, the client keeps
+        // waiting. After any wanted reply but the last, the client can send the next request. If no
+        // attempt is under way, the piece has no effect.
         //
-        // When the wanted reply to MTOFFL is complete, the client counts the volume, with the
-        // number of blocks that were written. The client counts a volume at no other reply.
+        // When the wanted reply to MTOFFL is complete, the client counts the volume. The count has
+        // the number of blocks that were written. No other reply makes the client count a volume.
         //
         // Before the client writes the label, it rewinds the reel, reads the first record, and
-        // rewinds again. If the record is the label of a volume that this run has counted, the
-        // attempt fails. The fault contains the number of this volume. If the record is anything
-        // else, the attempt continues.
+        // rewinds the reel again. If the first record is the label of a volume that the client has
+        // counted, the attempt fails with `CountedReel`. This fault contains the volume's number.
+        // If the first record is anything else, the attempt continues.
         //
-        // If the reel becomes full after at least one block was written, the volume ends after the
-        // last written block. If the reel becomes full before a block was written, the attempt
-        // fails, because the reel is too small.
+        // If the reel becomes full after at least one block, the volume ends after the last written
+        // block. If the reel becomes full before the first block is written, the attempt fails with
+        // `ReelTooSmall`.
         //
-        // Until the client has counted the volume, every reply that is not wanted makes the attempt
+        // Before the client has counted the volume, a reply that is not wanted makes the attempt
         // fail, with the fault for this reply. The attempt also fails if bytes arrive that are not
-        // a reply, or if bytes arrive while the client waits for no reply. Once the client has
-        // counted the volume, such replies and bytes end the attempt without a failure.
+        // a reply, or if bytes arrive while the client waits for no reply. After the client has
+        // counted the volume, any reply ends the attempt without a failure, and so do bytes that
+        // are not a reply.
         //
-        // If the attempt fails, the counts stay as they were, and the client then asks the operator
-        // what to do.
+        // If the attempt fails, the counts do not change, and the client waits for the operator's
+        // answer.
         //
-        // When an attempt ends without a failure, the run is finished if and only if the counts
-        // cover all its blocks. Otherwise another attempt can start.
+        // When an attempt ends without a failure, the run is finished if the counts cover all
+        // blocks of the run. Otherwise another attempt can start.
         ensures moved { (bytes : List ℕ) → HasFed self.old bytes → FedAt self.old.at.stage self.old.at bytes piece.now result self.new.at }
         // Takes a piece of the server's reply. The effect depends on all bytes that arrived after
-        // the last request, this piece included. If the reply is not complete, the client keeps
-        // waiting. After a wanted reply, the client can send the next request. If no attempt is
-        // under way, the piece has no effect.
+        // the last request, including this piece. If the reply is not complete, the client keeps
+        // waiting. After any wanted reply but the last, the client can send the next request. If no
+        // attempt is under way, the piece has no effect.
         ensures fed { (bytes : List ℕ) → HasFed self.old bytes → HasFed self.new (unanswered self.new.at.stage (bytes ++ piece.now)) }
-        // The number of places for counts, used and free together, stays the same. The source stays
-        // as it was.
+        // The total room for counts, used and free, stays the same. The call does not change the
+        // source.
         ensures same_source { self.new.source ≡ self.old.source }
         ensures slots { self.new.room + length self.new.at.counts ≡ self.old.room + length self.old.at.counts }
     {
@@ -377,19 +382,20 @@ impl<B: Blocks> Client<B> {
     /// returned once, with the piece that completes the reply to the look. It is None if the record
     /// is no label, if the attempt fails at it, and at any other piece. It allocates nothing.
     pub fn feed_finding_label(&mut self, piece: &[u8]) -> (Progress, Option<VolumeLabel>)
-        // Takes a piece of the server's reply. The effect and the returned `Progress` are those of
-        // `feed`.
+        // Takes a piece of the server's reply. The call has the same effect as `feed`, and returns
+        // the same `Progress`.
         ensures moved { (bytes : List ℕ) → HasFed self.old bytes → FedAt self.old.at.stage self.old.at bytes piece.now result.0 self.new.at }
-        // Suppose that the client waits for the reply to the look, and that the attempt continues
-        // after this piece. Then the reply is complete, and contains the reel's first record. The
-        // call returns the label that this record contains, or `None` if the record is not a label.
+        // The look is the step that reads the reel's first record. If the piece completes the reply
+        // to the look, and the attempt continues, the call returns the label in this record. If the
+        // record is not a label, the call returns `None`.
         //
-        // In every other case the call returns no label.
+        // If the piece does not complete the reply to the look, or if the attempt fails, the call
+        // returns no label.
         ensures found { (bytes : List ℕ) → HasFed self.old bytes → FindsLabel self.old.at.stage (bytes ++ piece.now) result.0 result.1 }
-        // The client keeps the bytes of the awaited reply, as `feed` does.
+        // Like `feed`, the call keeps the bytes of a reply that is not complete.
         ensures fed { (bytes : List ℕ) → HasFed self.old bytes → HasFed self.new (unanswered self.new.at.stage (bytes ++ piece.now)) }
-        // The number of places for counts, used and free together, stays the same. The source stays
-        // as it was.
+        // The total room for counts, used and free, stays the same. The call does not change the
+        // source.
         ensures same_source { self.new.source ≡ self.old.source }
         ensures slots { self.new.room + length self.new.at.counts ≡ self.old.room + length self.old.at.counts }
     {
@@ -415,16 +421,16 @@ impl<B: Blocks> Client<B> {
     /// After the count the attempt is over.
     pub fn ended(&mut self) -> Progress
         // Tells the client that the connection has ended. If the client has not counted the
-        // attempt's volume yet, the attempt fails. The counts then stay as they were, and the
-        // client asks the operator what to do. If the client has counted the volume, the attempt is
+        // attempt's volume yet, the attempt fails. Then the counts do not change, and the client
+        // waits for the operator's answer. If the client has counted the volume, the attempt is
         // over without a failure.
         //
-        // When an attempt ends without a failure, the run is finished if and only if the counts
-        // cover all its blocks. Otherwise another attempt can start. If no attempt is under way,
+        // When an attempt ends without a failure, the run is finished if the counts cover all
+        // blocks of the run. Otherwise another attempt can start. If no attempt is under way,
         // nothing changes.
         ensures moved { CutAt self.old.at.stage self.old.at result self.new.at }
-        // After the call, the client holds no reply bytes. The number of places for counts, used
-        // and free together, stays the same. The source stays as it was.
+        // After the call, the client holds no reply bytes. The total room for counts, used and
+        // free, stays the same. The call does not change the source.
         ensures fed { HasFed self.new [] }
         ensures same_source { self.new.source ≡ self.old.source }
         ensures slots { self.new.room + length self.new.at.counts ≡ self.old.room + length self.old.at.counts }
@@ -439,12 +445,12 @@ impl<B: Blocks> Client<B> {
     ///
     /// Returns `WrongState` unless the client is `Asking`. Nothing has changed then.
     pub fn answer(&mut self, answer: Answer) -> Result<(), StartFault>
-        // Takes the operator's answer after a failed attempt. After the answer, another attempt can
-        // start, or the run is abandoned. The counts stay as they were. If the client does not ask
-        // for an answer, the call changes nothing.
+        // Takes the operator's answer after a failed attempt. After `Retry`, another attempt can
+        // start. After `Abandon`, the run is abandoned. The counts do not change. If the client
+        // does not wait for an answer, the call changes nothing.
         ensures answered { AnsweredAt self.old.at.stage self.old.at answer result self.new.at }
-        // The reply bytes that the client holds stay as they were. The number of places for counts,
-        // used and free together, stays the same. The source stays as it was.
+        // The client holds the same reply bytes as before. The total room for counts, used and
+        // free, stays the same. The call does not change the source.
         ensures fed { (bytes : List ℕ) → HasFed self.old bytes → HasFed self.new bytes }
         ensures same_source { self.new.source ≡ self.old.source }
         ensures slots { self.new.room + length self.new.at.counts ≡ self.old.room + length self.old.at.counts }
@@ -464,11 +470,11 @@ fn found_label(step: Step, progress: Progress, label: Option<VolumeLabel>) -> Op
 }
 
 impl Client<ListBlocks> {
-    /// Sets whether reads of the payload fail from now until the next call of `source_trouble`.
+    /// Sets whether reads of the source fail, until the next call of `source_trouble`.
     pub fn source_trouble(&mut self, fails: bool)
-        // Sets whether reads of the payload in memory fail.
+        // Sets whether reads of the source in memory fail.
         ensures source { self.new.source ≡ listed self.old.source.blocks fails self.old.source.failures }
-        // Nothing else changes.
+        // The call changes nothing but this setting.
         ensures same { self.new.at ≡ self.old.at }
         ensures same_room { self.new.room ≡ self.old.room }
         ensures fed { (bytes : List ℕ) → HasFed self.old bytes → HasFed self.new bytes }

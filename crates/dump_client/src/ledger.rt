@@ -147,7 +147,7 @@ impl Ledger {
     }
 
     /// Hears a reply to a step. `more` says that bytes follow it.
-    #[tactic(auto, using(crate::proofs::Fits::reply_at))]
+    #[tactic(auto, using(crate::proofs::Going::reply_at))]
     pub(crate) fn reply(&mut self, step: Step, summary: ReplySummary, more: bool) -> Progress
         requires at { IsAtStep self.old.at.stage step }
         requires lawful { IsLawful self.old.at }
@@ -165,7 +165,7 @@ impl Ledger {
     }
 
     /// Takes bytes, at a step, that are no reply or that come while no reply is awaited.
-    #[tactic(auto, using(crate::proofs::Fits::noise_at, crate::proofs::Fed::noise_fed))]
+    #[tactic(auto, using(crate::proofs::Going::noise_at, crate::proofs::Received::final_fed, crate::proofs::Outcomes::noise_final))]
     pub(crate) fn noise(&mut self, step: Step) -> Progress
         requires at { IsAtStep self.old.at.stage step }
         requires lawful { IsLawful self.old.at }
@@ -180,7 +180,7 @@ impl Ledger {
     }
 
     /// Notes that the connection ended at a step, and returns what that means for the attempt.
-    #[tactic(auto, using(crate::proofs::Fits::end_at, crate::proofs::Fed::end_fed))]
+    #[tactic(auto, using(crate::proofs::Going::end_at, crate::proofs::Received::final_fed, crate::proofs::Outcomes::end_final))]
     pub(crate) fn end(&mut self, step: Step) -> Progress
         requires at { IsAtStep self.old.at.stage step }
         requires lawful { IsLawful self.old.at }
@@ -196,7 +196,7 @@ impl Ledger {
 
     /// Changes the stage and the counts as an outcome says. `more`: bytes follow the reply that led
     /// to it.
-    #[tactic(auto, using(crate::proofs::Fed::becomes_fed, crate::proofs::Fed::becomes_run))]
+    #[tactic(auto, using(crate::proofs::Received::becomes_fed, crate::proofs::Received::becomes_run))]
     fn apply_outcome(&mut self, outcome: Outcome, more: bool) -> Progress
         requires { OutcomeFits self.old.at.run self.old.at.counts self.old.room outcome }
         ensures becomes { Becomes self.old.at outcome more result self.new.at }

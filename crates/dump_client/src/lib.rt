@@ -10,13 +10,15 @@
 //!
 //! # Contracts
 //!
-//! An *attempt* is the client's work on one volume, over one connection. A *step* of an attempt is
-//! one request with its reply. docs/DUMP.md lists the steps. The *open* is the first step, and the
-//! *close* is the last. The *look* is the step that reads the first record of the reel. A *script*
-//! is the list of an attempt's requests, each with the replies that let the attempt continue: the
-//! *wanted* replies. A volume has one script for each number of blocks that the volume can have.
-//! The client *counts* a volume when the wanted reply to MTOFFL arrives. The *stage* of a client
-//! says whether an attempt is under way, and at which step the attempt is.
+//! In an *attempt*, the client works on one volume and uses one connection. A *step* of an attempt
+//! is one request with its reply. docs/DUMP.md lists the steps. The *open* is the first step, and
+//! the *close* is the last. The *look* is the step that reads the first record of the reel. A
+//! *script* is the list of an attempt's requests. For each request, the script has the replies that
+//! let the attempt continue: the *wanted* replies. There is one script for each possible number of
+//! blocks in the volume. The client *counts* a volume when the wanted reply to MTOFFL arrives. Each
+//! *count* of a client records one counted volume: the volume's number, first block and number of
+//! blocks. The *stage* of a client says whether an attempt is under way and, if so, at which step.
+//! The section `dump_run` explains the words *run*, *source*, *checkpoint* and *in order*.
 #![tactic(auto)]
 
 mod client;

@@ -92,8 +92,8 @@ fn hear(
 }
 
 /// Pushes a piece of the stream to a reader that waits for a reply, up to the end of the first
-/// reply. The bytes of a record are compared with the labels of the counted volumes, and are read as
-/// a label.
+/// reply. The bytes of a record are compared with the labels of the counted volumes, and are read
+/// as a label.
 ///
 /// The bytes pushed before must be a beginning of a reply, and the reader must have room. After
 /// `Waits` this is so again, with the whole piece. After a reply that no byte follows, the reader

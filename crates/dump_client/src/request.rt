@@ -20,6 +20,7 @@ use std::alloc::AllocError;
 
 /// Appends the request of a step, or nothing if it fails. A block is read from the source. If the
 /// step is the label, the source's `begin_volume` is called.
+#[tactic(auto, using(crate::proofs::Requests::small_op, crate::proofs::Requests::pushed))]
 pub(crate) fn push_step<B: Blocks>(
     ledger: &Ledger,
     step: Step,

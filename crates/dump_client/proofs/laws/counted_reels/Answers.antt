@@ -1,4 +1,4 @@
-use Rattle.dump_client.proofs.Reels.{exactly, stops, refused, alone}
+use Rattle.dump_client.proofs.Reels.{exactly, stops}
 use Rattle.dump_client.proofs.laws.counted_reels.Goals as goal
 
 pub returns-clause-exactly : goal.returns-clause-exactly
@@ -6,9 +6,3 @@ returns-clause-exactly c = exactly
 
 pub returns-clause-stops : goal.returns-clause-stops
 returns-clause-stops c = stops
-
-pub returns-clause-refused : goal.returns-clause-refused
-returns-clause-refused c = refused
-
-pub returns-clause-alone : goal.returns-clause-alone
-returns-clause-alone c = alone

@@ -1,33 +1,27 @@
-use Rattle.std.proofs.Common.{Ok, ◌∙◌, ap, sym, subst, arith, ◌++◌, ◌+◌, ◌-◌, drop, length}
-use Rattle.std.proofs.lemmas.List.{append-nil, take_all, take_rest, length-drop, length-take}
+use Rattle.std.proofs.Common.{Ok, ◌∙◌, ap, sym, subst, arith, ◌++◌, ◌+◌}
+use Rattle.std.proofs.lemmas.List.{take_all, take_rest}
 use Rattle.dump_client.specs.Listening.{IsReaderWaiting, IsFeedResult}
 use Rattle.dump_client.specs.declared.listen.FeedResult.TheVariants as feed_result
-use Rattle.dump_client.proofs.Listening.{push_some, so_far, none_yet, reply_then, reply_last, noise}
+use Rattle.dump_client.proofs.Listening.{takes, so_far, none_yet, reply_then, reply_last, noise}
 use Rattle.dump_client.proofs.listen.listen.Goals.{then-not-is_empty, else-not-is_empty}
 use Rattle.dump_client.proofs.listen.listen.Goals as goal
 
 pub overflow_add-at : goal.overflow_add-at
 overflow_add-at c =
     let now = c.loop-at.invariant.1 in
-    let slice = length-take (length c.args.piece.now - c.loop-at.at) (drop c.loop-at.at c.args.piece.now) in
-    let rest = length-drop c.loop-at.at c.args.piece.now in
-    let some = push_some c.args.run.now c.args.counts.now now.0 c.loop-at.reader now.1 c.push-at.result _ now.2 (c.push-at.ensures.count _ now.1 now.2.unread) (omega arith) in
+    let some = takes now.0 c.loop-at.reader now.1 c.args.piece.now c.loop-at.at c.push-at.result now.2 (c.push-at.ensures.count _ now.1 now.2.unread) c.loop-at-test.true in
     omega arith
 
 pub loop-at-smaller : goal.loop-at-smaller
 loop-at-smaller c =
     let now = c.loop-at.invariant.1 in
-    let slice = length-take (length c.args.piece.now - c.loop-at.at) (drop c.loop-at.at c.args.piece.now) in
-    let rest = length-drop c.loop-at.at c.args.piece.now in
-    let some = push_some c.args.run.now c.args.counts.now now.0 c.loop-at.reader now.1 c.push-at.result _ now.2 (c.push-at.ensures.count _ now.1 now.2.unread) (omega arith) in
+    let some = takes now.0 c.loop-at.reader now.1 c.args.piece.now c.loop-at.at c.push-at.result now.2 (c.push-at.ensures.count _ now.1 now.2.unread) c.loop-at-test.true in
     omega arith
 
 pub loop-at-preserved : goal.loop-at-preserved
 loop-at-preserved c =
     let now = c.loop-at.invariant.1 in
-    let slice = length-take (length c.args.piece.now - c.loop-at.at) (drop c.loop-at.at c.args.piece.now) in
-    let rest = length-drop c.loop-at.at c.args.piece.now in
-    let counts = c.push-at.ensures.count _ now.1 now.2.unread in
+    let some = takes now.0 c.loop-at.reader now.1 c.args.piece.now c.loop-at.at c.push-at.result now.2 (c.push-at.ensures.count _ now.1 now.2.unread) c.loop-at-test.true in
     let at_none = c.in-Ok-None.is ∙ ap Ok c.in-Ok-None.field-0-is in (
       omega arith,
       (_, _, none_yet c.args.run.now c.args.counts.now now.0 _ c.hear.result c.hear.new.reader (c.hear.ensures.heard _ _ (c.push-at.ensures.unread _ now.1 now.2.unread)) at_none),
@@ -62,9 +56,6 @@ returns-in-Err c = record {
       (so_far c.args.run.now c.args.counts.now wanted bytes c.args.piece.now _ c.loop-at.at c.push-at.result c.hear.result c.hear.new.reader (take_rest c.args.piece.now c.loop-at.at)
       (c.hear.ensures.heard wanted _ (c.push-at.ensures.unread _ _ (c.loop-at.invariant.2 wanted bytes u).unread))) c.in-Err.is;
 }
-
-pub loop-at-init : goal.loop-at-init
-loop-at-init c = (omega arith, c.requires.waiting, λ wanted bytes u. subst (IsReaderWaiting wanted c.args.reader.now) (sym (append-nil bytes)) u)
 
 pub returns : goal.returns
 returns c = record {

@@ -1,9 +1,8 @@
-use Rattle.std.proofs.Common.{◌≡◌, ℕ, length, replicate, take, true, false, inl, inr, refl, rules, sym, ◌∙◌, ap, subst}
-use Rattle.std.proofs.lemmas.List.{length-replicate, take_at}
-use Rattle.rmt_wire.specs.Request.{request_text}
+use Rattle.std.proofs.Common.{◌≡◌, ℕ, length, replicate, true, false, inr, refl, sym, ◌∙◌, ap, subst}
+use Rattle.std.proofs.lemmas.List.{length-replicate}
 use Rattle.rmt_wire.specs.Request.PlainRequest.{Write}
 use Rattle.dump_client.specs.Client.{has_failed}
-use Rattle.dump_client.proofs.Overwritten.{lent_from, length-lent_from, overwritten}
+use Rattle.dump_client.proofs.Requests.{lent_from, length-lent_from, overwritten}
 use Rattle.dump_client.proofs.request.push_block.Goals as goal
 
 pub returns-in_default-clause-appended : goal.returns-in_default-clause-appended
@@ -14,12 +13,6 @@ returns-in_default-clause-appended g c =
       inr (refl, (Write zeros, (zeros, refl, long ∙ size), c.push_blank.ensures.spelled zeros long, c.in_default.ensures.full zeros long)),
       c.in_default.ensures.unchanged,
     )
-
-pub returns-in_default-clause-read : goal.returns-in_default-clause-read
-returns-in_default-clause-read g c = search rules
-
-pub returns-in_default-clause-counted : goal.returns-in_default-clause-counted
-returns-in_default-clause-counted g c = search rules
 
 pub returns-in-Ok-read-clause-appended : goal.returns-in-Ok-read-clause-appended
 returns-in-Ok-read-clause-appended g c =
@@ -49,20 +42,6 @@ returns-in-Ok-read-clause-read g c =
       c.read.ensures.read,
       subst (λ r. false ≡ has_failed r) (sym c.in-Ok-read.is) refl,
       overwritten _ c.in-Ok.start c.block_bytes.result lent c.push_blank.new.out.items given c.deref_mut.ensures.value c.deref_mut.ensures.len whole long ∙ c.in-Ok.ensures.begun given long,
-    )
-
-pub returns-in-Err-clause-appended : goal.returns-in-Err-clause-appended
-returns-in-Err-clause-appended g c =
-    let lent = c.deref_mut.result.now in
-    let before = c.args.out.now.items in
-    let given = c.read.new.into in
-    let whole = c.in-Ok.ensures.place ∙ ap length (sym c.deref_mut.ensures.value) ∙ c.deref_mut.ensures.len in
-    let long = c.read.auto.into ∙ length-lent_from _ c.in-Ok.start c.block_bytes.result lent c.deref_mut.ensures.len whole in
-    let end : length before ≡ c.len-len.result = search rules in (
-      inl (refl, (c.args.number, refl)),
-      c.truncate.ensures.items
-          ∙ ap (λ l. take c.len-len.result l) (overwritten _ c.in-Ok.start c.block_bytes.result lent c.push_blank.new.out.items given c.deref_mut.ensures.value c.deref_mut.ensures.len whole long ∙ c.in-Ok.ensures.begun given long)
-          ∙ take_at before (request_text (Write given)) c.len-len.result end,
     )
 
 pub returns-in-Err-clause-read : goal.returns-in-Err-clause-read

@@ -2,7 +2,7 @@ use Rattle.std.proofs.Common.{sym, ◌∙◌, ap, subst}
 use Rattle.dump_client.specs.Lawful.{OutcomeFits}
 use Rattle.dump_client.specs.Position.{after_reply}
 use Rattle.dump_client.specs.Standing.{checkpoint_of}
-use Rattle.dump_client.proofs.Fits.{reply_at, reply_summary}
+use Rattle.dump_client.proofs.Going.{reply_at, reply_summary}
 use Rattle.dump_client.proofs.ledger.Ledger.reply.Goals as goal
 
 pub apply_outcome-requires : goal.apply_outcome-requires
