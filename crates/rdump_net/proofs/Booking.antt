@@ -1,14 +1,5 @@
 -- A dump whose counts are entered in a book, put together.
-use Rattle.std.proofs.Common.{◌≡◌, ℕ, List, [], ◌∷◌, ◌++◌, ◌+◌, ◌<◌, length, take, drop, get_or, Option, Some, None, refl, sym, ap, subst, ◌∙◌, append-nil, append_assoc}
-use Rattle.std.proofs.Math.Seq.{drop-append_seam}
-use Rattle.std.proofs.lemmas.List.{take_more}
-use Rattle.rmt_wire.specs.Counted.{Counting}
-use Rattle.dump_run.specs.declared.count.VolumeCount.{VolumeCount}
-use Rattle.dump_client.specs.Standing.{Standing}
-use Rattle.rdump_net.specs.Booking.{EntersOn}
-use Rattle.rdump_net.specs.Lines.{DumpLines, IsPrefixOf, IsRound}
-use Rattle.rdump_net.specs.Lines.DumpLines.{none, counted, failed, asked}
-use Rattle.rdump_net.specs.declared.conclusion.Conclusion.{Conclusion}
+use Rattle.rdump_net.proofs.Words.{◌≡◌, ℕ, List, [], ◌∷◌, ◌++◌, ◌+◌, ◌<◌, length, take, drop, get_or, Option, Some, None, refl, sym, ap, subst, ◌∙◌, append-nil, append_assoc, drop-append_seam, take_more, Counting, VolumeCount, Standing, EntersOn, DumpLines, IsPrefixOf, IsRound, none, counted, failed, asked, Conclusion}
 use Rattle.rdump_net.proofs.Growing.{grown_both, grown_none}
 
 -- the counts whose lines are printed are the old ones, and perhaps more

@@ -1,20 +1,7 @@
 -- Calls over a peer, put together.
-use Rattle.std.proofs.Common.{◌≡◌, inl, inr, map, ℕ, List, [], ◌∷◌, ◌++◌, Bool, true, false, Option, Some, None, Result, Ok, Err, refl, sym, ap, subst, ◌∙◌, append-nil, append_assoc}
-use Rattle.std.proofs.lemmas.List.{map-append}
 use Rattle.std.specs.Result.{IsErrAnd}
-use Rattle.rmt_wire.specs.Reply.{PlainReply, Wanted}
-use Rattle.rmt_wire.specs.ReplyReader.{ReplyHeld}
-use Rattle.rmt_wire.specs.Request.{PlainRequest, request_text}
-use Rattle.rdump_net.specs.KeptReply.{plain_kept, plain_result}
-use Rattle.rdump_net.specs.Call.{wanted_by, Brings, IsCalled, IsReplyHeard, IsReplyAwaited, IsTaken}
-use Rattle.rdump_net.specs.Calls.{CallsFollow, Stops, Extends, Finishes}
-use Rattle.rdump_net.specs.Calls.CallsFollow.{begins, one_more}
-use Rattle.rdump_net.specs.Peer.{AreBytesSent, Logs}
-use Rattle.rdump_net.specs.declared.kept_reply.KeptReply.{KeptReply}
-use Rattle.rdump_net.specs.declared.fault.CallFault.{CallFault}
-use Rattle.rdump_net.specs.declared.fault.CallFault.TheVariants.{ConnectionEnded, Botched, OutOfMemory}
-use Rattle.rdump_net.specs.declared.peer.Passed.{Passed}
-use Rattle.rdump_net.specs.declared.peer.Passed.TheVariants.{Connected, Sent, Given, Ended}
+use Rattle.rdump_net.proofs.Words.{◌≡◌, inl, inr, map, ℕ, List, [], ◌∷◌, ◌++◌, Bool, true, Option, Some, None, Result, Ok, Err, refl, sym, ap, subst, ◌∙◌, append-nil, append_assoc, map-append, PlainReply, Wanted, ReplyHeld, PlainRequest, request_text, wanted_by, Brings, IsCalled, IsReplyHeard, IsTaken, CallsFollow, Stops, Extends, Finishes, begins, AreBytesSent, Logs, CallFault, ConnectionEnded, Botched, OutOfMemory, Passed, Connected, Sent, Given, Ended}
+use Rattle.rdump_net.specs.Calls.CallsFollow.{one_more}
 
 module _ {P : Type 0} (tells : P → List Passed → Type 0) where
   -- what passed, and then more
@@ -26,22 +13,11 @@ module _ {P : Type 0} (tells : P → List Passed → Type 0) where
   given_both p q r one two a b = subst (Logs tells p r) (sym (map-append Given one two)) (logs_both p q r (map Given one) (map Given two) a b)
 
   -- what was taken of the bytes fails
-  pub hears_fault : (wanted : Wanted) (p q : P) (bytes : List ℕ) (result : Result (Option KeptReply) CallFault) (fault : CallFault) (new : ReplyHeld) → result ≡ Err fault
-      → IsTaken wanted bytes result new → Logs tells p q (map Given bytes) → IsReplyHeard tells wanted (Err fault) p q
-  hears_fault wanted p q bytes result ConnectionEnded new e h logs = absurd (subst (λ r. IsTaken wanted bytes r new) e h)
-  hears_fault wanted p q bytes result Botched new e h logs = (map Given bytes, (bytes, subst (λ r. IsTaken wanted bytes r new) e h, refl), logs)
-  hears_fault wanted p q bytes result OutOfMemory new e h logs =
-      let w = subst (λ r. IsTaken wanted bytes r new) e h in
-      (map Given bytes, (bytes, w.0, w.1, w.2, refl), logs)
-
-  -- it is a reply
-  pub hears_answer : (wanted : Wanted) (p q : P) (bytes : List ℕ) (result : Result (Option KeptReply) CallFault) (answer : KeptReply) (new : ReplyHeld) → result ≡ Ok (Some answer)
-      → IsTaken wanted bytes result new → Logs tells p q (map Given bytes) → IsReplyHeard tells wanted (Ok (plain_kept answer)) p q
-  hears_answer wanted p q bytes result answer new e h logs = (map Given bytes, (bytes, subst (λ r. IsTaken wanted bytes r new) e h, refl), logs)
-
-  -- it is none yet
-  pub hears_none : (wanted : Wanted) (bytes : List ℕ) (result : Result (Option KeptReply) CallFault) (new : ReplyHeld) → result ≡ Ok None → IsTaken wanted bytes result new → IsReplyAwaited wanted new bytes
-  hears_none wanted bytes result new e h = subst (λ r. IsTaken wanted bytes r new) e h
+  pub hears_fault : (wanted : Wanted) (p q : P) (bytes : List ℕ) (fault : CallFault) (new : ReplyHeld) → IsTaken wanted bytes (Err fault) new → Logs tells p q (map Given bytes)
+      → IsReplyHeard tells wanted (Err fault) p q
+  hears_fault wanted p q bytes ConnectionEnded new h logs = absurd h
+  hears_fault wanted p q bytes Botched new h logs = (map Given bytes, (bytes, h, refl), logs)
+  hears_fault wanted p q bytes OutOfMemory new h logs = (map Given bytes, (bytes, h.0, h.1, h.2, refl), logs)
 
   -- a request was sent, and a reply awaited
   pub sent_and_heard : (request : PlainRequest) (wanted : Wanted) (result : Result PlainReply CallFault) (p q r : P) (text bytes : List ℕ) (whole : Bool) (sent : List Passed)
@@ -54,12 +30,6 @@ module _ {P : Type 0} (tells : P → List Passed → Type 0) where
         logs_both p q r sent heard.0 logs heard.2,
       )
 
-  -- the connection ended while a request was sent
-  pub cut_while_sent : (request : PlainRequest) (p q : P) (text bytes : List ℕ) (whole : Bool) (sent : List Passed) → text ≡ request_text request → bytes ≡ text → whole ≡ false → AreBytesSent bytes whole sent
-      → Logs tells p q sent → IsCalled tells request (Err ConnectionEnded) p q
-  cut_while_sent request p q text bytes whole sent e same part h logs =
-      (sent, inr (inl (refl, subst (λ b. AreBytesSent b false sent) (same ∙ e) (subst (λ v. AreBytesSent bytes v sent) part h))), logs)
-
 -- what holds of a fault holds of a result that is that fault
 pub err_from : {X : Type 0} {E : Type 0} (F : Result X E → Type 0) (result : Result X E) (fault : E) → IsErrAnd result (λ e. e ≡ fault) → F (Err fault) → F result
 err_from F (Ok x) fault is h = absurd is
@@ -71,18 +41,10 @@ module _ {P : Type 0} (next : List PlainReply → Option PlainRequest) (tells : 
       → Extends next tells p q replies (replies ++ reply ∷ [])
   reply_extends p q replies request reply e h = record { more = h.0; logs = h.2; follows = λ passed f. one_more request reply f e h.1 }
 
-  -- a call that was answered
-  pub call_extends : (p q : P) (replies : List PlainReply) (request : PlainRequest) (result : Result KeptReply CallFault) (answer : KeptReply) → next replies ≡ Some request → result ≡ Ok answer
-      → IsCalled tells request (plain_result result) p q → Extends next tells p q replies (replies ++ plain_kept answer ∷ [])
-  call_extends p q replies request result answer e is h =
-      reply_extends p q replies request (plain_kept answer) e (subst (λ r. IsCalled tells request (plain_result r) p q) is h)
-
-  -- one that was not
-  pub call_finishes : (p q : P) (replies : List PlainReply) (request : PlainRequest) (result : Result KeptReply CallFault) (fault : CallFault) → next replies ≡ Some request → result ≡ Err fault
-      → IsCalled tells request (plain_result result) p q → Finishes next tells p q replies (Some fault) replies
-  call_finishes p q replies request result fault e is h =
-      let w = subst (λ r. IsCalled tells request (plain_result r) p q) is h in
-      record { more = w.0; logs = w.2; stops = λ passed f. inl (passed, w.0, request, f, e, w.1, refl) }
+  -- one that got none
+  pub call_finishes : (p q : P) (replies : List PlainReply) (request : PlainRequest) (fault : CallFault) → next replies ≡ Some request → IsCalled tells request (Err fault) p q
+      → Finishes next tells p q replies (Some fault) replies
+  call_finishes p q replies request fault e h = record { more = h.0; logs = h.2; stops = λ passed f. inl (passed, h.0, request, f, e, h.1, refl) }
 
   -- calls, and then more
   pub extends_both : (p q r : P) (a b c : List PlainReply) → Extends next tells p q a b → Extends next tells q r b c → Extends next tells p r a c

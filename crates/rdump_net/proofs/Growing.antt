@@ -1,21 +1,9 @@
 -- A client that talks over a peer stays in its run and keeps its counts, and may have further ones after them.
-use Rattle.std.proofs.Common.{◌≡◌, ℕ, List, [], ◌∷◌, ◌++◌, length, length-append, arith, Bool, true, false, Result, Ok, Err, refl, sym, ap, ◌∙◌, inl, inr, append-nil, append_assoc}
-use Rattle.dump_client.specs.Standing.{Standing, VolumeCount, standing, stage_after, IsOver, StartedAt, AnsweredAt, CutAt}
-use Rattle.dump_client.specs.Client.{ClientHeld, HasFed, NextRequestAt}
-use Rattle.dump_client.specs.declared.fault.AttemptFault.{AttemptFault}
-use Rattle.dump_client.specs.declared.fault.StartFault.{StartFault}
+use Rattle.rdump_net.proofs.Words.{◌≡◌, ℕ, List, [], ◌∷◌, ◌++◌, length, length-append, arith, Bool, true, false, Result, Ok, Err, refl, sym, ap, ◌∙◌, inl, inr, append-nil, append_assoc, Standing, VolumeCount, standing, stage_after, IsOver, StartedAt, AnsweredAt, CutAt, ClientHeld, HasFed, NextRequestAt, AttemptFault, StartFault, Answer, Stage, Progress, Ready, ToSend, Waiting, Asking, Finished, Passed, IsPrefixOf, GoesOn, TalkStep, Talks, TalksOver, starts, stays, asks, has_none, hears, ends, answers, one_more}
 use Rattle.dump_client.specs.declared.fault.StartFault.TheVariants.{WrongState, OutOfMemory}
-use Rattle.dump_client.specs.declared.stage.Answer.{Answer}
-use Rattle.dump_client.specs.declared.stage.Stage.{Stage}
-use Rattle.dump_client.specs.declared.stage.Progress.{Progress}
-use Rattle.dump_client.specs.declared.stage.Stage.TheVariants.{Ready, ToSend, Waiting, Asking, Finished}
 use Rattle.dump_client.specs.declared.step.Step.TheVariants.{Open}
 use Rattle.dump_client.proofs.Going.{fed_goes_on, cut_goes_on}
-use Rattle.rdump_net.specs.declared.peer.Passed.{Passed}
-use Rattle.rdump_net.specs.Lines.{IsPrefixOf}
-use Rattle.rdump_net.specs.Talk.{GoesOn, TalkStep, Talks, TalksOver}
-use Rattle.rdump_net.specs.Talk.TalkStep.{starts, stays, asks, has_none, hears, ends, answers}
-use Rattle.rdump_net.specs.Talk.Talks.{none, one_more}
+use Rattle.rdump_net.specs.Talk.Talks.{none}
 
 pub grown_none : (old new : List VolumeCount) → new ≡ old → IsPrefixOf old new
 grown_none old new same = ([], same ∙ sym (append-nil old))
@@ -84,9 +72,9 @@ talk_goes {old = old} none = gone_nowhere old old refl
 talk_goes {old = old} {new = new} (one_more {before = before} talks step) = gone_both old before new (talk_goes talks) (step_goes step)
 
 -- a client that talked over a peer
-pub talked_counts : {B P : Type 0} (holds : B → List (List ℕ) → Type 0) (allows : Standing → Type 0) (tells : P → List Passed → Type 0)
-    (c c' : ClientHeld B) (p p' : P) → (bytes : List ℕ) × HasFed c bytes → TalksOver holds allows tells c c' p p' → IsPrefixOf c.at.counts c'.at.counts
-talked_counts holds allows tells c c' p p' (bytes, fed) h = let goes = talk_goes (h.talked bytes fed).talks in goes.1
+pub talked_counts : {B P : Type 0} {holds : B → List (List ℕ) → Type 0} {allows : Standing → Type 0} {tells : P → List Passed → Type 0} {c c' : ClientHeld B} {p p' : P}
+    → (bytes : List ℕ) × HasFed c bytes → TalksOver holds allows tells c c' p p' → IsPrefixOf c.at.counts c'.at.counts
+talked_counts (bytes, fed) h = let goes = talk_goes (h.talked bytes fed).talks in goes.1
 
 -- counts of which there are as many as before are those
 pub grown_same : (old new : List VolumeCount) → IsPrefixOf old new → length new ≡ length old → new ≡ old

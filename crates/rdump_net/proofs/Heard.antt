@@ -1,23 +1,9 @@
 -- What comes to a caller that waits for a reply.
-use Rattle.std.proofs.Common.{◌≡◌, ◌≢◌, inl, inr, ℕ, ◌+◌, ◌-◌, ◌<◌, ◌≤◌, min, List, [], ◌∷◌, ◌++◌, length, take, drop, Option, Some, None, Result, Ok, Err, refl, sym, ap, subst, ◌∙◌, arith, append_assoc, append-nil, length-append, rules}
-use Rattle.std.proofs.lemmas.List.{take-append-drop, length-drop, drop_all}
-use Rattle.std.proofs.Math.Seq.{take-add}
-use Rattle.rmt_wire.specs.Reply.{PlainReply, Wanted, SpellsReply}
-use Rattle.rmt_wire.specs.Reply.PlainReply.{Done, Data, Error}
-use Rattle.rmt_wire.specs.Reply.Wanted.{Number, DataUpTo}
-use Rattle.rmt_wire.specs.Lent.{plain_reply}
-use Rattle.rmt_wire.specs.declared.limits.TheConstants.{READER_LIMIT}
+use Rattle.rdump_net.proofs.Words.{◌≡◌, ◌≢◌, inl, inr, ℕ, ◌+◌, ◌-◌, ◌<◌, ◌≤◌, min, List, [], ◌∷◌, ◌++◌, length, take, drop, Option, Some, None, Result, Ok, Err, refl, sym, ap, subst, ◌∙◌, arith, append_assoc, append-nil, length-append, rules, take-append-drop, length-drop, drop_all, take-add, PlainReply, Wanted, SpellsReply, Done, Data, Error, Number, DataUpTo, plain_reply, READER_LIMIT, ReplyParsesAs, ReplyHasNoSpelling, ReplyHeld, ReplyUnread, reply_taken_of, plain_reply_result, ReplyIsNext, plain_kept, IsNoReply, IsReplyAwaited, IsFront, IsTaken, KeptReply, CallFault, ConnectionEnded, Botched, OutOfMemory}
 use Rattle.rmt_wire.specs.Number.{SpellsNumber}
-use Rattle.rmt_wire.specs.ReplyParts.{ReplyParsesAs, ReplyHasNoSpelling}
 use Rattle.rmt_wire.specs.ReplyFront.{kept_of}
-use Rattle.rmt_wire.specs.ReplyReader.{ReplyHeld, ReplyUnread, reply_taken_of, plain_reply_result, ReplyIsNext}
 use Rattle.rmt_wire.specs.declared.reply.Reply.{Reply}
 use Rattle.rmt_wire.specs.declared.fault.WireFault.{WireFault}
-use Rattle.rdump_net.specs.KeptReply.{plain_kept}
-use Rattle.rdump_net.specs.Call.{IsNoReply, IsReplyAwaited, IsFront, IsTaken}
-use Rattle.rdump_net.specs.declared.kept_reply.KeptReply.{KeptReply}
-use Rattle.rdump_net.specs.declared.fault.CallFault.{CallFault}
-use Rattle.rdump_net.specs.declared.fault.CallFault.TheVariants.{ConnectionEnded, Botched, OutOfMemory}
 
 -- one call of `next`, by what it answered
 pub next_none : (old new : ReplyHeld) (result : Result (Option Reply) WireFault) → ReplyIsNext old (plain_reply_result result) new → result ≡ Ok None
@@ -100,10 +86,9 @@ some_reply (DataUpTo most) = (65 ∷ 48 ∷ 10 ∷ [], Data [], (48 ∷ [], zero
 
 no_reply_in_nothing : (wanted : Wanted) → ReplyHasNoSpelling wanted []
 no_reply_in_nothing Number text rest (Done n) e s = let is = s.2 in absurd (cc)
-no_reply_in_nothing (DataUpTo most) text rest (Done n) e s = absurd s
-no_reply_in_nothing Number text rest (Data bytes) e s = absurd s
 no_reply_in_nothing (DataUpTo most) text rest (Data bytes) e s = let is = s.3 in absurd (cc)
 no_reply_in_nothing wanted text rest (Error n words) e s = let is = s.5 in absurd (cc)
+no_reply_in_nothing wanted text rest reply e s = absurd s
 
 pub waiting_anew : (wanted : Wanted) (h : ReplyHeld) → ReplyUnread h (Some wanted) [] → IsReplyAwaited wanted h []
 waiting_anew wanted h u = record {

@@ -1,21 +1,10 @@
 -- A dump whose checkpoint is kept, put together.
-use Rattle.std.proofs.Common.{◌≡◌, ◌⊎◌, inl, inr, ℕ, List, [], ◌∷◌, ◌++◌, length, Bool, true, false, Option, Some, None, refl, sym, ap, subst, ◌∙◌, append-nil, append_assoc}
-use Rattle.exit_status.specs.declared.status.ExitStatus.{ExitStatus}
-use Rattle.rmt_wire.specs.Counted.{Counting}
-use Rattle.rmt_wire.specs.Print.{IsPrinted}
+use Rattle.rdump_net.proofs.Words.{◌≡◌, ◌⊎◌, inl, inr, ℕ, List, [], ◌∷◌, ◌++◌, length, Bool, true, false, Option, Some, None, refl, sym, ap, subst, ◌∙◌, append-nil, append_assoc, ExitStatus, Counting, IsPrinted, VolumeCount, Standing, ClientHeld, HasFed, Passed, FromAny, FromThis, Talks, TalksOver, DumpLines, IsPrefixOf, IsConclusion, IsDumped, IsFinish, IsRound, conclusion_status, Conclusion, HasKept, IsDumpKept, IsKept, IsKeptConclusion, IsKeptUp, IsUnkept, KeptDump, KeptEnds, KeptKind, PutsOn, kept_ends, plain_checkpoint, unkept_line}
 use Rattle.dump_run.specs.Checkpoint.{PlainCheckpoint}
 use Rattle.dump_run.specs.Run.{PlainRun}
-use Rattle.dump_run.specs.declared.count.VolumeCount.{VolumeCount}
-use Rattle.dump_client.specs.Standing.{Standing}
-use Rattle.dump_client.specs.Client.{ClientHeld, HasFed}
-use Rattle.rdump_net.specs.declared.peer.Passed.{Passed}
-use Rattle.rdump_net.specs.Talk.{FromAny, FromThis, Talks, TalksOver}
 use Rattle.rdump_net.specs.Talk.Talks.{none as no_talk}
-use Rattle.rdump_net.specs.Lines.{DumpLines, IsPrefixOf, IsConclusion, IsDumped, IsFinish, IsRound, conclusion_status}
 use Rattle.rdump_net.specs.Lines.DumpLines.{none as no_lines}
-use Rattle.rdump_net.specs.declared.conclusion.Conclusion.{Conclusion}
 use Rattle.rdump_net.specs.declared.conclusion.Conclusion.TheVariants as ends
-use Rattle.rdump_net.specs.Keeping.{HasKept, IsDumpKept, IsKept, IsKeptConclusion, IsKeptUp, IsUnkept, KeptDump, KeptEnds, KeptKind, PutsOn, kept_ends, plain_checkpoint, unkept_line}
 use Rattle.rdump_net.specs.Keeping.KeptDump.{none as not_begun, then_talk, then_print, then_put}
 use Rattle.rdump_net.proofs.Growing.{grown_both, grown_none, grown_same, talk_goes}
 use Rattle.rdump_net.proofs.Talking.{alone, joined, talks_weaker}
@@ -49,51 +38,28 @@ kept_last kept checkpoints at e h = last_kept checkpoints at (subst (λ q. IsPut
 
 -- the client's own, just put
 just_put : (checkpoints : List PlainCheckpoint) (at : Standing) → IsLastOf (checkpoints ++ plain_checkpoint at.run at.counts ∷ []) at (length at.counts)
-just_put checkpoints at = record {
-  before = checkpoints;
-  run = at.run;
-  counts = at.counts;
-  put = refl;
-  same = refl;
-  grown = grown_none at.counts at.counts refl;
-  many = refl;
-}
+just_put checkpoints at =
+    record { before = checkpoints; run = at.run; counts = at.counts; put = refl; same = refl; grown = grown_none at.counts at.counts refl; many = refl }
 
 -- after the client went on
 later_last : (kept : Option ℕ) (checkpoints : List PlainCheckpoint) (at new : Standing) → (new.run ≡ at.run) × IsPrefixOf at.counts new.counts
     → IsPutLast kept checkpoints at → IsPutLast kept checkpoints new
 later_last None checkpoints at new goes h = tt
-later_last (Some count) checkpoints at new goes h = record {
-  before = h.before;
-  run = h.run;
-  counts = h.counts;
-  put = h.put;
-  same = goes.0 ∙ h.same;
-  grown = grown_both h.counts at.counts new.counts h.grown goes.1;
-  many = h.many;
-}
+later_last (Some count) checkpoints at new goes h =
+    let more = grown_both h.counts at.counts new.counts h.grown goes.1 in
+    record { before = h.before; run = h.run; counts = h.counts; put = h.put; same = goes.0 ∙ h.same; grown = more; many = h.many }
 
 -- an end that is not that of a refusal
 kept_conclusion : (whole : Bool) (at : Standing) (last : List ℕ) (end : Conclusion) → IsConclusion whole at last end → IsKeptConclusion whole at last end
-kept_conclusion true at last ends.Complete h = h
-kept_conclusion true at last ends.Abandoned h = h
-kept_conclusion true at last ends.PrintFailed h = h
 kept_conclusion true at last ends.Unkept h = absurd h
-kept_conclusion false at last ends.Complete h = h
-kept_conclusion false at last ends.Abandoned h = h
-kept_conclusion false at last ends.PrintFailed h = h
 kept_conclusion false at last ends.Unkept h = absurd h
+kept_conclusion whole at last end h = h
 
 plain_conclusion : (whole : Bool) (at : Standing) (last : List ℕ) (end : Conclusion) → (end ≡ ends.Unkept → ⊥) → IsKeptConclusion whole at last end
     → IsConclusion whole at last end
-plain_conclusion true at last ends.Complete other h = h
-plain_conclusion true at last ends.Abandoned other h = h
-plain_conclusion true at last ends.PrintFailed other h = h
 plain_conclusion true at last ends.Unkept other h = absurd (other refl)
-plain_conclusion false at last ends.Complete other h = h
-plain_conclusion false at last ends.Abandoned other h = h
-plain_conclusion false at last ends.PrintFailed other h = h
 plain_conclusion false at last ends.Unkept other h = absurd (other refl)
+plain_conclusion whole at last end other h = h
 
 never_unkept : (whole : Bool) (at : Standing) (last : List ℕ) (end : Conclusion) → IsConclusion whole at last end → end ≡ ends.Unkept → ⊥
 never_unkept true at last end h e = subst (IsConclusion true at last) e h
@@ -122,9 +88,17 @@ pub record KeptSoFar {B P W K : Type 0} (k : KeptKind B P W K) (old new : KeptEn
   pub lines : DumpLines old.client.at.counts new.client.at.counts text
   pub printed : IsPrinted k.contents text old.out new.out true
 
-module _ {B P W K : Type 0} (k : KeptKind B P W K) where
-  pub nothing_kept : (e : KeptEnds B P W K) → KeptSoFar k e e None
-  nothing_kept e = record {
+-- the client's calls are those of a dump without a keeper
+kept_talks : {told : List (List ℕ) → Type 0} {start : Standing} {first : List ℕ} {passed : List Passed} {text : List ℕ} {put : List PlainCheckpoint} {at : Standing} {fed : List ℕ}
+    → KeptDump told start first passed text put at fed → Talks told FromAny start first passed at fed
+kept_talks not_begun = no_talk
+kept_talks (then_talk before talks) = joined (kept_talks before) (talks_weaker (λ payload h. h) (λ at h. tt) talks)
+kept_talks (then_print line before) = kept_talks before
+kept_talks (then_put before lines) = kept_talks before
+
+module _ {B P W K : Type 0} {k : KeptKind B P W K} where
+  pub nothing_kept : {e : KeptEnds B P W K} → KeptSoFar k e e None
+  nothing_kept {e} = record {
     text = [];
     same = λ payload h. h;
     on = λ fed h. record {
@@ -135,51 +109,34 @@ module _ {B P W K : Type 0} (k : KeptKind B P W K) where
     printed = nothing_printed k.contents e.out;
   }
 
+  -- the same, with another output, and a keeper that stores these checkpoints
+  abbrev has_still : (old new : KeptEnds B P W K) (text fed : List ℕ) (out : Counting W) (keeper : K) (h : HasKept k old new text fed) → PutsOn k.puts old.keeper keeper h.checkpoints
+      → HasKept k old (kept_ends new.client new.peer out keeper) text fed
+  has_still old new text fed out keeper h put =
+      record { passed = h.passed; checkpoints = h.checkpoints; later = h.later; dumped = h.dumped; keeps = h.keeps; logs = h.logs; put = put }
+
+  -- the client's checkpoint was put before, or is put now
+  up_on : (old new : KeptEnds B P W K) (text fed : List ℕ) (kept after : Option ℕ) (keeper : K) → IsOn k old new text kept fed → DumpLines old.client.at.counts new.client.at.counts text
+      → IsKeptUp k.puts (plain_checkpoint new.client.at.run new.client.at.counts) kept true after new.keeper keeper → IsOn k old (kept_ends new.client new.peer new.out keeper) text after fed
+  up_on old new text fed kept after keeper one lines (e, inl (same, put)) = record {
+    has = has_still old new text fed new.out keeper one.has (put_no_more k.puts old.keeper new.keeper keeper one.has.checkpoints one.has.put put);
+    last = subst (λ q. IsPutLast q one.has.checkpoints new.client.at) (same ∙ sym e) one.last;
+  }
+  up_on old new text fed kept after keeper one lines (e, inr put) =
+      let has = one.has in
+      let own = plain_checkpoint new.client.at.run new.client.at.counts in
+      let puts = put_both k.puts old.keeper new.keeper keeper has.checkpoints (own ∷ []) has.put put in
+      record {
+        has = record { passed = has.passed; checkpoints = has.checkpoints ++ own ∷ []; later = has.later; dumped = then_put has.dumped lines; keeps = has.keeps; logs = has.logs; put = puts };
+        last = subst (λ q. IsPutLast q (has.checkpoints ++ own ∷ []) new.client.at) (sym e) (just_put has.checkpoints new.client.at);
+      }
+
   -- the client's checkpoint is kept
-  pub kept_up : (old new : KeptEnds B P W K) (kept after : Option ℕ) (keeper : K) → KeptSoFar k old new kept
+  pub kept_up : {old new : KeptEnds B P W K} {kept after : Option ℕ} {keeper : K} → KeptSoFar k old new kept
       → IsKeptUp k.puts (plain_checkpoint new.client.at.run new.client.at.counts) kept true after new.keeper keeper
       → KeptSoFar k old (kept_ends new.client new.peer new.out keeper) after
-  kept_up old new kept after keeper s (e, inl (same, put)) = record {
-    text = s.text;
-    same = s.same;
-    on = λ fed h.
-        let one = s.on fed h in
-        record {
-          has = record {
-            passed = one.has.passed;
-            checkpoints = one.has.checkpoints;
-            later = one.has.later;
-            dumped = one.has.dumped;
-            keeps = one.has.keeps;
-            logs = one.has.logs;
-            put = put_no_more k.puts old.keeper new.keeper keeper one.has.checkpoints one.has.put put;
-          };
-          last = subst (λ q. IsPutLast q one.has.checkpoints new.client.at) (same ∙ sym e) one.last;
-        };
-    lines = s.lines;
-    printed = s.printed;
-  }
-  kept_up old new kept after keeper s (e, inr put) = record {
-    text = s.text;
-    same = s.same;
-    on = λ fed h.
-        let one = s.on fed h in
-        let own = plain_checkpoint new.client.at.run new.client.at.counts in
-        record {
-          has = record {
-            passed = one.has.passed;
-            checkpoints = one.has.checkpoints ++ own ∷ [];
-            later = one.has.later;
-            dumped = then_put one.has.dumped s.lines;
-            keeps = one.has.keeps;
-            logs = one.has.logs;
-            put = put_both k.puts old.keeper new.keeper keeper one.has.checkpoints (own ∷ []) one.has.put put;
-          };
-          last = subst (λ q. IsPutLast q (one.has.checkpoints ++ own ∷ []) new.client.at) (sym e) (just_put one.has.checkpoints new.client.at);
-        };
-    lines = s.lines;
-    printed = s.printed;
-  }
+  kept_up {old} {new} {kept} {after} {keeper} s up =
+      record { text = s.text; same = s.same; on = λ fed h. up_on old new s.text fed kept after keeper (s.on fed h) s.lines up; lines = s.lines; printed = s.printed }
 
   -- a round of talk, from where the client's checkpoint is kept
   talked_on : (old new : KeptEnds B P W K) (kept : Option ℕ) (c : ClientHeld B) (p : P) → (s : KeptSoFar k old new kept)
@@ -203,25 +160,18 @@ module _ {B P W K : Type 0} (k : KeptKind B P W K) where
         last = later_last kept one.has.checkpoints new.client.at c.at (talk_goes two.talks) one.last;
       }
 
-  pub round_on : (old new : KeptEnds B P W K) (kept : Option ℕ) (c : ClientHeld B) (p : P) (out : Counting W) → KeptSoFar k old new kept
+  pub round_on : {old new : KeptEnds B P W K} {kept : Option ℕ} {c : ClientHeld B} {p : P} {out : Counting W} → KeptSoFar k old new kept
       → kept ≡ Some (length new.client.at.counts)
       → TalksOver k.holds (FromThis new.client.at) k.tells new.client c new.peer p
       → IsRound k.contents new.client.at.counts c.at new.out out None → KeptSoFar k old (kept_ends c p out new.keeper) kept
-  round_on old new kept c p out s e t r = record {
+  round_on {old} {new} {kept} {c} {p} {out} s e t r = record {
     text = s.text ++ r.0;
     same = λ payload h. t.same payload (s.same payload h);
     on = λ fed h.
         let one = talked_on old new kept c p s e t fed h in
+        let has = one.has in
         record {
-          has = record {
-            passed = one.has.passed;
-            checkpoints = one.has.checkpoints;
-            later = one.has.later;
-            dumped = then_print r.0 one.has.dumped;
-            keeps = one.has.keeps;
-            logs = one.has.logs;
-            put = one.has.put;
-          };
+          has = record { passed = has.passed; checkpoints = has.checkpoints; later = has.later; dumped = then_print r.0 has.dumped; keeps = has.keeps; logs = has.logs; put = has.put };
           last = one.last;
         };
     lines = lines_both old.client.at.counts new.client.at.counts s.text s.lines c.at.counts r.0 r.1;
@@ -229,12 +179,12 @@ module _ {B P W K : Type 0} (k : KeptKind B P W K) where
   }
 
   -- the last round
-  pub round_ends : (old new : KeptEnds B P W K) (kept : Option ℕ) (c : ClientHeld B) (p : P) (out : Counting W) (end : Conclusion) → KeptSoFar k old new kept
+  pub round_ends : {old new : KeptEnds B P W K} {kept : Option ℕ} {c : ClientHeld B} {p : P} {out : Counting W} {end : Conclusion} → KeptSoFar k old new kept
       → kept ≡ Some (length new.client.at.counts)
       → TalksOver k.holds (FromThis new.client.at) k.tells new.client c new.peer p
       → IsRound k.contents new.client.at.counts c.at new.out out (Some end) → (end ≡ ends.Complete → c.at ≡ new.client.at)
       → IsDumpKept k old (kept_ends c p out new.keeper) end
-  round_ends old new kept c p out end s e t r still = record {
+  round_ends {old} {new} {kept} {c} {p} {out} {end} s e t r still = record {
     text = s.text;
     rest = r.text;
     last = r.last;
@@ -244,15 +194,7 @@ module _ {B P W K : Type 0} (k : KeptKind B P W K) where
     kept = λ fed h.
         let one = talked_on old new kept c p s e t fed h in
         record {
-          has = record {
-            passed = one.has.passed;
-            checkpoints = one.has.checkpoints;
-            later = one.has.later;
-            dumped = one.has.dumped;
-            keeps = one.has.keeps;
-            logs = one.has.logs;
-            put = one.has.put;
-          };
+          has = has_still old (kept_ends c p new.out new.keeper) s.text fed out new.keeper one.has one.has.put;
           last = λ complete. inr (kept_last kept one.has.checkpoints c.at (e ∙ ap (λ (a : Standing). Some (length a.counts)) (sym (still complete))) one.last);
         };
     printed = s.printed;
@@ -277,15 +219,7 @@ module _ {B P W K : Type 0} (k : KeptKind B P W K) where
     kept = λ fed h.
         let one = s.on fed h in
         record {
-          has = record {
-            passed = one.has.passed;
-            checkpoints = one.has.checkpoints;
-            later = one.has.later;
-            dumped = one.has.dumped;
-            keeps = one.has.keeps;
-            logs = one.has.logs;
-            put = put_no_more k.puts old.keeper new.keeper keeper one.has.checkpoints one.has.put put;
-          };
+          has = has_still old new s.text fed out keeper one.has (put_no_more k.puts old.keeper new.keeper keeper one.has.checkpoints one.has.put put);
           last = λ complete. elim (still complete) [
             | inl same ↦ inl same
             | inr up ↦ inr (kept_last kept one.has.checkpoints new.client.at up one.last)
@@ -297,31 +231,22 @@ module _ {B P W K : Type 0} (k : KeptKind B P W K) where
     ends = is;
   }
 
-  pub unkept_ends : (old new : KeptEnds B P W K) (kept after : Option ℕ) (out : Counting W) (keeper : K) (end : Conclusion) → KeptSoFar k old new kept
-      → IsKeptUp k.puts (plain_checkpoint new.client.at.run new.client.at.counts) kept false after new.keeper keeper
+  pub unkept_ends : {old new : KeptEnds B P W K} {kept : Option ℕ} {out : Counting W} {keeper : K} {end : Conclusion} → KeptSoFar k old new kept → PutsOn k.puts new.keeper keeper []
       → IsUnkept k.contents new.out out end → IsDumpKept k old (kept_ends new.client new.peer out keeper) end
-  unkept_ends old new kept after out keeper end s put u =
+  unkept_ends {old} {new} {kept} {out} {keeper} {end} s put u =
       last_line old new kept out keeper unkept_line u.1.0 end s put u.1.1
       (subst (IsKeptConclusion u.1.0 new.client.at unkept_line) (sym u.0) refl) (λ complete. (let clash = sym u.0 ∙ complete in absurd cc))
 
-  pub finish_ends : (old new : KeptEnds B P W K) (kept : Option ℕ) (out : Counting W) (end : Conclusion) → KeptSoFar k old new kept
+  pub finish_ends : {old new : KeptEnds B P W K} {kept : Option ℕ} {out : Counting W} {end : Conclusion} → KeptSoFar k old new kept
       → IsFinish k.contents new.client.at new.out out end
       → (new.client.at ≡ old.client.at) ⊎ (kept ≡ Some (length new.client.at.counts))
       → IsDumpKept k old (kept_ends new.client new.peer out new.keeper) end
-  finish_ends old new kept out end s f up =
+  finish_ends {old} {new} {kept} {out} {end} s f up =
       last_line old new kept out new.keeper f.0 f.1 end s (put_none k.puts new.keeper) f.2 (kept_conclusion f.1 new.client.at f.0 end f.3) (λ complete. up)
 
-  -- the client's calls are those of a dump without a keeper
-  kept_talks : {told : List (List ℕ) → Type 0} {start : Standing} {first : List ℕ} {passed : List Passed} {text : List ℕ} {put : List PlainCheckpoint} {at : Standing} {fed : List ℕ}
-      → KeptDump told start first passed text put at fed → Talks told FromAny start first passed at fed
-  kept_talks not_begun = no_talk
-  kept_talks (then_talk before talks) = joined (kept_talks before) (talks_weaker (λ payload h. h) (λ at h. tt) talks)
-  kept_talks (then_print line before) = kept_talks before
-  kept_talks (then_put before lines) = kept_talks before
-
-  pub dump_talks : (old new : KeptEnds B P W K) (end : Conclusion) → IsDumpKept k old new end
+  pub dump_talks : {old new : KeptEnds B P W K} {end : Conclusion} → IsDumpKept k old new end
       → TalksOver k.holds FromAny k.tells old.client new.client old.peer new.peer
-  dump_talks old new end h = record {
+  dump_talks h = record {
     same = h.same;
     talked = λ fed has.
         let one = h.kept fed has in
@@ -329,9 +254,9 @@ module _ {B P W K : Type 0} (k : KeptKind B P W K) where
   }
 
   -- so are its lines, if the keeper does not fail
-  pub dump_printed : (old new : KeptEnds B P W K) (end : Conclusion) (status : ExitStatus) → status ≡ conclusion_status end → (end ≡ ends.Unkept → ⊥)
+  pub dump_printed : {old new : KeptEnds B P W K} {end : Conclusion} {status : ExitStatus} → status ≡ conclusion_status end → (end ≡ ends.Unkept → ⊥)
       → IsDumpKept k old new end → IsDumped k.contents old.client.at.counts new.client.at old.out new.out status
-  dump_printed old new end status e other h = dumped_so k.contents old.client.at.counts new.client.at old.out new.out end status e record {
+  dump_printed {old} {new} {end} {status} e other h = dumped_so k.contents old.client.at.counts new.client.at old.out new.out end status e record {
     text = h.text ++ h.rest;
     last = h.last;
     whole = h.whole;
@@ -342,9 +267,9 @@ module _ {B P W K : Type 0} (k : KeptKind B P W K) where
   }
 
 -- a dump whose round is its last does not end as one whose keeper failed
-pub round_not_unkept : {W : Type 0} (contents : W → Option (List ℕ)) (first : List VolumeCount) (at : Standing) (out out' : Counting W) (end : Conclusion)
+pub round_not_unkept : {W : Type 0} {contents : W → Option (List ℕ)} {first : List VolumeCount} {at : Standing} {out out' : Counting W} {end : Conclusion}
     → IsRound contents first at out out' (Some end) → end ≡ ends.Unkept → ⊥
-round_not_unkept contents first at out out' end h = never_unkept h.whole at h.last end h.ends
+round_not_unkept {at = at} {end = end} h = never_unkept h.whole at h.last end h.ends
 
 pub finish_not_unkept : {W : Type 0} (contents : W → Option (List ℕ)) (at : Standing) (out out' : Counting W) (end : Conclusion)
     → IsFinish contents at out out' end → end ≡ ends.Unkept → ⊥

@@ -1,3 +1,4 @@
+pub mod Words
 pub mod Printed
 pub mod Talking
 pub mod Growing

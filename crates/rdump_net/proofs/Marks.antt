@@ -1,33 +1,13 @@
 -- What comes after the records of a volume: the look for the mark, the reel that is taken away, and the close.
-use Rattle.std.proofs.Common.{◌≡◌, ◌≢◌, ◌⊎◌, inl, inr, ℕ, ◌<◌, List, [], ◌∷◌, ◌++◌, true, false, Bool, Option, Some, None, Result, Ok, Err, refl, sym, ap, subst, ◌∙◌, if◌then◌else◌, append-nil, append_assoc, nat_eq, arith}
-use Rattle.std.proofs.lemmas.Bool.{lt-ltb}
 use Rattle.std.proofs.lemmas.Bool.Decides.{nat_tests}
-use Rattle.rmt_wire.specs.declared.errno.TheConstants.{EIO}
-use Rattle.rmt_wire.specs.declared.mtio.TheConstants.{MTBSR, MTFSF, MTREW, MTOFFL}
-use Rattle.rmt_wire.specs.declared.limits.TheConstants.{NUMBER_LIMIT}
-use Rattle.rmt_wire.specs.Reply.{PlainReply}
-use Rattle.rmt_wire.specs.Reply.PlainReply.{Done, Error}
-use Rattle.rmt_wire.specs.Request.{PlainRequest}
-use Rattle.rmt_wire.specs.Request.PlainRequest.{Close, Op}
-use Rattle.rdump_net.specs.KeptReply.{plain_kept, plain_result}
-use Rattle.rdump_net.specs.Call.{IsCalled}
-use Rattle.rdump_net.specs.Calls.{CallsFollow, Stops, Extends}
-use Rattle.rdump_net.specs.Ends.{sink_ends, sink_kind}
-use Rattle.rdump_net.specs.Sink.{SinkCall, Takes}
-use Rattle.rdump_net.specs.Sink.SinkCall.{Mark, Complete}
-use Rattle.rdump_net.specs.Sink.Takes.{nothing, accepted, stopped}
-use Rattle.rdump_net.specs.Reading.{next_end, next_close, next_over, next_forward, next_again, next_back, next_mark, records_of, ReadFails, ReadEnds, is_whole, HasReply, IsMarkFound, IsEndKnown, IsUnmarked, IsBeginningOf, GoesOnBy, CallSteps, IsDone, IsDoneNext, IsAnswered, HasSoughtMark, IsTakenAway, Concludes, HasConcluded}
-use Rattle.rdump_net.specs.Reading.IsEnding.{unasked, refused, accepted as has_completed}
-use Rattle.rdump_net.specs.declared.kept_reply.KeptReply.{KeptReply}
+use Rattle.rdump_net.proofs.Words.{◌≡◌, ◌≢◌, ◌⊎◌, inl, inr, ℕ, List, [], ◌∷◌, ◌++◌, true, false, Bool, Option, Some, None, Result, Ok, Err, refl, sym, ap, subst, ◌∙◌, if◌then◌else◌, append-nil, append_assoc, nat_eq, arith, EIO, MTBSR, MTFSF, MTOFFL, PlainReply, Done, Error, PlainRequest, Close, Op, plain_kept, plain_result, IsCalled, CallsFollow, Stops, Extends, sink_ends, sink_kind, SinkCall, Takes, Mark, Complete, nothing, accepted, stopped, next_end, next_close, next_over, next_back, next_mark, records_of, ReadFails, ReadEnds, is_whole, HasReply, IsMarkFound, IsEndKnown, IsUnmarked, IsBeginningOf, GoesOnBy, CallSteps, IsDone, IsDoneNext, IsAnswered, HasSoughtMark, IsTakenAway, Concludes, HasConcluded, unasked, refused, KeptReply, CallFault, ReadFault, Stopped, NoMark, Undetermined, Passed, AfterVolume, Stay, Check, Offline}
+use Rattle.rdump_net.specs.Reading.IsEnding.{accepted as has_completed}
 use Rattle.rdump_net.specs.declared.kept_reply.KeptReply.TheVariants as kept
-use Rattle.rdump_net.specs.declared.fault.CallFault.{CallFault}
-use Rattle.rdump_net.specs.declared.fault.ReadFault.{ReadFault}
-use Rattle.rdump_net.specs.declared.fault.ReadFault.TheVariants.{Refused, ConnectionEnded, Botched, OutOfMemory, Stopped, NoMark, Undetermined}
-use Rattle.rdump_net.specs.declared.peer.Passed.{Passed}
-use Rattle.rdump_net.specs.declared.volume.AfterVolume.{AfterVolume}
-use Rattle.rdump_net.specs.declared.volume.AfterVolume.TheVariants.{Stay, Check, Offline}
-use Rattle.rdump_net.proofs.Calls.{logs_both, call_extends, call_finishes, extends_both}
-use Rattle.rdump_net.proofs.Reading.{records_same, breaks_after, extends_none, no_data, beginning_same, beginning_both}
+use Rattle.rdump_net.specs.Reading.{StopsTheSearch}
+use Rattle.rdump_net.specs.DriveCalls.{IsOperationCalled}
+use Rattle.rdump_net.proofs.DriveCalls.{operation_step}
+use Rattle.rdump_net.proofs.Calls.{logs_both, reply_extends, call_finishes, extends_both}
+use Rattle.rdump_net.proofs.Reading.{records_same, breaks_after, no_data, beginning_same, beginning_both}
 use Rattle.rdump_net.proofs.Talking.{alone}
 
 -- what is asked where nothing more was answered, and once this was
@@ -47,65 +27,36 @@ found_more next replies later (more, e) (number, h) = (number, subst (λ l. HasR
 
 known_found : (next : List PlainReply → Option PlainRequest) (goes : AfterVolume) (replies : List PlainReply) → goes ≢ Stay → IsMarkFound next replies → IsEndKnown next goes replies (Mark ∷ Complete ∷ [])
 known_found next Stay replies some h = absurd (some refl)
-known_found next Check replies some h = (h, refl)
-known_found next Offline replies some h = (h, refl)
+known_found next goes replies some h = (h, refl)
 
 -- what the sink was given matters only to a read that it stops
 fails_so : (next : List PlainReply → Option PlainRequest) (end : List SinkCall) (replies : List PlainReply) (passed : List Passed) (fault : ReadFault) → is_whole (Err fault) ≡ true
     → ReadFails next [] replies passed fault → ReadFails next end replies passed fault
-fails_so next end replies passed (Refused named number) whole h = h
-fails_so next end replies passed ConnectionEnded whole h = h
-fails_so next end replies passed Botched whole h = h
-fails_so next end replies passed OutOfMemory whole h = h
 fails_so next end replies passed Stopped whole h = absurd (cc)
-fails_so next end replies passed NoMark whole h = h
-fails_so next end replies passed Undetermined whole h = h
+fails_so next end replies passed fault whole h = h
 
 unmarked_more : (next : List PlainReply → Option PlainRequest) (replies more : List PlainReply) (fault : ReadFault) → IsUnmarked next replies fault → IsUnmarked next (replies ++ more) fault
 unmarked_more next replies more NoMark (number, h) = (number, reply_more next replies more (Op MTBSR 1) (Done number) h)
 unmarked_more next replies more Undetermined (request, reply, before, rest, same, asked, closes, h) =
     (request, reply, before, rest ++ more, ap (λ l. l ++ more) same ∙ append_assoc before (reply ∷ rest) more, asked, closes, h)
-unmarked_more next replies more Stopped h = absurd h
-unmarked_more next replies more (Refused named number) h = absurd h
-unmarked_more next replies more ConnectionEnded h = absurd h
-unmarked_more next replies more Botched h = absurd h
-unmarked_more next replies more OutOfMemory h = absurd h
+unmarked_more next replies more fault h = absurd h
 
 unmarked_whole : (next : List PlainReply → Option PlainRequest) (replies : List PlainReply) (fault : ReadFault) → IsUnmarked next replies fault → is_whole (Err fault) ≡ true
 unmarked_whole next replies NoMark h = refl
 unmarked_whole next replies Undetermined h = refl
-unmarked_whole next replies Stopped h = absurd h
-unmarked_whole next replies (Refused named number) h = absurd h
-unmarked_whole next replies ConnectionEnded h = absurd h
-unmarked_whole next replies Botched h = absurd h
-unmarked_whole next replies OutOfMemory h = absurd h
+unmarked_whole next replies fault h = absurd h
 
 unmarked_fails : (next : List PlainReply → Option PlainRequest) (closing : Option CallFault) (replies : List PlainReply) (passed : List Passed) (fault : ReadFault) → Stops next closing replies passed → IsUnmarked next replies fault
     → ReadFails next [] replies passed fault
 unmarked_fails next closing replies passed NoMark stops h = (closing, stops, h)
 unmarked_fails next closing replies passed Undetermined stops h = (closing, stops, h)
-unmarked_fails next closing replies passed Stopped stops h = absurd h
-unmarked_fails next closing replies passed (Refused named number) stops h = absurd h
-unmarked_fails next closing replies passed ConnectionEnded stops h = absurd h
-unmarked_fails next closing replies passed Botched stops h = absurd h
-unmarked_fails next closing replies passed OutOfMemory stops h = absurd h
+unmarked_fails next closing replies passed fault stops h = absurd h
 
 -- what a test of a number says
 pub no_error : (k : ℕ) → k ≢ EIO → nat_eq k EIO ≡ false
 no_error k h = grind (arith, nat_tests)
 
 module _ {P : Type 0} (next : List PlainReply → Option PlainRequest) (tells : P → List Passed → Type 0) where
-  -- what is known of an operation
-  pub answered_as : (p q : P) (replies : List PlainReply) (result is : Result (Option ℕ) ReadFault) → result ≡ is → IsAnswered next tells p q replies result → IsAnswered next tells p q replies is
-  answered_as p q replies result is e h = subst (IsAnswered next tells p q replies) e h
-
-  pub looked_as : (at_mark : List PlainReply → Option PlainRequest) (p q : P) (replies : List PlainReply) (result is : Result (Option ReadFault) ReadFault) → result ≡ is → HasSoughtMark next at_mark tells p q replies result
-      → HasSoughtMark next at_mark tells p q replies is
-  looked_as at_mark p q replies result is e h = subst (HasSoughtMark next at_mark tells p q replies) e h
-
-  pub taken_as : (p q : P) (replies : List PlainReply) (result is : Result Unit ReadFault) → result ≡ is → IsTakenAway next tells p q replies result → IsTakenAway next tells p q replies is
-  taken_as p q replies result is e h = subst (IsTakenAway next tells p q replies) e h
-
   -- calls, and then a look
   looked_after : (at_mark : List PlainReply → Option PlainRequest) (p q r : P) (a b : List PlainReply) (result : Result (Option ReadFault) ReadFault) → Extends next tells p q a b → records_of b ≡ records_of a → IsBeginningOf a b → HasSoughtMark next at_mark tells q r b result
       → HasSoughtMark next at_mark tells p r a result
@@ -113,87 +64,45 @@ module _ {P : Type 0} (next : List PlainReply → Option PlainRequest) (tells : 
   looked_after at_mark p q r a b (Ok (Some fault)) x same on y = (y.0, extends_both next tells p q r a b y.0 x y.1, y.2 ∙ same, y.3, y.4)
   looked_after at_mark p q r a b (Err fault) x same on y = (y.0, breaks_after next tells p q r a b y.0 fault x y.1, y.2 ∙ same, y.3, beginning_both a b y.0 on y.4)
 
-  -- an operation of the look is done, and it at_mark on
-  pub look_on : (at_mark : List PlainReply → Option PlainRequest) (p q r : P) (replies : List PlainReply) (step further : List PlainReply → Option PlainRequest) (k : ℕ) (result : Result (Option ReadFault) ReadFault) → GoesOnBy next step replies
-      → ((ends : List PlainReply) → step (Done k ∷ ends) ≡ further ends) → CallSteps next tells p q replies (Ok (Done k))
-      → (GoesOnBy next further (replies ++ Done k ∷ []) → HasSoughtMark next at_mark tells q r (replies ++ Done k ∷ []) result) → HasSoughtMark next at_mark tells p r replies result
-  look_on at_mark p q r replies step further k result at turns x more =
-      looked_after at_mark p q r replies (replies ++ Done k ∷ []) result x (records_same replies (Done k ∷ []) refl) (Done k ∷ [], refl) (more (λ ends. on_after next step replies (Done k) at ends ∙ turns ends))
+  module _ (p q : P) (replies : List PlainReply) where
+    -- an operation that is the next step
+    pub operated : (step : List PlainReply → Option PlainRequest) (op count : ℕ) (result : Result (Option ℕ) ReadFault) → step [] ≡ Some (Op op count) → GoesOnBy next step replies
+        → IsOperationCalled tells op count p q result → IsAnswered next tells p q replies result
+    operated step op count result asks at h = operation_step next tells p q replies op count result (on_first next step replies at ∙ asks) h
 
-  -- it is refused, and the look at_mark on all the same
-  pub look_round : (at_mark : List PlainReply → Option PlainRequest) (p q r : P) (replies : List PlainReply) (step further : List PlainReply → Option PlainRequest) (k : ℕ) (text : List ℕ) (result : Result (Option ReadFault) ReadFault) → GoesOnBy next step replies
-      → ((ends : List PlainReply) → step (Error k text ∷ ends) ≡ further ends) → CallSteps next tells p q replies (Ok (Error k text))
-      → (GoesOnBy next further (replies ++ Error k text ∷ []) → HasSoughtMark next at_mark tells q r (replies ++ Error k text ∷ []) result) → HasSoughtMark next at_mark tells p r replies result
-  look_round at_mark p q r replies step further k text result at turns x more =
-      looked_after at_mark p q r replies (replies ++ Error k text ∷ []) result x (records_same replies (Error k text ∷ []) refl) (Error k text ∷ [], refl) (more (λ ends. on_after next step replies (Error k text) at ends ∙ turns ends))
+    -- the step was answered, and the look goes on
+    pub look_on : (at_mark step further : List PlainReply → Option PlainRequest) (reply : PlainReply) (r : P) (result : Result (Option ReadFault) ReadFault) → records_of (reply ∷ []) ≡ []
+        → GoesOnBy next step replies → ((ends : List PlainReply) → step (reply ∷ ends) ≡ further ends) → CallSteps next tells p q replies (Ok reply)
+        → (GoesOnBy next further (replies ++ reply ∷ []) → HasSoughtMark next at_mark tells q r (replies ++ reply ∷ []) result) → HasSoughtMark next at_mark tells p r replies result
+    look_on at_mark step further reply r result none at turns x more =
+        looked_after at_mark p q r replies (replies ++ reply ∷ []) result x (records_same replies (reply ∷ []) none) (reply ∷ [], refl) (more (λ ends. on_after next step replies reply at ends ∙ turns ends))
 
-  -- it is refused, and the close comes
-  pub look_refused : (at_mark : List PlainReply → Option PlainRequest) (p q : P) (replies : List PlainReply) (step : List PlainReply → Option PlainRequest) (request : PlainRequest) (k : ℕ) (text : List ℕ) → GoesOnBy next step replies → step [] ≡ Some request
-      → ((ends : List PlainReply) → step (Error k text ∷ ends) ≡ next_close ends) → CallSteps next tells p q replies (Ok (Error k text)) → HasSoughtMark next at_mark tells p q replies (Ok (Some Undetermined))
-  look_refused at_mark p q replies step request k text at asks turns x =
-      let closes : GoesOnBy next next_close (replies ++ Error k text ∷ []) = λ ends. on_after next step replies (Error k text) at ends ∙ turns ends in (
-        replies ++ Error k text ∷ [],
-        x,
-        records_same replies (Error k text ∷ []) refl,
-        closes,
-        (request, Error k text, replies, [], refl, on_first next step replies at ∙ asks, on_first next next_close (replies ++ Error k text ∷ []) closes, tt),
-      )
+    -- its answer stops the look, and the close comes
+    pub look_given_up : (at_mark step : List PlainReply → Option PlainRequest) (request : PlainRequest) (reply : PlainReply) → StopsTheSearch request reply → records_of (reply ∷ []) ≡ [] → step [] ≡ Some request
+        → GoesOnBy next step replies → ((ends : List PlainReply) → step (reply ∷ ends) ≡ next_close ends) → CallSteps next tells p q replies (Ok reply) → HasSoughtMark next at_mark tells p q replies (Ok (Some Undetermined))
+    look_given_up at_mark step request reply stops none asks at turns x =
+        let closes : GoesOnBy next next_close (replies ++ reply ∷ []) = λ ends. on_after next step replies reply at ends ∙ turns ends in
+        let asked = on_first next step replies at ∙ asks in
+        (replies ++ reply ∷ [], x, records_same replies (reply ∷ []) none, closes, (request, reply, replies, [], refl, asked, on_first next next_close (replies ++ reply ∷ []) closes, stops))
 
-  -- the rewind is done, and there are too many records
-  pub look_too_far : (at_mark : List PlainReply → Option PlainRequest) (p q : P) (replies : List PlainReply) (n k : ℕ) → GoesOnBy next (next_again at_mark n) replies → NUMBER_LIMIT < n → CallSteps next tells p q replies (Ok (Done k))
-      → HasSoughtMark next at_mark tells p q replies (Ok (Some Undetermined))
-  look_too_far at_mark p q replies n k at many x =
-      let closes : GoesOnBy next next_close (replies ++ Done k ∷ []) = λ ends. on_after next (next_again at_mark n) replies (Done k) at ends ∙ ap (λ t. if t then next_close ends else next_forward at_mark n ends) (lt-ltb NUMBER_LIMIT n many) in (
-        replies ++ Done k ∷ [],
-        x,
-        records_same replies (Done k ∷ []) refl,
-        closes,
-        (Op MTREW 1, Done k, replies, [], refl, on_first next (next_again at_mark n) replies at, on_first next next_close (replies ++ Done k ∷ []) closes, refl),
-      )
+    -- back over a record is done: there is no mark
+    pub look_missing : (at_mark : List PlainReply → Option PlainRequest) (n : ℕ) → GoesOnBy next (next_back at_mark n) replies → IsAnswered next tells p q replies (Ok None) → HasSoughtMark next at_mark tells p q replies (Ok (Some NoMark))
+    look_missing at_mark n at (k, x) =
+        let asked = on_first next (next_back at_mark n) replies at in
+        (replies ++ Done k ∷ [], x, records_same replies (Done k ∷ []) refl, on_after next (next_back at_mark n) replies (Done k) at, (k, (replies, [], refl, asked)))
 
-  -- back over a record is done: there is no mark
-  pub look_missing : (at_mark : List PlainReply → Option PlainRequest) (p q : P) (replies : List PlainReply) (n k : ℕ) → GoesOnBy next (next_back at_mark n) replies → CallSteps next tells p q replies (Ok (Done k)) → HasSoughtMark next at_mark tells p q replies (Ok (Some NoMark))
-  look_missing at_mark p q replies n k at x = (
-    replies ++ Done k ∷ [],
-    x,
-    records_same replies (Done k ∷ []) refl,
-    on_after next (next_back at_mark n) replies (Done k) at,
-    (k, (replies, [], refl, on_first next (next_back at_mark n) replies at)),
-  )
-
-  -- over the mark is done
-  pub look_found : (at_mark : List PlainReply → Option PlainRequest) (p q : P) (replies : List PlainReply) (k : ℕ) → GoesOnBy next (next_over at_mark) replies → CallSteps next tells p q replies (Ok (Done k)) → HasSoughtMark next at_mark tells p q replies (Ok None)
-  look_found at_mark p q replies k at x = (
-    replies ++ Done k ∷ [],
-    x,
-    records_same replies (Done k ∷ []) refl,
-    on_after next (next_over at_mark) replies (Done k) at,
-    (k, (replies, [], refl, on_first next (next_over at_mark) replies at)),
-  )
+    -- over the mark is done
+    pub look_found : (at_mark : List PlainReply → Option PlainRequest) → GoesOnBy next (next_over at_mark) replies → IsAnswered next tells p q replies (Ok None) → HasSoughtMark next at_mark tells p q replies (Ok None)
+    look_found at_mark at (k, x) =
+        let asked = on_first next (next_over at_mark) replies at in
+        (replies ++ Done k ∷ [], x, records_same replies (Done k ∷ []) refl, on_after next (next_over at_mark) replies (Done k) at, (k, (replies, [], refl, asked)))
 
   -- it is looked for, as `goes` asks
   pub look_so : (goes : AfterVolume) (c : Bool) (replies : List PlainReply) (n : ℕ) → (goes ≡ Check) ⊎ (goes ≡ Offline) → GoesOnBy next (next_mark goes c n) replies
       → (goes ≢ Stay) × GoesOnBy next (next_back (next_end goes c) n) replies
-  look_so goes c replies n (inl is) at = (
-    (λ same. cc),
-    (λ ends. at ends ∙ ap (λ g. next_mark g c n ends) is ∙ ap (λ g. next_back (next_end g c) n ends) (sym is)),
-  )
-  look_so goes c replies n (inr is) at = (
-    (λ same. cc),
-    (λ ends. at ends ∙ ap (λ g. next_mark g c n ends) is ∙ ap (λ g. next_back (next_end g c) n ends) (sym is)),
-  )
-
-  -- the reel is to stay
-  stays_so : (p : P) (replies : List PlainReply) → GoesOnBy next next_close replies → IsTakenAway next tells p p replies (Ok tt)
-  stays_so p replies at =
-      let none = sym (append-nil replies) in
-      ([], subst (Extends next tells p p replies) none (extends_none next tells p replies), refl, subst (GoesOnBy next next_close) none at)
-
-  pub reel_stays : (p : P) (goes : AfterVolume) (replies : List PlainReply) → goes ≡ Stay → GoesOnBy next (next_end goes true) replies → IsTakenAway next tells p p replies (Ok tt)
-  reel_stays p goes replies is at = stays_so p replies (subst (λ g. GoesOnBy next (next_end g true) replies) is at)
-
-  pub reel_kept : (p : P) (goes : AfterVolume) (replies : List PlainReply) → goes ≡ Check → GoesOnBy next (next_end goes true) replies → IsTakenAway next tells p p replies (Ok tt)
-  reel_kept p goes replies is at = stays_so p replies (subst (λ g. GoesOnBy next (next_end g true) replies) is at)
+  look_so Stay c replies n (inl is) at = absurd (cc)
+  look_so Stay c replies n (inr is) at = absurd (cc)
+  look_so goes c replies n is at = ((λ same. cc), at)
 
   -- it is to go
   taken_so : (p q : P) (replies : List PlainReply) (result : Result Unit ReadFault) → GoesOnBy next (next_end Offline true) replies → IsDone next tells p q replies result → IsTakenAway next tells p q replies result
@@ -260,7 +169,7 @@ module _ {P : Type 0} (next : List PlainReply → Option PlainRequest) (tells : 
   closed_answered : (goes : AfterVolume) (p q : P) (replies : List PlainReply) (fault : ReadFault) (answer : KeptReply) → GoesOnBy next next_close replies → IsUnmarked next replies fault → records_of (plain_kept answer ∷ []) ≡ []
       → IsCalled tells Close (plain_result (Ok answer)) p q → Concludes next goes [] tells p q replies (Err fault)
   closed_answered goes p q replies fault answer at h none called =
-      let x = call_extends next tells p q replies Close (Ok answer) answer (on_first next next_close replies at) refl called in
+      let x = reply_extends next tells p q replies Close (plain_kept answer) (on_first next next_close replies at) called in
       record {
         later = replies ++ plain_kept answer ∷ [];
         more = x.more;
@@ -274,11 +183,10 @@ module _ {P : Type 0} (next : List PlainReply → Option PlainRequest) (tells : 
 
   pub closed_unmarked : (goes : AfterVolume) (p q : P) (replies : List PlainReply) (fault : ReadFault) (result : Result KeptReply CallFault) → GoesOnBy next next_close replies → IsUnmarked next replies fault
       → IsCalled tells Close (plain_result result) p q → Concludes next goes [] tells p q replies (Err fault)
-  closed_unmarked goes p q replies fault (Ok (kept.Done n)) at h called = closed_answered goes p q replies fault (kept.Done n) at h refl called
-  closed_unmarked goes p q replies fault (Ok (kept.Error n text)) at h called = closed_answered goes p q replies fault (kept.Error n text) at h refl called
-  closed_unmarked goes p q replies fault (Ok (kept.Data bytes)) at h called = absurd (no_data tells p q Close (Ok (kept.Data bytes)) bytes refl refl called)
+  closed_unmarked goes p q replies fault (Ok (kept.Data bytes)) at h called = absurd (no_data Close bytes.items called.0 refl called.1)
+  closed_unmarked goes p q replies fault (Ok answer) at h called = closed_answered goes p q replies fault answer at h refl called
   closed_unmarked goes p q replies fault (Err cut) at h called =
-      let x = call_finishes next tells p q replies Close (Err cut) cut (on_first next next_close replies at) refl called in
+      let x = call_finishes next tells p q replies Close cut (on_first next next_close replies at) called in
       record {
         later = replies;
         more = x.more;
@@ -293,16 +201,9 @@ module _ {P S : Type 0} (next : List PlainReply → Option PlainRequest) (tells 
   -- the sink is given nothing
   pub concluded_unasked : (goes : AfterVolume) (p q : P) (s : S) (replies : List PlainReply) (result : Result Unit ReadFault) → Concludes next goes [] tells p q replies result
       → HasConcluded next goes false (sink_kind tells takes) replies (sink_ends p s) (sink_ends q s) result
-  concluded_unasked goes p q s replies result x = record {
-    later = x.later;
-    more = x.more;
-    end = [];
-    logs = x.logs;
-    same = x.same;
-    took = subst (Takes takes s s []) (sym x.whole) nothing;
-    ending = unasked;
-    ends = x.ends;
-  }
+  concluded_unasked goes p q s replies result x =
+      let took = subst (Takes takes s s []) (sym x.whole) nothing in
+      record { later = x.later; more = x.more; end = []; logs = x.logs; same = x.same; took = took; ending = unasked; ends = x.ends }
 
   -- it completes at the mark
   pub concluded_kept : (goes : AfterVolume) (p q : P) (s t u : S) (taken : Bool) (replies : List PlainReply) (result : Result Unit ReadFault) → goes ≢ Stay → IsMarkFound next replies → takes s t Mark true → taken ≡ true

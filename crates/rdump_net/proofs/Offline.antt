@@ -1,21 +1,6 @@
 -- A reel is taken offline only once the sink has completed.
-use Rattle.std.proofs.Common.{◌≡◌, ℕ, List, [], ◌∷◌, ◌++◌, Bool, true, false, Option, Some, None, Result, refl, sym, ap, subst, ◌∙◌, if◌then◌else◌, nat_eq, nat_lt, ◌+◌}
-use Rattle.rmt_wire.specs.declared.errno.TheConstants.{EIO}
-use Rattle.rmt_wire.specs.declared.mtio.TheConstants.{MTOFFL, MTREW}
-use Rattle.rmt_wire.specs.declared.limits.TheConstants.{NUMBER_LIMIT}
-use Rattle.rmt_wire.specs.Reply.{PlainReply}
-use Rattle.rmt_wire.specs.Reply.PlainReply.{Done, Data, Error}
-use Rattle.rmt_wire.specs.Request.{PlainRequest}
-use Rattle.rmt_wire.specs.Request.PlainRequest.{Open, Close, Write, WriteDropped, Read, Op}
-use Rattle.rdump_net.specs.Calls.{is_done}
-use Rattle.rdump_net.specs.Ends.{SinkEnds, SinkKind}
-use Rattle.rdump_net.specs.Sink.{SinkCall, Takes, calls_of}
-use Rattle.rdump_net.specs.Sink.SinkCall.{Mark, Complete}
-use Rattle.rdump_net.specs.Reading.{next_close, next_end, next_over, next_forward, next_again, next_back, next_mark, next_read, next_of, after_for_count, records_of, is_whole, IsEnding, IsTakenAwayOnlyIfKept}
-use Rattle.rdump_net.specs.Reading.IsEnding.{unasked, refused, accepted}
-use Rattle.rdump_net.specs.declared.fault.ReadFault.{ReadFault}
-use Rattle.rdump_net.specs.declared.volume.AfterVolume.{AfterVolume}
-use Rattle.rdump_net.specs.declared.volume.AfterVolume.TheVariants.{Stay, Check, Offline}
+use Rattle.rdump_net.proofs.Words.{◌≡◌, ℕ, List, [], ◌∷◌, ◌++◌, Bool, true, false, Option, Some, None, Result, refl, sym, ap, subst, ◌∙◌, if◌then◌else◌, nat_eq, nat_lt, ◌+◌, EIO, MTOFFL, MTREW, NUMBER_LIMIT, PlainReply, Done, Data, Error, PlainRequest, Open, Close, Write, WriteDropped, Read, Op, is_done, SinkEnds, SinkKind, SinkCall, Takes, calls_of, Mark, Complete, next_close, next_end, next_over, next_forward, next_again, next_back, next_mark, next_read, next_of, after_for_count, records_of, is_whole, IsEnding, IsTakenAwayOnlyIfKept, unasked, refused, ReadFault, AfterVolume, Stay, Check, Offline}
+use Rattle.rdump_net.specs.Reading.IsEnding.{accepted}
 
 -- whether the next request takes the reel offline
 abbrev is_offline : Option PlainRequest → Bool
@@ -44,28 +29,24 @@ never_refused goes replies = refl
 
 module _ (at_mark : List PlainReply → Option PlainRequest) (never : Never at_mark) where
   never_over : Never (next_over at_mark)
-  never_over [] = refl
   never_over (Done k ∷ replies) = never replies
   never_over (Error k text ∷ replies) = never_closing replies
-  never_over (Data bytes ∷ replies) = refl
+  never_over replies = refl
 
   never_forward : (n : ℕ) → Never (next_forward at_mark n)
-  never_forward n [] = refl
   never_forward n (Done k ∷ replies) = never_over replies
   never_forward n (Error k text ∷ replies) = never_closing replies
-  never_forward n (Data bytes ∷ replies) = refl
+  never_forward n replies = refl
 
   never_again : (n : ℕ) → Never (next_again at_mark n)
-  never_again n [] = refl
   never_again n (Done k ∷ replies) = either (nat_lt NUMBER_LIMIT n) (next_close replies) (next_forward at_mark n replies) (never_closing replies) (never_forward n replies)
   never_again n (Error k text ∷ replies) = never_closing replies
-  never_again n (Data bytes ∷ replies) = refl
+  never_again n replies = refl
 
   never_back : (n : ℕ) → Never (next_back at_mark n)
-  never_back n [] = refl
   never_back n (Done k ∷ replies) = never_closing replies
   never_back n (Error k text ∷ replies) = either (nat_eq k EIO) (next_again at_mark n replies) (next_close replies) (never_again n replies) (never_closing replies)
-  never_back n (Data bytes ∷ replies) = refl
+  never_back n replies = refl
 
 never_marked : (goes : AfterVolume) (n : ℕ) → Never (next_mark goes false n)
 never_marked Stay n replies = never_closing replies
@@ -73,11 +54,9 @@ never_marked Check n replies = never_back (next_end Check false) (never_refused 
 never_marked Offline n replies = never_back (next_end Offline false) (never_refused Offline) n replies
 
 never_read : (after : AfterVolume) (n : ℕ) → Never (next_read after false n)
-never_read after n [] = refl
 never_read after n (Data [] ∷ replies) = never_marked (after_for_count after n) n replies
 never_read after n (Data (b ∷ bytes) ∷ reads) = never_read after (n + 1) reads
-never_read after n (Done k ∷ reads) = refl
-never_read after n (Error k text ∷ reads) = refl
+never_read after n reads = refl
 
 never_uncompleted : (device : List ℕ) (after : AfterVolume) → Never (next_of device after false)
 never_uncompleted device after [] = refl

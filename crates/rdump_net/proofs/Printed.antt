@@ -1,23 +1,8 @@
 -- Texts that are printed one after the other, and the lines of a dump.
-use Rattle.std.proofs.Common.{◌≡◌, ◌≢◌, ◌+◌, ℕ, List, [], ◌++◌, Bool, true, false, if◌then◌else◌, inl, inr, Option, Some, None, refl, sym, ap, subst, ◌∙◌, min, take, drop, length, append-nil, append_assoc, arith}
 use Rattle.std.specs.Io.KnownBytes.{Appends}
 use Rattle.std.proofs.KnownBytes.{Appends-nil, Appends-trans}
-use Rattle.std.proofs.Math.Seq.{take-append-add, drop-append_seam}
-use Rattle.std.proofs.lemmas.List.{take-append-le, take_min}
-use Rattle.exit_status.specs.declared.status.ExitStatus.{ExitStatus}
-use Rattle.rmt_wire.specs.Counted.{Counting, HasRisen}
-use Rattle.dump_client.specs.Standing.{VolumeCount}
-use Rattle.dump_client.specs.Standing.{Standing, checkpoint_of, state_of}
-use Rattle.dump_client.specs.declared.fault.AttemptFault.{AttemptFault}
-use Rattle.dump_client.specs.declared.stage.Stage.{Stage}
-use Rattle.dump_client.specs.declared.stage.Stage.TheVariants.{Ready, ToSend, Waiting, Asking, Finished, Abandoned}
-use Rattle.dump_client.specs.declared.stage.State.{State}
-use Rattle.dump_client.specs.declared.stage.State.TheVariants as told
-use Rattle.rmt_wire.specs.Print.{IsPrinted}
-use Rattle.rdump_net.specs.Lines.{DumpLines, IsPrefixOf, IsConcluded, IsConclusion, IsDumped, IsFinish, IsLast, IsRound, abandoned_line, complete_line, conclusion_status, count_lines, failure_lines, question_line}
-use Rattle.rdump_net.specs.declared.conclusion.Conclusion.{Conclusion}
+use Rattle.rdump_net.proofs.Words.{◌≡◌, ◌+◌, ℕ, List, [], ◌++◌, Bool, true, false, inl, inr, Option, Some, None, refl, sym, ap, subst, ◌∙◌, min, take, drop, length, append-nil, append_assoc, arith, take-append-add, drop-append_seam, take-append-le, take_min, ExitStatus, Counting, HasRisen, VolumeCount, Standing, checkpoint_of, AttemptFault, IsPrinted, DumpLines, IsPrefixOf, IsConcluded, IsConclusion, IsDumped, IsFinish, IsLast, IsRound, conclusion_status, count_lines, failure_lines, question_line, Conclusion, none, counted, failed, asked}
 use Rattle.rdump_net.specs.declared.conclusion.Conclusion.TheVariants as ends
-use Rattle.rdump_net.specs.Lines.DumpLines.{none, counted, failed, asked}
 
 module _ {W : Type 0} (contents : W → Option (List ℕ)) where
   pub nothing_printed : (out : Counting W) → IsPrinted contents [] out out true
@@ -70,49 +55,20 @@ lines_asked counts = asked none
 pub lines_same : (old new : List VolumeCount) → new ≡ old → DumpLines old new []
 lines_same old new e = subst (λ n. DumpLines old n []) (sym e) none
 
--- the state that is told is that of the stage
-pub finished_stage : (stage : Stage) (state : State) → state ≡ state_of stage → state ≡ told.Finished → stage ≡ Finished
-finished_stage Ready state e h = cc
-finished_stage (ToSend step) state e h = cc
-finished_stage (Waiting step) state e h = cc
-finished_stage Asking state e h = cc
-finished_stage Finished state e h = refl
-finished_stage Abandoned state e h = cc
-
-pub not_finished : (stage : Stage) (state : State) → state ≡ state_of stage → ¬ (state ≡ told.Finished) → stage ≢ Finished
-not_finished stage state e h same = h (e ∙ ap state_of same)
-
-pub last_complete : (whole : Bool) (at : Standing) (end : Conclusion) → at.stage ≡ Finished → end ≡ (if whole then ends.Complete else ends.PrintFailed) → IsConclusion whole at (complete_line at.counts) end
-last_complete true at end h e = subst (IsConclusion true at (complete_line at.counts)) (sym e) (h, refl)
-last_complete false at end h e = subst (IsConclusion false at (complete_line at.counts)) (sym e) tt
-
-pub last_abandoned : (whole : Bool) (at : Standing) (end : Conclusion) → at.stage ≢ Finished → end ≡ (if whole then ends.Abandoned else ends.PrintFailed) → IsConclusion whole at abandoned_line end
-last_abandoned true at end h e = subst (IsConclusion true at abandoned_line) (sym e) (h, refl)
-last_abandoned false at end h e = subst (IsConclusion false at abandoned_line) (sym e) tt
-
 -- the status that goes with an end
 last_of : (whole : Bool) (at : Standing) (last : List ℕ) (end : Conclusion) → IsConclusion whole at last end → IsLast whole at last (conclusion_status end)
 last_of true at last ends.Complete h = inl (h.0, h.1, refl)
 last_of true at last ends.Abandoned h = inr (h.0, h.1, refl)
-last_of true at last ends.PrintFailed h = absurd h
-last_of true at last ends.Unkept h = absurd h
 last_of false at last ends.PrintFailed h = refl
-last_of false at last ends.Complete h = absurd h
-last_of false at last ends.Abandoned h = absurd h
-last_of false at last ends.Unkept h = absurd h
+last_of whole at last end h = absurd h
 
 module _ {W : Type 0} (contents : W → Option (List ℕ)) where
   -- a part that was cut short
   pub cut_short : (first : List VolumeCount) (at : Standing) (out out' : Counting W) (text : List ℕ) → DumpLines first at.counts text
       → IsPrinted contents text out out' false → IsConcluded contents first at out out' ends.PrintFailed
-  cut_short first at out out' text lines printed = record {
-    text = text;
-    last = [];
-    whole = false;
-    lines = lines;
-    printed = subst (λ t. IsPrinted contents t out out' false) (sym (append-nil text)) printed;
-    ends = tt;
-  }
+  cut_short first at out out' text lines printed =
+      let all = subst (λ t. IsPrinted contents t out out' false) (sym (append-nil text)) printed in
+      record { text = text; last = []; whole = false; lines = lines; printed = all; ends = tt }
 
   -- the last line alone
   pub last_alone : (at : Standing) (out out' : Counting W) (end : Conclusion) → IsFinish contents at out out' end → IsConcluded contents at.counts at out out' end
@@ -135,11 +91,6 @@ module _ {W : Type 0} (contents : W → Option (List ℕ)) where
   -- what a dump prints, with its status
   pub dumped_so : (first : List VolumeCount) (at : Standing) (out out' : Counting W) (end : Conclusion) (status : ExitStatus) → status ≡ conclusion_status end
       → IsConcluded contents first at out out' end → IsDumped contents first at out out' status
-  dumped_so first at out out' end status e h = record {
-    text = h.text;
-    last = h.last;
-    whole = h.whole;
-    lines = h.lines;
-    printed = h.printed;
-    ends = subst (IsLast h.whole at h.last) (sym e) (last_of h.whole at h.last end h.ends);
-  }
+  dumped_so first at out out' end status e h =
+      let known = subst (IsLast h.whole at h.last) (sym e) (last_of h.whole at h.last end h.ends) in
+      record { text = h.text; last = h.last; whole = h.whole; lines = h.lines; printed = h.printed; ends = known }

@@ -1,21 +1,9 @@
 -- A volume that is read into a sink that prints its label, and writes the records after it.
-use Rattle.std.proofs.Common.{◌≡◌, ◌⊎◌, inl, inr, ℕ, ◌+◌, List, [], ◌∷◌, ◌++◌, Bool, true, false, ◌&&◌, Option, Result, refl, sym, ap, subst, ◌∙◌, append-nil}
 use Rattle.std.specs.List.{concat}
-use Rattle.rmt_wire.specs.Print.{IsPrinted}
-use Rattle.rmt_wire.specs.Reply.{PlainReply}
-use Rattle.rmt_wire.specs.Request.{PlainRequest}
-use Rattle.rdump_net.specs.Ends.{copy_ends, copy_kind, sink_ends, sink_kind}
+use Rattle.rdump_net.proofs.Words.{◌≡◌, ◌⊎◌, inl, inr, ℕ, ◌+◌, List, [], ◌∷◌, ◌++◌, Bool, true, false, ◌&&◌, Option, Result, refl, sym, ap, subst, ◌∙◌, append-nil, IsPrinted, PlainReply, PlainRequest, copy_ends, copy_kind, sink_ends, sink_kind, after_for_records, records_of, label_text, file_bytes, text_of, is_whole, next_of, OnlyTheLastIsEmpty, ReadEnds, IsEnding, IsRead, IsVolumeCopied, unasked, refused, SinkCall, Takes, blocks_from, calls_of, Label, Block, nothing, accepted, stopped, ReadFault, Passed, AfterVolume, Stay}
 use Rattle.rdump_net.specs.PrintingSink.{Keeps, TakesPrinted}
-use Rattle.rdump_net.specs.Reading.{after_for_records, records_of, label_text, file_bytes, text_of, is_whole, next_of, OnlyTheLastIsEmpty, ReadEnds, IsEnding, IsRead, IsVolumeCopied}
-use Rattle.rdump_net.specs.Reading.IsEnding.{unasked, refused, accepted as has_completed}
-use Rattle.rdump_net.specs.Sink.{SinkCall, Takes, blocks_from, calls_of}
-use Rattle.rdump_net.specs.Sink.SinkCall.{Label, Block}
-use Rattle.rdump_net.specs.Sink.Takes.{nothing, accepted, stopped}
-use Rattle.rdump_net.specs.declared.fault.ReadFault.{ReadFault}
-use Rattle.rdump_net.specs.declared.peer.Passed.{Passed}
+use Rattle.rdump_net.specs.Reading.IsEnding.{accepted as has_completed}
 use Rattle.rdump_net.specs.declared.printing_sink.Outputs.{Outputs}
-use Rattle.rdump_net.specs.declared.volume.AfterVolume.{AfterVolume}
-use Rattle.rdump_net.specs.declared.volume.AfterVolume.TheVariants.{Stay}
 use Rattle.rdump_net.proofs.Printed.{nothing_printed, printed_both, printed_less}
 
 module _ {S : Type 0} (takes : S → S → SinkCall → Bool → Type 0) where
@@ -49,22 +37,17 @@ module _ {F W : Type 0} (filed : F → Option (List ℕ)) (contents : W → Opti
   keeps_same : (s t : Outputs F W) → t ≡ s → Keeps s t
   keeps_same s t e = record { file = ap (λ o. o.file.ghost_name) e; out = ap (λ o. o.out.ghost_name) e }
 
+  -- there is nothing to print
+  none_printed : (s t : Outputs F W) (bytes : List ℕ) (whole : Bool) → bytes ≡ [] → (t ≡ s) × (whole ≡ true) → IsPrinted filed bytes s.file.now t.file.now whole × (t.out.now ≡ s.out.now) × Keeps s t
+  none_printed s t bytes whole none (same, is) =
+      let nothing_new = subst (λ o. IsPrinted filed [] s.file.now o.file.now true) (sym same) (nothing_printed filed s.file.now) in
+      (subst (λ l. IsPrinted filed l s.file.now t.file.now whole) (sym none) (subst (IsPrinted filed [] s.file.now t.file.now) (sym is) nothing_new), ap (λ o. o.out.now) same, keeps_same s t same)
+
   -- the records after the label
   blocks_printed : (s t : Outputs F W) (n : ℕ) (records : List (List ℕ)) (whole : Bool) → OnlyTheLastIsEmpty records → Takes (TakesPrinted filed contents) s t (blocks_from n records) whole
       → IsPrinted filed (concat records) s.file.now t.file.now whole × (t.out.now ≡ s.out.now) × Keeps s t
-  blocks_printed s t n [] whole only h =
-      let none = none_taken (TakesPrinted filed contents) refl h in (
-        subst (λ w. IsPrinted filed [] s.file.now t.file.now w) (sym none.1) (subst (λ f. IsPrinted filed [] s.file.now f true) (sym (ap (λ o. o.file.now) none.0)) (nothing_printed filed s.file.now)),
-        ap (λ o. o.out.now) none.0,
-        keeps_same s t none.0,
-      )
-  blocks_printed s t n ([] ∷ records) whole only h =
-      let none = none_taken (TakesPrinted filed contents) refl h in (
-        subst (λ l. IsPrinted filed (concat l) s.file.now t.file.now whole) (sym only)
-            (subst (λ w. IsPrinted filed [] s.file.now t.file.now w) (sym none.1) (subst (λ f. IsPrinted filed [] s.file.now f true) (sym (ap (λ o. o.file.now) none.0)) (nothing_printed filed s.file.now))),
-        ap (λ o. o.out.now) none.0,
-        keeps_same s t none.0,
-      )
+  blocks_printed s t n [] whole only h = none_printed s t [] whole refl (none_taken (TakesPrinted filed contents) refl h)
+  blocks_printed s t n ([] ∷ records) whole only h = none_printed s t (concat records) whole (ap concat only) (none_taken (TakesPrinted filed contents) refl h)
   blocks_printed s u n ((b ∷ bytes) ∷ records) whole only h =
       or_stopped (λ t k. blocks_printed t u (n + 1) records whole only k) (first_taken (TakesPrinted filed contents) (Block n (b ∷ bytes)) (blocks_from (n + 1) records) refl h) where
         or_stopped : ((t : Outputs F W) → Takes (TakesPrinted filed contents) t u (blocks_from (n + 1) records) whole → IsPrinted filed (concat records) t.file.now u.file.now whole × (u.out.now ≡ t.out.now) × Keeps t u)
@@ -87,14 +70,10 @@ module _ {F W : Type 0} (filed : F → Option (List ℕ)) (contents : W → Opti
     pub keeps : Keeps s t
 
   nothing_came : (s t : Outputs F W) (records : List (List ℕ)) (whole : Bool) → label_text records ≡ [] → file_bytes records ≡ [] → (t ≡ s) × (whole ≡ true) → IsVolumePrinted s t records whole
-  nothing_came s t records whole no_label no_file (same, is) = record {
-    named = true;
-    filled = true;
-    label = subst (λ l. IsPrinted contents l s.out.now t.out.now true) (sym no_label) (subst (λ o. IsPrinted contents [] s.out.now o true) (sym (ap (λ o. o.out.now) same)) (nothing_printed contents s.out.now));
-    written = subst (λ l. IsPrinted filed l s.file.now t.file.now true) (sym no_file) (subst (λ f. IsPrinted filed [] s.file.now f true) (sym (ap (λ o. o.file.now) same)) (nothing_printed filed s.file.now));
-    both = sym is;
-    keeps = keeps_same s t same;
-  }
+  nothing_came s t records whole no_label no_file (same, is) =
+      let label = subst (λ l. IsPrinted contents l s.out.now t.out.now true) (sym no_label) (subst (λ o. IsPrinted contents [] s.out.now o true) (sym (ap (λ o. o.out.now) same)) (nothing_printed contents s.out.now)) in
+      let written = subst (λ l. IsPrinted filed l s.file.now t.file.now true) (sym no_file) (subst (λ f. IsPrinted filed [] s.file.now f true) (sym (ap (λ o. o.file.now) same)) (nothing_printed filed s.file.now)) in
+      record { named = true; filled = true; label = label; written = written; both = sym is; keeps = keeps_same s t same }
 
   volume_printed : (s t : Outputs F W) (records : List (List ℕ)) (whole : Bool) → OnlyTheLastIsEmpty records → Takes (TakesPrinted filed contents) s t (calls_of records) whole → IsVolumePrinted s t records whole
   volume_printed s t [] whole only h = nothing_came s t [] whole refl refl (none_taken (TakesPrinted filed contents) refl h)
@@ -104,22 +83,12 @@ module _ {F W : Type 0} (filed : F → Option (List ℕ)) (contents : W → Opti
         ⊎ (TakesPrinted filed contents s u (Label (b ∷ bytes)) false × (blocks_from 0 records ≡ []) × (whole ≡ false)) → IsVolumePrinted s u ((b ∷ bytes) ∷ records) whole
     or_stopped (inl (t, one, more)) =
         let two = blocks_printed t u 0 records whole only more in
-        record {
-          named = true;
-          filled = whole;
-          label = subst (λ o. IsPrinted contents (text_of (b ∷ bytes)) s.out.now o true) (sym two.1) one.0;
-          written = subst (λ f. IsPrinted filed (concat records) f u.file.now whole) one.1 two.0;
-          both = refl;
-          keeps = keeps_both s t u one.2 two.2;
-        }
-    or_stopped (inr (one, none, no_more)) = record {
-      named = false;
-      filled = true;
-      label = one.0;
-      written = subst (λ l. IsPrinted filed l s.file.now u.file.now true) (sym (no_blocks records only none)) (subst (λ f. IsPrinted filed [] s.file.now f true) (sym one.1) (nothing_printed filed s.file.now));
-      both = sym no_more;
-      keeps = one.2;
-    }
+        let label = subst (λ o. IsPrinted contents (text_of (b ∷ bytes)) s.out.now o true) (sym two.1) one.0 in
+        let written = subst (λ f. IsPrinted filed (concat records) f u.file.now whole) one.1 two.0 in
+        record { named = true; filled = whole; label = label; written = written; both = refl; keeps = keeps_both s t u one.2 two.2 }
+    or_stopped (inr (one, none, no_more)) =
+        let written = subst (λ l. IsPrinted filed l s.file.now u.file.now true) (sym (no_blocks records only none)) (subst (λ f. IsPrinted filed [] s.file.now f true) (sym one.1) (nothing_printed filed s.file.now)) in
+        record { named = false; filled = true; label = one.0; written = written; both = sym no_more; keeps = one.2 }
 
 -- a reel that is to stay is not checked
 stays_always : (records : List (List ℕ)) → after_for_records Stay records ≡ Stay

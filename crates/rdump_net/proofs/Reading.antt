@@ -1,82 +1,37 @@
 -- A volume that is read over a peer, put together.
-use Rattle.std.proofs.Common.{◌≡◌, ◌≢◌, inl, inr, ℕ, ◌+◌, ◌-◌, ◌^◌, ◌≤◌, List, [], ◌∷◌, ◌++◌, length, Bool, true, false, Option, Some, None, Result, Ok, Err, Vec, Global, refl, sym, ap, subst, ◌∙◌, if◌then◌else◌, append-nil, append_assoc, nat_eq, arith}
 use Rattle.std.proofs.lemmas.Bool.Decides.{nat_tests}
-use Rattle.rmt_wire.specs.declared.mtio.TheConstants.{MTREW}
-use Rattle.rmt_wire.specs.declared.limits.TheConstants.{RECORD_LIMIT}
-use Rattle.rmt_wire.specs.Reply.{PlainReply}
-use Rattle.rmt_wire.specs.Reply.PlainReply.{Done, Data, Error}
-use Rattle.rmt_wire.specs.Reply.Wanted.{Number}
-use Rattle.rmt_wire.specs.Request.{PlainRequest}
-use Rattle.rmt_wire.specs.Request.PlainRequest.{Read, Op}
-use Rattle.rdump_net.specs.KeptReply.{plain_result}
-use Rattle.rdump_net.specs.Call.{wanted_by, IsPeerCall, IsCalled, Brings}
-use Rattle.rdump_net.specs.Calls.{is_done, CallsFollow, Stops, Extends}
-use Rattle.rdump_net.specs.DriveCalls.{read_fault}
-use Rattle.rdump_net.specs.Ends.{sink_ends, sink_kind}
-use Rattle.rdump_net.specs.Sink.{SinkCall, Takes, blocks_from, calls_of}
-use Rattle.rdump_net.specs.Sink.SinkCall.{Label, Block}
-use Rattle.rdump_net.specs.Sink.Takes.{nothing, accepted, stopped}
-use Rattle.rdump_net.specs.Reading.{next_of, next_read, next_mark, after_for_count, after_for_records, records_of, IsNamed, ReadFails, ReadEnds, IsEnding, is_whole, is_taken, AreRecords, IsAtLabel, IsVolumeReading, IsVolumeRead, OnlyTheLastIsEmpty, IsBeginningOf, EndsAtRefusal, GoesOnBy, Breaks, CallSteps, IsBegun, IsDone, IsDoneBy, IsRecordRead, Reads, ReadsVolume, AreRecordsGiven, HasConcluded, IsGiven, HasReadVolume}
-use Rattle.rdump_net.specs.Reading.IsEnding.{unasked}
-use Rattle.rdump_net.specs.declared.kept_reply.KeptReply.{KeptReply}
-use Rattle.rdump_net.specs.declared.kept_reply.KeptReply.TheVariants as kept
+use Rattle.rdump_net.proofs.Words.{◌≡◌, ◌≢◌, inl, inr, ℕ, ◌+◌, ◌-◌, ◌^◌, ◌≤◌, List, [], ◌∷◌, ◌++◌, length, Bool, true, false, Option, Some, None, Result, Ok, Err, refl, sym, ap, subst, ◌∙◌, if◌then◌else◌, append-nil, append_assoc, nat_eq, arith, plain_kept, MTREW, RECORD_LIMIT, PlainReply, Done, Data, Error, Number, PlainRequest, Read, Op, wanted_by, IsPeerCall, IsCalled, Brings, is_done, CallsFollow, Stops, Extends, read_fault, sink_ends, sink_kind, SinkCall, Takes, blocks_from, calls_of, Label, Block, nothing, accepted, stopped, next_of, next_read, next_mark, after_for_count, after_for_records, records_of, IsNamed, ReadFails, ReadEnds, IsEnding, is_whole, is_taken, AreRecords, IsAtLabel, IsVolumeReading, IsVolumeRead, OnlyTheLastIsEmpty, IsBeginningOf, EndsAtRefusal, GoesOnBy, Breaks, CallSteps, IsBegun, IsDone, IsDoneBy, Reads, ReadsVolume, AreRecordsGiven, HasConcluded, IsGiven, HasReadVolume, unasked, KeptReply, CallFault, ReadFault, Refused, Stopped, Passed, AfterVolume, Stay}
 use Rattle.rdump_net.specs.declared.fault.VolumeRequest.{VolumeRequest}
-use Rattle.rdump_net.specs.declared.fault.CallFault.{CallFault}
 use Rattle.rdump_net.specs.declared.fault.CallFault.TheVariants as call
-use Rattle.rdump_net.specs.declared.fault.ReadFault.{ReadFault}
-use Rattle.rdump_net.specs.declared.fault.ReadFault.TheVariants.{Refused, Botched, Stopped}
-use Rattle.rdump_net.specs.declared.peer.Passed.{Passed}
-use Rattle.rdump_net.specs.declared.volume.AfterVolume.{AfterVolume}
-use Rattle.rdump_net.specs.declared.volume.AfterVolume.TheVariants.{Stay}
-use Rattle.rdump_net.proofs.Calls.{logs_both, reply_extends, call_extends, call_finishes, extends_both}
+use Rattle.rdump_net.specs.declared.fault.ReadFault.TheVariants.{Botched}
+use Rattle.rdump_net.proofs.Calls.{logs_both, reply_extends, call_finishes, extends_both}
 use Rattle.rdump_net.proofs.Talking.{alone}
 
 -- the records of replies, and of more
 pub records_more : (a b : List PlainReply) → records_of (a ++ b) ≡ records_of a ++ records_of b
 records_more [] b = refl
 records_more (Data bytes ∷ a) b = ap (λ l. bytes ∷ l) (records_more a b)
-records_more (Done n ∷ a) b = records_more a b
-records_more (Error n text ∷ a) b = records_more a b
+records_more (reply ∷ a) b = records_more a b
 
 pub records_same : (a b : List PlainReply) → records_of b ≡ [] → records_of (a ++ b) ≡ records_of a
 records_same a b none = records_more a b ∙ ap (λ l. records_of a ++ l) none ∙ append-nil (records_of a)
 
--- what is asked after records
-read_again : (after : AfterVolume) (c : Bool) (m n : ℕ) (reads : List PlainReply) → AreRecords m n reads → next_read after c m reads ≡ Some (Read RECORD_LIMIT)
-read_again after c m n [] h = refl
-read_again after c m n (Data [] ∷ reads) h = absurd h
-read_again after c m n (Data (b ∷ bytes) ∷ reads) h = read_again after c (m + 1) n reads h
-read_again after c m n (Done k ∷ reads) h = absurd h
-read_again after c m n (Error k text ∷ reads) h = absurd h
-
-read_stops : (after : AfterVolume) (c : Bool) (m n number : ℕ) (text : List ℕ) (reads : List PlainReply) → AreRecords m n reads → next_read after c m (reads ++ Error number text ∷ []) ≡ None
-read_stops after c m n number text [] h = refl
-read_stops after c m n number text (Data [] ∷ reads) h = absurd h
-read_stops after c m n number text (Data (b ∷ bytes) ∷ reads) h = read_stops after c (m + 1) n number text reads h
-read_stops after c m n number text (Done k ∷ reads) h = absurd h
-read_stops after c m n number text (Error k words ∷ reads) h = absurd h
-
-end_after : (after : AfterVolume) (c : Bool) (m n : ℕ) (reads ends : List PlainReply) → AreRecords m n reads → next_read after c m ((reads ++ Data [] ∷ []) ++ ends) ≡ next_mark (after_for_count after n) c n ends
-end_after after c m n [] ends h = ap (λ k. next_mark (after_for_count after k) c k ends) (sym h)
-end_after after c m n (Data [] ∷ reads) ends h = absurd h
-end_after after c m n (Data (b ∷ bytes) ∷ reads) ends h = end_after after c (m + 1) n reads ends h
-end_after after c m n (Done k ∷ reads) ends h = absurd h
-end_after after c m n (Error k text ∷ reads) ends h = absurd h
+-- what is asked after records is asked as their number says
+after_records : (after : AfterVolume) (c : Bool) (m n : ℕ) (reads more : List PlainReply) → AreRecords m n reads → next_read after c m (reads ++ more) ≡ next_read after c n more
+after_records after c m n [] more h = ap (λ k. next_read after c k more) (sym h)
+after_records after c m n (Data (b ∷ bytes) ∷ reads) more h = after_records after c (m + 1) n reads more h
+after_records after c m n reads more h = absurd h
 
 -- how many there are
 records_least : (m n : ℕ) (reads : List PlainReply) → AreRecords m n reads → m ≤ n
 records_least m n [] h = omega (arith, h)
-records_least m n (Data [] ∷ reads) h = absurd h
 records_least m n (Data (b ∷ bytes) ∷ reads) h = let k = records_least (m + 1) n reads h in omega (arith, k)
-records_least m n (Done k ∷ reads) h = absurd h
-records_least m n (Error k text ∷ reads) h = absurd h
+records_least m n reads h = absurd h
 
 records_long : (m n : ℕ) (reads : List PlainReply) → AreRecords m n reads → n ≤ m + length reads
 records_long m n [] h = omega (arith, h)
-records_long m n (Data [] ∷ reads) h = absurd h
 records_long m n (Data (b ∷ bytes) ∷ reads) h = let k = records_long (m + 1) n reads h in omega (arith, k)
-records_long m n (Done k ∷ reads) h = absurd h
-records_long m n (Error k text ∷ reads) h = absurd h
+records_long m n reads h = absurd h
 
 one_record : (m n : ℕ) (bytes : List ℕ) → n ≡ m → bytes ≢ [] → AreRecords m (n + 1) (Data bytes ∷ [])
 one_record m n [] h some = absurd (some refl)
@@ -84,24 +39,24 @@ one_record m n (b ∷ bytes) h some = ap (λ k. k + 1) h
 
 record_after : (m n : ℕ) (reads : List PlainReply) (bytes : List ℕ) → AreRecords m n reads → bytes ≢ [] → AreRecords m (n + 1) (reads ++ Data bytes ∷ [])
 record_after m n [] bytes h some = one_record m n bytes h some
-record_after m n (Data [] ∷ reads) bytes h some = absurd h
 record_after m n (Data (b ∷ more) ∷ reads) bytes h some = record_after (m + 1) n reads bytes h some
-record_after m n (Done k ∷ reads) bytes h some = absurd h
-record_after m n (Error k text ∷ reads) bytes h some = absurd h
+record_after m n reads bytes h some = absurd h
 
-pub reading_next : (device : List ℕ) (after : AfterVolume) (c : Bool) (n : ℕ) (replies : List PlainReply) → IsVolumeReading n replies → next_of device after c replies ≡ Some (Read RECORD_LIMIT)
-reading_next device after c n replies (opened, rewound, b, bytes, reads, e, met, h) =
-    ap (next_of device after c) e ∙ ap (λ t. if t then next_read after c 1 reads else None) met ∙ read_again after c 1 n reads h
+-- what is asked after the label and the records so far, and where the label comes
+pub reading_goes : (device : List ℕ) (after : AfterVolume) (c : Bool) (n : ℕ) (replies : List PlainReply) → IsVolumeReading n replies → GoesOnBy (next_of device after c) (next_read after c n) replies
+reading_goes device after c n replies (opened, rewound, b, bytes, reads, e, met, h) = λ ends.
+    ap (λ l. next_of device after c (l ++ ends)) e ∙ ap (λ t. if t then next_read after c 1 (reads ++ ends) else None) met ∙ after_records after c 1 n reads ends h
 
-pub reading_stops : (device : List ℕ) (after : AfterVolume) (c : Bool) (n : ℕ) (replies : List PlainReply) → IsVolumeReading n replies → EndsAtRefusal (next_of device after c) replies
-reading_stops device after c n replies (opened, rewound, b, bytes, reads, e, met, h) = λ number text.
-    ap (λ l. next_of device after c (l ++ Error number text ∷ [])) e ∙ ap (λ t. if t then next_read after c 1 (reads ++ Error number text ∷ []) else None) met
-    ∙ read_stops after c 1 n number text reads h
+pub label_goes : (device : List ℕ) (after : AfterVolume) (c : Bool) (replies : List PlainReply) → IsAtLabel replies → GoesOnBy (next_of device after c) (next_read after c 0) replies
+label_goes device after c replies (opened, rewound, e, met, none) = λ ends. ap (λ l. next_of device after c (l ++ ends)) e ∙ ap (λ t. if t then next_read after c 0 ends else None) met
 
-pub reading_mark : (device : List ℕ) (after : AfterVolume) (c : Bool) (n : ℕ) (replies : List PlainReply) → IsVolumeRead n replies → GoesOnBy (next_of device after c) (next_mark (after_for_count after n) c n) replies
-reading_mark device after c n replies (before, (opened, rewound, b, bytes, reads, e, met, h), same) = λ ends.
-    ap (λ l. next_of device after c (l ++ ends)) same ∙ ap (λ l. next_of device after c ((l ++ Data [] ∷ []) ++ ends)) e
-    ∙ ap (λ t. if t then next_read after c 1 ((reads ++ Data [] ∷ []) ++ ends) else None) met ∙ end_after after c 1 n reads ends h
+-- there a read is next, and after a read of nothing the mark is looked for
+pub read_next : (next : List PlainReply → Option PlainRequest) (after : AfterVolume) (c : Bool) (n : ℕ) (replies : List PlainReply) → GoesOnBy next (next_read after c n) replies → next replies ≡ Some (Read RECORD_LIMIT)
+read_next next after c n replies goes = ap next (sym (append-nil replies)) ∙ goes []
+
+mark_next : (next : List PlainReply → Option PlainRequest) (after : AfterVolume) (c : Bool) (n : ℕ) (replies : List PlainReply) → GoesOnBy next (next_read after c n) replies
+    → GoesOnBy next (next_mark (after_for_count after n) c n) (replies ++ Data [] ∷ [])
+mark_next next after c n replies goes = λ ends. ap next (append_assoc replies (Data [] ∷ []) ends) ∙ goes (Data [] ∷ ends)
 
 pub reading_more : (n : ℕ) (replies : List PlainReply) (bytes : List ℕ) → IsVolumeReading n replies → bytes ≢ [] → IsVolumeReading (n + 1) (replies ++ Data bytes ∷ [])
 reading_more n replies bytes (opened, rewound, b, label, reads, e, met, h) some =
@@ -125,32 +80,21 @@ not_zero n h = grind (arith, nat_tests)
 goes_some : (after : AfterVolume) (n : ℕ) → 1 ≤ n → after_for_count after n ≡ after
 goes_some after n h = ap (λ t. if t then Stay else after) (not_zero n h)
 
--- what is asked where the label comes, and after it
-pub label_next : (device : List ℕ) (after : AfterVolume) (c : Bool) (replies : List PlainReply) → IsAtLabel replies → next_of device after c replies ≡ Some (Read RECORD_LIMIT)
-label_next device after c replies (opened, rewound, e, met, none) = ap (next_of device after c) e ∙ ap (λ t. if t then Some (Read RECORD_LIMIT) else None) met
-
-pub label_stops : (device : List ℕ) (after : AfterVolume) (c : Bool) (replies : List PlainReply) → IsAtLabel replies → EndsAtRefusal (next_of device after c) replies
-label_stops device after c replies (opened, rewound, e, met, none) = λ number text.
-    ap (λ l. next_of device after c (l ++ Error number text ∷ [])) e ∙ ap (λ t. if t then next_read after c 0 (Error number text ∷ []) else None) met
-
-label_mark : (device : List ℕ) (after : AfterVolume) (c : Bool) (replies : List PlainReply) → IsAtLabel replies → GoesOnBy (next_of device after c) (next_mark (after_for_count after 0) c 0) (replies ++ Data [] ∷ [])
-label_mark device after c replies (opened, rewound, e, met, none) = λ ends.
-    ap (λ l. next_of device after c ((l ++ Data [] ∷ []) ++ ends)) e ∙ ap (λ t. if t then next_read after c 0 (Data [] ∷ ends) else None) met
-
+-- the label came
 pub label_read : (replies : List PlainReply) (bytes : List ℕ) → IsAtLabel replies → bytes ≢ [] → IsVolumeReading 1 (replies ++ Data bytes ∷ [])
 label_read replies [] at some = absurd (some refl)
 label_read replies (b ∷ bytes) (opened, rewound, e, met, none) some = (opened, rewound, b, bytes, [], ap (λ l. l ++ Data (b ∷ bytes) ∷ []) e, met, refl)
 
 -- no reply is of the wrong kind
-data_answers_no_number : (request : PlainRequest) (bytes : List ℕ) (passed : List Passed) → wanted_by request ≡ Number → IsPeerCall request (Ok (Data bytes)) passed → ⊥
-data_answers_no_number request bytes passed w (inl (more, brings, rest)) = (subst (λ k. Brings k (Ok (Data bytes)) more) w brings).1
-data_answers_no_number request bytes passed w (inr (inl (unlike, sent))) = absurd (cc)
-data_answers_no_number request bytes passed w (inr (inr (unlike, none))) = absurd (cc)
+pub no_data : (request : PlainRequest) (bytes : List ℕ) (passed : List Passed) → wanted_by request ≡ Number → IsPeerCall request (Ok (Data bytes)) passed → ⊥
+no_data request bytes passed w (inl (more, brings, rest)) = (subst (λ k. Brings k (Ok (Data bytes)) more) w brings).1
+no_data request bytes passed w (inr (inl (unlike, sent))) = absurd (cc)
+no_data request bytes passed w (inr (inr (unlike, none))) = absurd (cc)
 
-number_answers_no_read : (n count : ℕ) (passed : List Passed) → IsPeerCall (Read count) (Ok (Done n)) passed → ⊥
-number_answers_no_read n count passed (inl (more, brings, rest)) = brings.1
-number_answers_no_read n count passed (inr (inl (unlike, sent))) = absurd (cc)
-number_answers_no_read n count passed (inr (inr (unlike, none))) = absurd (cc)
+pub no_number : (n count : ℕ) (passed : List Passed) → IsPeerCall (Read count) (Ok (Done n)) passed → ⊥
+no_number n count passed (inl (more, brings, rest)) = brings.1
+no_number n count passed (inr (inl (unlike, sent))) = absurd (cc)
+no_number n count passed (inr (inr (unlike, none))) = absurd (cc)
 
 -- what a list begins with
 pub beginning_same : (a : List PlainReply) → IsBeginningOf a a
@@ -179,18 +123,6 @@ only_first : (bytes : List ℕ) (rest : List (List ℕ)) → bytes ≢ [] → On
 only_first [] rest some h = absurd (some refl)
 only_first (b ∷ bytes) rest some h = h
 
-module _ {P : Type 0} (tells : P → List Passed → Type 0) where
-  pub no_data : (p q : P) (request : PlainRequest) (result : Result KeptReply CallFault) (bytes : Vec ℕ Global) → wanted_by request ≡ Number → result ≡ Ok (kept.Data bytes)
-      → IsCalled tells request (plain_result result) p q → ⊥
-  no_data p q request result bytes w is h =
-      let called = subst (λ r. IsCalled tells request (plain_result r) p q) is h in
-      data_answers_no_number request bytes.items called.0 w called.1
-
-  pub no_number : (p q : P) (count : ℕ) (result : Result KeptReply CallFault) (n : ℕ) → result ≡ Ok (kept.Done n) → IsCalled tells (Read count) (plain_result result) p q → ⊥
-  no_number p q count result n is h =
-      let called = subst (λ r. IsCalled tells (Read count) (plain_result r) p q) is h in
-      number_answers_no_read n count called.0 called.1
-
 module _ {P : Type 0} (next : List PlainReply → Option PlainRequest) (tells : P → List Passed → Type 0) where
   -- further calls, and then one that fails
   pub breaks_after : (p q r : P) (a b c : List PlainReply) (fault : ReadFault) → Extends next tells p q a b → Breaks next tells q r b fault c → Breaks next tells p r a fault c
@@ -202,11 +134,6 @@ module _ {P : Type 0} (next : List PlainReply → Option PlainRequest) (tells : 
 
   pub extends_none : (p : P) (a : List PlainReply) → Extends next tells p p a a
   extends_none p a = record { more = []; logs = alone tells p; follows = λ passed f. subst (CallsFollow next a) (sym (append-nil passed)) f }
-
-  -- a call is done
-  pub step_done : (p q : P) (replies : List PlainReply) (request : PlainRequest) (result : Result KeptReply CallFault) (n : ℕ) → next replies ≡ Some request → result ≡ Ok (kept.Done n)
-      → IsCalled tells request (plain_result result) p q → IsDone next tells p q replies (Ok tt)
-  step_done p q replies request result n e is h = (Done n, refl, refl, call_extends next tells p q replies request result (kept.Done n) e is h)
 
   -- a call is refused
   pub refused_so : (p q : P) (replies : List PlainReply) (request : PlainRequest) (asked : VolumeRequest) (n : ℕ) (text : List ℕ) (told : ReadFault) → next replies ≡ Some request
@@ -221,12 +148,6 @@ module _ {P : Type 0} (next : List PlainReply → Option PlainRequest) (tells : 
         (Error n text ∷ [], refl),
       )
 
-  -- it is refused, with a reply that is kept
-  pub step_refused : (p q : P) (replies : List PlainReply) (request : PlainRequest) (result : Result KeptReply CallFault) (asked : VolumeRequest) (n : ℕ) (text : Vec ℕ Global) → next replies ≡ Some request
-      → result ≡ Ok (kept.Error n text) → IsNamed asked request → EndsAtRefusal next replies → IsCalled tells request (plain_result result) p q → CallSteps next tells p q replies (Err (Refused asked n))
-  step_refused p q replies request result asked n text e is named stops h =
-      refused_so p q replies request asked n text.items (Refused asked n) e named stops refl (subst (λ r. IsCalled tells request (plain_result r) p q) is h)
-
   -- it has no reply
   failed_so : (fault : CallFault) (replies : List PlainReply) (passed : List Passed) → Stops next (Some fault) replies passed → ReadFails next [] replies passed (read_fault fault)
   failed_so call.ConnectionEnded replies passed h = h
@@ -238,10 +159,10 @@ module _ {P : Type 0} (next : List PlainReply → Option PlainRequest) (tells : 
   whole_so call.Botched = refl
   whole_so call.OutOfMemory = refl
 
-  pub step_failed : (p q : P) (replies : List PlainReply) (request : PlainRequest) (result : Result KeptReply CallFault) (fault : CallFault) (told : ReadFault) → next replies ≡ Some request → result ≡ Err fault
-      → told ≡ read_fault fault → IsCalled tells request (plain_result result) p q → CallSteps next tells p q replies (Err told)
-  step_failed p q replies request result fault told e is same h =
-      let x = call_finishes next tells p q replies request result fault e is h in
+  pub step_failed : (p q : P) (replies : List PlainReply) (request : PlainRequest) (fault : CallFault) (told : ReadFault) → next replies ≡ Some request → told ≡ read_fault fault
+      → IsCalled tells request (Err fault) p q → CallSteps next tells p q replies (Err told)
+  step_failed p q replies request fault told e same h =
+      let x = call_finishes next tells p q replies request fault e h in
       subst (λ f. CallSteps next tells p q replies (Err f)) (sym same) (
         replies,
         record { more = x.more; logs = x.logs; fails = λ passed f. failed_so fault replies (passed ++ x.more) (x.stops passed f) },
@@ -333,7 +254,7 @@ module _ {P S : Type 0} (tells : P → List Passed → Type 0) (takes : S → S 
         reads = record {
           more = all.more;
           logs = all.logs;
-          fails = λ passed k. (all.follows passed k, reading_next device after c (turn + 1) (w.later ++ Data bytes ∷ []) (reading_more turn w.later bytes w.reading some));
+          fails = λ passed k. (all.follows passed k, read_next (next_of device after c) after c (turn + 1) (w.later ++ Data bytes ∷ []) (reading_goes device after c (turn + 1) (w.later ++ Data bytes ∷ []) (reading_more turn w.later bytes w.reading some)));
         };
       }
 
@@ -346,14 +267,10 @@ module _ {P S : Type 0} (tells : P → List Passed → Type 0) (takes : S → S 
   -- a record that does not come
   pub given_so_far : (p q r : P) (s t : S) (turn : ℕ) (fault : ReadFault) (w : GivenTo tells takes device after c replies p q s t turn) → CallSteps (next_of device after c) tells q r w.later (Err fault)
       → AreRecordsGiven (next_of device after c) (sink_kind tells takes) replies (sink_ends p s) (sink_ends r t) (Err fault)
-  given_so_far p q r s t turn fault w x = record {
-    later = x.0;
-    more = w.more;
-    adds = x.2 ∙ w.adds;
-    only = only_so_far p q s t turn w;
-    took = subst (Takes takes s t (blocks_from 0 w.more)) (sym x.3) (so_far p q s t turn w);
-    reads = breaks_after (next_of device after c) tells p q r replies w.later x.0 fault w.extends x.1;
-  }
+  given_so_far p q r s t turn fault w x =
+      let took = subst (Takes takes s t (blocks_from 0 w.more)) (sym x.3) (so_far p q s t turn w) in
+      let reads = breaks_after (next_of device after c) tells p q r replies w.later x.0 fault w.extends x.1 in
+      record { later = x.0; more = w.more; adds = x.2 ∙ w.adds; only = only_so_far p q s t turn w; took = took; reads = reads }
 
   -- no end
   pub given_for_good : (p q : P) (s t : S) (turn : ℕ) (w : GivenTo tells takes device after c replies p q s t turn) → 2 ^ 64 - 1 ≤ turn
@@ -367,13 +284,13 @@ module _ {P S : Type 0} (tells : P → List Passed → Type 0) (takes : S → S 
     reads = record { more = w.extends.more; logs = w.extends.logs; fails = λ passed k. inr (w.extends.follows passed k, (let long = reading_long turn w.later w.reading in omega (arith, long, many))) };
   }
 
-  -- the label does not come
-  pub given_none : (p q : P) (s : S) (fault : ReadFault) → IsAtLabel replies → CallSteps (next_of device after c) tells p q replies (Err fault)
+  -- a call before the first record fails
+  pub given_none : (p q : P) (s : S) (fault : ReadFault) → records_of replies ≡ [] → CallSteps (next_of device after c) tells p q replies (Err fault)
       → IsGiven (next_of device after c) after c (sink_kind tells takes) replies (sink_ends p s) (sink_ends q s) (Err fault)
-  given_none p q s fault at x = record {
+  given_none p q s fault none x = record {
     later = x.0;
-    only = subst OnlyTheLastIsEmpty (sym (x.2 ∙ at.4)) tt;
-    took = subst (λ l. Takes takes s s (calls_of l) (is_whole (Err fault))) (sym (x.2 ∙ at.4)) (subst (Takes takes s s []) (sym x.3) nothing);
+    only = subst OnlyTheLastIsEmpty (sym (x.2 ∙ none)) tt;
+    took = subst (λ l. Takes takes s s (calls_of l) (is_whole (Err fault))) (sym (x.2 ∙ none)) (subst (Takes takes s s []) (sym x.3) nothing);
     reads = x.1;
   }
 
@@ -390,7 +307,7 @@ module _ {P S : Type 0} (tells : P → List Passed → Type 0) (takes : S → S 
         later = replies ++ Data [] ∷ [];
         only = subst OnlyTheLastIsEmpty (sym (first_record [] at.4)) refl;
         took = subst (λ l. Takes takes s s (calls_of l) true) (sym (first_record [] at.4)) nothing;
-        reads = (y, label_mark device after c replies at, ap (after_for_records after) (first_record [] at.4));
+        reads = (y, mark_next (next_of device after c) after c 0 replies (label_goes device after c replies at), ap (after_for_records after) (first_record [] at.4));
       }
 
   -- the sink does not accept the label
@@ -404,7 +321,7 @@ module _ {P S : Type 0} (tells : P → List Passed → Type 0) (takes : S → S 
     reads = record {
       more = x.more;
       logs = x.logs;
-      fails = λ passed k. (x.follows passed k, reading_next device after c 1 (replies ++ Data bytes ∷ []) (label_read replies bytes at some));
+      fails = λ passed k. (x.follows passed k, read_next (next_of device after c) after c 1 (replies ++ Data bytes ∷ []) (reading_goes device after c 1 (replies ++ Data bytes ∷ []) (label_read replies bytes at some)));
     };
   }
 
@@ -412,7 +329,7 @@ module _ {P S : Type 0} (tells : P → List Passed → Type 0) (takes : S → S 
       → bytes ≢ [] → records_of later ≡ bytes ∷ more → Reads (next_of device after c) tells q r (replies ++ Data bytes ∷ []) result later → ReadsVolume (next_of device after c) after c tells p r replies result later
   after_label (Ok n) p q r bytes more later x some all y = (
     extends_both (next_of device after c) tells p q r replies (replies ++ Data bytes ∷ []) later x y.0,
-    reading_mark device after c n later y.1,
+    λ ends. ap (λ l. next_of device after c (l ++ ends)) y.1.2 ∙ mark_next (next_of device after c) after c n y.1.0 (reading_goes device after c n y.1.0 y.1.1) ends,
     ap (after_for_records after) all ∙ goes_label after bytes more some ∙ sym (goes_some after n (read_some n later y.1)),
   )
   after_label (Err fault) p q r bytes more later x some all y = breaks_after (next_of device after c) tells p q r replies (replies ++ Data bytes ∷ []) later fault x y
@@ -432,39 +349,13 @@ module _ {P S : Type 0} (tells : P → List Passed → Type 0) (takes : S → S 
       }
 
 module _ {P S : Type 0} (tells : P → List Passed → Type 0) (takes : S → S → SinkCall → Bool → Type 0) (device : List ℕ) (after : AfterVolume) where
-  -- a call before the records fails
-  pub through_none : (p q r : P) (s : S) (replies : List PlainReply) (fault : ReadFault) → records_of replies ≡ [] → Extends (next_of device after false) tells p q [] replies
-      → CallSteps (next_of device after false) tells q r replies (Err fault) → HasReadVolume (sink_kind tells takes) device after (sink_ends p s) (sink_ends r s) (Err fault)
-  through_none p q r s replies fault none x y =
-      let all = breaks_after (next_of device after false) tells p q r [] replies y.0 fault x y.1 in
-      record {
-        completed = false;
-        replies = y.0;
-        more = all.more;
-        end = [];
-        logs = all.logs;
-        reads = subst OnlyTheLastIsEmpty (sym (y.2 ∙ none)) tt;
-        took = subst (λ l. Takes takes s s (calls_of l ++ []) (is_whole (Err fault))) (sym (y.2 ∙ none)) (subst (Takes takes s s []) (sym y.3) nothing);
-        ending = unasked;
-        ends = all.fails;
-      }
-
   -- the records fail
   pub through_part : (p q r : P) (s t : S) (replies : List PlainReply) (fault : ReadFault) → Extends (next_of device after false) tells p q [] replies
       → IsGiven (next_of device after false) after false (sink_kind tells takes) replies (sink_ends q s) (sink_ends r t) (Err fault) → HasReadVolume (sink_kind tells takes) device after (sink_ends p s) (sink_ends r t) (Err fault)
   through_part p q r s t replies fault x y =
       let all = breaks_after (next_of device after false) tells p q r [] replies y.later fault x y.reads in
-      record {
-        completed = false;
-        replies = y.later;
-        more = all.more;
-        end = [];
-        logs = all.logs;
-        reads = y.only;
-        took = subst (λ l. Takes takes s t l (is_whole (Err fault))) (sym (append-nil (calls_of (records_of y.later)))) y.took;
-        ending = unasked;
-        ends = all.fails;
-      }
+      let took = subst (λ l. Takes takes s t l (is_whole (Err fault))) (sym (append-nil (calls_of (records_of y.later)))) y.took in
+      record { completed = false; replies = y.later; more = all.more; end = []; logs = all.logs; reads = y.only; took = took; ending = unasked; ends = all.fails }
 
   -- what comes after the records
   pub through_end : (c : Bool) (p q r v : P) (s t u : S) (replies : List PlainReply) (n : ℕ) (goes : AfterVolume) (result : Result Unit ReadFault) → Extends (next_of device after c) tells p q [] replies
@@ -487,28 +378,7 @@ module _ {P S : Type 0} (tells : P → List Passed → Type 0) (takes : S → S 
             (subst (λ l. ReadEnds next goes z.end z.later l result) (append_assoc passed a.more z.more) (z.ends (passed ++ a.more) (a.follows passed k)));
       }
 
--- what is known of a record that came, or did not
-pub record_came : {P : Type 0} (next : List PlainReply → Option PlainRequest) (tells : P → List Passed → Type 0) (p q : P) (replies : List PlainReply) (result : Result (Vec ℕ Global) ReadFault) (bytes : Vec ℕ Global)
-    → result ≡ Ok bytes → IsRecordRead next tells p q replies result → Extends next tells p q replies (replies ++ Data bytes.items ∷ [])
-record_came next tells p q replies result bytes is h = subst (IsRecordRead next tells p q replies) is h
-
-pub record_failed : {P : Type 0} (next : List PlainReply → Option PlainRequest) (tells : P → List Passed → Type 0) (p q : P) (replies : List PlainReply) (result : Result (Vec ℕ Global) ReadFault) (fault : ReadFault)
-    → result ≡ Err fault → IsRecordRead next tells p q replies result → CallSteps next tells p q replies (Err fault)
-record_failed next tells p q replies result fault is h = subst (IsRecordRead next tells p q replies) is h
-
-pub begun_as : {P : Type 0} (tells : P → List Passed → Type 0) (device : List ℕ) (after : AfterVolume) (c : Bool) (p q : P) (result is : Result Unit ReadFault) → result ≡ is → IsBegun tells device after c p q result
-    → IsBegun tells device after c p q is
-begun_as tells device after c p q result is e h = subst (IsBegun tells device after c p q) e h
-
--- what is known of a call that is to be done
-pub done_so : {P : Type 0} (next : List PlainReply → Option PlainRequest) (tells : P → List Passed → Type 0) (p q : P) (replies : List PlainReply) (result : Result Unit ReadFault) (u : Unit) → result ≡ Ok u
-    → IsDone next tells p q replies result → (reply : PlainReply) × (is_done reply ≡ true) × (records_of (reply ∷ []) ≡ []) × Extends next tells p q replies (replies ++ reply ∷ [])
-done_so next tells p q replies result u is h = subst (IsDone next tells p q replies) is h
-
-pub done_failed : {P : Type 0} (next : List PlainReply → Option PlainRequest) (tells : P → List Passed → Type 0) (p q : P) (replies : List PlainReply) (result : Result Unit ReadFault) (fault : ReadFault) → result ≡ Err fault
-    → IsDone next tells p q replies result → CallSteps next tells p q replies (Err fault)
-done_failed next tells p q replies result fault is h = subst (IsDone next tells p q replies) is h
-
+-- what follows an open that was done
 pub rewind_next : (device : List ℕ) (after : AfterVolume) (c : Bool) (opened : PlainReply) → is_done opened ≡ true → next_of device after c (opened ∷ []) ≡ Some (Op MTREW 1)
 rewind_next device after c opened met = ap (λ b. if b then Some (Op MTREW 1) else None) met
 
@@ -527,11 +397,6 @@ pub some_there : (items : List ℕ) (len : ℕ) (test : Bool) → len ≡ length
 some_there [] len test e h k = λ same. grind (arith, nat_tests)
 some_there (b ∷ items) len test e h k = λ same. cc
 
-pub given_as : {P S : Type 0} (next : List PlainReply → Option PlainRequest) (after : AfterVolume) (c : Bool) (tells : P → List Passed → Type 0) (takes : S → S → SinkCall → Bool → Type 0) (replies : List PlainReply) (p q : P)
-    (s t : S) (result is : Result ℕ ReadFault) → result ≡ is → IsGiven next after c (sink_kind tells takes) replies (sink_ends p s) (sink_ends q t) result
-    → IsGiven next after c (sink_kind tells takes) replies (sink_ends p s) (sink_ends q t) is
-given_as next after c tells takes replies p q s t result is e h = subst (IsGiven next after c (sink_kind tells takes) replies (sink_ends p s) (sink_ends q t)) e h
-
 -- after the open the rewind, or why it was not done
 pub begun_both : {P : Type 0} (tells : P → List Passed → Type 0) (device : List ℕ) (after : AfterVolume) (c : Bool) (p q r : P) (opened : PlainReply) (result : Result Unit ReadFault) → records_of (opened ∷ []) ≡ []
     → Extends (next_of device after c) tells p q [] (opened ∷ []) → IsDone (next_of device after c) tells q r (opened ∷ []) result → IsBegun tells device after c p r result
@@ -540,10 +405,12 @@ begun_both tells device after c p q r opened (Ok u) none x y =
 begun_both tells device after c p q r opened (Err fault) none x y =
     (y.0, breaks_after (next_of device after c) tells p q r [] (opened ∷ []) y.0 fault x y.1, y.2 ∙ none, y.3, (y.0, refl))
 
-pub step_answered : {P : Type 0} (next : List PlainReply → Option PlainRequest) (tells : P → List Passed → Type 0) (p q : P) (replies : List PlainReply) (request : PlainRequest) (called : Result KeptReply CallFault)
-    (answer : KeptReply) (named : VolumeRequest) (result : Result Unit ReadFault) → next replies ≡ Some request → EndsAtRefusal next replies → called ≡ Ok answer → wanted_by request ≡ Number → IsNamed named request → IsCalled tells request (plain_result called) p q
+pub step_answered : {P : Type 0} (next : List PlainReply → Option PlainRequest) (tells : P → List Passed → Type 0) (p q : P) (replies : List PlainReply) (request : PlainRequest) (answer : KeptReply) (named : VolumeRequest)
+    (result : Result Unit ReadFault) → next replies ≡ Some request → EndsAtRefusal next replies → wanted_by request ≡ Number → IsNamed named request → IsCalled tells request (Ok (plain_kept answer)) p q
     → IsDoneBy answer named result → IsDone next tells p q replies result
-step_answered next tells p q replies request called answer named (Ok u) e stops is w n h d = step_done next tells p q replies request called d.0 e (is ∙ ap Ok d.1) h
-step_answered next tells p q replies request called answer named (Err fault) e stops is w n h (inl d) =
-    subst (λ f. CallSteps next tells p q replies (Err f)) (sym d.3) (step_refused next tells p q replies request called named d.0 d.1 e (is ∙ ap Ok d.2) n stops h)
-step_answered next tells p q replies request called answer named (Err fault) e stops is w n h (inr d) = absurd (no_data tells p q request called d.0 w (is ∙ ap Ok d.1) h)
+step_answered next tells p q replies request answer named (Ok u) e stops w n h d =
+    (Done d.0, refl, refl, reply_extends next tells p q replies request (Done d.0) e (subst (λ a. IsCalled tells request (Ok (plain_kept a)) p q) d.1 h))
+step_answered next tells p q replies request answer named (Err fault) e stops w n h (inl d) =
+    refused_so next tells p q replies request named d.0 d.1.items fault e n stops d.3 (subst (λ a. IsCalled tells request (Ok (plain_kept a)) p q) d.2 h)
+step_answered next tells p q replies request answer named (Err fault) e stops w n h (inr d) =
+    let got = subst (λ a. IsCalled tells request (Ok (plain_kept a)) p q) d.1 h in absurd (no_data request d.0.items got.0 w got.1)

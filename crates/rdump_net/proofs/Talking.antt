@@ -1,32 +1,13 @@
 -- What a client does over a peer, put together.
-use Rattle.std.proofs.Common.{◌≡◌, ◌≢◌, ◌↔◌, map, ℕ, List, [], ◌∷◌, ◌++◌, Bool, true, false, Result, Ok, Err, refl, sym, ap, subst, ◌∙◌, append-nil, append_assoc, ◌<◌, ◌≤◌, length, take, arith, length-take}
-use Rattle.dump_client.specs.Standing.{Standing, StartedAt, AnsweredAt, FedAt, CutAt}
-use Rattle.dump_client.specs.Client.{ClientHeld, HasFed, NextRequestAt, unanswered}
-use Rattle.dump_client.specs.declared.fault.AttemptFault.{AttemptFault}
-use Rattle.dump_client.specs.declared.fault.StartFault.{StartFault}
-use Rattle.dump_client.specs.declared.stage.Answer.{Answer}
-use Rattle.dump_client.specs.declared.stage.Progress.{Progress}
-use Rattle.dump_client.specs.declared.stage.Stage.{Stage}
-use Rattle.dump_client.specs.declared.stage.Stage.TheVariants.{Ready, ToSend, Waiting, Asking, Finished, Abandoned}
-use Rattle.rdump_net.specs.Peer.{AreBytesSent, Logs, connected, given}
-use Rattle.rdump_net.specs.declared.peer.Passed.{Passed}
-use Rattle.rdump_net.specs.declared.peer.Passed.TheVariants.{Given, Sent, Ended}
-use Rattle.rdump_net.specs.Talk.{FromAny, FromNone, TalkStep, Talks, TalksAlone, TalksOver}
-use Rattle.rdump_net.specs.Talk.TalkStep.{starts, stays, asks, has_none, hears, ends, answers}
-use Rattle.rdump_net.specs.Talk.Talks.{none, one_more}
+use Rattle.rdump_net.proofs.Words.{◌≡◌, ◌≢◌, map, ℕ, List, [], ◌∷◌, ◌++◌, Bool, true, false, Result, Ok, refl, sym, ap, subst, ◌∙◌, append-nil, append_assoc, ◌<◌, ◌≤◌, length, take, arith, length-take, Standing, AnsweredAt, ClientHeld, HasFed, NextRequestAt, AttemptFault, StartFault, Answer, Stage, ToSend, AreBytesSent, Logs, given, Passed, Given, Sent, Ended, FromNone, TalkStep, Talks, TalksAlone, TalksOver, starts, stays, asks, has_none, hears, ends, answers, one_more}
+use Rattle.rdump_net.specs.Talk.Talks.{none}
 
 -- a request that is told by all blocks of which more is told
 asked_weaker : (told less : List (List ℕ) → Type 0) → ((payload : List (List ℕ)) → less payload → told payload)
     → (stage : Stage) (old : Standing) (capacity : ℕ) (before : List ℕ) (result : Result Bool AttemptFault) (now : List ℕ) (new : Standing)
     → NextRequestAt stage told old capacity before result now new → NextRequestAt stage less old capacity before result now new
 asked_weaker told less f (ToSend step) old capacity before (Ok true) now new h = (h.0, (λ payload t. h.1.0 payload (f payload t), h.1.1), h.2, h.3, h.4)
-asked_weaker told less f (ToSend step) old capacity before (Ok false) now new h = h
-asked_weaker told less f (ToSend step) old capacity before (Err fault) now new h = h
-asked_weaker told less f Ready old capacity before result now new h = h
-asked_weaker told less f (Waiting step) old capacity before result now new h = h
-asked_weaker told less f Asking old capacity before result now new h = h
-asked_weaker told less f Finished old capacity before result now new h = h
-asked_weaker told less f Abandoned old capacity before result now new h = h
+asked_weaker told less f stage old capacity before result now new h = h
 
 step_weaker : {told less : List (List ℕ) → Type 0} → ((payload : List (List ℕ)) → less payload → told payload)
     → {allows wider : Standing → Type 0} → ((at : Standing) → allows at → wider at)
@@ -69,24 +50,22 @@ pub record IsCalled {B P : Type 0} (told : List (List ℕ) → Type 0) (allows :
 pub alone : {P : Type 0} (tells : P → List Passed → Type 0) (p : P) → Logs tells p p []
 alone tells p log h = subst (tells p) (sym (append-nil log)) h
 
-module _ {B P : Type 0} (holds : B → List (List ℕ) → Type 0) (allows : Standing → Type 0) (tells : P → List Passed → Type 0) where
-  pub nothing_said : (c : ClientHeld B) (p : P) → TalksOver holds allows tells c c p p
-  nothing_said c p = record {
-    same = λ payload h. h;
-    talked = λ fed h. record { passed = []; later = fed; talks = none; keeps = h; logs = alone tells p };
-  }
+-- the source is the one that there was
+pub kept_source : {B : Type 0} (holds : B → List (List ℕ) → Type 0) {x y : B} → y ≡ x → (payload : List (List ℕ)) → holds x payload → holds y payload
+kept_source holds e payload h = subst (λ s. holds s payload) (sym e) h
 
-  pub one_call : (c c' : ClientHeld B) (p p' : P) → ((payload : List (List ℕ)) → holds c.source payload → holds c'.source payload)
+module _ {B P : Type 0} {holds : B → List (List ℕ) → Type 0} {allows : Standing → Type 0} {tells : P → List Passed → Type 0} where
+  pub one_call : {c c' : ClientHeld B} {p p' : P} → ((payload : List (List ℕ)) → holds c.source payload → holds c'.source payload)
       → ((fed : List ℕ) → HasFed c fed → IsCalled (holds c.source) allows tells c c' p p' fed) → TalksOver holds allows tells c c' p p'
-  one_call c c' p p' same call = record {
+  one_call same call = record {
     same = same;
     talked = λ fed h.
         let one = call fed h in
         record { passed = one.passed; later = one.later; talks = one_more none one.step; keeps = one.keeps; logs = one.logs };
   }
 
-  pub followed : (c d e : ClientHeld B) (p q r : P) → TalksOver holds allows tells c d p q → TalksOver holds allows tells d e q r → TalksOver holds allows tells c e p r
-  followed c d e p q r a b = record {
+  pub followed : {c d e : ClientHeld B} {p q r : P} → TalksOver holds allows tells c d p q → TalksOver holds allows tells d e q r → TalksOver holds allows tells c e p r
+  followed {r = r} a b = record {
     same = λ payload h. b.same payload (a.same payload h);
     talked = λ fed h.
         let one = a.talked fed h in
@@ -101,135 +80,38 @@ module _ {B P : Type 0} (holds : B → List (List ℕ) → Type 0) (allows : Sta
   }
 
   -- a call of the client while the peer is left alone
-  pub by_itself : (c c' : ClientHeld B) (p : P) → TalksAlone holds c c' → TalksOver holds allows tells c c' p p
-  by_itself c c' p call = one_call c c' p p call.same
+  pub by_itself : {c c' : ClientHeld B} {p : P} → TalksAlone holds c c' → TalksOver holds allows tells c c' p p
+  by_itself {p = p} call = one_call call.same
       (λ fed h.
       let one = call.talked fed h in
       record { passed = []; later = one.0; step = step_weaker (λ payload h. h) (never allows) one.1; keeps = one.2; logs = alone tells p })
 
-  kept_source : (c c' : ClientHeld B) → c'.source ≡ c.source → (payload : List (List ℕ)) → holds c.source payload → holds c'.source payload
-  kept_source c c' e payload h = subst (λ s. holds s payload) (sym e) h
-
-  -- the client is told of the end
-  pub told_end : (c c' : ClientHeld B) (p q : P) (progress : Progress) → CutAt c.at.stage c.at progress c'.at → HasFed c' [] → c'.source ≡ c.source → Logs tells p q (Ended ∷ [])
-      → TalksOver holds allows tells c c' p q
-  told_end c c' p q progress cut fed e logs = one_call c c' p q (kept_source c c' e)
-      (λ old h. record { passed = Ended ∷ []; later = []; step = ends progress cut; keeps = fed; logs = logs })
-
-  -- a piece is fed
-  pub fed_piece : (c c' : ClientHeld B) (p q : P) (piece : List ℕ) (progress : Progress)
-      → ((fed : List ℕ) → HasFed c fed → FedAt c.at.stage c.at fed piece progress c'.at)
-      → ((fed : List ℕ) → HasFed c fed → HasFed c' (unanswered c'.at.stage (fed ++ piece)))
-      → c'.source ≡ c.source → Logs tells p q (map Given piece) → TalksOver holds allows tells c c' p q
-  fed_piece c c' p q piece progress moved fed e logs = one_call c c' p q (kept_source c c' e)
-      (λ old h. record {
-        passed = map Given piece;
-        later = unanswered c'.at.stage (old ++ piece);
-        step = hears piece progress (moved old h);
-        keeps = fed old h;
-        logs = logs;
-      })
-
-  -- a request is asked for and sent
-  pub asked_and_sent : (c c' : ClientHeld B) (p q : P) (capacity : ℕ) (before text : List ℕ) (passed : List Passed)
-      → before ≡ [] → NextRequestAt c.at.stage (holds c.source) c.at capacity before (Ok true) text c'.at → AreBytesSent text true passed
-      → ((payload : List (List ℕ)) → holds c.source payload ↔ holds c'.source payload)
-      → ((fed : List ℕ) → HasFed c fed → HasFed c' fed) → Logs tells p q passed → TalksOver holds allows tells c c' p q
-  asked_and_sent c c' p q capacity before text passed e asked sent same fed logs = one_call c c' p q (λ payload. (same payload).0)
-      (λ old h. record {
-        passed = passed;
-        later = old;
-        step = asks capacity text c'.at true (subst (λ b. NextRequestAt c.at.stage (holds c.source) c.at capacity b (Ok true) text c'.at) e asked) sent (refl, refl);
-        keeps = fed old h;
-        logs = logs;
-      })
-
-  -- a request is asked for, and the connection ends while it is sent
-  pub asked_and_cut : (c b c' : ClientHeld B) (p q : P) (capacity : ℕ) (before text : List ℕ) (passed : List Passed) (progress : Progress)
-      → before ≡ [] → NextRequestAt c.at.stage (holds c.source) c.at capacity before (Ok true) text b.at → AreBytesSent text false passed
-      → CutAt b.at.stage b.at progress c'.at → HasFed c' [] → ((payload : List (List ℕ)) → holds c.source payload ↔ holds b.source payload)
-      → c'.source ≡ b.source → Logs tells p q passed → TalksOver holds allows tells c c' p q
-  asked_and_cut c b c' p q capacity before text passed progress e asked sent cut fed same kept logs =
-      one_call c c' p q (λ payload told. kept_source b c' kept payload ((same payload).0 told))
-      (λ old h. record {
-        passed = passed;
-        later = [];
-        step = asks capacity text b.at false (subst (λ b'. NextRequestAt c.at.stage (holds c.source) c.at capacity b' (Ok true) text b.at) e asked) sent (progress, cut, refl);
-        keeps = fed;
-        logs = logs;
-      })
-
-  -- no request is to be had
-  pub asked_none : (c c' : ClientHeld B) (p : P) (capacity : ℕ) (before : List ℕ) (result : Result Bool AttemptFault) (text : List ℕ)
-      → before ≡ [] → NextRequestAt c.at.stage (holds c.source) c.at capacity before result text c'.at → result ≢ Ok true
-      → ((payload : List (List ℕ)) → holds c.source payload ↔ holds c'.source payload)
-      → ((fed : List ℕ) → HasFed c fed → HasFed c' fed) → TalksOver holds allows tells c c' p p
-  asked_none c c' p capacity before result text e asked unmade same fed = one_call c c' p p (λ payload. (same payload).0)
-      (λ old h. record {
-        passed = [];
-        later = old;
-        step = has_none capacity result text (subst (λ b. NextRequestAt c.at.stage (holds c.source) c.at capacity b result text c'.at) e asked) unmade;
-        keeps = fed old h;
-        logs = alone tells p;
-      })
-
   -- the connection is ended
-  pub hung_up : (c : ClientHeld B) (p q : P) → Logs tells p q [] → TalksOver holds allows tells c c p q
-  hung_up c p q logs = record {
+  pub hung_up : {c : ClientHeld B} {p q : P} → Logs tells p q [] → TalksOver holds allows tells c c p q
+  hung_up logs = record {
     same = λ payload h. h;
     talked = λ fed h. record { passed = []; later = fed; talks = none; keeps = h; logs = logs };
   }
 
-  pub started_on : (c c' : ClientHeld B) (p q : P) (room : ℕ) → allows c.at → StartedAt c.at.stage c.at room (Ok tt) c'.at
-      → ((fed : List ℕ) → HasFed c fed → HasFed c' fed) → c'.source ≡ c.source → Logs tells p q (connected true) → TalksOver holds allows tells c c' p q
-  started_on c c' p q room allowed start fed e logs = one_call c c' p q (kept_source c c' e)
-      (λ old h. record { passed = connected true; later = old; step = starts room c'.at true allowed start (refl, refl); keeps = fed old h; logs = logs })
+  pub nothing_said : {c : ClientHeld B} {p : P} → TalksOver holds allows tells c c p p
+  nothing_said {p = p} = hung_up (alone tells p)
 
-  -- no connection could be made
-  pub started_and_cut : (c b c' : ClientHeld B) (p q : P) (room : ℕ) (progress : Progress) → allows c.at → StartedAt c.at.stage c.at room (Ok tt) b.at
-      → CutAt b.at.stage b.at progress c'.at → HasFed c' [] → b.source ≡ c.source → c'.source ≡ b.source → Logs tells p q (connected false) → TalksOver holds allows tells c c' p q
-  started_and_cut c b c' p q room progress allowed start cut fed e kept logs = one_call c c' p q (kept_source c c' (kept ∙ e))
-      (λ old h. record { passed = connected false; later = []; step = starts room b.at false allowed start (progress, cut, refl); keeps = fed; logs = logs })
+  -- an attempt that starts nowhere
+  pub from_nowhere : {c c' : ClientHeld B} {p p' : P} → TalksOver holds FromNone tells c c' p p' → TalksOver holds allows tells c c' p p'
+  from_nowhere h = record {
+    same = h.same;
+    talked = λ fed k.
+        let one = h.talked fed k in
+        record { passed = one.passed; later = one.later; talks = talks_weaker (λ payload t. t) (never allows) one.talks; keeps = one.keeps; logs = one.logs };
+  }
 
-  pub not_started : (c c' : ClientHeld B) (p : P) (room : ℕ) (fault : StartFault) → StartedAt c.at.stage c.at room (Err fault) c'.at
-      → ((fed : List ℕ) → HasFed c fed → HasFed c' fed) → c'.source ≡ c.source → TalksOver holds allows tells c c' p p
-  not_started c c' p room fault start fed e = one_call c c' p p (kept_source c c' e)
-      (λ old h. record { passed = []; later = old; step = stays room fault start; keeps = fed old h; logs = alone tells p })
-
--- an attempt may start from more places
-pub wider : {B P : Type 0} (holds : B → List (List ℕ) → Type 0) (allows more : Standing → Type 0) (tells : P → List Passed → Type 0)
-    (c c' : ClientHeld B) (p p' : P) → ((at : Standing) → allows at → more at) → TalksOver holds allows tells c c' p p' → TalksOver holds more tells c c' p p'
-wider holds allows more tells c c' p p' w h = record {
-  same = h.same;
-  talked = λ fed k.
-      let one = h.talked fed k in
-      record { passed = one.passed; later = one.later; talks = talks_weaker (λ payload t. t) w one.talks; keeps = one.keeps; logs = one.logs };
-}
-
--- one that starts nowhere
-pub from_nowhere : {B P : Type 0} (holds : B → List (List ℕ) → Type 0) (allows : Standing → Type 0) (tells : P → List Passed → Type 0)
-    (c c' : ClientHeld B) (p p' : P) → TalksOver holds FromNone tells c c' p p' → TalksOver holds allows tells c c' p p'
-from_nowhere holds allows tells c c' p p' h = wider holds FromNone allows tells c c' p p' (never allows) h
-
--- from any place
-pub from_anywhere : {B P : Type 0} (holds : B → List (List ℕ) → Type 0) (allows : Standing → Type 0) (tells : P → List Passed → Type 0)
-    (c c' : ClientHeld B) (p p' : P) → TalksOver holds allows tells c c' p p' → TalksOver holds FromAny tells c c' p p'
-from_anywhere holds allows tells c c' p p' h = wider holds allows FromAny tells c c' p p' (λ at x. tt) h
-
-module _ {B : Type 0} (holds : B → List (List ℕ) → Type 0) where
-  pub answered_alone : (c c' : ClientHeld B) (answer : Answer) (result : Result Unit StartFault) → AnsweredAt c.at.stage c.at answer result c'.at
+module _ {B : Type 0} {holds : B → List (List ℕ) → Type 0} where
+  pub answered_alone : {c c' : ClientHeld B} (answer : Answer) (result : Result Unit StartFault) → AnsweredAt c.at.stage c.at answer result c'.at
       → ((fed : List ℕ) → HasFed c fed → HasFed c' fed) → c'.source ≡ c.source → TalksAlone holds c c'
-  answered_alone c c' answer result h fed e = record {
+  answered_alone answer result h fed e = record {
     same = λ payload told. subst (λ s. holds s payload) (sym e) told;
     talked = λ old k. (old, answers answer result h, fed old k);
   }
-
--- these are no request
-pub ok_none : (result : Result Bool AttemptFault) (more : Bool) → result ≡ Ok more → more ≡ false → result ≢ Ok true
-ok_none result more e unmade h = cc
-
-pub err_none : (result : Result Bool AttemptFault) (fault : AttemptFault) → result ≡ Err fault → result ≢ Ok true
-err_none result fault e h = cc
 
 -- into room that there is none is given at the end, and else what is given
 into_room : (room : List ℕ) → 0 < length room → given room (take 0 room) ≡ Ended ∷ []

@@ -55,6 +55,7 @@ pub(crate) fn attempt<B: Blocks, P: Peer>(
 
 /// Starts an attempt over a new connection, unless one is under way. If no connection can be made,
 /// that ends the attempt. Fails if the client cannot start; then it is unchanged.
+#[tactic(auto, using(crate::proofs::Talking::nothing_said))]
 fn begin<B: Blocks, P: Peer>(client: &mut Client<B>, peer: &mut P) -> Result<Progress, StartFault>
     ensures talks { TalksOver B.holds (FromThis client.old.at) P.tells client.old client.new peer.old peer.new }
     ensures still { OnErr result (client.new.at ≡ client.old.at) }
@@ -71,6 +72,7 @@ fn begin<B: Blocks, P: Peer>(client: &mut Client<B>, peer: &mut P) -> Result<Pro
 }
 
 /// Continues an attempt that has begun, unless it ended at once.
+#[tactic(auto, using(crate::proofs::Talking::nothing_said))]
 fn talk<B: Blocks, P: Peer>(
     client: &mut Client<B>,
     peer: &mut P,
@@ -86,6 +88,7 @@ fn talk<B: Blocks, P: Peer>(
 }
 
 /// Sends requests, each after the reply to the one before, until the attempt ends.
+#[tactic(auto, using(crate::proofs::Talking::nothing_said, crate::proofs::Talking::followed))]
 fn converse<B: Blocks, P: Peer>(
     client: &mut Client<B>,
     peer: &mut P,
@@ -103,6 +106,7 @@ fn converse<B: Blocks, P: Peer>(
 }
 
 /// Sends the next request, if it is time for one, or receives what the peer sends.
+#[tactic(auto, using(crate::proofs::Talking::nothing_said))]
 fn exchange<B: Blocks, P: Peer>(
     client: &mut Client<B>,
     peer: &mut P,

@@ -15,10 +15,10 @@ pub trait CountBook<B: Blocks> {
     /// The counts that were entered so far, in order, if this book logs them.
     ghost entered: { Self → List VolumeCount → Type 0 };
 
-    /// Enters the count of a volume that this client has just counted. It cannot fail: a book that
-    /// stores the count elsewhere keeps its own faults.
+    /// Receives the count (`VolumeCount`) of a volume that the client has just counted. It cannot
+    /// fail: a book that stores the count elsewhere keeps its own faults.
     fn enter(&mut self, client: &Client<B>, count: VolumeCount)
-        // If the book logs the entered counts, the call adds the given count to the end of this log,
-        // and adds nothing else.
+        // If the book's contract says which counts were entered, the call appends the given count
+        // to the list of entered counts, and nothing else.
         ensures { EntersOn entered self.old self.new (count ∷ []) };
 }

@@ -72,15 +72,17 @@ impl PeerCaller {
     ) -> Result<KeptReply, CallFault>
         requires spelling { HasSpelling (plain_request request.now) }
         requires within { IsWithin (wanted_by (plain_request request.now)) }
-        // If the peer's contract gives the log, the call sends the request once, as `rmt_wire`
-        // writes it. If the call returns a reply, exactly this reply came after the request. The
-        // reply is either an error or a success. A success contains data if the request is a read,
-        // and a number if not.
+        // If the peer's log is known, the call sends the given request at most once, and sends
+        // nothing else. The call sends the bytes that `rmt_wire` writes for the request. If the
+        // connection ends while the call sends, only a beginning of these bytes is sent. If the
+        // call returns a reply, the call sent the whole request, and then the peer sent exactly
+        // this reply. The reply is either an error or a success. A success contains data if the
+        // request is a read, and otherwise a number.
         //
-        // If the call returns no reply, it returns the reason. `ConnectionEnded` means that the
-        // connection ended during the request or the reply. `Botched` means that the received bytes
-        // are not a reply, or that more bytes follow the reply. `OutOfMemory` means that an
-        // allocation failed, for the request or for a received reply.
+        // If the call returns no reply, the call returns the reason. `ConnectionEnded` means that
+        // the connection ended during the request or the reply. `Botched` means that the received
+        // bytes are not a reply, or that more bytes follow the reply. `OutOfMemory` means that an
+        // allocation for the request or for a received reply failed.
         ensures { IsCalled P.tells (plain_request request.now) (plain_result result) peer.old peer.new }
     {
         self.text.clear();
@@ -99,14 +101,15 @@ impl PeerCaller {
         )
     }
 
-    /// Reads the next record from the drive that was opened, and waits until the whole record has
-    /// come. Returns no bytes at a mark or at the end of the reel.
+    /// Reads the next record from the open drive, and waits for the whole record. Returns no bytes
+    /// at a mark or at the end of the reel.
     ///
     /// Fails with `Refused` if the server replied with an error, and otherwise as `call` does.
     pub fn next_record<P: Peer>(&mut self, peer: &mut P) -> Result<Vec<u8>, ReadFault>
-        // If the peer's contract gives the log, the call makes one read of `RECORD_LIMIT` bytes,
-        // and returns the bytes of the reply. If the reply is an error, the call returns `Refused`
-        // with the number of the error. If the call gets no reply, it returns why.
+        // If the peer's log is known, the call sends one read of `RECORD_LIMIT` bytes, as
+        // `PeerCaller::call` sends a request. If the reply contains data, the call returns the
+        // data. If the reply is an error, the call returns `Refused` with the number of the error.
+        // If the call gets no reply, the call returns the reason.
         ensures { IsRecordCalled P.tells peer.old peer.new result }
     {
         let read = Request::Read {
@@ -123,8 +126,8 @@ impl PeerCaller {
         }
     }
 
-    /// Does an mtio operation in the drive that was opened. Returns None if it was done, else the
-    /// number of the error that it was refused with.
+    /// Does an mtio operation on the open drive. Returns None if it was done, else the number of
+    /// the error that it was refused with.
     ///
     /// `op` is at most `MTNOP`, and `count` at most `NUMBER_LIMIT`. Fails as `call` does.
     pub fn operate<P: Peer>(
@@ -135,9 +138,10 @@ impl PeerCaller {
     ) -> Result<Option<u32>, ReadFault>
         requires op { op ≤ MTNOP }
         requires count { count ≤ NUMBER_LIMIT }
-        // If the peer's contract gives the log, the call sends the given operation once, with the
-        // given count. None means that the operation was done. A number means that the reply is the
-        // error with this number. If the call gets no reply, it returns why.
+        // If the peer's log is known, the call sends the given operation with the given count, as
+        // `PeerCaller::call` sends a request. If the operation was done, the call returns None. If
+        // the reply is an error, the call returns the number of the error. If the call gets no
+        // reply, the call returns the reason.
         ensures { IsOperationCalled P.tells op count peer.old peer.new result }
     {
         let reply = self.call(peer, &Request::Op { op, count })?;

@@ -63,7 +63,7 @@ pub enum ReadFault {
 }
 
 impl From<CallFault> for ReadFault {
-    // from_gives: Turns a `CallFault` into the fault with the same name.
+    // from_gives: A `CallFault` becomes the `ReadFault` with the same name.
 
     ghost use Rattle.std.specs.Prelude.{◌≡◌};
     ghost use Rattle.rdump_net.specs.DriveCalls.{read_fault};
@@ -80,7 +80,7 @@ impl From<CallFault> for ReadFault {
 }
 
 impl From<SinkStopped> for ReadFault {
-    // from_gives: Turns a `SinkStopped` into `Stopped`.
+    // from_gives: A `SinkStopped` becomes `ReadFault::Stopped`.
 
     ghost use Rattle.std.specs.Prelude.{◌≡◌};
     ghost use Rattle.rdump_net.specs.declared.fault.ReadFault.TheVariants.{Stopped};

@@ -18,15 +18,15 @@ pub trait Keeper {
     /// Whether a call can fail.
     ghost can_fail: { Self → Type 0 };
 
-    /// Stores the checkpoint of this run with these counted volumes, in place of the earlier
-    /// checkpoint. Returns whether it could; if not, the earlier checkpoint stays.
+    /// Stores a checkpoint with the given run and the given counted volumes, in place of the
+    /// previous checkpoint. Returns whether it could; if not, the earlier checkpoint stays.
     fn keep(&mut self, run: &Run, counts: &[VolumeCount]) -> bool
-        // If the call succeeds, it adds one checkpoint to the end of the list of kept checkpoints.
-        // The checkpoint has the given run and counted volumes. If the call fails, it adds no
-        // checkpoint.
+        // A call that succeeds appends one checkpoint to the list of kept checkpoints. The appended
+        // checkpoint has the given run and the given counted volumes. A call that fails appends
+        // nothing to the list.
         ensures put { PutsOn puts self.old self.new (put_if (plain_checkpoint run.now counts.now) result) }
-        // A call fails only if the keeper can fail. If the keeper cannot fail before a call, it
-        // cannot fail after the call.
+        // The keeper's contract says in which states the keeper can fail. If the keeper cannot fail
+        // before a call, the call succeeds, and the keeper still cannot fail after the call.
         ensures able { result ≡ false → can_fail self.old }
         ensures quiet { can_fail self.new → can_fail self.old };
 }

@@ -41,8 +41,8 @@ impl<B: Blocks> CountBook<B> for NoBook {
     fn enter(&mut self, _client: &Client<B>, _count: VolumeCount) {}
 }
 
-/// Makes a client write its run to a tape server (the peer), with a new connection for each
-/// attempt, and prints the outcome.
+/// Makes a client write the volumes of its run to a tape server (the peer), over a new connection
+/// for each attempt. It prints the outcome.
 ///
 /// For each counted volume it prints `volume 1: 2 blocks from 0`, and at the end
 /// `dump complete: 2 volumes, 3 blocks`.
@@ -61,24 +61,27 @@ pub fn dump<B: Blocks, P: Peer, R: Read, W: Write>(
     operator: &mut R,
     out: &mut Counted<W>,
 ) -> ExitStatus
-    // If the peer's contract gives the log, the call sends only requests that the client made, and
-    // sends each of them once. It sends each request whole, unless the connection ends during the
-    // request. In that case it sends only a beginning of the request.
+    // If the peer's log is known, the call sends only requests that the client made, and sends each
+    // request once. If the connection ends while the call sends a request, the call sends only a
+    // beginning of the request. Otherwise the call sends the whole request.
     //
-    // The call passes to the client all bytes that came from the peer, in order. If the peer
-    // reports an end of the connection, the call reports this end to the client. The call reports
-    // no other end.
+    // The call passes to the client all bytes that come from the peer, in order. If the peer
+    // reports that the connection ended, the call reports this end to the client. The call never
+    // reports an end that the peer did not report.
     ensures talks { TalksOver B.holds FromAny P.tells client.old client.new peer.old peer.new }
-    // The call prints exactly one line for each volume that was counted since the start, in order.
-    // The line contains the numbers of this volume. For any other volume the call prints no such
-    // line. Between the lines of volumes, the call prints failures and questions. At the end, the
-    // call prints one last line. The line of a failure contains the number of the first volume that
-    // is not counted yet. The call can ask a question although no failure was printed. No clause
-    // says which failures and questions follow which attempts. If a write fails, only a beginning
-    // of these lines is printed, and the failure is counted.
+    // For each volume that is counted during the call, the call prints exactly one *volume line*.
+    // The volume lines are in the order in which the volumes are counted. A volume line says the
+    // volume's number, the number of the volume's first block, and how many blocks the volume has.
+    // The call prints no volume line for any other volume. Before, between and after the volume
+    // lines, the call can also print lines that report failures, and questions to the operator. At
+    // the end, the call prints one last line. The line that reports a failure contains the number
+    // of the first volume that is not yet counted. The call can print a question even if no attempt
+    // has failed. No clause says after which attempts the call prints a failure or a question. If a
+    // write fails, the call prints only a beginning of all these lines. The output (`Counted`, a
+    // stream that counts its failures) counts the failed write.
     //
-    // The status is `Success` exactly if the run is finished and everything was printed, and
-    // `Abnormal` otherwise.
+    // The call returns `Success` if and only if the run is finished and all lines were printed.
+    // Otherwise the call returns `Abnormal`.
     ensures printed { IsDumped W.contents client.old.at.counts client.new.at out.old out.new result }
 {
     let mut keeper = NoKeeper;
@@ -86,8 +89,7 @@ pub fn dump<B: Blocks, P: Peer, R: Read, W: Write>(
     end.status()
 }
 
-/// Makes a client write its run to a tape server, as `dump` does, and stores the client's
-/// checkpoint with `keeper`.
+/// Does what `dump` does, and also stores the client's checkpoint with `keeper`.
 ///
 /// It keeps the checkpoint before the first attempt, and after each count once the count's line is
 /// printed. It keeps nothing for a run that is finished or abandoned at the start, and nothing
@@ -106,35 +108,36 @@ pub fn dump_kept<B: Blocks, P: Peer, R: Read, W: Write, K: Keeper>(
     out: &mut Counted<W>,
     keeper: &mut K,
 ) -> Conclusion
-    // The promises about kept checkpoints hold if the keeper's contract gives the checkpoints that
-    // were kept. The contract of `ReplacedFile` does not give these checkpoints. No clause says
-    // that a keeper stores the text of the checkpoint. `ReplacedFile` stores the text that the
-    // private call `text_of` returns. The clause of `text_of` promises that this text is the text
-    // of the checkpoint. Each attempt, even the first, starts only if the last kept checkpoint has
-    // the client's run and counted volumes. After the keeper has failed, the call sends nothing.
-    // Suppose that the dump is complete, and that a volume was counted since the start. Then the
-    // last kept checkpoint has all counted volumes.
+    // Each attempt, even the first, starts only if the last kept checkpoint has the client's run
+    // and counted volumes. So if the keeper fails, no attempt starts until a checkpoint with the
+    // client's run and counted volumes is kept. If the call returns `Complete` and a volume was
+    // counted during the call, the last kept checkpoint has all counted volumes. The promises about
+    // kept checkpoints hold if the keeper's contract says which checkpoints were kept. The contract
+    // of `ReplacedFile`, a keeper in `rdump_files`, does not say which checkpoints were kept. No
+    // clause says that a keeper stores the checkpoint's text. The code of `ReplacedFile` stores the
+    // text that the private call `text_of` returns. The clause of `text_of` promises that this text
+    // is the checkpoint's text.
     //
-    // Before the call gives a checkpoint to the keeper, it prints the whole line of each volume
-    // that was counted since the start.
+    // When the call passes a checkpoint to the keeper, the call has already printed the whole line
+    // of each volume that was counted since the call began.
     //
-    // The call prints the lines that `dump` prints. If the dump ends as `Unkept`, the last line is
-    // `checkpoint not written`. The dump ends as `Complete` only if the run is finished. After the
-    // keeper has failed, no attempt starts. No clause forbids the following. The call may keep the
-    // same checkpoint again, although no volume was counted. Between the keeper's failure and the
-    // last line, the call may print other lines.
+    // The call prints the lines that `dump` prints, with one exception. If the call returns
+    // `Unkept`, the last line is `checkpoint not written`. The call returns `Complete` only if the
+    // run is finished. No clause forbids that the call keeps the same checkpoint twice, with no
+    // volume counted in between. No clause forbids that the call prints other lines between the
+    // keeper's failure and the last line.
     ensures kept { IsDumpKept (kept_kind B.holds P.tells W.contents K.puts) (kept_ends client.old peer.old out.old keeper.old)
         (kept_ends client.new peer.new out.new keeper.new) result }
-    // `Unkept` means that a checkpoint could not be kept. If the keeper cannot fail, the dump does
-    // not end as `Unkept`.
+    // `Unkept` means that a checkpoint could not be kept. If the keeper cannot fail, the call does
+    // not return `Unkept`.
     ensures able { result ≡ ends.Unkept → K.can_fail keeper.old }
 {
     let mut book = NoBook;
     dump_booked(alloc, client, peer, operator, out, keeper, &mut book)
 }
 
-/// Makes a client write its run to a tape server and stores its checkpoint, as `dump_kept` does,
-/// and enters each counted volume in `book`.
+/// Does what `dump_kept` does, and also enters in `book` each volume that is counted during the
+/// call.
 ///
 /// It enters a volume once the client has counted it, and before it prints the volume's line. It
 /// enters no volume that was counted before the call.
@@ -150,21 +153,22 @@ pub fn dump_booked<B: Blocks, P: Peer, R: Read, W: Write, K: Keeper, C: CountBoo
     book: &mut C,
 ) -> Conclusion
     // The call keeps checkpoints, sends requests and prints lines as `dump_kept` does. All promises
-    // of the clause `kept` of `dump_kept` hold here too.
+    // that `dump_kept` makes in its clause `kept` hold here too.
     ensures kept { IsDumpKept (kept_kind B.holds P.tells W.contents K.puts) (kept_ends client.old peer.old out.old keeper.old)
         (kept_ends client.new peer.new out.new keeper.new) result }
-    // `Unkept` means that a checkpoint could not be kept. If the keeper cannot fail, the dump does
-    // not end as `Unkept`.
+    // `Unkept` means that a checkpoint could not be kept. If the keeper cannot fail, the call does
+    // not return `Unkept`.
     ensures able { result ≡ ends.Unkept → K.can_fail keeper.old }
-    // The promise about entered volumes holds if the book's contract gives the counts that were
-    // entered. The call enters exactly the volumes that were counted since the start, each of them
-    // once, in order.
+    // The call enters each volume that is counted during the call exactly once, in the order in
+    // which the volumes are counted. The call enters no other volume. This promise holds if the
+    // book's contract says which counts were entered.
     //
-    // However the dump ends, all of these volumes are entered. This is so even if the line of a
-    // volume could not be printed, or if a checkpoint could not be kept. No clause says at which time
-    // a volume is entered. Tests show that the book of `rdump dump` has a volume before the volume's
-    // line is printed, and before its checkpoint is kept. The contract of this book does not give
-    // the volumes. Test: `tests/sums.py`.
+    // However the dump ends, the call enters every volume that was counted during the call. The
+    // call enters the volume even if the volume's line could not be printed, or if a checkpoint
+    // could not be kept. No clause says at which moment of the call a volume is entered. The tests
+    // in `tests/sums.py` show that `rdump dump` first enters a volume, and then prints the volume's
+    // line and keeps the checkpoint. The contract of the book that `rdump dump` uses does not say
+    // which counts were entered.
     ensures booked { EntersOn C.entered book.old book.new (drop (length client.old.at.counts) client.new.at.counts) }
 {
     match client.state() {

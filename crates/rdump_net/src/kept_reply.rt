@@ -21,9 +21,9 @@ pub enum KeptReply {
 }
 
 impl KeptReply {
-    /// Whether the request was done and the reply is a number.
+    /// Returns whether the reply is `Done`: the request was done, and the reply is a number.
     pub fn is_done(&self) -> bool
-        // Returns true for `Done`, and false for data and for an error.
+        // Returns true for `Done`, and false for `Data` and for `Error`.
         ensures { result ≡ is_done (plain_kept self.now) }
     {
         matches!(self, KeptReply::Done { .. })

@@ -1,5 +1,5 @@
-//! Runs a dump over a connection: makes the client's attempts to write volumes to a server, and
-//! prints the lines that the operator reads.
+//! Runs a dump over a connection: sends the client's requests to a tape server, and prints lines
+//! for the operator.
 //!
 //! `Peer` is the far end of a connection; `SocketPeer` reaches it over TCP, or over a Unix socket.
 //! `dump` makes a client write its volumes to a tape server, asks the operator after a failure, and
@@ -7,29 +7,35 @@
 //! also enters each counted volume in a `CountBook`.
 //!
 //! `copy_volume` reads a volume back into a `VolumeSink`, and `read_volume` reads one into two
-//! streams. `mt` does one operation, and `look_at_reel` finds out what a reel begins with. Each uses
-//! a connection of its own and makes its calls with a `PeerCaller`: one request at a time, each with
-//! a `KeptReply`. `find_protection` decides from that beginning whether a dump may write on the
-//! reel.
+//! streams. `mt` does one operation, and `look_at_reel` finds out what a reel begins with. Each
+//! uses a connection of its own and makes its calls with a `PeerCaller`: one request at a time,
+//! each with a `KeptReply`. `find_protection` decides from that beginning whether a dump may write
+//! on the reel.
 //!
 //! # Contracts
 //!
-//! A *peer* is the far end of a connection. Its *log* is what passed over the connection, in order.
-//! The promises about what passes over a connection hold only if the peer's contract gives the log.
-//! The contract of `SocketPeer`, which uses a socket of the system, does not give the log. So no
-//! clause says what passed through a socket. No clause says which error `SocketPeer::failure`
-//! returns, or how long a call waits.
+//! A *peer* is the far end of a connection. The peer's *log* lists what passed over the peer's
+//! connections, in order. The log is *known* if the peer's contract says what the log contains.
+//! Promises about what passes over a connection hold only if the log is known. The log of a
+//! `SocketPeer`, which uses a socket of the system, is not known. So no clause says what passed
+//! through a socket. No clause says which error `SocketPeer::failure` returns, or how long a call
+//! waits.
 //!
-//! A *sink* receives a volume that is read: the first record as the label, each later record as a
-//! *block* with a number, and then the mark that ends the volume. The sink *accepts* a label or a
-//! block, or it stops the read. After the mark the sink is asked to *complete*. The sink completes
-//! if it has kept the volume. The promises about a sink hold only if the sink's contract says what
-//! its calls do.
+//! A *sink* receives a volume that is read from a reel. The first record of the volume is the
+//! label, and each later record is a *block* with a number. The mark that ends the volume comes
+//! last. When the sink gets the label or a block, the sink either *accepts* the record or stops the
+//! read. After the mark, the sink is asked to *complete* the volume: to confirm that the sink has
+//! kept the volume. Promises about a sink hold only if the sink's contract says what the sink's
+//! calls do.
 //!
-//! A *keeper* stores the text of the client's checkpoint. Each new text replaces the previous one.
+//! A *keeper* stores the text of the client's *checkpoint*: the client's run, with the volumes
+//! counted so far. Each new text replaces the previous text. Promises about kept checkpoints hold
+//! only if the keeper's contract says which checkpoints were kept.
 //!
-//! A *book* receives each volume that the client counts. This is called *to enter* the volume. The promises about a book hold only if the book's contract
-//! gives the volumes that were entered.
+//! The *count* (`VolumeCount`) of a volume contains the volume's number, the number of the volume's
+//! first block, and how many blocks the volume has. A *book* receives the counts of volumes. A
+//! volume and its count are *entered* when a caller passes the count to the book. Promises about a
+//! book hold only if the book's contract says which counts were entered.
 #![tactic(auto)]
 
 mod attempt;

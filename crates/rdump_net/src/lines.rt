@@ -44,14 +44,15 @@ fn line_of(count: VolumeCount) -> ArrayString<LINE_ROOM>
     line
 }
 
-/// Returns the line of a failed attempt, with its line feed: `volume 1 failed: Refused 16`.
+/// Returns the line that reports a failed attempt, for example `volume 1 failed: Refused 16`, with
+/// a line feed.
 ///
 /// `volume` is the number of the volume. The fault is given by its name, and after it the error
 /// number of a refusal or the number of a counted volume. The line has at most 73 bytes.
 pub fn failure_line(volume: u32, fault: AttemptFault) -> ArrayString<LINE_ROOM>
-    // Returns the line of a failed attempt, with the volume's number and the fault's name. If the
-    // server refused a request, the number of the error follows. If the attempt met a counted reel,
-    // the number of the volume on that reel follows. The line has at most 73 bytes.
+    // The line contains the given number of the volume and the name of the given fault. After
+    // `Refused`, the line contains the number of the server's error. After `CountedReel`, the line
+    // contains the number of the counted volume that is on the reel. The line has at most 73 bytes.
     ensures text { result.bytes ≡ line_of_failure volume fault }
     ensures short { length result.bytes ≤ 73 }
 {

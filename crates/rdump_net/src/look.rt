@@ -68,7 +68,7 @@ pub enum LookFault {
     NoReply(CallFault),
 }
 
-/// Finds out, over a new connection, what is at the beginning of the first reel of a drive.
+/// Finds out what the first reel of a drive begins with, over a new connection.
 ///
 /// It opens the device for reading, rewinds, and reads 1,024 bytes. If that returns no bytes, it
 /// rewinds and spaces over one mark. If this is refused with `EIO`, there is no mark, and the reel
@@ -90,18 +90,19 @@ pub fn look_at_reel<P: Peer>(
     device: &[u8],
 ) -> Result<ReelFront, LookFault>
     requires { IsLine device.now }
-    // If the peer's contract gives the log, the call sends the open for reading, the rewind, a read
-    // of 1,024 bytes, and the close. If the read returned no record, the call sends a rewind and
-    // MTFSF 1 (forward over one mark) before the close. The call sends each request once, after the
-    // reply to the previous request. If the open is refused, the call sends nothing more. After any
-    // other refusal, the call sends the close next.
+    // If the peer's log is known, the call sends an open for reading, a rewind, a read of 1,024
+    // bytes, and a close. If the read returns no record, the call sends a rewind and MTFSF 1
+    // (forward over one mark) before the close. The call sends each request once, after the reply
+    // to the previous request. If the open is refused, the call sends nothing more. If a rewind,
+    // the read or MTFSF is refused, the call sends the close next.
     //
-    // Once the reply to the close has come, the call returns what the reel begins with. This is the
-    // record that was read or, if MTFSF was done, a mark. If MTFSF was refused with `EIO`, the call
-    // returns that the reel is empty. After any other refusal, even of the close, the call returns
-    // the first request that was refused.
+    // After the reply to the close has come, the call returns what the reel begins with. The call
+    // returns the record if the read returned one, or `Mark` if MTFSF was done. If MTFSF was
+    // refused with `EIO`, the reel is empty, and the call returns `Empty`. Any other refusal, even
+    // of the close, is a failure. After a failure, the call returns an error that names the first
+    // request whose refusal is a failure.
     //
-    // If a request gets no reply, the call returns why.
+    // If a request gets no reply, the call returns the reason.
     ensures { IsLook P.tells device.now peer.old peer.new result }
 {
     let Ok(mut caller) = PeerCaller::new(alloc) else {

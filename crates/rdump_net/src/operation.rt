@@ -20,8 +20,8 @@ use rmt_wire::{Counted, Request, print_text};
 use std::alloc::Global;
 use std::io::Write;
 
-/// Does the mtio operation `op` with this count at a device, over a new connection. It prints the
-/// server's reply on one line: `A1`, or `E5 Input/output error`.
+/// Does the mtio operation `op` with the given count on a device, over a new connection. It prints
+/// the server's reply on one line: `A1`, or `E5 Input/output error`.
 ///
 /// It opens the device, for reading and writing if the operation is `MTWEOF` and for reading if
 /// not, and closes it after the operation. If the open is refused, that reply is printed instead.
@@ -44,14 +44,15 @@ pub fn mt<P: Peer, W: Write>(
     requires device { IsLine device.now }
     requires op { op ≤ NUMBER_LIMIT }
     requires count { count ≤ NUMBER_LIMIT }
-    // If the peer's contract gives the log, the call sends the open, the operation and the close.
-    // The call sends each request once, after the reply to the previous request. The open is for
-    // reading and writing if the operation writes marks, and otherwise for reading. After a refused
-    // open, only the close follows.
+    // If the peer's log is known, the call sends an open, the operation and a close. The call sends
+    // each request once, after the reply to the previous request. The call opens the device for
+    // reading and writing if the operation writes marks (MTWEOF), and otherwise for reading. If the
+    // open is refused, the call sends the close next, and does not send the operation.
     //
-    // The call prints the reply to the operation or, if the open was refused, the reply to the
-    // open. If the reply did not come, the call prints nothing. The status is `Success` exactly if
-    // the operation was done and its reply was printed, and `Abnormal` otherwise.
+    // The call prints the reply to the operation. If the open was refused, the call prints the
+    // reply to the open instead. If the reply that is to be printed does not come, the call prints
+    // nothing. The call returns `Success` if and only if the operation was done and the reply to
+    // the operation was printed. Otherwise the call returns `Abnormal`.
     ensures { IsMt (stream_kind P.tells W.contents) device.now op count
         (stream_ends peer.old out.old) (stream_ends peer.new out.new) result }
 {
@@ -144,6 +145,7 @@ fn print_answer<W: Write>(answer: &KeptReply, out: &mut Counted<W>) -> bool
 }
 
 /// Prints a text and a line feed. Returns whether both were printed.
+#[tactic(auto, using(crate::proofs::Printed::printed_both))]
 fn print_line<W: Write>(out: &mut Counted<W>, text: &[u8]) -> bool
     ensures { IsPrinted W.contents (text.now ++ codes "\n") out.old out.new result }
 {

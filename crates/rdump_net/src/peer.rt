@@ -36,22 +36,24 @@ pub trait Peer {
     /// Connects to the peer. An earlier connection, if there is one, is dropped first. Returns true
     /// and logs `Connected` if the connection was made. Otherwise returns false and logs `Ended`.
     fn connect(&mut self) -> bool
-        // If a connection is made, the call adds a connection to the log. Otherwise the call adds
-        // an end.
+        // If a connection is made, the call adds `Connected` to the log. Otherwise the call adds
+        // `Ended`.
         ensures { Logs tells self.old self.new (connected result) };
 
-    /// Sends all of these bytes. Returns whether it could. If not, some first part of them was
-    /// sent, perhaps none, and the connection ended.
+    /// Sends the given bytes. Returns whether it could. If not, some first part of them was sent,
+    /// perhaps none, and the connection ended.
     fn send(&mut self, bytes: &[u8]) -> bool
-        // The call adds the bytes to the log. If the connection ends during the call, the call adds
-        // only a beginning of the bytes, and then an end.
+        // The call adds the given bytes to the log. If the connection ends during the call, the
+        // call adds only a beginning of these bytes, and then `Ended`.
         ensures { (passed : List Passed) × AreBytesSent bytes.now result passed × Logs tells self.old self.new passed };
 
-    /// Waits for bytes from the peer, and puts them at the front of `into`. Returns how many came,
-    /// at most the length of `into`. If `into` has room, 0 means that the connection ended.
+    /// Waits for bytes from the peer, and puts the bytes at the front of the buffer `into`. Returns
+    /// how many came, at most the length of `into`. If `into` has room, 0 means that the connection
+    /// ended.
     fn receive(&mut self, into: &mut [u8]) -> usize
-        // Returns no more bytes than the buffer has room for, and adds the returned bytes to the
-        // log. If the buffer has room and the call returns no bytes, the connection has ended.
+        // The call returns how many bytes came, at most the length of the buffer. The call adds
+        // these bytes to the log. If the buffer has room and no bytes came, the connection has
+        // ended, and the call adds `Ended`.
         ensures within { result ≤ length into.new }
         ensures told { Logs tells self.old self.new (given into.new (take result into.new)) };
 
@@ -60,13 +62,13 @@ pub trait Peer {
         // The call adds nothing to the log.
         ensures { Logs tells self.old self.new [] };
 
-    /// Returns whether the next attempt may begin. The caller asks before each attempt, with no
-    /// connection open, and nothing passes.
+    /// Returns whether the next attempt is allowed to begin. The caller asks before each attempt,
+    /// with no connection open, and nothing passes.
     ///
     /// An implementation that looks at the reel uses a connection of its own. If it returns false,
     /// the operator is asked in place of the attempt; it may first print why.
     fn may_begin(&mut self) -> bool
-        // Returns whether an attempt may begin, and adds nothing to the log.
+        // The call adds nothing to the log. No clause says what the call returns.
         ensures { Logs tells self.old self.new [] }
     {
         true
@@ -75,18 +77,16 @@ pub trait Peer {
     /// Reports to the peer that an attempt failed, and why. The connection is closed by then, and
     /// nothing passes. An implementation may print the reason.
     fn attempt_failed(&mut self, fault: AttemptFault)
-        // The call reports to the peer that an attempt failed, and adds nothing to the log. No
-        // clause says that `dump` makes this call.
+        // The call adds nothing to the log. No clause says that `dump` makes this call.
         ensures { Logs tells self.old self.new [] }
     {
         let _ = fault;
     }
 
-    /// Reports to the peer the label of the reel that an attempt is about to overwrite. The
+    /// Reports the label of a reel to the peer, before an attempt overwrites the reel. The
     /// connection is open, and nothing passes. An implementation may print the label.
     fn overwrites(&mut self, label: &VolumeLabel)
-        // The call reports to the peer which label an attempt is about to overwrite, and adds
-        // nothing to the log. No clause says that `dump` makes this call.
+        // The call adds nothing to the log. No clause says that `dump` makes this call.
         ensures { Logs tells self.old self.new [] }
     {
         let _ = label;

@@ -17,16 +17,17 @@ pub enum Protection {
     Mark,
 }
 
-/// Returns why a dump must not overwrite a reel with this beginning, or None if the dump may
-/// overwrite it.
+/// Returns why a dump must not overwrite a reel that begins with `front`, or None if the dump may
+/// overwrite the reel.
 ///
 /// The dump may overwrite the reel if the reel is empty, or begins with a label of the same name,
 /// level and date. The label's volume number does not matter. `date` is in seconds since 1970
 /// began, UTC.
 pub fn find_protection(front: &ReelFront, name: &str, level: u64, date: u64) -> Option<Protection>
-    // Returns None exactly if the reel is empty, or if its first record is a label with the given
-    // name, level and date. Otherwise the reel is protected, and the call returns what the reel
-    // begins with: a label of another dump, a record that is not a label, or a mark.
+    // The call returns None if and only if the reel is empty or begins with a label that has the
+    // given name, level and date. Any other reel is protected. For a protected reel, the call
+    // returns what the reel begins with: a label of another dump, a record that is not a label, or
+    // a mark.
     ensures { IsDecided (dump_key name.now level date) (plain_front front.now) result }
 {
     match front {

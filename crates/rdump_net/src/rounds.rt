@@ -21,6 +21,7 @@ use rmt_wire::{Counted, print_text};
 use std::io::{Read, Write};
 
 /// Does the one thing that the client waits for. Returns how the dump ended, if it did.
+#[tactic(auto, using(crate::proofs::Talking::nothing_said, crate::proofs::Talking::by_itself))]
 pub(crate) fn round<B: Blocks, P: Peer, R: Read, W: Write, C: CountBook<B>>(
     client: &mut Client<B>,
     peer: &mut P,
@@ -48,8 +49,9 @@ pub(crate) fn round<B: Blocks, P: Peer, R: Read, W: Write, C: CountBook<B>>(
     }
 }
 
-/// Makes the client try its next volume if `may` is true, and otherwise asks the operator. Returns
-/// how the dump ended, if it did.
+/// If `may` is true, makes the client begin an attempt to write its next volume; otherwise asks the
+/// operator whether to retry. Returns how the dump ended, if it did.
+#[tactic(auto, using(crate::proofs::Talking::nothing_said))]
 fn begin_volume<B: Blocks, P: Peer, R: Read, W: Write, C: CountBook<B>>(
     client: &mut Client<B>,
     peer: &mut P,
@@ -63,8 +65,8 @@ fn begin_volume<B: Blocks, P: Peer, R: Read, W: Write, C: CountBook<B>>(
     ensures printed { IsRound W.contents client.old.at.counts client.new.at out.old out.new result }
     ensures still { result ≡ Some ends.Complete → client.new.at ≡ client.old.at }
     ensures booked { EntersOn C.entered book.old book.new (drop (length client.old.at.counts) client.new.at.counts) }
-    // If `may` is false, the client and the peer are unchanged. No clause says that `may` is the
-    // peer's answer.
+    // If `may` is false, the call does not change the client or the peer. No clause says that `may`
+    // is the value that `Peer::may_begin` returned.
     ensures held { may ≡ false → (client.new ≡ client.old) × (peer.new ≡ peer.old) }
 {
     if may {
@@ -121,6 +123,7 @@ fn report<B: Blocks, R: Read, W: Write>(
 }
 
 /// Prints that an attempt failed. Returns `PrintFailed` if that could not be printed, else None.
+#[tactic(auto, using(crate::proofs::Printed::lines_failed))]
 fn print_end<B: Blocks, W: Write>(
     client: &Client<B>,
     fault: AttemptFault,
@@ -211,6 +214,7 @@ fn failure_of<B: Blocks>(client: &Client<B>, fault: AttemptFault) -> ArrayString
 }
 
 /// Reads the operator's answer and passes it to the client.
+#[tactic(auto, using(crate::proofs::Talking::answered_alone))]
 fn ask<B: Blocks, R: Read>(client: &mut Client<B>, operator: &mut R)
     ensures same { client.new.at.counts ≡ client.old.at.counts }
     ensures alone { TalksAlone B.holds client.old client.new }

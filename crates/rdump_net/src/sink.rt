@@ -33,16 +33,17 @@ pub trait VolumeSink {
     /// Takes the first record of a volume. This is a label with the zero bytes after its text, or
     /// whatever record is there instead. The record has at least one byte.
     fn label(&mut self, record: &[u8]) -> Verdict
-        // The sink takes the first record, and accepts it if and only if the call returns `GoOn`.
+        // The sink takes the given record as the label. The sink accepts the label if and only if
+        // the call returns `GoOn`.
         ensures { takes self.old self.new (Label record.now) (goes_on result) };
 
-    /// Takes the next record after the first one. `number` counts these records from 0. The record
-    /// has at least one byte.
+    /// Takes the next block: a record after the label. `number` counts these records from 0. The
+    /// record has at least one byte.
     ///
     /// Fails with `SinkStopped` if the sink does not accept the record. The read then stops.
     fn block(&mut self, number: u64, bytes: &[u8]) -> Result<(), SinkStopped>
-        // The sink takes the record with its number, and accepts it if and only if the call
-        // succeeds.
+        // The sink takes the given record as a block with the given number. The sink accepts the
+        // block if and only if the call succeeds.
         ensures { takes self.old self.new (Block number bytes.now) (has_accepted result) };
 
     /// Takes the mark that follows the last record.
@@ -56,6 +57,6 @@ pub trait VolumeSink {
     ///
     /// Fails with `SinkStopped` if the volume is not kept. The reel then stays where it is.
     fn complete(&mut self) -> Result<(), SinkStopped>
-        // The sink completes if and only if the call succeeds.
+        // The sink completes the volume if and only if the call succeeds.
         ensures { takes self.old self.new Complete (has_accepted result) };
 }

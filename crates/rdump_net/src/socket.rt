@@ -42,8 +42,8 @@ pub struct SocketPeer<'a, R: Net + Clock> {
 }
 
 impl<'a, R: Net + Clock> SocketPeer<'a, R> {
-    /// Returns a peer for this address, with no connection yet. `timeout` limits each wait for the
-    /// server; None is no limit. If it is zero, each connection fails.
+    /// Returns a peer for the given address, without a connection. `timeout` limits each wait for
+    /// the server; None is no limit. If it is zero, each connection fails.
     pub fn new(runtime: &'a R, address: &'a str, timeout: Option<Duration>) -> Self {
         SocketPeer {
             runtime,
@@ -57,8 +57,9 @@ impl<'a, R: Net + Clock> SocketPeer<'a, R> {
         }
     }
 
-    /// Returns the system's error if the latest connection failed or could not be made, of the
-    /// kind `TimedOut` if a wait took too long. None if the connection did not fail, or if the far end closed it.
+    /// Returns the system's error if the latest connection failed or could not be made. The error's
+    /// kind is `TimedOut` if a wait took too long. None if the connection did not fail, or if the
+    /// far end closed it.
     pub fn failure(&self) -> Option<&io::Error> {
         self.failure.as_ref()
     }

@@ -54,11 +54,12 @@ pub fn read_volume<P: Peer, F: Write, W: Write>(
     out: &mut Counted<W>,
 ) -> ExitStatus
     requires { IsLine device.now }
-    // The call sends the requests that `copy_volume` promises with `AfterVolume::Stay`. The call
-    // prints the text of the label, and writes the records after the label to the file. If a write
-    // failed, only a beginning of this text or of these records was written. No clause says that
-    // the call stops reading after the failed write. The status is `Success` if the volume was read
-    // whole and the close was done, and `Abnormal` if not.
+    // The call sends the requests that `copy_volume` sends with `AfterVolume::Stay`. The call
+    // prints the text of the label, up to the first zero byte. The call writes the records after
+    // the label to the file. If a write fails, only a beginning of the text or of the records is
+    // written. No clause says that the call stops reading after a failed write. The call returns
+    // `Success` if the whole volume was read, no write failed, and the close was done. Otherwise
+    // the call returns `Abnormal`.
     ensures { IsReadStatus (copy_kind P.tells F.contents W.contents) device.now
         (copy_ends peer.old file.old out.old) (copy_ends peer.new file.new out.new) result }
 {
@@ -86,9 +87,9 @@ fn copy_out<P: Peer, F: Write, W: Write>(
     copy_volume(alloc, peer, device, AfterVolume::Stay, outputs)
 }
 
-/// Reads the first volume of a reel over a new connection, and gives it to `sink`. The sink gets the
-/// first record whole, as the label. It gets each record after it as a block, numbered from 0, up
-/// to the first mark or the end of the reel.
+/// Reads the first volume of a reel over a new connection, and passes the volume to `sink`. The
+/// sink gets the first record whole, as the label. It gets each record after it as a block,
+/// numbered from 0, up to the first mark or the end of the reel.
 ///
 /// It opens the device for reading, rewinds, reads record after record, and closes the device.
 /// After an error reply to one of these or to MTOFFL it sends nothing more. The same holds after
@@ -121,51 +122,54 @@ pub fn copy_volume<P: Peer, S: VolumeSink>(
     sink: &mut S,
 ) -> Result<(), ReadFault>
     requires { IsLine device.now }
-    // If the peer's contract gives the log, the call sends the open for reading and the rewind.
-    // Then the call sends reads until one returns no bytes. Then it sends the close. The call sends
-    // each request after the reply to the previous request. If one of these requests is refused,
-    // the call sends nothing more. If the argument is `AfterVolume::Stay`, the call sends no other
-    // requests.
+    // If the peer's log is known, the call sends an open for reading and a rewind. Then the call
+    // sends reads until a read returns no bytes. Then the call sends a close. The call sends each
+    // request after the reply to the previous request. If the open, the first rewind, a read or the
+    // close is refused, the call sends nothing more. With `AfterVolume::Stay`, the call sends no
+    // other requests.
     //
-    // Suppose that the argument is `Check` or `Offline`, and that the first read returned a record.
-    // Then the call looks for the mark that ends the volume, once the reads are done. First the
-    // call sends MTBSR 1 (back over one record). If MTBSR is refused with EIO, the call sends three
-    // more requests. The first is a rewind. The second is MTFSR (forward over records) with the
-    // number of all records, the label included. The third is MTFSF 1 (forward over one mark). If
-    // MTBSR is refused with another error, or one of the three requests is refused, the call sends
-    // the close next. If the number of records is above `NUMBER_LIMIT`, the call sends the close in
-    // place of MTFSR.
+    // With `AfterVolume::Check` or `Offline`, the call searches for the mark that ends the volume,
+    // after the last read. If the first read returned no record, there is no search. The search
+    // begins with MTBSR 1 (back over one record). If MTBSR is refused with EIO, the call sends a
+    // second rewind, MTFSR (forward over records), and MTFSF 1 (forward over one mark). The count
+    // of MTFSR is the number of all records, the label included. If MTBSR is refused with another
+    // error, the call sends the close next. The close is also next if the second rewind, MTFSR or
+    // MTFSF is refused. If the number of records is above `NUMBER_LIMIT`, the call sends the close
+    // in place of MTFSR.
     //
-    // The result is `NoMark` if MTBSR was done. The result is `Undetermined` if the call gave up
-    // the search for the mark. The call gives up if MTBSR is refused with an error other than EIO,
-    // if one of the three requests is refused, or if there are too many records for MTFSR. Before
-    // the call returns `NoMark` or `Undetermined`, it sends the close, and the reply to the close
-    // does not matter. If the call has searched for the mark, it succeeds only if MTFSF was done
-    // and the sink completed.
+    // If MTBSR was done, the call returns `NoMark`: no mark ends the volume. If the call gave up
+    // the search for the mark, the call returns `Undetermined`. The call gives up the search if
+    // MTBSR is refused with an error other than EIO. The call also gives up if the second rewind,
+    // MTFSR or MTFSF is refused, or if the number of records is above `NUMBER_LIMIT`. Before the
+    // call returns `NoMark` or `Undetermined`, the call sends the close and ignores the reply.
+    // After a search, the call succeeds only if MTFSF was done and the sink completed the volume.
     //
-    // If the sink's contract says what its calls do, the call gives the first record to the sink as
-    // the label, and each record after it as a block. The blocks have the numbers 0, 1 and so on.
-    // If MTFSF was done, the call gives the sink the mark, and then asks the sink to complete. In
-    // all other cases the call gives the sink no mark, and does not ask it to complete.
+    // The call gives the first record to the sink as the label, and each later record as a block.
+    // The blocks have the numbers 0, 1 and so on. If MTFSF was done, the call gives the mark to the
+    // sink, and then asks the sink to complete the volume. Otherwise the call gives no mark to the
+    // sink, and does not ask the sink to complete the volume. The promises about the sink hold if
+    // the sink's contract says what the sink's calls do.
     //
-    // MTOFFL moves the reel to the bin. The call sends MTOFFL only in the following case: the
-    // argument is `Offline`, MTFSF was done, and the sink completed. Then the call sends MTOFFL
-    // once, before the close.
+    // MTOFFL moves the reel to the bin. The call sends MTOFFL only if the argument `after` is
+    // `Offline`, MTFSF was done, and the sink completed the volume. In that case, the call sends
+    // MTOFFL exactly once, before the close.
     //
-    // Suppose that the first read returns no bytes. Then there is no label. The call gives the sink
-    // nothing, does not look for a mark, and does not send MTOFFL. The call sends the close next.
-    // The result is the one that the argument `Stay` would give.
+    // If the first read returns no bytes, there is no label. Without a label, the call gives
+    // nothing to the sink, does not search for a mark, and does not send MTOFFL. The call then
+    // sends the close, and returns what it would return with `AfterVolume::Stay`.
     //
-    // Suppose that the sink does not accept the label or a block, or does not complete. Then the
-    // call sends nothing more, not even the close, and gives the sink nothing more. The result is
-    // `Stopped` in this case, and only in this case.
+    // If the sink does not accept the label or a block, or does not complete the volume, the sink
+    // stops the read. After the sink has stopped the read, the call sends nothing more, not even
+    // the close. The call then gives nothing more to the sink. The call returns `Stopped` if and
+    // only if the sink stopped the read.
     //
-    // Any failure other than `NoMark` and `Undetermined` says one of three things: which request
-    // was refused, why the next request has no reply, or that the sink stopped the read.
+    // Each failure other than `NoMark` and `Undetermined` has one of three reasons: a request was
+    // refused, a request got no reply, or the sink stopped the read. The failure says which request
+    // was refused, or why a request got no reply.
     ensures read { IsRead (sink_kind P.tells S.takes) device.now after
         (sink_ends peer.old sink.old) (sink_ends peer.new sink.new) result }
-    // If the call sent MTOFFL, it had given each record and the mark to the sink before. The sink
-    // had accepted each record, and had completed. This follows from `read`.
+    // The call sends MTOFFL only after the sink got each record and the mark, accepted each record,
+    // and completed the volume. The clause `read` implies this promise.
     ensures kept { IsTakenAwayOnlyIfKept (sink_kind P.tells S.takes) device.now after
         (sink_ends peer.old sink.old) (sink_ends peer.new sink.new) result }
 {
@@ -227,8 +231,8 @@ fn after_for_count(after: AfterVolume, records: u64) -> AfterVolume
     }
 }
 
-/// Ends the read after `records` records: looks for the mark unless `goes` is `Stay`, and closes the
-/// device.
+/// Ends the read after `records` records: looks for the mark unless `goes` is `Stay`, and closes
+/// the device.
 fn conclude<P: Peer, S: VolumeSink>(
     caller: &mut PeerCaller,
     peer: &mut P,
@@ -368,6 +372,7 @@ fn look_over<P: Peer>(caller: &mut PeerCaller, peer: &mut P) -> Result<Option<Re
 }
 
 /// Takes the reel offline if `goes` is `Offline`.
+#[tactic(auto, using(crate::proofs::Marks::reel_goes))]
 fn take_away<P: Peer>(
     caller: &mut PeerCaller,
     peer: &mut P,

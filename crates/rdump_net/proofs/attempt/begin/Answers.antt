@@ -1,26 +1,23 @@
-use Rattle.std.proofs.Common.{refl, subst}
-use Rattle.rdump_net.specs.Peer.{Logs, connected}
-use Rattle.rdump_net.specs.Talk.{FromThis}
-use Rattle.rdump_net.proofs.Talking.{nothing_said, started_on, started_and_cut, not_started}
+use Rattle.rdump_net.proofs.Words.{[], true, false, refl, ◌∙◌, connected, starts, stays}
+use Rattle.rdump_net.proofs.Talking.{alone, kept_source, one_call}
 use Rattle.rdump_net.proofs.attempt.begin.Goals as goal
 
 pub returns-in_err-start-clause-talks : goal.returns-in_err-start-clause-talks
 returns-in_err-start-clause-talks g c =
     let h = c.in_err-start.ensures in
-    not_started g.B.Blocks.holds (FromThis c.args.client.now.at) g.P.Peer.tells c.args.client.now c.start.new.self c.args.peer.now c.args.client.now.room c.in_err-start.field-0.0 h.started h.fed h.same_source
-
-pub returns-then-ne-clause-talks : goal.returns-then-ne-clause-talks
-returns-then-ne-clause-talks g c = nothing_said g.B.Blocks.holds (FromThis c.args.client.now.at) g.P.Peer.tells c.args.client.now c.args.peer.now
+    one_call (kept_source g.B.Blocks.holds h.same_source) (λ old k. record { passed = []; later = old; step = stays c.args.client.now.room _ h.started; keeps = h.fed old k; logs = alone g.P.Peer.tells c.args.peer.now })
 
 pub returns-then-connect-clause-talks : goal.returns-then-connect-clause-talks
 returns-then-connect-clause-talks g c =
     let h = c.in_ok-start.ensures in
-    started_on g.B.Blocks.holds (FromThis c.args.client.now.at) g.P.Peer.tells c.args.client.now c.start.new.self c.args.peer.now c.connect.new.self c.args.client.now.room refl h.started h.fed h.same_source
-    (subst (λ made. Logs g.P.Peer.tells c.args.peer.now c.connect.new.self (connected made)) c.if-connect.true c.connect.ensures)
+    let made = rw c.if-connect.true at c.connect.ensures in
+    one_call (kept_source g.B.Blocks.holds h.same_source)
+    (λ old k. record { passed = connected true; later = old; step = starts _ c.start.new.self.at true refl h.started (refl, refl); keeps = h.fed old k; logs = made })
 
 pub returns-clause-talks : goal.returns-clause-talks
 returns-clause-talks g c =
     let h = c.in_ok-start.ensures in
     let k = c.ended.ensures in
-    started_and_cut g.B.Blocks.holds (FromThis c.args.client.now.at) g.P.Peer.tells c.args.client.now c.start.new.self c.ended.new.self c.args.peer.now c.connect.new.self c.args.client.now.room c.ended.result refl h.started k.moved k.fed h.same_source k.same_source
-    (subst (λ made. Logs g.P.Peer.tells c.args.peer.now c.connect.new.self (connected made)) c.if-connect.false c.connect.ensures)
+    let cut = rw c.if-connect.false at c.connect.ensures in
+    one_call (kept_source g.B.Blocks.holds (k.same_source ∙ h.same_source))
+    (λ old fed. record { passed = connected false; later = []; step = starts _ c.start.new.self.at false refl h.started (c.ended.result, k.moved, refl); keeps = k.fed; logs = cut })

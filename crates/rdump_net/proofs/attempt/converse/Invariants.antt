@@ -1,4 +1,4 @@
-use Rattle.rdump_net.specs.Talk.{FromNone, TalksOver}
+use Rattle.rdump_net.proofs.Words.{FromNone, TalksOver}
 use Rattle.rdump_net.proofs.attempt.converse.Given as goal
 
 abbrev pub invariant-loop : goal.invariant-loop

@@ -1,5 +1,4 @@
-use Rattle.std.proofs.Common.{Ok, ap, ◌∙◌, sym, subst, Some}
-use Rattle.rmt_wire.specs.ReplyParts.{ReplyParsesAs}
+use Rattle.rdump_net.proofs.Words.{Ok, ap, ◌∙◌, sym, subst, Some, ReplyParsesAs}
 use Rattle.rdump_net.proofs.Heard.{next_none, next_some}
 use Rattle.rdump_net.proofs.caller.first_reply.Goals as goal
 

@@ -1,11 +1,8 @@
-use Rattle.std.proofs.Common.{◌++◌, ◌∷◌, [], inr, map, take, subst, ap, ◌∙◌, Ok, refl, arith, length-append}
 use Rattle.std.proofs.lemmas.List.{length-take}
-use Rattle.rmt_wire.specs.Lent.{plain_wanted}
-use Rattle.rdump_net.specs.Peer.{Logs}
-use Rattle.rdump_net.specs.declared.peer.Passed.TheVariants.{Given, Ended}
+use Rattle.rdump_net.proofs.Words.{◌++◌, ◌∷◌, [], inr, map, take, refl, arith, length-append, plain_wanted, Given, Ended}
 use Rattle.rdump_net.proofs.Talking.{alone, none_given, some_given}
 use Rattle.rdump_net.proofs.Heard.{waiting_anew}
-use Rattle.rdump_net.proofs.Calls.{logs_both, given_both, hears_fault, hears_answer, hears_none}
+use Rattle.rdump_net.proofs.Calls.{logs_both, given_both, hears_fault}
 use Rattle.rdump_net.proofs.caller.hear.Goals as goal
 
 pub loop-turn-init : goal.loop-turn-init
@@ -15,43 +12,36 @@ pub returns-then-count-eq0 : goal.returns-then-count-eq0
 returns-then-count-eq0 g c =
     let w = c.loop-turn.invariant in
     let same = c.receive-count.auto.into in
-    let logs : Logs g.P.Peer.tells c.loop-turn.peer c.receive-count.new.self (Ended ∷ []) =
-    subst (Logs g.P.Peer.tells c.loop-turn.peer c.receive-count.new.self) (none_given c.receive-count.new.into c.receive-count.result (omega (arith, same)) c.if-count-eq0.true) c.receive-count.ensures.told in
+    let logs = rw (none_given c.receive-count.new.into c.receive-count.result (omega (arith, same)) c.if-count-eq0.true) at c.receive-count.ensures.told in
     (map Given w.0 ++ Ended ∷ [], (w.0, w.1.begun, refl), logs_both g.P.Peer.tells c.args.peer.now c.loop-turn.peer c.receive-count.new.self (map Given w.0) (Ended ∷ []) w.2 logs)
 
 pub returns-in-Ok-Some : goal.returns-in-Ok-Some
 returns-in-Ok-Some g c =
     let w = c.loop-turn.invariant in
     let piece = take c.receive-count.result c.receive-count.new.into in
-    let logs : Logs g.P.Peer.tells c.loop-turn.peer c.receive-count.new.self (map Given piece) =
-    subst (Logs g.P.Peer.tells c.loop-turn.peer c.receive-count.new.self) (some_given c.receive-count.new.into c.receive-count.result c.receive-count.ensures.within c.if-count-eq0.false) c.receive-count.ensures.told in
-    hears_answer g.P.Peer.tells (plain_wanted c.args.wanted) c.args.peer.now c.receive-count.new.self (w.0 ++ piece) c.take.result c.in-Ok-Some.answer c.take.new.reader (c.in-Ok-Some.is ∙ ap Ok c.in-Ok-Some.field-0-is)
-    (c.take.ensures _ w.0 w.1) (given_both g.P.Peer.tells c.args.peer.now c.loop-turn.peer c.receive-count.new.self w.0 piece w.2 logs)
+    let logs = rw (some_given c.receive-count.new.into c.receive-count.result c.receive-count.ensures.within c.if-count-eq0.false) at c.receive-count.ensures.told in
+    let all = given_both g.P.Peer.tells c.args.peer.now c.loop-turn.peer c.receive-count.new.self w.0 piece w.2 logs in
+    (map Given (w.0 ++ piece), (w.0 ++ piece, rw c.in-Ok-Some.field-0-is at (c.in-Ok-Some.ensures (plain_wanted c.args.wanted) w.0 w.1), refl), all)
 
 pub returns-in-Err : goal.returns-in-Err
 returns-in-Err g c =
     let w = c.loop-turn.invariant in
     let piece = take c.receive-count.result c.receive-count.new.into in
-    let logs : Logs g.P.Peer.tells c.loop-turn.peer c.receive-count.new.self (map Given piece) =
-    subst (Logs g.P.Peer.tells c.loop-turn.peer c.receive-count.new.self) (some_given c.receive-count.new.into c.receive-count.result c.receive-count.ensures.within c.if-count-eq0.false) c.receive-count.ensures.told in
-    hears_fault g.P.Peer.tells (plain_wanted c.args.wanted) c.args.peer.now c.receive-count.new.self (w.0 ++ piece) c.take.result c.in-Err.fault c.take.new.reader c.in-Err.is
-    (c.take.ensures _ w.0 w.1) (given_both g.P.Peer.tells c.args.peer.now c.loop-turn.peer c.receive-count.new.self w.0 piece w.2 logs)
+    let logs = rw (some_given c.receive-count.new.into c.receive-count.result c.receive-count.ensures.within c.if-count-eq0.false) at c.receive-count.ensures.told in
+    let all = given_both g.P.Peer.tells c.args.peer.now c.loop-turn.peer c.receive-count.new.self w.0 piece w.2 logs in
+    hears_fault g.P.Peer.tells (plain_wanted c.args.wanted) c.args.peer.now c.receive-count.new.self (w.0 ++ piece) c.in-Err.fault c.take.new.reader (c.in-Err.ensures _ w.0 w.1) all
 
 pub loop-turn-preserved : goal.loop-turn-preserved
 loop-turn-preserved g c =
     let w = c.loop-turn.invariant in
     let piece = take c.receive-count.result c.receive-count.new.into in
-    let logs : Logs g.P.Peer.tells c.loop-turn.peer c.receive-count.new.self (map Given piece) =
-    subst (Logs g.P.Peer.tells c.loop-turn.peer c.receive-count.new.self) (some_given c.receive-count.new.into c.receive-count.result c.receive-count.ensures.within c.if-count-eq0.false) c.receive-count.ensures.told in
+    let logs = rw (some_given c.receive-count.new.into c.receive-count.result c.receive-count.ensures.within c.if-count-eq0.false) at c.receive-count.ensures.told in
     let long = length-append w.0 piece in
     let some = length-take c.receive-count.result c.receive-count.new.into in
     let within = c.receive-count.ensures.within in
-    let not_none = c.if-count-eq0.false in (
-      w.0 ++ piece,
-      hears_none g.P.Peer.tells (plain_wanted c.args.wanted) (w.0 ++ piece) c.take.result c.take.new.reader (c.in-Ok-None.is ∙ ap Ok c.in-Ok-None.field-0-is) (c.take.ensures _ w.0 w.1),
-      given_both g.P.Peer.tells c.args.peer.now c.loop-turn.peer c.receive-count.new.self w.0 piece w.2 logs,
-      omega (arith, w.3),
-    )
+    let not_none = c.if-count-eq0.false in
+    let awaited = rw c.in-Ok-None.field-0-is at (c.in-Ok-None.ensures (plain_wanted c.args.wanted) w.0 w.1) in
+    (w.0 ++ piece, awaited, given_both g.P.Peer.tells c.args.peer.now c.loop-turn.peer c.receive-count.new.self w.0 piece w.2 logs, omega (arith, w.3))
 
 pub returns : goal.returns
 returns g c =

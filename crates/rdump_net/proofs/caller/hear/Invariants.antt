@@ -1,8 +1,4 @@
-use Rattle.std.proofs.Common.{◌≤◌, ℕ, List, length, map}
-use Rattle.rmt_wire.specs.Lent.{plain_wanted}
-use Rattle.rdump_net.specs.Call.{IsReplyAwaited}
-use Rattle.rdump_net.specs.Peer.{Logs}
-use Rattle.rdump_net.specs.declared.peer.Passed.TheVariants.{Given}
+use Rattle.rdump_net.proofs.Words.{◌≤◌, ℕ, List, length, map, plain_wanted, IsReplyAwaited, Logs, Given}
 use Rattle.rdump_net.proofs.caller.hear.Given as goal
 
 abbrev pub invariant-loop-turn : goal.invariant-loop-turn

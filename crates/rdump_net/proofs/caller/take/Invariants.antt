@@ -1,6 +1,4 @@
-use Rattle.std.proofs.Common.{◌≤◌, ◌-◌, ◌++◌, ℕ, List, length, take}
-use Rattle.rmt_wire.specs.Reply.{Wanted}
-use Rattle.rdump_net.specs.Call.{IsReplyAwaited}
+use Rattle.rdump_net.proofs.Words.{◌≤◌, ◌-◌, ◌++◌, ℕ, List, length, take, Wanted, IsReplyAwaited}
 use Rattle.rdump_net.proofs.caller.take.Given as goal
 
 abbrev pub invariant-loop-at : goal.invariant-loop-at

@@ -1,6 +1,4 @@
-use Rattle.std.proofs.Common.{length, drop}
-use Rattle.rdump_net.specs.Booking.{EntersOn}
-use Rattle.rdump_net.specs.Keeping.{kept_ends, kept_kind}
+use Rattle.rdump_net.proofs.Words.{length, drop, EntersOn, kept_ends, kept_kind}
 use Rattle.rdump_net.proofs.Keeping.{KeptSoFar}
 use Rattle.rdump_net.proofs.kept.dump_booked.Given as goal
 

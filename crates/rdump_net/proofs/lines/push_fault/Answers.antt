@@ -1,7 +1,4 @@
-use Rattle.std.proofs.Common.{◌≡◌, ◌++◌, ◌∙◌, ℕ, ap, sym, append_assoc, codes, decimal}
-use Rattle.dump_client.specs.declared.fault.AttemptFault.{AttemptFault}
-use Rattle.dump_client.specs.declared.fault.AttemptFault.TheVariants.{CountedReel}
-use Rattle.rdump_net.specs.Lines.{fault_text}
+use Rattle.rdump_net.proofs.Words.{◌≡◌, ◌++◌, ◌∙◌, ℕ, ap, sym, append_assoc, codes, decimal, AttemptFault, CountedReel, fault_text}
 use Rattle.rdump_net.proofs.lines.push_fault.Goals as goal
 
 counted_text : (fault : AttemptFault) (volume : ℕ) → fault ≡ CountedReel volume → codes "CountedReel " ++ decimal volume ≡ fault_text fault

@@ -1,13 +1,7 @@
-use Rattle.std.proofs.Common.{◌≡◌, refl, subst, sym}
-use Rattle.rdump_net.specs.Lines.{DumpLines, question_line}
-use Rattle.rdump_net.specs.Talk.{FromThis}
+use Rattle.rdump_net.proofs.Words.{◌≡◌, refl, subst, sym, DumpLines, question_line}
 use Rattle.rdump_net.proofs.Booking.{enters_same}
 use Rattle.rdump_net.proofs.Printed.{lines_asked}
-use Rattle.rdump_net.proofs.Talking.{nothing_said}
 use Rattle.rdump_net.proofs.rounds.begin_volume.Goals as goal
-
-pub returns-clause-talks : goal.returns-clause-talks
-returns-clause-talks g c = nothing_said g.B.Blocks.holds (FromThis c.args.client.now.at) g.P.Peer.tells c.args.client.now c.args.peer.now
 
 pub ask_here-requires : goal.ask_here-requires
 ask_here-requires g c =

@@ -1,7 +1,4 @@
-use Rattle.std.proofs.Common.{List, drop, length, subst, ◌≤◌}
-use Rattle.std.proofs.lemmas.List.{take_all}
-use Rattle.dump_client.specs.Standing.{VolumeCount}
-use Rattle.rdump_net.specs.Booking.{EntersOn}
+use Rattle.rdump_net.proofs.Words.{List, drop, length, subst, ◌≤◌, take_all, VolumeCount, EntersOn}
 use Rattle.rdump_net.proofs.Booking.{enters_next, enters_none}
 use Rattle.rdump_net.proofs.rounds.enter_counts.Goals as goal
 

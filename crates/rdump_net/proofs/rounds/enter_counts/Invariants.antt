@@ -1,5 +1,4 @@
-use Rattle.std.proofs.Common.{take, drop}
-use Rattle.rdump_net.specs.Booking.{EntersOn}
+use Rattle.rdump_net.proofs.Words.{take, drop, EntersOn}
 use Rattle.rdump_net.proofs.rounds.enter_counts.Given as goal
 
 -- the counts so far were entered

@@ -1,8 +1,5 @@
-use Rattle.std.proofs.Common.{◌≡◌, [], subst, sym}
-use Rattle.dump_client.specs.Standing.{checkpoint_of}
+use Rattle.rdump_net.proofs.Words.{◌≡◌, [], subst, sym, checkpoint_of, DumpLines, failure_lines, none}
 use Rattle.dump_client.specs.declared.fault.AttemptFault.TheVariants.{OutOfMemory}
-use Rattle.rdump_net.specs.Lines.{DumpLines, failure_lines}
-use Rattle.rdump_net.specs.Lines.DumpLines.{none}
 use Rattle.rdump_net.proofs.Printed.{lines_failed, nothing_printed}
 use Rattle.rdump_net.proofs.rounds.report.Goals as goal
 

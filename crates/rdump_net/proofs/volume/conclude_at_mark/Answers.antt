@@ -1,11 +1,6 @@
-use Rattle.std.proofs.Common.{[], ◌∷◌, Ok, Err, true, false, ap}
-use Rattle.rdump_net.specs.Ends.{sink_ends, sink_kind}
-use Rattle.rdump_net.specs.Reading.{IsConcludedAtMark}
-use Rattle.rdump_net.specs.Sink.{has_accepted}
-use Rattle.rdump_net.specs.Sink.SinkCall.{Mark, Complete}
-use Rattle.rdump_net.specs.declared.fault.ReadFault.TheVariants.{Stopped}
+use Rattle.rdump_net.proofs.Words.{[], ◌∷◌, Err, true, false, ap, sink_ends, sink_kind, IsConcludedAtMark, has_accepted, Mark, Complete, Stopped}
 use Rattle.rdump_net.proofs.Calls.{err_from}
-use Rattle.rdump_net.proofs.Marks.{taken_as, concludes_failed, concluded_kept, concluded_refused, taken_and_closed}
+use Rattle.rdump_net.proofs.Marks.{concludes_failed, concluded_kept, concluded_refused, taken_and_closed}
 use Rattle.rdump_net.proofs.volume.conclude_at_mark.Goals as goal
 
 pub returns-in_err-complete : goal.returns-in_err-complete
@@ -26,7 +21,7 @@ returns-in_err-take_away g c =
           concluded_kept next g.P.Peer.tells g.S.VolumeSink.takes c.args.goes c.args.peer.now c.take_away.new.peer c.args.sink.now c.mark.new.self c.complete.new.self (has_accepted c.complete.result) replies (Err c.in_err-take_away.field-0.0) some found c.mark.ensures
           (ap has_accepted c.in_ok-complete.was) c.complete.ensures
           (concludes_failed next g.P.Peer.tells c.args.goes (Mark ∷ Complete ∷ []) c.args.peer.now c.take_away.new.peer replies c.in_err-take_away.field-0.0
-          (taken_as next g.P.Peer.tells c.args.peer.now c.take_away.new.peer replies c.take_away.result (Err c.in_err-take_away.field-0.0) c.in_err-take_away.was (c.take_away.ensures next replies at))),
+          (c.in_err-take_away.ensures next replies at)),
     )
 
 pub returns : goal.returns
@@ -36,5 +31,5 @@ returns g c = (
       concluded_kept next g.P.Peer.tells g.S.VolumeSink.takes c.args.goes c.args.peer.now c.ask.new.peer c.args.sink.now c.mark.new.self c.complete.new.self (has_accepted c.complete.result) replies c.ask.result some found c.mark.ensures
       (ap has_accepted c.in_ok-complete.was) c.complete.ensures
       (taken_and_closed next g.P.Peer.tells c.args.goes c.args.peer.now c.take_away.new.peer c.ask.new.peer replies c.ask.result some found
-      (taken_as next g.P.Peer.tells c.args.peer.now c.take_away.new.peer replies c.take_away.result (Ok c.in_ok-take_away.field-0) c.in_ok-take_away.was (c.take_away.ensures next replies at)) c.ask.ensures),
+      (c.in_ok-take_away.ensures next replies at) c.ask.ensures),
 )

@@ -1,9 +1,6 @@
 use Rattle.std.proofs.Common.{inl, inr, refl}
 use Rattle.rdump_net.proofs.volume.done.Goals as goal
 
-pub returns-in-Done : goal.returns-in-Done
-returns-in-Done c = (_, c.in-Done.is)
-
 pub returns-in-Error : goal.returns-in-Error
 returns-in-Error c = inl (c.in-Error.number, _, c.in-Error.is, refl)
 

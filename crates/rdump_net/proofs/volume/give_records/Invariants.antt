@@ -1,7 +1,4 @@
-use Rattle.std.proofs.Common.{ℕ, List, Bool}
-use Rattle.rmt_wire.specs.Reply.{PlainReply}
-use Rattle.rdump_net.specs.Reading.{IsVolumeReading}
-use Rattle.rdump_net.specs.declared.volume.AfterVolume.{AfterVolume}
+use Rattle.rdump_net.proofs.Words.{ℕ, List, Bool, PlainReply, IsVolumeReading, AfterVolume}
 use Rattle.rdump_net.proofs.Reading.{GivenTo}
 use Rattle.rdump_net.proofs.volume.give_records.Given as goal
 

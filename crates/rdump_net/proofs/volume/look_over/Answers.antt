@@ -1,24 +1,17 @@
-use Rattle.std.proofs.Common.{Ok, Err, Some, None, ap, ◌∙◌, refl}
-use Rattle.rmt_wire.specs.declared.mtio.TheConstants.{MTFSF}
-use Rattle.rmt_wire.specs.Request.PlainRequest.{Op}
-use Rattle.rdump_net.specs.Reading.{next_over}
-use Rattle.rdump_net.proofs.DriveCalls.{operation_step}
-use Rattle.rdump_net.proofs.Marks.{on_first, answered_as, look_found, look_refused}
+use Rattle.rdump_net.proofs.Words.{Ok, Err, Some, None, refl, MTFSF, Op, Error, next_over}
+use Rattle.rdump_net.proofs.Marks.{operated, look_found, look_given_up}
 use Rattle.rdump_net.proofs.volume.look_over.Goals as goal
 
 pub returns-in-Ok-None : goal.returns-in-Ok-None
 returns-in-Ok-None g c = λ at_mark next replies at.
-    let a = answered_as next g.P.Peer.tells c.args.peer.now c.operate.new.peer replies c.operate.result (Ok None) (c.in-Ok-None.is ∙ ap Ok c.in-Ok-None.field-0-is)
-    (operation_step next g.P.Peer.tells c.args.peer.now c.operate.new.peer replies MTFSF 1 c.operate.result (on_first next (next_over at_mark) replies at) c.operate.ensures) in
-    look_found next g.P.Peer.tells at_mark c.args.peer.now c.operate.new.peer replies a.0 at a.1
+    let a = operated next g.P.Peer.tells c.args.peer.now c.operate.new.peer replies (next_over at_mark) MTFSF 1 (Ok None) refl at (rw c.in-Ok-None.field-0-is at c.in-Ok-None.ensures) in
+    look_found next g.P.Peer.tells c.args.peer.now c.operate.new.peer replies at_mark at a
 
 pub returns-in-Ok-Some : goal.returns-in-Ok-Some
 returns-in-Ok-Some g c = λ at_mark next replies at.
-    let k = c.in-Ok-Some.field-0-0 in
-    let a = answered_as next g.P.Peer.tells c.args.peer.now c.operate.new.peer replies c.operate.result (Ok (Some k)) (c.in-Ok-Some.is ∙ ap Ok c.in-Ok-Some.field-0-is)
-    (operation_step next g.P.Peer.tells c.args.peer.now c.operate.new.peer replies MTFSF 1 c.operate.result (on_first next (next_over at_mark) replies at) c.operate.ensures) in
-    look_refused next g.P.Peer.tells at_mark c.args.peer.now c.operate.new.peer replies (next_over at_mark) (Op MTFSF 1) k a.0 at refl (λ ends. refl) a.1
+    let a = operated next g.P.Peer.tells c.args.peer.now c.operate.new.peer replies (next_over at_mark) MTFSF 1 (Ok (Some c.in-Ok-Some.field-0-0)) refl at (rw c.in-Ok-Some.field-0-is at c.in-Ok-Some.ensures) in
+    look_given_up next g.P.Peer.tells c.args.peer.now c.operate.new.peer replies at_mark (next_over at_mark) (Op MTFSF 1) (Error c.in-Ok-Some.field-0-0 a.0) tt refl refl at (λ ends. refl) a.1
 
 pub returns-in-Err : goal.returns-in-Err
 returns-in-Err g c = λ at_mark next replies at.
-    answered_as next g.P.Peer.tells c.args.peer.now c.operate.new.peer replies c.operate.result (Err c.in-Err.fault) c.in-Err.is (operation_step next g.P.Peer.tells c.args.peer.now c.operate.new.peer replies MTFSF 1 c.operate.result (on_first next (next_over at_mark) replies at) c.operate.ensures)
+    operated next g.P.Peer.tells c.args.peer.now c.operate.new.peer replies (next_over at_mark) MTFSF 1 (Err c.in-Err.fault) refl at c.in-Err.ensures

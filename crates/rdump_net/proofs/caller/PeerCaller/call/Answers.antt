@@ -1,7 +1,4 @@
-use Rattle.std.proofs.Common.{◌++◌, ap, ◌∙◌}
-use Rattle.rmt_wire.specs.Lent.{plain_request, plain_wanted}
-use Rattle.rmt_wire.specs.Request.{request_text}
-use Rattle.rdump_net.specs.KeptReply.{plain_result}
+use Rattle.rdump_net.proofs.Words.{◌++◌, ap, ◌∙◌, plain_request, plain_wanted, request_text, plain_result}
 use Rattle.rdump_net.proofs.Calls.{sent_and_heard}
 use Rattle.rdump_net.proofs.caller.PeerCaller.call.Goals as goal
 

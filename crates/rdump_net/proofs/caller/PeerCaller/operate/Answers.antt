@@ -1,21 +1,17 @@
-use Rattle.std.proofs.Common.{Ok, ap, ◌∙◌, refl}
-use Rattle.rmt_wire.specs.Request.PlainRequest.{Op}
-use Rattle.rdump_net.proofs.DriveCalls.{operation_done, operation_refused, operation_unanswered}
+use Rattle.rdump_net.proofs.Words.{refl, Op, IsOperationCalled, read_fault}
+use Rattle.rdump_net.proofs.Calls.{err_from}
 use Rattle.rdump_net.proofs.Reading.{no_data}
 use Rattle.rdump_net.proofs.caller.PeerCaller.operate.Goals as goal
 
 pub returns-in_err-reply : goal.returns-in_err-reply
 returns-in_err-reply g c =
-    operation_unanswered g.P.Peer.tells c.args.peer.now c.call.new.peer c.args.op c.args.count c.call.result c.in_err-reply.field-0.0 c.from_residual.result c.in_err-reply.was c.from_residual.ensures.1 c.call.ensures
-
-pub returns-in-Done : goal.returns-in-Done
-returns-in-Done g c =
-    operation_done g.P.Peer.tells c.args.peer.now c.call.new.peer c.args.op c.args.count c.call.result _ (c.in_ok-reply.was ∙ ap Ok c.in-Done.is) c.call.ensures
+    let fault = c.in_err-reply.field-0.0 in
+    err_from (IsOperationCalled g.P.Peer.tells c.args.op c.args.count c.args.peer.now c.call.new.peer) c.from_residual.result (read_fault fault) c.from_residual.ensures.1
+    (fault, refl, c.in_err-reply.ensures)
 
 pub returns-in-Error : goal.returns-in-Error
-returns-in-Error g c =
-    operation_refused g.P.Peer.tells c.args.peer.now c.call.new.peer c.args.op c.args.count c.call.result c.in-Error.number _ (c.in_ok-reply.was ∙ ap Ok c.in-Error.is) c.call.ensures
+returns-in-Error g c = (_, rw c.in-Error.is at c.in_ok-reply.ensures)
 
 pub returns : goal.returns
 returns g c =
-    absurd (no_data g.P.Peer.tells c.args.peer.now c.call.new.peer (Op c.args.op c.args.count) c.call.result _ refl (c.in_ok-reply.was ∙ ap Ok c.in-Data.is) c.call.ensures)
+    let h = rw c.in-Data.is at c.in_ok-reply.ensures in absurd (no_data (Op c.args.op c.args.count) c.in-Data.bytes.items h.0 refl h.1)
