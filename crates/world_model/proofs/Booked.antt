@@ -1,44 +1,12 @@
 -- Runs, their counts and dumpdates, whatever happens.
-use Rattle.std.proofs.Common.{◌≡◌, ◌≢◌, ◌==◌, ℕ, zero, suc, ◌+◌, ◌<◌, ◌≤◌, Bool, true, false, List, [], ◌∷◌, ◌++◌, length, map, take, drop, Contains, Option, Some, None, refl, sym, ap, subst, ◌∙◌, inl, inr, arith}
-use Rattle.std.proofs.lemmas.Bool.{eq-eqb, ne_eqb}
-use Rattle.std.proofs.lemmas.List.{append-nil, length-append}
-use Rattle.std.proofs.lemmas.List.Elements.{Contains-push_cases, Contains-append_cases, Contains-append_left, Contains-append_right}
-use Rattle.std.proofs.lemmas.Option.{same_Some}
-use Rattle.rmt_wire.specs.ReplyReader.{ReplyHeld}
-use Rattle.dumpdates.specs.Entry.{DatesEntry}
-use Rattle.dumpdates.specs.Dates.{entered}
-use Rattle.dump_run.specs.Run.{PlainRun, IsRun}
-use Rattle.dump_run.specs.Counts.{AreVolumes}
-use Rattle.dump_client.specs.Going.{GoesOnWith}
-use Rattle.dump_client.specs.Lawful.{IsLawful, StageFits}
-use Rattle.dump_client.specs.Position.{Covers}
-use Rattle.dump_client.specs.Standing.{Standing, standing, FedAt, CutAt, IsOver, stage_after}
-use Rattle.dump_run.specs.declared.count.VolumeCount.{VolumeCount}
-use Rattle.dump_client.specs.declared.stage.Answer.{Answer}
-use Rattle.dump_client.specs.declared.stage.Answer.TheVariants.{Retry, Abandon}
-use Rattle.dump_client.specs.declared.stage.Progress.{Progress}
-use Rattle.dump_client.specs.declared.stage.Stage.{Stage}
-use Rattle.dump_client.specs.declared.stage.Stage.TheVariants.{Ready, ToSend, Waiting, Asking, Finished}
-use Rattle.dump_client.specs.declared.step.Step.TheVariants.{Open}
-use Rattle.world_model.specs.World.{World, Begun, WorldClient, Count, Entered, Kept, numbered}
-use Rattle.world_model.specs.Changes.{with_no_failure, counts_of}
-use Rattle.world_model.specs.Rows.{IsRunEntered, MayBeKept}
-use Rattle.world_model.specs.Steps.{kept_after, entry_of, caller, recorded}
-use Rattle.world_model.specs.History.{volume_of, counted_if, counts_in, dates_with, dates_after}
-use Rattle.world_model.specs.Headline.{IsEarned, AreOnce}
-use Rattle.world_model.specs.History.{AreCountedIn}
-use Rattle.world_model.specs.Kept.{IsKeptRun, AreBooked, IsClientLawful}
+use Rattle.world_model.proofs.Basics.{◌≡◌, ◌≢◌, ◌==◌, ℕ, zero, suc, ◌+◌, ◌<◌, ◌≤◌, List, [], ◌∷◌, ◌++◌, length, map, take, drop, Contains, Option, Some, None, refl, sym, ap, subst, ◌∙◌, inl, inr, arith, eq-eqb, ne_eqb, append-nil, length-append, Contains-push_cases, Contains-append_cases, Contains-append_left, Contains-append_right, same_Some}
+use Rattle.world_model.proofs.Terms.{ReplyHeld, DatesEntry, entered, PlainRun, IsRun, AreVolumes, GoesOnWith, IsLawful, StageFits, Covers, Standing, standing, FedAt, CutAt, IsOver, stage_after, VolumeCount, Answer, Progress, Stage, Ready, ToSend, Waiting, Asking, Finished, Open, World, Begun, WorldClient, Count, Entered, Kept, numbered, with_no_failure, counts_of, IsRunEntered, MayBeKept, kept_after, caller, recorded, volume_of, counted_if, counts_in, dates_with, dates_after, IsEarned, AreOnce, AreCountedIn, IsKeptRun, AreBooked, IsClientLawful}
 use Rattle.world_model.proofs.Numbers.{pushed_is, numbered_more, numbered_last, numbered_within}
 use Rattle.world_model.proofs.Moves.{Listens, told_counts, Move, begins, connects, asks, fails, hears, hears_last, sees, gone, comes, forgets, gives_up, answers, enters, saves, moved}
 
--- counts of lists that are put together
-if_more : (b : Bool) (x : Count) (a c : List VolumeCount) → counted_if b x (a ++ c) ≡ counted_if b x a ++ c
-if_more true x a c = refl
-if_more false x a c = refl
-
 in_more : (xs ys : List Count) (run : ℕ) → counts_in (xs ++ ys) run ≡ counts_in xs run ++ counts_in ys run
 in_more [] ys run = refl
-in_more (x ∷ xs) ys run = ap (counted_if (x.run == run) x) (in_more xs ys run) ∙ if_more (x.run == run) x (counts_in xs run) (counts_in ys run)
+in_more (x ∷ xs) ys run = ap (counted_if (x.run == run) x) (in_more xs ys run) ∙ (grind arith)
 
 -- counts of the client are told as its own, and as no other run's
 own_counts : (w : World) (number k : ℕ) (counts : List VolumeCount) → counts_in (map (counts_of w number k) counts) number ≡ counts
@@ -107,86 +75,6 @@ gone_booked w u s nobody k = record {
   dates = s.dates ∙ k.dates ∙ sym (ap (λ l. dates_after l [] u.entered) s.begun ∙ ap (dates_after w.begun []) s.entered);
 }
 
--- The client goes on, and its counts are told as those of its run.
-record Goes (w u : World) (x y : WorldClient) (more : List VolumeCount) (told : List Count) : Type 0 where
-  begun : u.begun ≡ w.begun
-  counts : u.counts ≡ w.counts ++ told
-  entered : u.entered ≡ w.entered
-  kept : (x : Kept) → u.kept ≡ Some x → w.kept ≡ Some x
-  dates : u.dates ≡ w.dates
-  was : w.caller ≡ Some x
-  is : u.caller ≡ Some y
-  number : y.number ≡ x.number
-  goes : GoesOnWith x.at y.at more
-  own : counts_in told x.number ≡ more
-  other : (run : ℕ) → x.number ≢ run → counts_in told run ≡ []
-
--- the counts of another run stay
-other_run : (w u : World) (x y : WorldClient) (more : List VolumeCount) (told : List Count) → Goes w u x y more told → (run : ℕ) → x.number ≢ run
-    → counts_in u.counts run ≡ counts_in w.counts run
-other_run w u x y more told g run other =
-    ap (λ l. counts_in l run) g.counts ∙ in_more w.counts told run ∙ ap (λ l. counts_in w.counts run ++ l) (g.other run other) ∙ append-nil (counts_in w.counts run)
-
-own_run : (w u : World) (x y : WorldClient) (more : List VolumeCount) (told : List Count) → Goes w u x y more told
-    → counts_in u.counts x.number ≡ counts_in w.counts x.number ++ more
-own_run w u x y more told g = ap (λ l. counts_in l x.number) g.counts ∙ in_more w.counts told x.number ∙ ap (λ l. counts_in w.counts x.number ++ l) g.own
-
--- what was counted stays counted
-more_listed : (w u : World) (x y : WorldClient) (more : List VolumeCount) (told : List Count) → Goes w u x y more told → (run : ℕ) (listed : List VolumeCount)
-    → AreCountedIn w run listed → AreCountedIn u run listed
-more_listed w u x y more told g run listed l v among =
-    subst (λ cs. Contains cs v) (sym (ap (λ cs. counts_in cs run) g.counts ∙ in_more w.counts told run))
-    (Contains-append_left (counts_in w.counts run) (counts_in told run) v (l v among))
-
--- and what the client counts now is counted
-own_listed : (w u : World) (x y : WorldClient) (more : List VolumeCount) (told : List Count) → Goes w u x y more told
-    → AreCountedIn w x.number x.at.counts → AreCountedIn u y.number y.at.counts
-own_listed w u x y more told g l v among =
-    subst (λ n. Contains (counts_in u.counts n) v) (sym g.number)
-    (subst (λ cs. Contains cs v) (sym (own_run w u x y more told g)) (elim (Contains-append_cases x.at.counts more v (subst (λ cs. Contains cs v) g.goes.counts among)) [
-      | inl before ↦ Contains-append_left (counts_in w.counts x.number) more v (l v before)
-      | inr after ↦ Contains-append_right (counts_in w.counts x.number) more v after
-    ]))
-
-goes_kept : (w u : World) (x y : WorldClient) (more : List VolumeCount) (told : List Count) → Goes w u x y more told → (z : Kept) → IsKeptRun w z → IsKeptRun u z
-goes_kept w u x y more told g z k = record {
-  begun = k.begun;
-  begun_as = ap (λ l. numbered l z.run) g.begun ∙ k.begun_as;
-  limits = k.limits;
-  last = k.last ∙ sym (ap length g.begun);
-  in_order = k.in_order;
-  counted = more_listed w u x y more told g z.run z.listed k.counted;
-  unentered = λ e among. k.unentered e (subst (λ l. Contains l e) g.entered among);
-}
-
-goes_earned : (w u : World) (x y : WorldClient) (more : List VolumeCount) (told : List Count) → Goes w u x y more told → (e : Entered) → IsEarned w e → IsEarned u e
-goes_earned w u x y more told g e (b, at, covers, counted) =
-    (b, ap (λ l. numbered l e.run) g.begun ∙ at, covers, more_listed w u x y more told g e.run e.listed counted)
-
-goes_booked : (w u : World) (x y : WorldClient) (more : List VolumeCount) (told : List Count) → Goes w u x y more told → AreBooked w → AreBooked u
-goes_booked w u x y more told g k =
-    let its : (c : WorldClient) → u.caller ≡ Some c → y ≡ c = λ c is. same_Some y c (sym g.is ∙ is) in
-    record {
-      last = λ c is. ap (λ (z : WorldClient). z.number) (sym (its c is)) ∙ g.number ∙ k.last x g.was ∙ sym (ap length g.begun);
-      begun = λ c is. (let b = k.begun x g.was in (
-        b.0,
-        ap (λ l. numbered l c.number) g.begun ∙ ap (λ (z : WorldClient). numbered w.begun z.number) (sym (its c is)) ∙ ap (numbered w.begun) g.number ∙ b.1,
-        b.2 ∙ sym g.goes.run ∙ ap (λ (z : WorldClient). z.at.run) (its c is),
-      ));
-      listed = λ c is. subst (λ (z : WorldClient). AreCountedIn u z.number z.at.counts) (its c is) (own_listed w u x y more told g (k.listed x g.was));
-      kept = λ z is. goes_kept w u x y more told g z (k.kept z (g.kept z is));
-      none = λ run past. (
-          let after : length w.begun < run = subst (λ l. length l < run) g.begun past in
-          other_run w u x y more told g run (λ e. (let same = k.last x g.was in omega (arith, after, e, same))) ∙ k.none run after);
-      earned = λ e among. goes_earned w u x y more told g e (k.earned e (subst (λ l. Contains l e) g.entered among));
-      once = subst AreOnce (sym g.entered) k.once;
-      finished = λ c e is among same_run. (
-          let same : e.run ≡ x.number = same_run ∙ ap (λ (z : WorldClient). z.number) (sym (its c is)) ∙ g.number in
-          ap (λ (z : WorldClient). z.at.stage) (sym (its c is))
-          ∙ (g.goes.finished (k.finished x e g.was (subst (λ l. Contains l e) g.entered among) same)).0);
-      dates = g.dates ∙ k.dates ∙ sym (ap (λ l. dates_after l [] u.entered) g.begun ∙ ap (dates_after w.begun []) g.entered);
-    }
-
 -- how bytes and the end of a connection move a client
 abbrev pub Goings : Type 0
 Goings =
@@ -197,24 +85,6 @@ Goings =
 -- a client of the same run and counts at another stage
 at_stage : (x : Standing) (next : Stage) → x.stage ≢ Finished → GoesOnWith x (standing x.run x.counts next) []
 at_stage x next unlike = record { run = refl; counts = sym (append-nil x.counts); finished = λ e. absurd (unlike e) }
-
--- nothing is counted
-alone_booked : (w u : World) (x y : WorldClient) → SameHistory w u → w.caller ≡ Some x → u.caller ≡ Some y → y.number ≡ x.number → GoesOnWith x.at y.at []
-    → AreBooked w → AreBooked u
-alone_booked w u x y s was is number goes k =
-    goes_booked w u x y [] [] record {
-      begun = s.begun;
-      counts = s.counts ∙ sym (append-nil w.counts);
-      entered = s.entered;
-      kept = λ z is. sym s.kept ∙ is;
-      dates = s.dates;
-      was = was;
-      is = is;
-      number = number;
-      goes = goes;
-      own = refl;
-      other = λ run other. refl;
-    } k
 
 -- what is after the first so many
 pub drop_front : {X : Type 0} (xs ys : List X) → drop (length xs) (xs ++ ys) ≡ ys
@@ -241,16 +111,13 @@ more_dates begun more dates [] there = refl
 more_dates begun more dates (e ∷ es) there =
     let b = there 1 e refl in
     ap (λ o. dates_after (begun ++ more) (dates_with dates o) es) (numbered_more begun more e.run b.0 b.1)
-    ∙ more_dates begun more (dates_with dates (Some b.0)) es (next_there begun e es there)
-    ∙ ap (λ o. dates_after begun (dates_with dates o) es) (sym b.1)
+    ∙ more_dates begun more (dates_with dates (Some b.0)) es (next_there begun e es there) ∙ ap (λ o. dates_after begun (dates_with dates o) es) (sym b.1)
 
 -- a member of that number is one of the list
 pub among_at : {X : Type 0} (xs : List X) (i : ℕ) (x : X) → numbered xs i ≡ Some x → Contains xs x
-among_at xs zero x at = absurd cc
-among_at [] (suc i) x at = absurd cc
-among_at (y ∷ xs) (suc zero) x at = (0, omega arith, same_Some y x at)
 among_at (y ∷ xs) (suc (suc i)) x at =
     let c = among_at xs (suc i) x at in (suc c.0, (let within = c.1 in omega (arith, within)), c.2)
+among_at xs i x at = grind arith
 
 -- and one of the list has a number
 pub place_of : {X : Type 0} (xs : List X) (x : X) → Contains xs x → (i : ℕ) × (numbered xs i ≡ Some x)
@@ -279,8 +146,7 @@ started_booked w u run b reader begun of is counts done dropped dates k =
       last = λ c at. ap (λ (z : WorldClient). z.number) (sym (its c at)) ∙ sym many;
       begun = λ c at. (
         b,
-        ap (λ (z : WorldClient). numbered u.begun z.number) (sym (its c at)) ∙ ap (λ l. numbered l (length w.begun + 1)) begun
-            ∙ ap (numbered (w.begun ++ b ∷ [])) place ∙ numbered_last w.begun b,
+        grind (arith, numbered_last),
         of ∙ ap (λ (z : WorldClient). z.at.run) (its c at),
       );
       listed = λ c at. subst (λ (z : WorldClient). AreCountedIn u z.number z.at.counts) (its c at) (λ v (i, within, here). absurd (omega (arith, within)));
@@ -290,8 +156,7 @@ started_booked w u run b reader begun of is counts done dropped dates k =
       once = subst AreOnce (sym done) k.once;
       finished = λ c e at among same. (
           let few = within e (subst (λ l. Contains l e) done among) in
-          let here : e.run ≡ length w.begun + 1 = same ∙ ap (λ (z : WorldClient). z.number) (sym (its c at)) in
-          absurd (omega (arith, few, here)));
+          grind arith);
       dates = dates ∙ k.dates ∙ sym (ap (λ l. dates_after l [] u.entered) begun ∙ ap (dates_after (w.begun ++ b ∷ []) []) done
           ∙ more_dates w.begun (b ∷ []) [] w.entered (λ i e at. (let x = k.earned e (among_at w.entered i e at) in (x.0, x.1))));
     }
@@ -319,8 +184,7 @@ entered_booked : (w : World) (c : WorldClient) → w.caller ≡ Some c → c.at.
 entered_booked w c there stage not_yet lawful k =
     let b = k.begun c there in
     let now : Entered = record { run = c.number; listed = c.at.counts } in
-    let covers : Covers b.0.run c.at.counts
-    = subst (λ r. Covers r c.at.counts) (sym b.2) (subst (StageFits c.at.run c.at.counts) stage lawful.stage) in
+    let covers : Covers b.0.run c.at.counts = subst (λ r. Covers r c.at.counts) (sym b.2) (subst (StageFits c.at.run c.at.counts) stage lawful.stage) in
     record {
       last = k.last;
       begun = k.begun;
@@ -333,9 +197,7 @@ entered_booked w c there stage not_yet lawful k =
       ];
       once = once_more w.entered now (λ f among same. not_yet (f, among, same)) k.once;
       finished = λ d e is among same. ap (λ (z : WorldClient). z.at.stage) (sym (same_Some c d (sym there ∙ is))) ∙ stage;
-      dates = ap (λ l. entered l (entry_of c.at.run)) k.dates
-          ∙ sym (dates_more w.begun [] w.entered now ∙ ap (dates_with (dates_after w.begun [] w.entered)) b.1
-          ∙ ap (λ r. entered (dates_after w.begun [] w.entered) (entry_of r)) b.2);
+      dates = grind (arith, dates_more);
     }
 
 -- the client's run is kept, with its counts
@@ -353,39 +215,23 @@ saved_booked w c there may lawful k =
       counted = k.listed c there;
       unentered = λ e among same. may.1 (k.finished c e there among same) (e, among, same);
     } in
-    record {
-      last = k.last;
-      begun = k.begun;
-      listed = k.listed;
-      kept = λ z is. subst (IsKeptRun u) (same_Some _ z is) its;
-      none = k.none;
-      earned = k.earned;
-      once = k.once;
-      finished = k.finished;
-      dates = k.dates;
-    }
+    grind arith
 
 -- what is over has its run and counts
 over_is : (run : PlainRun) (counts : List VolumeCount) (at : Standing) → IsOver run counts at → (at.run ≡ run) × (at.counts ≡ counts)
-over_is run counts at (inl (covers, is)) = (ap (λ (s : Standing). s.run) is, ap (λ (s : Standing). s.counts) is)
-over_is run counts at (inr (left, is)) = (ap (λ (s : Standing). s.run) is, ap (λ (s : Standing). s.counts) is)
+over_is run counts at given = grind arith
 
 -- a client comes back with what is kept
 back_booked : (w u : World) (z : Kept) (b : Begun) (at : Standing) (reader : ReplyHeld) → SameHistory w u → w.kept ≡ Some z → numbered w.begun z.run ≡ Some b
     → IsOver b.run z.listed at → u.caller ≡ Some (caller z.run at reader) → AreBooked w → AreBooked u
 back_booked w u z b at reader s is_kept begun over is k =
     let q = k.kept z is_kept in
-    let same = over_is b.run z.listed at over in
     let its : (c : WorldClient) → u.caller ≡ Some c → caller z.run at reader ≡ c = λ c there. same_Some (caller z.run at reader) c (sym is ∙ there) in
     record {
       last = λ c there. ap (λ (y : WorldClient). y.number) (sym (its c there)) ∙ q.last ∙ sym (ap length s.begun);
-      begun = λ c there. (
-        b,
-        ap (λ (y : WorldClient). numbered u.begun y.number) (sym (its c there)) ∙ ap (λ l. numbered l z.run) s.begun ∙ begun,
-        sym same.0 ∙ ap (λ (y : WorldClient). y.at.run) (its c there),
-      );
+      begun = grind arith;
       listed = λ c there. subst (λ (y : WorldClient). AreCountedIn u y.number y.at.counts) (its c there)
-          (subst (AreCountedIn u z.run) (sym same.1) (same_listed w u s.counts z.run z.listed q.counted));
+          (subst (AreCountedIn u z.run) (sym (over_is b.run z.listed at over).1) (same_listed w u s.counts z.run z.listed q.counted));
       kept = λ y there. same_kept w u s y (k.kept y (sym s.kept ∙ there));
       none = λ run past. ap (λ l. counts_in l run) s.counts ∙ k.none run (subst (λ l. length l < run) s.begun past);
       earned = λ e among. same_earned w u s e (k.earned e (subst (λ l. Contains l e) s.entered among));
@@ -397,8 +243,95 @@ back_booked w u z b at reader s is_kept begun over is k =
 
 -- an answer by which the run is given up drops what is kept
 answer_keeps : (answer : Answer) (o : Option Kept) (z : Kept) → kept_after answer o ≡ Some z → o ≡ Some z
-answer_keeps Retry o z is = is
-answer_keeps Abandon o z is = absurd cc
+answer_keeps answer o z is = grind arith
+
+module _ (w u : World) (x y : WorldClient) (more : List VolumeCount) (told : List Count) where
+  -- The client goes on, and its counts are told as those of its run.
+  record Goes : Type 0 where
+    begun : u.begun ≡ w.begun
+    counts : u.counts ≡ w.counts ++ told
+    entered : u.entered ≡ w.entered
+    kept : (x : Kept) → u.kept ≡ Some x → w.kept ≡ Some x
+    dates : u.dates ≡ w.dates
+    was : w.caller ≡ Some x
+    is : u.caller ≡ Some y
+    number : y.number ≡ x.number
+    goes : GoesOnWith x.at y.at more
+    own : counts_in told x.number ≡ more
+    other : (run : ℕ) → x.number ≢ run → counts_in told run ≡ []
+
+  -- the counts of another run stay
+  other_run : Goes → (run : ℕ) → x.number ≢ run → counts_in u.counts run ≡ counts_in w.counts run
+  other_run g run other = grind (arith, in_more, append-nil)
+
+  own_run : Goes → counts_in u.counts x.number ≡ counts_in w.counts x.number ++ more
+  own_run g = ap (λ l. counts_in l x.number) g.counts ∙ in_more w.counts told x.number ∙ ap (λ l. counts_in w.counts x.number ++ l) g.own
+
+  -- what was counted stays counted
+  more_listed : Goes → (run : ℕ) (listed : List VolumeCount) → AreCountedIn w run listed → AreCountedIn u run listed
+  more_listed g run listed l v among =
+      subst (λ cs. Contains cs v) (sym (ap (λ cs. counts_in cs run) g.counts ∙ in_more w.counts told run))
+      (Contains-append_left (counts_in w.counts run) (counts_in told run) v (l v among))
+
+  -- and what the client counts now is counted
+  own_listed : Goes → AreCountedIn w x.number x.at.counts → AreCountedIn u y.number y.at.counts
+  own_listed g l v among =
+      subst (λ n. Contains (counts_in u.counts n) v) (sym g.number)
+      (subst (λ cs. Contains cs v) (sym (own_run g)) (elim (Contains-append_cases x.at.counts more v (subst (λ cs. Contains cs v) g.goes.counts among)) [
+        | inl before ↦ Contains-append_left (counts_in w.counts x.number) more v (l v before)
+        | inr after ↦ Contains-append_right (counts_in w.counts x.number) more v after
+      ]))
+
+  goes_earned : Goes → (e : Entered) → IsEarned w e → IsEarned u e
+  goes_earned g e (b, at, covers, counted) = (b, ap (λ l. numbered l e.run) g.begun ∙ at, covers, more_listed g e.run e.listed counted)
+
+goes_kept : (w u : World) (x y : WorldClient) (more : List VolumeCount) (told : List Count) → Goes w u x y more told → (z : Kept) → IsKeptRun w z → IsKeptRun u z
+goes_kept w u x y more told g z k = record {
+  begun = k.begun;
+  begun_as = ap (λ l. numbered l z.run) g.begun ∙ k.begun_as;
+  limits = k.limits;
+  last = k.last ∙ sym (ap length g.begun);
+  in_order = k.in_order;
+  counted = more_listed w u x y more told g z.run z.listed k.counted;
+  unentered = λ e among. k.unentered e (subst (λ l. Contains l e) g.entered among);
+}
+
+goes_booked : (w u : World) (x y : WorldClient) (more : List VolumeCount) (told : List Count) → Goes w u x y more told → AreBooked w → AreBooked u
+goes_booked w u x y more told g k =
+    let its : (c : WorldClient) → u.caller ≡ Some c → y ≡ c = λ c is. same_Some y c (sym g.is ∙ is) in
+    record {
+      last = λ c is. ap (λ (z : WorldClient). z.number) (sym (its c is)) ∙ g.number ∙ k.last x g.was ∙ sym (ap length g.begun);
+      begun = grind arith;
+      listed = λ c is. subst (λ (z : WorldClient). AreCountedIn u z.number z.at.counts) (its c is) (own_listed w u x y more told g (k.listed x g.was));
+      kept = λ z is. goes_kept w u x y more told g z (k.kept z (g.kept z is));
+      none = λ run past. (
+          let after : length w.begun < run = subst (λ l. length l < run) g.begun past in
+          other_run w u x y more told g run (λ e. (let same = k.last x g.was in omega (arith, after, e, same))) ∙ k.none run after);
+      earned = λ e among. goes_earned w u x y more told g e (k.earned e (subst (λ l. Contains l e) g.entered among));
+      once = subst AreOnce (sym g.entered) k.once;
+      finished = λ c e is among same_run. (
+          let same : e.run ≡ x.number = same_run ∙ ap (λ (z : WorldClient). z.number) (sym (its c is)) ∙ g.number in
+          ap (λ (z : WorldClient). z.at.stage) (sym (its c is)) ∙ (g.goes.finished (k.finished x e g.was (subst (λ l. Contains l e) g.entered among) same)).0);
+      dates = g.dates ∙ k.dates ∙ sym (ap (λ l. dates_after l [] u.entered) g.begun ∙ ap (dates_after w.begun []) g.entered);
+    }
+
+-- nothing is counted
+alone_booked : (w u : World) (x y : WorldClient) → SameHistory w u → w.caller ≡ Some x → u.caller ≡ Some y → y.number ≡ x.number → GoesOnWith x.at y.at []
+    → AreBooked w → AreBooked u
+alone_booked w u x y s was is number goes k =
+    goes_booked w u x y [] [] record {
+      begun = s.begun;
+      counts = s.counts ∙ sym (append-nil w.counts);
+      entered = s.entered;
+      kept = λ z is. sym s.kept ∙ is;
+      dates = s.dates;
+      was = was;
+      is = is;
+      number = number;
+      goes = goes;
+      own = refl;
+      other = λ run other. refl;
+    } k
 
 -- the client heard
 heard_booked : Goings → (w u : World) (t : Listens w) → u.begun ≡ w.begun → u.counts ≡ w.counts ++ told_counts w t → u.entered ≡ w.entered → u.kept ≡ w.kept → u.dates ≡ w.dates

@@ -1,35 +1,22 @@
+-- A reel that was counted and not reopened has the sum of its volume.
 -- What a quiet attempt wrote, and what was counted, stand on their reels.
-use Rattle.std.proofs.Common.{◌≡◌, ℕ, ◌+◌, ◌≤◌, List, ◌∷◌, ◌++◌, sym, ap, subst, ◌∙◌}
-use Rattle.tape.specs.Tape.{PlainEntry}
-use Rattle.tape.specs.Tape.PlainEntry.{Record}
-use Rattle.std.proofs.lemmas.Option.{same_Some}
-use Rattle.dump_run.specs.Run.{PlainRun}
-use Rattle.dump_run.specs.Label.{label}
-use Rattle.world_model.specs.World.{World, Connection, AttemptState, Begun, Count, numbered}
-use Rattle.world_model.specs.Changes.{opening}
-use Rattle.world_model.specs.Standing.{AreHeld, ReelHolds}
-use Rattle.world_model.specs.Kept.{AreLaid}
-use Rattle.world_model.specs.Naming.{AreNamed, AreWritersLast}
-use Rattle.world_model.specs.Headline.{IsNotReopened, CountedReels}
-use Rattle.world_model.specs.Written.{block_records, whole_volume}
-use Rattle.world_model.specs.Written.{label_if, mark_if, attempt_written}
-use Rattle.world_model.specs.Attempts.{AreLabelled, EachCountHasAttempt, IsEarnedBy}
-use Rattle.world_model.specs.Sending.{AreTold}
-use Rattle.world_model.specs.Sparing.{AreNotReopened}
-use Rattle.world_model.specs.Further.{ReelsNotReopened, LabelledReels}
+use Rattle.world_model.proofs.Basics.{◌≡◌, sym, subst, ap, ◌∙◌, ◌+◌, ◌≤◌, List, same_Some, arith}
+use Rattle.world_model.proofs.Terms.{file_sum, World, Begun, whole_volume, ReelHoldsJust, CountedReels, CountedSums, PlainEntry, label, numbered, opening, AreHeld, ReelHolds, AreLaid, AreNamed, AreWritersLast, IsNotReopened, AreLabelled, EachCountHasAttempt, AreTold, AreNotReopened, ReelsNotReopened, LabelledReels}
 use Rattle.world_model.proofs.Booked.{among_at}
-use Rattle.world_model.proofs.LabelledThere.{stands_somewhere}
+use Rattle.world_model.proofs.LabelledNames.{stands_somewhere}
 use Rattle.world_model.proofs.NotReopenedAlone.{not_reopened_alone}
 
--- what an attempt wrote that was counted is its volume
-written_whole : (w : World) (run : PlainRun) (payload : List (List ℕ)) (x : Count) (l : Connection) (d : AttemptState) (b : Begun) → IsEarnedBy w x l d b
-    → attempt_written run payload d ≡ whole_volume run payload x.volume x.first x.count
-written_whole w run payload x l d b e =
-    ap (λ t. label_if t run d.volume d.first ++ (block_records payload d.first d.blocks ++ mark_if d.mark)) e.label
-    ∙ ap (λ t. Record (label run d.volume d.first) ∷ (block_records payload d.first d.blocks ++ mark_if t)) e.mark
-    ∙ ap (λ n. whole_volume run payload n d.first d.blocks) e.volume
-    ∙ ap (λ n. whole_volume run payload x.volume n d.blocks) e.first
-    ∙ ap (λ n. whole_volume run payload x.volume x.first n) e.count
+pub sums_of : (w : World) → CountedReels w → CountedSums w
+sums_of w counted x b has begun spared =
+    let on = counted x has in
+    let same : on.begun ≡ b = (cc) in
+    let just : ReelHoldsJust w.server x.reel (whole_volume b.run b.payload x.volume x.first x.count)
+    = subst (λ (d : Begun). ReelHoldsJust w.server x.reel (whole_volume d.run d.payload x.volume x.first x.count)) same (on.whole spared) in
+    record {
+      entries = whole_volume b.run b.payload x.volume x.first x.count;
+      holds = just.0;
+      sums = λ found there. ap file_sum (just.1 found there);
+    }
 
 pub counted_reels : (w : World) → AreHeld w.server → AreLaid w.server → AreNamed w → AreWritersLast w → AreTold w → AreLabelled w → EachCountHasAttempt w → AreNotReopened w
     → CountedReels w
@@ -42,7 +29,7 @@ counted_reels w held laid named writers told labelled earned spares x among =
     → entries ≡ whole_volume a.0.run a.0.payload x.volume x.first x.count
     = λ not_reopened entries stands.
     (a.2 x.reel (p.fault, (not_reopened.0, not_reopened.1, not_reopened_alone w x told writers spares.late spares.stopped among not_reopened))).stands entries stands
-    ∙ written_whole w a.0.run a.0.payload x e.0 e.1 e.2 p in
+    ∙ (grind arith) in
     let on = stands_somewhere w.server x.reel held laid (named.opened _ p.opened) in
     record {
       begun = a.0;

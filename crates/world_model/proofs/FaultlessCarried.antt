@@ -1,50 +1,13 @@
 -- On a link without faults, a request that is carried out.
-use Rattle.std.proofs.Common.{◌≡◌, ◌≢◌, ◌⊎◌, ℕ, suc, ◌+◌, ◌≤◌, IsTrue, List, [], ◌∷◌, ◌++◌, length, length-append, append_assoc, option_map, Option, Some, None, Result, Ok, Err, refl, sym, ap, subst, ◌∙◌, inl, inr, arith}
-use Rattle.std.proofs.lemmas.Bool.Decides.{eqb_tells}
-use Rattle.std.proofs.lemmas.List.{nil_from_length}
-use Rattle.std.proofs.lemmas.Option.{same_Some}
-use Rattle.tape.specs.declared.trouble.Trouble.TheVariants.{None as NoTrouble}
-use Rattle.rmt_wire.specs.Request.{PlainRequest, SpellsRequest, request_text}
-use Rattle.rmt_wire.specs.RequestParts.{ParsesAs, HasFault}
-use Rattle.rmt_wire.specs.RequestReader.{RequestHeld, Unread}
-use Rattle.rmt_wire.specs.Reply.{PlainReply, reply_text}
-use Rattle.rmt_wire.specs.declared.fault.WireFault.{WireFault}
-use Rattle.drives.specs.TapeLibrary.{TapeLibrary}
-use Rattle.rmt_server.specs.ServerState.{ServerConnection, side}
-use Rattle.rmt_server.specs.Session.{PlainSession, session_view}
-use Rattle.rmt_server.specs.TroubledServe.{TroubledServe}
-use Rattle.dump_client.specs.Script.{wanted_of}
-use Rattle.dump_client.specs.Standing.{standing}
-use Rattle.dump_client.specs.declared.step.Step.{Step}
-use Rattle.dump_client.specs.declared.step.Step.TheVariants.{Open}
-use Rattle.dump_client.specs.declared.stage.Stage.{Stage}
-use Rattle.dump_client.specs.declared.stage.Stage.TheVariants.{Ready, ToSend, Waiting}
-use Rattle.world_model.specs.World.{World, Connection, AttemptState, Begun, WorldClient, numbered}
-use Rattle.world_model.specs.First.{PlainDriveSpec}
-use Rattle.world_model.specs.Changes.{connection_of, changed, changed_from, side_of, sent_on, answered, noted}
-use Rattle.world_model.specs.Steps.{Finds, carried}
-use Rattle.world_model.specs.Kept.{IsWorldKept}
-use Rattle.world_model.specs.Owning.{is_in_attempt}
-use Rattle.world_model.specs.Sending.{AreUnserved, request_in, IsPending, IsAttempt, IsStepAsked, FitsReplyReader, IsConnectionToldAt}
-use Rattle.world_model.specs.Faultless.{IsFaultlessWorld, IsOwnConnection, IsStepUnanswered, ReelsStandAt, StandsWith, StandsBefore, Leads, Stock, stock_of, volume_slots, attempt_on}
-use Rattle.world_model.proofs.FaultlessBins.{served_bin}
-use Rattle.world_model.proofs.Numbers.{changed_is, with_here, numbered_there, numbered_within, numbered_first}
+use Rattle.world_model.proofs.Basics.{◌≡◌, ◌≢◌, ◌⊎◌, ℕ, suc, ◌+◌, ◌≤◌, IsTrue, List, [], ◌∷◌, ◌++◌, length, length-append, append_assoc, option_map, Option, Some, None, Result, Ok, Err, refl, sym, ap, subst, ◌∙◌, inl, inr, arith, eqb_tells, nil_from_length, same_Some}
+use Rattle.world_model.proofs.Terms.{NoTrouble, PlainRequest, SpellsRequest, request_text, ParsesAs, RequestHeld, Unread, PlainReply, reply_text, WireFault, TapeLibrary, ServerConnection, side, PlainSession, session_view, TroubledServe, wanted_of, standing, Step, Stage, Ready, ToSend, Waiting, World, Connection, AttemptState, Begun, WorldClient, numbered, PlainDriveSpec, connection_of, changed, changed_from, side_of, sent_on, answered, noted, Finds, carried, IsWorldKept, is_in_attempt, AreUnserved, request_in, IsPending, IsAttempt, IsStepAsked, FitsReplyReader, IsConnectionToldAt, IsFaultlessWorld, IsOwnConnection, IsStepUnanswered, ReelsStandAt, StandsWith, StandsBefore, Leads, stock_of, attempt_on}
+use Rattle.world_model.proofs.Ground.{served_bin, changed_is, with_here, numbered_there, numbered_within, numbered_first, OneReading, DroppedWrites, one_read, nothing_long, text_not_long, never_dropped, serve_pending, served_leads, noted_same, turned_here, turned_beside}
 use Rattle.world_model.proofs.Held.{side_there}
-use Rattle.world_model.proofs.SentWire.{OneReading, DroppedWrites, one_read, nothing_long, text_not_long}
-use Rattle.world_model.proofs.SentServe.{nothing_there, never_dropped, serve_pending, served_leads, noted_same}
 use Rattle.world_model.proofs.SentTexts.{reply_texts}
-use Rattle.world_model.proofs.ToldEvents.{turned_here, turned_beside}
 use Rattle.world_model.proofs.FaultlessSteps.{stock_then, step_leads}
 
 pub changed_here : {X : Type 0} (f : X → X) (xs : List X) (k : ℕ) (x : X) → numbered xs k ≡ Some x → numbered (changed f xs k) k ≡ Some (f x)
 changed_here f xs k x at = ap (λ o. numbered (changed_from f xs k o) k) at ∙ with_here xs k x (f x) at
-
--- no byte has no fault
-no_bytes : (bytes : List ℕ) (fault : WireFault) → bytes ≡ [] → HasFault bytes fault → ⊥
-no_bytes bytes fault none f =
-    let size : length (f.seen ++ f.byte ∷ f.later) ≡ 0 = ap length (sym f.split ∙ none) in
-    let both = length-append f.seen (f.byte ∷ f.later) in
-    omega (arith, size, both)
 
 -- a beginning of a request has no fault
 request_no_fault : (text bytes way rest : List ℕ) (request : PlainRequest) (fault : WireFault) → SpellsRequest text request → text ≡ bytes ++ way
@@ -55,16 +18,9 @@ request_no_fault text bytes way rest request fault spelled is (f, none, same) =
     f.hopeless (f.later ++ way, request, subst (λ l. SpellsRequest l request) stream spelled)
 
 -- where nothing is unserved, no request is found and no fault
-pub nothing_found : DroppedWrites → (w u : World) (k : ℕ) (s : ServerConnection) (way bytes rest : List ℕ) (found : Result (Option PlainRequest) WireFault) → AreUnserved (Some s) way []
-    → Unread s.reached bytes → ParsesAs bytes found rest → Finds w k NoTrouble s found rest u → ⊥
-nothing_found h w u k s way bytes rest (Ok None) none unread gives finds = finds
-nothing_found h w u k s way bytes rest (Ok (Some request)) none unread gives finds = nothing_there h s way bytes rest request none unread gives
-nothing_found h w u k s way bytes rest (Err fault) (reached, was, is) unread gives finds =
-    let size : length (reached ++ way) ≡ 0 = ap length (sym is) in
-    let both = length-append reached way in
-    let empty : reached ≡ [] = nil_from_length reached (omega (arith, size, both)) in
-    let same = one_read h s.reached [] bytes nothing_long (subst (Unread s.reached) empty was) unread in
-    no_bytes bytes fault (sym same) gives.0
+pub nothing_found : DroppedWrites → (w u : World) (k : ℕ) (s : ServerConnection) (way bytes rest : List ℕ) (found : Result (Option PlainRequest) WireFault)
+    → AreUnserved (Some s) way [] → Unread s.reached bytes → ParsesAs bytes found rest → Finds w k NoTrouble s found rest u → ⊥
+nothing_found h w u k s way bytes rest found given unread gives finds = grind (arith, one_read)
 
 -- the server's side of a request that was sent finds no fault
 pending_no_fault : OneReading → DroppedWrites → (b : Begun) (s : ServerConnection) (way : List ℕ) (d : AttemptState) (step : Step) (bytes rest : List ℕ) (fault : WireFault)
@@ -74,10 +30,9 @@ pending_no_fault g h b s way d step bytes rest fault p unread gives = unserved_b
     unserved_by : AreUnserved (Some s) way (request_text (request_in b d step)) ⊎ AreUnserved (Some s) way [] → ⊥
     unserved_by (inr (reached, was, is)) =
         let size : length (reached ++ way) ≡ 0 = ap length (sym is) in
-        let both = length-append reached way in
-        let empty : reached ≡ [] = nil_from_length reached (omega (arith, size, both)) in
+        let empty : reached ≡ [] = nil_from_length reached (omega (arith, size, length-append reached way)) in
         let same = one_read h s.reached [] bytes nothing_long (subst (Unread s.reached) empty was) unread in
-        no_bytes bytes fault (sym same) gives.0
+        (grind arith)
     unserved_by (inl (mine, was, is)) =
         let text = request_text (request_in b d step) in
         let same = one_read h s.reached mine bytes (text_not_long g text mine way (request_in b d step) p.spelled (never_dropped b d step) is) was unread in
@@ -103,12 +58,6 @@ record Carries (w u : World) (k : ℕ) (c : WorldClient) (l : Connection) (d : A
   left : Unread reached rest
   served : TroubledServe NoTrouble w.server.holders k (session_view w.server.library s.session) request reply (session_view library session) holders
   is : u ≡ carried w k request reply reached library session holders
-
--- the bin before a step
-pub before_bin : (drive : PlainDriveSpec) (t : Stock) (k : ℕ) (b : Begun) (d : AttemptState) (session : PlainSession) (step : Step) → StandsBefore step drive t k b d session
-    → t.library.bin ≡ volume_slots drive t
-before_bin drive t k b d session Open q = ap (λ (x : TapeLibrary). x.bin) q.0.library
-before_bin drive t k b d session step q = ap (λ (x : TapeLibrary). x.bin) q.library
 
 carried_faultless : OneReading → DroppedWrites → (drive : PlainDriveSpec) (w u : World) (k : ℕ) (c : WorldClient) (l : Connection) (d : AttemptState) (b : Begun) (s : ServerConnection) (step : Step) → IsWorldKept w → IsFaultlessWorld drive w
     → IsStepUnanswered drive w (attempt_on k b d s.session) l step → Carries w u k c l d b s step → IsFaultlessWorld drive u
@@ -163,7 +112,7 @@ carried_faultless g h drive w u k c l d b s step kept sm un v =
         reply = v.reply;
         text = way;
         brief = brief;
-        bin = (bins.0, bins.1 ∙ ap (λ l. l ++ bins.0) (before_bin drive (stock_of w) k b d s.session step un.stands));
+        bin = (bins.0, bins.1 ∙ ap (λ l. l ++ bins.0) ((grind arith)));
         leads = leads;
       },
     ) in
@@ -222,69 +171,63 @@ found_faultless g h drive w u k c l d b s step (Ok (Some request)) bytes rest ke
       is = is;
     }
 
--- What may be unserved on a connection: nothing is, or it is the client's own, whose request was not carried out.
-pub data Unserved (drive : PlainDriveSpec) (w : World) (k : ℕ) (s : ServerConnection) (l : Connection) : Type 0 where
-  none_left : AreUnserved (Some s) l.toward [] → Unserved drive w k s l
-  one_left : (c : WorldClient) (step : Step) (d : AttemptState) (b : Begun) → w.caller ≡ Some c → c.at.stage ≡ Waiting step → IsOwnConnection w k l d b s
-      → IsStepUnanswered drive w (attempt_on k b d s.session) l step → Unserved drive w k s l
+module _ (drive : PlainDriveSpec) (w : World) (k : ℕ) (s : ServerConnection) (l : Connection) where
+  -- What may be unserved on a connection: nothing is, or it is the client's own, whose request was not carried out.
+  pub data Unserved : Type 0 where
+    none_left : AreUnserved (Some s) l.toward [] → Unserved
+    one_left : (c : WorldClient) (step : Step) (d : AttemptState) (b : Begun) → w.caller ≡ Some c → c.at.stage ≡ Waiting step → IsOwnConnection w k l d b s
+        → IsStepUnanswered drive w (attempt_on k b d s.session) l step → Unserved
 
--- on the client's own, by its stage
-unserved_at : (drive : PlainDriveSpec) (w : World) (k : ℕ) (s : ServerConnection) (l : Connection) (c : WorldClient) (stage : Stage) → IsWorldKept w → side_of w.server k ≡ Some s → connection_of w k ≡ Some l
-    → w.own ≡ Some k → w.caller ≡ Some c → c.at.stage ≡ stage → IsTrue (is_in_attempt stage) → ReelsStandAt stage drive w c → Unserved drive w k s l
-unserved_at drive w k s l c (ToSend step) kept live conn mine there at under (j, x, d, b, y, own, stands) =
-    let same : j ≡ k = same_Some j k (sym own.own ∙ mine) in
-    let connections : x ≡ l = same_Some x l (sym own.there ∙ ap (connection_of w) same ∙ conn) in
-    let sides : y ≡ s = same_Some y s (sym own.live ∙ ap (side_of w.server) same ∙ live) in
-    let told = own_told w j x d b y c (ToSend step) kept own there at in
-    none_left (subst (λ (z : Connection). AreUnserved (Some s) z.toward []) connections (subst (λ z. AreUnserved (Some z) x.toward []) sides told.2.settled.unserved))
-unserved_at drive w k s l c (Waiting step) kept live conn mine there at under (j, x, d, b, y, own, inr done) =
-    let same : j ≡ k = same_Some j k (sym own.own ∙ mine) in
-    let connections : x ≡ l = same_Some x l (sym own.there ∙ ap (connection_of w) same ∙ conn) in
-    none_left (subst (λ (z : Connection). AreUnserved (Some s) z.toward []) connections (subst (λ o. AreUnserved o x.toward []) (ap (side_of w.server) same ∙ live) done.served))
-unserved_at drive w k s l c (Waiting step) kept live conn mine there at under (j, x, d, b, y, own, inl un) =
-    let same : j ≡ k = same_Some j k (sym own.own ∙ mine) in
-    let connections : l ≡ x = sym (same_Some x l (sym own.there ∙ ap (connection_of w) same ∙ conn)) in
-    let sides : y ≡ s = same_Some y s (sym own.live ∙ ap (side_of w.server) same ∙ live) in
-    one_left c step d b there at
-    record {
-      own = mine;
-      there = conn;
-      whole = ap (λ (z : Connection). z.cut) connections ∙ own.whole;
-      dump = ap (λ (z : Connection). z.dump) connections ∙ own.dump;
-      begun = own.begun;
-      live = live;
-    }
-    record {
-      back = ap (λ (z : Connection). z.back) connections ∙ un.back;
-      stands = subst (λ m. StandsBefore step drive (stock_of w) m b d s.session) same (subst (λ (z : ServerConnection). StandsBefore step drive (stock_of w) j b d z.session) sides un.stands);
-    }
-unserved_at drive w k s l c stage kept live conn mine there at under stands = absurd cc
+  -- on the client's own, by its stage
+  unserved_at : (c : WorldClient) (stage : Stage) → IsWorldKept w → side_of w.server k ≡ Some s → connection_of w k ≡ Some l → w.own ≡ Some k
+      → w.caller ≡ Some c → c.at.stage ≡ stage → IsTrue (is_in_attempt stage) → ReelsStandAt stage drive w c → Unserved
+  unserved_at c (ToSend step) kept live conn mine there at under (j, x, d, b, y, own, stands) =
+      let same : j ≡ k = same_Some j k (sym own.own ∙ mine) in
+      let connections : x ≡ l = same_Some x l (sym own.there ∙ ap (connection_of w) same ∙ conn) in
+      let sides : y ≡ s = same_Some y s (sym own.live ∙ ap (side_of w.server) same ∙ live) in
+      let told = own_told w j x d b y c (ToSend step) kept own there at in
+      none_left (subst (λ (z : Connection). AreUnserved (Some s) z.toward []) connections (subst (λ z. AreUnserved (Some z) x.toward []) sides told.2.settled.unserved))
+  unserved_at c (Waiting step) kept live conn mine there at under (j, x, d, b, y, own, inr done) = grind arith
+  unserved_at c (Waiting step) kept live conn mine there at under (j, x, d, b, y, own, inl un) =
+      let same : j ≡ k = same_Some j k (sym own.own ∙ mine) in
+      let connections : l ≡ x = sym (same_Some x l (sym own.there ∙ ap (connection_of w) same ∙ conn)) in
+      let sides : y ≡ s = same_Some y s (sym own.live ∙ ap (side_of w.server) same ∙ live) in
+      one_left c step d b there at record {
+        own = mine;
+        there = conn;
+        whole = ap (λ (z : Connection). z.cut) connections ∙ own.whole;
+        dump = ap (λ (z : Connection). z.dump) connections ∙ own.dump;
+        begun = own.begun;
+        live = live;
+      } record {
+        back = ap (λ (z : Connection). z.back) connections ∙ un.back;
+        stands = subst (λ m. StandsBefore step drive (stock_of w) m b d s.session) same (subst (λ (z : ServerConnection). StandsBefore step drive (stock_of w) j b d z.session) sides un.stands);
+      }
+  unserved_at c stage kept live conn mine there at under stands = absurd cc
 
-pub unserved_on : (drive : PlainDriveSpec) (w : World) (k : ℕ) (s : ServerConnection) (l : Connection) → IsWorldKept w → IsFaultlessWorld drive w → side_of w.server k ≡ Some s → connection_of w k ≡ Some l
-    → Unserved drive w k s l
-unserved_on drive w k s l kept sm live conn = by_own w.own refl
-  where
-    another : (w.own ≢ Some k) → Unserved drive w k s l
-    another not_own = none_left (subst (λ o. AreUnserved o l.toward []) live (sm.still k l conn not_own))
+  pub unserved_on : IsWorldKept w → IsFaultlessWorld drive w → side_of w.server k ≡ Some s → connection_of w k ≡ Some l → Unserved
+  unserved_on kept sm live conn = by_own w.own refl
+    where
+      another : (w.own ≢ Some k) → Unserved
+      another not_own = none_left (subst (λ o. AreUnserved o l.toward []) live (sm.still k l conn not_own))
 
-    by_own : (o : Option ℕ) → w.own ≡ o → Unserved drive w k s l
-    by_own None is = another (λ mine. (let clash = sym is ∙ mine in absurd cc))
-    by_own (Some j) is = elim (eqb_tells j k) [
-      | inl (equal, same) ↦ (
-          let mine : w.own ≡ Some k = is ∙ ap Some same in
-          let client = (kept.owned.own k mine).1 in
-          unserved_at drive w k s l client.0 client.0.at.stage kept live conn mine client.1 refl client.2 (subst (λ o. StandsWith o drive w) client.1 sm.stands))
-      | inr (unequal, other) ↦ another (λ mine. other (same_Some j k (sym is ∙ mine)))
-    ]
+      by_own : (o : Option ℕ) → w.own ≡ o → Unserved
+      by_own None is = another (λ mine. (let clash = sym is ∙ mine in absurd cc))
+      by_own (Some j) is = elim (eqb_tells j k) [
+        | inl (equal, same) ↦ (
+            let mine : w.own ≡ Some k = is ∙ ap Some same in
+            let client = (kept.owned.own k mine).1 in
+            unserved_at client.0 client.0.at.stage kept live conn mine client.1 refl client.2 (subst (λ o. StandsWith o drive w) client.1 sm.stands))
+        | inr (unequal, other) ↦ another (λ mine. other (same_Some j k (sym is ∙ mine)))
+      ]
 
 -- the server carries a request out
 pub serve_faultless : OneReading → DroppedWrites → (drive : PlainDriveSpec) (w u : World) (k : ℕ) (s : ServerConnection) (found : Result (Option PlainRequest) WireFault) (bytes rest : List ℕ)
     → IsWorldKept w → IsFaultlessWorld drive w → side_of w.server k ≡ Some s → Unread s.reached bytes → ParsesAs bytes found rest → Finds w k NoTrouble s found rest u → IsFaultlessWorld drive u
 serve_faultless g h drive w u k s found bytes rest kept sm live unread gives finds =
-    let paired = kept.tidy.paired in
     let here = side_there w.server k s live in
     let within = numbered_within w.server.sides k (Some s) here in
-    let l = numbered_there w.connections k (numbered_first w.server.sides k (Some s) here) (omega (arith, paired, within)) in
+    let l = numbered_there w.connections k (numbered_first w.server.sides k (Some s) here) (omega (arith, kept.tidy.paired, within)) in
     elim (unserved_on drive w k s l.0 kept sm live l.1) [
       | none_left none ↦ absurd (nothing_found h w u k s l.0.toward bytes rest found none unread gives finds)
       | one_left c step d b there at own un ↦

@@ -1,37 +1,10 @@
 -- On a link without faults, bytes that reach the client.
-use Rattle.std.proofs.Common.{◌≡◌, ◌≢◌, ℕ, ◌+◌, ◌-◌, ◌≤◌, IsTrue, List, [], ◌∷◌, ◌++◌, length, map, take, drop, Option, Some, None, refl, sym, ap, subst, ◌∙◌, inl, inr, arith}
-use Rattle.std.proofs.lemmas.Bool.Decides.{eqb_tells}
-use Rattle.std.proofs.lemmas.List.{append-nil, map-append}
-use Rattle.std.proofs.lemmas.Option.{same_Some}
-use Rattle.rmt_wire.specs.Reply.{reply_text}
-use Rattle.rmt_wire.specs.ReplyReader.{ReplyHeld}
-use Rattle.drives.specs.TapeLibrary.{kept_reel, slot}
-use Rattle.rmt_server.specs.ServerState.{ServerConnection}
-use Rattle.dump_client.specs.Standing.{Standing, checkpoint_of, count_to, counted_to, FedAt}
-use Rattle.dump_client.specs.Client.{HasFedAt, unanswered}
-use Rattle.dump_client.specs.declared.fault.AttemptFault.{AttemptFault}
-use Rattle.dump_client.specs.declared.step.Step.{Step}
-use Rattle.dump_client.specs.declared.step.Step.TheVariants.{Open, Operation, Look, Label, Block, Close}
-use Rattle.dump_client.specs.declared.stage.Stage.{Stage}
-use Rattle.dump_client.specs.declared.stage.Stage.TheVariants.{Ready, ToSend, Waiting, Asking, Finished}
-use Rattle.dump_client.specs.declared.stage.Progress.{Progress}
+use Rattle.world_model.proofs.Basics.{◌≡◌, ◌≢◌, ℕ, ◌+◌, ◌-◌, ◌≤◌, IsTrue, List, [], ◌∷◌, ◌++◌, length, map, take, drop, Option, Some, None, refl, sym, ap, subst, ◌∙◌, inl, inr, arith, eqb_tells, append-nil, map-append, same_Some}
+use Rattle.world_model.proofs.Terms.{reply_text, ReplyHeld, kept_reel, slot, ServerConnection, Standing, checkpoint_of, count_to, counted_to, FedAt, HasFedAt, unanswered, AttemptFault, Step, Open, Operation, Look, Label, Block, Close, Stage, Ready, ToSend, Waiting, Asking, Finished, Progress, World, Connection, AttemptState, Begun, WorldClient, Count, numbered, PlainDriveSpec, changed, side_of, connection_of, without_peer, counts_of, reel_opened_by, Hears, caller, heard, IsWorldKept, is_in_attempt, AreUnserved, IsAttempt, whole_volume, Stock, stock_of, volume_slot, volume_slots, volume_by, IsFree, IsMoved, IsOffline, IsOwnConnection, IsStepAnswered, StandsBefore, StandsThen, CountsThen, ReelsStandAt, StandsWith, FailsFaultless, IsFaultlessFailure, IsFaultlessWorld, attempt_on}
 use Rattle.dump_client.specs.declared.stage.Progress.TheVariants as moved
-use Rattle.world_model.specs.World.{World, Connection, AttemptState, Begun, WorldClient, Count, numbered}
-use Rattle.world_model.specs.First.{PlainDriveSpec}
-use Rattle.world_model.specs.Changes.{changed, side_of, connection_of, without_peer, counts_of, reel_opened_by}
-use Rattle.world_model.specs.Steps.{Hears, caller, heard}
-use Rattle.world_model.specs.Kept.{IsWorldKept}
-use Rattle.world_model.specs.Owning.{is_in_attempt}
-use Rattle.world_model.specs.Sending.{AreUnserved, IsAttempt}
-use Rattle.world_model.specs.Written.{whole_volume}
-use Rattle.world_model.specs.Faultless.{Stock, stock_of, blanks, one_drive, volume_slot, volume_slots, volume_by, IsFree, IsMoved, IsOffline, IsOwnConnection, IsStepAnswered, StandsBefore, StandsThen, CountsThen, Leads, ReelsStandAt, StandsWith, FailsFaultless, IsFaultlessFailure, IsFaultlessWorld, attempt_on}
-use Rattle.world_model.proofs.Numbers.{changed_is}
-use Rattle.world_model.proofs.Booked.{Goings, drop_front}
-use Rattle.world_model.proofs.SentWire.{OneReply}
-use Rattle.world_model.proofs.Pieces.{HearsPiece, waits, whole, hearing}
-use Rattle.world_model.proofs.ToldHears.{open_attempt, unlike_close, some_way}
+use Rattle.world_model.proofs.Ground.{changed_is, Goings, drop_front, OneReply, next_of, length_push, reel_is}
+use Rattle.world_model.proofs.ToldHears.{HearsPiece, waits, whole, hearing, open_attempt, unlike_close, some_way}
 use Rattle.world_model.proofs.LabelledSingle.{one_reel}
-use Rattle.world_model.proofs.FaultlessLists.{next_of, length_push, reel_is}
 use Rattle.world_model.proofs.FaultlessCarried.{changed_here, own_told}
 
 -- Each connection was there; but for one, what is on the way to the server is the same.
@@ -90,108 +63,13 @@ none_counted w number k c new same =
 abbrev with_counts : Stock → List Count → Stock
 with_counts t counts = record t { counts = counts }
 
-back_dumps : (n : ℕ) (l : Connection) (d : AttemptState) → l.dump ≡ Some d → (e : AttemptState) × ((record l { back = drop n l.back }).dump ≡ Some e)
-back_dumps n l d is = (d, is)
-
--- the client goes on
-goes_on : (drive : PlainDriveSpec) (w : World) (k n : ℕ) (c : WorldClient) (l : Connection) (d : AttemptState) (b : Begun) (s : ServerConnection) (at : Standing) (reader : ReplyHeld) (progress : Progress)
-    (counts : List Count) → IsFaultlessWorld drive w → IsOwnConnection w k l d b s → (came : heard w k n c at reader progress ≡ heard w k n c at reader moved.Send)
-    → w.counts ++ map (counts_of w c.number k) (drop (length c.at.counts) at.counts) ≡ counts
-    → map (λ (x : Count). x.reel) counts ≡ take (length counts) drive.reels
-    → (IsOwnConnection (heard w k n c at reader moved.Send) k (record l { back = drop n l.back }) d b s
-    → ReelsStandAt at.stage drive (heard w k n c at reader moved.Send) (caller c.number at reader))
-    → IsFaultlessWorld drive (heard w k n c at reader progress)
-goes_on drive w k n c l d b s at reader progress counts sm own came are reels stands =
-    let u : World = heard w k n c at reader moved.Send in
-    subst (IsFaultlessWorld drive) (sym came) (settles drive w u k sm record {
-      own = own.own;
-      connections = changed_connections w u k (λ x. record x { back = drop n x.back }) refl (back_dumps n);
-      sides = λ j other. refl;
-      here = λ y there not_own. absurd (not_own own.own);
-      begun = refl;
-      reels = subst (λ cs. map (λ (x : Count). x.reel) cs ≡ take (length cs) drive.reels) (sym are) reels;
-      stands = stands record {
-        own = own.own;
-        there = changed_here (λ x. record x { back = drop n x.back }) w.connections k l own.there;
-        whole = own.whole;
-        dump = own.dump;
-        begun = own.begun;
-        live = own.live;
-      };
-      failure = λ volume fault is. absurd cc;
-    })
-
--- it goes on to a step that is not its close
-goes_to : (drive : PlainDriveSpec) (w : World) (k n : ℕ) (c : WorldClient) (l : Connection) (d : AttemptState) (b : Begun) (s : ServerConnection) (at : Standing) (reader : ReplyHeld) (next : Step)
-    → IsFaultlessWorld drive w → IsOwnConnection w k l d b s → at.stage ≡ ToSend next → at.counts ≡ c.at.counts → StandsBefore next drive (stock_of w) k b d s.session
-    → IsFaultlessWorld drive (heard w k n c at reader moved.Send)
-goes_to drive w k n c l d b s at reader next sm own stage same stands =
-    let u : World = heard w k n c at reader moved.Send in
-    let counts = none_counted w c.number k c.at at same in
-    goes_on drive w k n c l d b s at reader moved.Send w.counts sm own refl counts sm.reels
-    (λ mine. subst (λ x. ReelsStandAt x drive u (caller c.number at reader)) (sym stage)
-    (k, record l { back = drop n l.back }, d, b, s, mine, subst (λ cs. StandsBefore next drive (with_counts (stock_of w) cs) k b d s.session) (sym counts) stands))
-
--- it counts its volume, and goes on to its close
-counts_now : (drive : PlainDriveSpec) (w : World) (k n : ℕ) (c : WorldClient) (l : Connection) (d : AttemptState) (b : Begun) (s : ServerConnection) (step : Step) (at : Standing) (reader : ReplyHeld)
-    → IsWorldKept w → IsFaultlessWorld drive w → IsOwnConnection w k l d b s → IsAttempt w.begun c d step b → step ≢ Close → at.stage ≡ ToSend Close
-    → at.counts ≡ counted_to c.at.counts (d.first + d.blocks) → IsMoved drive (stock_of w) k b d s.session → IsFaultlessWorld drive (heard w k n c at reader moved.Send)
-counts_now drive w k n c l d b s step at reader kept sm own attempt other stage counted q =
-    let u : World = heard w k n c at reader moved.Send in
-    let v = count_to (checkpoint_of c.at.counts) (d.first + d.blocks) in
-    let x : Count = counts_of w c.number k v in
-    let point = open_attempt c.at.counts step other in
-    let volume : d.volume ≡ (checkpoint_of c.at.counts).0 = attempt.volume ∙ ap (λ p. p.0) point in
-    let first : d.first ≡ (checkpoint_of c.at.counts).1 = attempt.first ∙ ap (λ p. p.1) point in
-    let count : d.blocks ≡ (d.first + d.blocks) - (checkpoint_of c.at.counts).1 = omega (arith, first) in
-    let one : drop (length c.at.counts) at.counts ≡ v ∷ [] = ap (drop (length c.at.counts)) counted ∙ drop_front c.at.counts (v ∷ []) in
-    let all : w.counts ++ map (counts_of w c.number k) (drop (length c.at.counts) at.counts) ≡ w.counts ++ x ∷ []
-    = ap (λ cs. w.counts ++ map (counts_of w c.number k) cs) one in
-    let reel : reel_opened_by k w.opens ≡ q.name = reel_is k w.opens q.name q.opened (one_reel w.opens k d (kept.single k l d own.there own.dump)) in
-    let below = next_of drive.reels (length w.counts) q.name q.others q.next in
-    let size = length_push w.counts x in
-    let its : numbered w.begun c.number ≡ Some b = ap (numbered w.begun) (sym attempt.number) ∙ own.begun in
-    let whole : whole_volume b.run b.payload d.volume d.first d.blocks ≡ volume_by (numbered w.begun c.number) x
-    = ap (λ m. whole_volume b.run b.payload m d.first d.blocks) volume ∙ ap (λ m. whole_volume b.run b.payload (checkpoint_of c.at.counts).0 m d.blocks) first
-    ∙ ap (λ m. whole_volume b.run b.payload (checkpoint_of c.at.counts).0 (checkpoint_of c.at.counts).1 m) count ∙ ap (λ o. volume_by o x) (sym its) in
-    let placed : slot q.name (Some (kept_reel (whole_volume b.run b.payload d.volume d.first d.blocks) drive.capacity)) ≡ volume_slot drive.capacity w.begun x
-    = ap (λ name. slot name (Some (kept_reel (whole_volume b.run b.payload d.volume d.first d.blocks) drive.capacity))) (sym reel)
-    ∙ ap (λ entries. slot (reel_opened_by k w.opens) (Some (kept_reel entries drive.capacity))) whole in
-    let off : IsOffline drive (with_counts (stock_of w) (w.counts ++ x ∷ [])) k s.session
-    = record {
-      library = q.library
-          ∙ ap (λ names. one_drive drive (blanks drive names)
-          (volume_slots drive (stock_of w) ++ slot q.name (Some (kept_reel (whole_volume b.run b.payload d.volume d.first d.blocks) drive.capacity)) ∷ []))
-          (sym (ap (λ m. drop m drive.reels) size ∙ below.1))
-          ∙ ap (λ z. one_drive drive (blanks drive (drop (length (w.counts ++ x ∷ [])) drive.reels)) (volume_slots drive (stock_of w) ++ z ∷ [])) placed
-          ∙ ap (one_drive drive (blanks drive (drop (length (w.counts ++ x ∷ [])) drive.reels))) (sym (map-append (volume_slot drive.capacity w.begun) w.counts (x ∷ [])));
-      holders = q.holders;
-      offline = q.offline;
-    } in
-    goes_on drive w k n c l d b s at reader moved.Send (w.counts ++ x ∷ []) sm own refl all
-    (map-append (λ (y : Count). y.reel) w.counts (x ∷ []) ∙ ap (λ ys. ys ++ reel_opened_by k w.opens ∷ []) sm.reels ∙ ap (λ name. take (length w.counts) drive.reels ++ name ∷ []) reel
-    ∙ sym below.0 ∙ ap (λ m. take m drive.reels) (sym size))
-    (λ mine. subst (λ y. ReelsStandAt y drive u (caller c.number at reader)) (sym stage)
-    (k, record l { back = drop n l.back }, d, b, s, mine, subst (λ cs. IsOffline drive (with_counts (stock_of w) cs) k s.session) (sym all) off))
-
 -- what was on the way to the server is so still
 over_connections : (w u : World) (k n : ℕ) → u.connections ≡ changed without_peer (changed (λ x. record x { back = drop n x.back }) w.connections k) k
     → (j : ℕ) (y : Connection) → connection_of u j ≡ Some y → (x : Connection) × (connection_of w j ≡ Some x) × (y.dump ≡ x.dump) × (y.toward ≡ x.toward)
 over_connections w u k n connections j y at =
     elim (changed_is without_peer (changed (λ x. record x { back = drop n x.back }) w.connections k) k j y (ap (λ ls. numbered ls j) (sym connections) ∙ at)) [
-      | inl (same, (z, was, new)) ↦ elim (changed_is (λ x. record x { back = drop n x.back }) w.connections k j z (ap (numbered _) same ∙ was)) [
-        | inl (here, (x, there, turned)) ↦ (
-          x,
-          ap (numbered w.connections) here ∙ there,
-          ap (λ (l : Connection). l.dump) new ∙ ap (λ (l : Connection). l.dump) turned,
-          ap (λ (l : Connection). l.toward) new ∙ ap (λ (l : Connection). l.toward) turned,
-        )
-        | inr (other, on) ↦ absurd (other same)
-      ]
-      | inr (other, on) ↦ elim (changed_is (λ x. record x { back = drop n x.back }) w.connections k j y on) [
-        | inl (here, more) ↦ absurd (other here)
-        | inr (different, there) ↦ (y, there, refl, refl)
-      ]
+      | inl (same, (z, was, new)) ↦ grind (arith, changed_is)
+      | inr (other, on) ↦ grind (arith, changed_is)
     ]
 
 -- the attempt is over
@@ -212,100 +90,113 @@ is_over drive w u k n l d b s sm own served server connections begun counts stan
   failure = failure;
 }
 
--- it failed
-has_failed : (drive : PlainDriveSpec) (w : World) (k n : ℕ) (c : WorldClient) (l : Connection) (d : AttemptState) (b : Begun) (s : ServerConnection) (step : Step) (at : Standing) (reader : ReplyHeld) (fault : AttemptFault)
-    → IsFaultlessWorld drive w → IsOwnConnection w k l d b s → AreUnserved (side_of w.server k) l.toward [] → at.stage ≡ Asking → at.counts ≡ c.at.counts → b.run ≡ at.run
-    → IsFaultlessFailure drive.capacity b.run fault → w.server.library.bin ≡ volume_slots drive (stock_of w) → IsFaultlessWorld drive (heard w k n c at reader (moved.Failed fault))
-has_failed drive w k n c l d b s step at reader fault sm own served stage same run why bin =
-    let u : World = heard w k n c at reader (moved.Failed fault) in
-    let counts = none_counted w c.number k c.at at same in
-    is_over drive w u k n l d b s sm own served refl refl refl counts
-    (subst (λ x. ReelsStandAt x drive u (caller c.number at reader)) (sym stage)
-    (subst (λ cs. w.server.library.bin ≡ volume_slots drive (with_counts (stock_of w) cs)) (sym counts) bin))
-    (λ volume other is. (
-      caller c.number at reader,
-      refl,
-      (let both : fault ≡ other = ap (λ p. p.1) (same_Some ((checkpoint_of at.counts).0, fault) (volume, other) is) in
-          subst (IsFaultlessFailure drive.capacity at.run) both (subst (λ r. IsFaultlessFailure drive.capacity r fault) run why)),
-    ))
+module _ (drive : PlainDriveSpec) (w : World) (k n : ℕ) (c : WorldClient) (l : Connection) (d : AttemptState) (b : Begun) (s : ServerConnection) where
+  -- the client goes on
+  goes_on : (at : Standing) (reader : ReplyHeld) (progress : Progress) (counts : List Count) → IsFaultlessWorld drive w → IsOwnConnection w k l d b s
+      → (came : heard w k n c at reader progress ≡ heard w k n c at reader moved.Send)
+      → w.counts ++ map (counts_of w c.number k) (drop (length c.at.counts) at.counts) ≡ counts
+      → map (λ (x : Count). x.reel) counts ≡ take (length counts) drive.reels
+      → (IsOwnConnection (heard w k n c at reader moved.Send) k (record l { back = drop n l.back }) d b s → ReelsStandAt at.stage drive (heard w k n c at reader moved.Send) (caller c.number at reader))
+      → IsFaultlessWorld drive (heard w k n c at reader progress)
+  goes_on at reader progress counts sm own came are reels stands = grind (arith, changed_connections, changed_here)
 
--- it ended
-has_ended : (drive : PlainDriveSpec) (w : World) (k n : ℕ) (c : WorldClient) (l : Connection) (d : AttemptState) (b : Begun) (s : ServerConnection) (at : Standing) (reader : ReplyHeld) (stage : Stage)
-    → IsFaultlessWorld drive w → IsOwnConnection w k l d b s → AreUnserved (side_of w.server k) l.toward [] → at.stage ≡ stage → at.counts ≡ c.at.counts
-    → ((u : World) (x : WorldClient) → IsFree drive (stock_of u) → ReelsStandAt stage drive u x) → IsFree drive (stock_of w) → IsFaultlessWorld drive (heard w k n c at reader moved.Ended)
-has_ended drive w k n c l d b s at reader stage sm own served is same stands free =
-    let u : World = heard w k n c at reader moved.Ended in
-    let counts = none_counted w c.number k c.at at same in
-    is_over drive w u k n l d b s sm own served refl refl refl counts
-    (subst (λ x. ReelsStandAt x drive u (caller c.number at reader)) (sym is)
-    (stands u (caller c.number at reader) (subst (λ cs. IsFree drive (with_counts (stock_of w) cs)) (sym counts) free)))
-    (λ volume fault failed. absurd cc)
+  -- it goes on to a step that is not its close
+  goes_to : (at : Standing) (reader : ReplyHeld) (next : Step) → IsFaultlessWorld drive w → IsOwnConnection w k l d b s → at.stage ≡ ToSend next
+      → at.counts ≡ c.at.counts → StandsBefore next drive (stock_of w) k b d s.session → IsFaultlessWorld drive (heard w k n c at reader moved.Send)
+  goes_to at reader next sm own stage same stands =
+      let u : World = heard w k n c at reader moved.Send in
+      let counts = none_counted w c.number k c.at at same in
+      goes_on at reader moved.Send w.counts sm own refl counts sm.reels (grind arith)
 
--- by what came of it
-by_then : (drive : PlainDriveSpec) (w : World) (k n : ℕ) (c : WorldClient) (l : Connection) (d : AttemptState) (b : Begun) (s : ServerConnection) (step : Step) (at : Standing) (reader : ReplyHeld)
-    (progress : Progress) (stage : Stage) → IsWorldKept w → IsFaultlessWorld drive w → IsOwnConnection w k l d b s → IsAttempt w.begun c d step b → AreUnserved (side_of w.server k) l.toward []
-    → ((next : Step) → at.stage ≡ ToSend next → step ≢ Close) → b.run ≡ at.run → at.stage ≡ stage → StandsThen progress stage drive (stock_of w) k b d s.session
-    → CountsThen stage c.at.counts d at.counts → IsFaultlessWorld drive (heard w k n c at reader progress)
-by_then drive w k n c l d b s step at reader moved.Send (ToSend Close) kept sm own attempt served early run is stands counts =
-    counts_now drive w k n c l d b s step at reader kept sm own attempt (early Close is) is counts stands
-by_then drive w k n c l d b s step at reader moved.Send (ToSend Open) kept sm own attempt served early run is stands counts =
-    goes_to drive w k n c l d b s at reader Open sm own is counts stands
-by_then drive w k n c l d b s step at reader moved.Send (ToSend (Operation op)) kept sm own attempt served early run is stands counts =
-    goes_to drive w k n c l d b s at reader (Operation op) sm own is counts stands
-by_then drive w k n c l d b s step at reader moved.Send (ToSend Look) kept sm own attempt served early run is stands counts =
-    goes_to drive w k n c l d b s at reader Look sm own is counts stands
-by_then drive w k n c l d b s step at reader moved.Send (ToSend Label) kept sm own attempt served early run is stands counts =
-    goes_to drive w k n c l d b s at reader Label sm own is counts stands
-by_then drive w k n c l d b s step at reader moved.Send (ToSend (Block number)) kept sm own attempt served early run is stands counts =
-    goes_to drive w k n c l d b s at reader (Block number) sm own is counts stands
-by_then drive w k n c l d b s step at reader (moved.Failed fault) Asking kept sm own attempt served early run is (why, bin) counts =
-    has_failed drive w k n c l d b s step at reader fault sm own served is counts run why bin
-by_then drive w k n c l d b s step at reader moved.Ended Ready kept sm own attempt served early run is stands counts =
-    has_ended drive w k n c l d b s at reader Ready sm own served is counts (λ u x free. free) stands
-by_then drive w k n c l d b s step at reader moved.Ended Finished kept sm own attempt served early run is stands counts =
-    has_ended drive w k n c l d b s at reader Finished sm own served is counts (λ u x free. free) stands
-by_then drive w k n c l d b s step at reader progress stage kept sm own attempt served early run is stands counts = absurd stands
+  -- it counts its volume, and goes on to its close
+  counts_now : (step : Step) (at : Standing) (reader : ReplyHeld) → IsWorldKept w → IsFaultlessWorld drive w → IsOwnConnection w k l d b s
+      → IsAttempt w.begun c d step b → step ≢ Close → at.stage ≡ ToSend Close → at.counts ≡ counted_to c.at.counts (d.first + d.blocks)
+      → IsMoved drive (stock_of w) k b d s.session → IsFaultlessWorld drive (heard w k n c at reader moved.Send)
+  counts_now step at reader kept sm own attempt other stage counted q =
+      let u : World = heard w k n c at reader moved.Send in
+      let v = count_to (checkpoint_of c.at.counts) (d.first + d.blocks) in
+      let x : Count = counts_of w c.number k v in
+      let point = open_attempt c.at.counts step other in
+      let volume : d.volume ≡ (checkpoint_of c.at.counts).0 = attempt.volume ∙ ap (λ p. p.0) point in
+      let first : d.first ≡ (checkpoint_of c.at.counts).1 = attempt.first ∙ ap (λ p. p.1) point in
+      let count : d.blocks ≡ (d.first + d.blocks) - (checkpoint_of c.at.counts).1 = omega (arith, first) in
+      let one : drop (length c.at.counts) at.counts ≡ v ∷ [] = ap (drop (length c.at.counts)) counted ∙ drop_front c.at.counts (v ∷ []) in
+      let all : w.counts ++ map (counts_of w c.number k) (drop (length c.at.counts) at.counts) ≡ w.counts ++ x ∷ []
+      = ap (λ cs. w.counts ++ map (counts_of w c.number k) cs) one in
+      let reel : reel_opened_by k w.opens ≡ q.name = reel_is k w.opens q.name q.opened (one_reel w.opens k d (kept.single k l d own.there own.dump)) in
+      let below = next_of drive.reels (length w.counts) q.name q.others q.next in
+      let size = length_push w.counts x in
+      let its : numbered w.begun c.number ≡ Some b = ap (numbered w.begun) (sym attempt.number) ∙ own.begun in
+      let whole : whole_volume b.run b.payload d.volume d.first d.blocks ≡ volume_by (numbered w.begun c.number) x = grind arith in
+      let placed : slot q.name (Some (kept_reel (whole_volume b.run b.payload d.volume d.first d.blocks) drive.capacity)) ≡ volume_slot drive.capacity w.begun x
+      = grind arith in
+      let off : IsOffline drive (with_counts (stock_of w) (w.counts ++ x ∷ [])) k s.session = grind (arith, map-append) in
+      goes_on at reader moved.Send (w.counts ++ x ∷ []) sm own refl all (grind (arith, map-append)) (grind arith)
 
--- it waits for more
-waits_on : (drive : PlainDriveSpec) (w : World) (k n : ℕ) (c : WorldClient) (l : Connection) (d : AttemptState) (b : Begun) (s : ServerConnection) (step : Step) (at : Standing) (reader : ReplyHeld)
-    (bytes : List ℕ) → IsFaultlessWorld drive w → IsOwnConnection w k l d b s → (a : IsStepAnswered drive w (attempt_on k b d s.session) l c step) → c.at.stage ≡ Waiting step → at ≡ c.at
-    → reply_text a.reply ≡ bytes ++ drop n l.back → HasFedAt at.stage reader (unanswered at.stage bytes) → IsFaultlessWorld drive (heard w k n c at reader moved.Waiting)
-waits_on drive w k n c l d b s step at reader bytes sm own a was same text has =
-    let u : World = heard w k n c at reader moved.Send in
-    let stage : at.stage ≡ Waiting step = ap (λ (x : Standing). x.stage) same ∙ was in
-    let counts = none_counted w c.number k c.at at (ap (λ (x : Standing). x.counts) same) in
-    goes_on drive w k n c l d b s at reader moved.Waiting w.counts sm own refl counts sm.reels
-    (λ mine. subst (λ x. ReelsStandAt x drive u (caller c.number at reader)) (sym stage) (
-      k,
-      record l { back = drop n l.back },
-      d,
-      b,
-      s,
-      mine,
-      inr record {
-        served = a.served;
-        fed = bytes;
-        has = subst (λ x. HasFedAt x reader (unanswered x bytes)) stage has;
-        reply = a.reply;
-        text = sym text;
-        brief = a.brief;
-        bin = (a.bin.0, subst (λ cs. w.server.library.bin ≡ volume_slots drive (with_counts (stock_of w) cs) ++ a.bin.0) (sym counts) a.bin.1);
-        leads = subst (λ x. Leads drive (stock_of u) (attempt_on k b d s.session) x step a.reply) (sym same)
-            (subst (λ cs. Leads drive (with_counts (stock_of w) cs) (attempt_on k b d s.session) c.at step a.reply) (sym counts) a.leads);
-      },
-    ))
+  -- it failed
+  has_failed : (step : Step) (at : Standing) (reader : ReplyHeld) (fault : AttemptFault) → IsFaultlessWorld drive w → IsOwnConnection w k l d b s
+      → AreUnserved (side_of w.server k) l.toward [] → at.stage ≡ Asking → at.counts ≡ c.at.counts → b.run ≡ at.run
+      → IsFaultlessFailure drive.capacity b.run fault → w.server.library.bin ≡ volume_slots drive (stock_of w)
+      → IsFaultlessWorld drive (heard w k n c at reader (moved.Failed fault))
+  has_failed step at reader fault sm own served stage same run why bin =
+      let u : World = heard w k n c at reader (moved.Failed fault) in
+      let counts = none_counted w c.number k c.at at same in
+      is_over drive w u k n l d b s sm own served refl refl refl counts (grind arith) (grind arith)
 
--- by what it makes of the bytes
-hearing_faultless : (drive : PlainDriveSpec) (w : World) (k n : ℕ) (c : WorldClient) (l : Connection) (d : AttemptState) (b : Begun) (s : ServerConnection) (step : Step) (at : Standing) (reader : ReplyHeld)
-    (bytes : List ℕ) (progress : Progress) → IsWorldKept w → IsFaultlessWorld drive w → IsOwnConnection w k l d b s → IsAttempt w.begun c d step b
-    → (a : IsStepAnswered drive w (attempt_on k b d s.session) l c step) → c.at.stage ≡ Waiting step → at.run ≡ c.at.run → HearsPiece c.at step a.reply bytes (drop n l.back) progress at
-    → HasFedAt at.stage reader (unanswered at.stage bytes) → IsFaultlessWorld drive (heard w k n c at reader progress)
-hearing_faultless drive w k n c l d b s step at reader bytes progress kept sm own attempt a was run (waits moves same text) has =
-    subst (λ p. IsFaultlessWorld drive (heard w k n c at reader p)) (sym moves) (waits_on drive w k n c l d b s step at reader bytes sm own a was same text has)
-hearing_faultless drive w k n c l d b s step at reader bytes progress kept sm own attempt a was run (whole spelled none its) has =
-    let led = a.leads progress at its in
-    by_then drive w k n c l d b s step at reader progress at.stage kept sm own attempt a.served (λ next to. unlike_close c.at at step next a.reply progress its to)
-    (attempt.run ∙ sym run) refl led.0 led.1
+  -- it ended
+  has_ended : (at : Standing) (reader : ReplyHeld) (stage : Stage) → IsFaultlessWorld drive w → IsOwnConnection w k l d b s
+      → AreUnserved (side_of w.server k) l.toward [] → at.stage ≡ stage → at.counts ≡ c.at.counts
+      → ((u : World) (x : WorldClient) → IsFree drive (stock_of u) → ReelsStandAt stage drive u x) → IsFree drive (stock_of w)
+      → IsFaultlessWorld drive (heard w k n c at reader moved.Ended)
+  has_ended at reader stage sm own served is same stands free =
+      let u : World = heard w k n c at reader moved.Ended in
+      let counts = none_counted w c.number k c.at at same in
+      is_over drive w u k n l d b s sm own served refl refl refl counts (grind arith) (λ volume fault failed. absurd cc)
+
+  -- by what came of it
+  by_then : (step : Step) (at : Standing) (reader : ReplyHeld) (progress : Progress) (stage : Stage) → IsWorldKept w → IsFaultlessWorld drive w
+      → IsOwnConnection w k l d b s → IsAttempt w.begun c d step b → AreUnserved (side_of w.server k) l.toward []
+      → ((next : Step) → at.stage ≡ ToSend next → step ≢ Close) → b.run ≡ at.run → at.stage ≡ stage
+      → StandsThen progress stage drive (stock_of w) k b d s.session → CountsThen stage c.at.counts d at.counts
+      → IsFaultlessWorld drive (heard w k n c at reader progress)
+  by_then step at reader moved.Send (ToSend Close) kept sm own attempt served early run is stands counts =
+      counts_now step at reader kept sm own attempt (early Close is) is counts stands
+  by_then step at reader moved.Send (ToSend Open) kept sm own attempt served early run is stands counts = goes_to at reader Open sm own is counts stands
+  by_then step at reader moved.Send (ToSend (Operation op)) kept sm own attempt served early run is stands counts =
+      goes_to at reader (Operation op) sm own is counts stands
+  by_then step at reader moved.Send (ToSend Look) kept sm own attempt served early run is stands counts = goes_to at reader Look sm own is counts stands
+  by_then step at reader moved.Send (ToSend Label) kept sm own attempt served early run is stands counts = goes_to at reader Label sm own is counts stands
+  by_then step at reader moved.Send (ToSend (Block number)) kept sm own attempt served early run is stands counts =
+      goes_to at reader (Block number) sm own is counts stands
+  by_then step at reader (moved.Failed fault) Asking kept sm own attempt served early run is (why, bin) counts =
+      has_failed step at reader fault sm own served is counts run why bin
+  by_then step at reader moved.Ended Ready kept sm own attempt served early run is stands counts =
+      has_ended at reader Ready sm own served is counts (λ u x free. free) stands
+  by_then step at reader moved.Ended Finished kept sm own attempt served early run is stands counts =
+      has_ended at reader Finished sm own served is counts (λ u x free. free) stands
+  by_then step at reader progress stage kept sm own attempt served early run is stands counts = absurd stands
+
+  -- it waits for more
+  waits_on : (step : Step) (at : Standing) (reader : ReplyHeld) (bytes : List ℕ) → IsFaultlessWorld drive w → IsOwnConnection w k l d b s
+      → (a : IsStepAnswered drive w (attempt_on k b d s.session) l c step) → c.at.stage ≡ Waiting step → at ≡ c.at → reply_text a.reply ≡ bytes ++ drop n l.back
+      → HasFedAt at.stage reader (unanswered at.stage bytes) → IsFaultlessWorld drive (heard w k n c at reader moved.Waiting)
+  waits_on step at reader bytes sm own a was same text has =
+      let u : World = heard w k n c at reader moved.Send in
+      let stage : at.stage ≡ Waiting step = ap (λ (x : Standing). x.stage) same ∙ was in
+      let counts = none_counted w c.number k c.at at (ap (λ (x : Standing). x.counts) same) in
+      goes_on at reader moved.Waiting w.counts sm own refl counts sm.reels (grind arith)
+
+  -- by what it makes of the bytes
+  hearing_faultless : (step : Step) (at : Standing) (reader : ReplyHeld) (bytes : List ℕ) (progress : Progress) → IsWorldKept w → IsFaultlessWorld drive w
+      → IsOwnConnection w k l d b s → IsAttempt w.begun c d step b → (a : IsStepAnswered drive w (attempt_on k b d s.session) l c step)
+      → c.at.stage ≡ Waiting step → at.run ≡ c.at.run → HearsPiece c.at step a.reply bytes (drop n l.back) progress at
+      → HasFedAt at.stage reader (unanswered at.stage bytes) → IsFaultlessWorld drive (heard w k n c at reader progress)
+  hearing_faultless step at reader bytes progress kept sm own attempt a was run (waits moves same text) has =
+      subst (λ p. IsFaultlessWorld drive (heard w k n c at reader p)) (sym moves) (waits_on step at reader bytes sm own a was same text has)
+  hearing_faultless step at reader bytes progress kept sm own attempt a was run (whole spelled none its) has =
+      let led = a.leads progress at its in
+      by_then step at reader progress at.stage kept sm own attempt a.served (λ next to. unlike_close c.at at step next a.reply progress its to)
+      (attempt.run ∙ sym run) refl led.0 led.1
 
 -- what reached the client that waits
 fed_faultless : OneReply → Goings → (drive : PlainDriveSpec) (w : World) (k n : ℕ) (c : WorldClient) (l : Connection) (d : AttemptState) (b : Begun) (s : ServerConnection) (step : Step) (at : Standing)
@@ -324,12 +215,9 @@ stage_hears : OneReply → Goings → (drive : PlainDriveSpec) (w : World) (k n 
 stage_hears g o drive w k n l c (ToSend step) at reader fed progress kept sm there is mine under conn first within (j, x, d, b, s, own, stands) had feeds has =
     let same : j ≡ k = same_Some j k (sym own.own ∙ mine) in
     let connections : x ≡ l = same_Some x l (sym own.there ∙ ap (connection_of w) same ∙ conn) in
-    let told = own_told w j x d b s c (ToSend step) kept own there is in
-    absurd (some_way l n first within (ap (λ (y : Connection). y.back) (sym connections) ∙ told.2.back))
+    absurd (some_way l n first within (ap (λ (y : Connection). y.back) (sym connections) ∙ (own_told w j x d b s c (ToSend step) kept own there is).2.back))
 stage_hears g o drive w k n l c (Waiting step) at reader fed progress kept sm there is mine under conn first within (j, x, d, b, s, own, inl un) had feeds has =
-    let same : j ≡ k = same_Some j k (sym own.own ∙ mine) in
-    let connections : x ≡ l = same_Some x l (sym own.there ∙ ap (connection_of w) same ∙ conn) in
-    absurd (some_way l n first within (ap (λ (y : Connection). y.back) (sym connections) ∙ un.back))
+    grind arith
 stage_hears g o drive w k n l c (Waiting step) at reader fed progress kept sm there is mine under conn first within (j, x, d, b, s, own, inr done) had feeds has =
     let same : j ≡ k = same_Some j k (sym own.own ∙ mine) in
     let connections : x ≡ l = same_Some x l (sym own.there ∙ ap (connection_of w) same ∙ conn) in
@@ -346,8 +234,7 @@ stage_hears g o drive w k n l c stage at reader fed progress kept sm there is mi
 pub hears_faultless : OneReply → Goings → (dump : Option AttemptState) (drive : PlainDriveSpec) (w u : World) (k n : ℕ) (l : Connection) → IsWorldKept w → IsFaultlessWorld drive w → connection_of w k ≡ Some l
     → IsTrue l.other → l.dump ≡ dump → 1 ≤ n → n ≤ length l.back → Hears dump w k n (take n l.back) u → IsFaultlessWorld drive u
 hears_faultless g o None drive w u k n l kept sm at other dump first within hears =
-    let d = sm.clients k l at in
-    let clash = sym dump ∙ d.1 in absurd cc
+    let clash = sym dump ∙ (sm.clients k l at).1 in absurd cc
 hears_faultless g o (Some d) drive w u k n l kept sm at other dump first within (c, fed, new, reader, progress, there, had, feeds, has, is) =
     let mine : w.own ≡ Some k = kept.owned.only k (l, d, at, other, dump) in
     let client = (kept.owned.own k mine).1 in

@@ -1,34 +1,129 @@
+-- On a link without faults, a run that begins, an attempt that starts, and what is sent and reaches the server.
 -- What holds on a link without faults stays so, and the volumes are in order.
-use Rattle.std.proofs.Common.{◌≡◌, ℕ, zero, suc, ◌<◌, ◌≤◌, true, false, IsTrue, List, [], ◌∷◌, ◌++◌, length, flat_map, map, Option, Some, None, refl, sym, ap, subst, ◌∙◌, inl, inr, arith}
-use Rattle.std.specs.Prelude.{slice_get, slice_index_or}
-use Rattle.std.specs.List.{sum_by}
-use Rattle.std.proofs.lemmas.List.Sums.{sum_by-append, sum_by-cons}
-use Rattle.std.proofs.lemmas.Option.{same_Some}
-use Rattle.std.proofs.lemmas.Slice.Eq.{bytes_eq-Decides}
-use Rattle.tape.specs.Tape.{PlainEntry}
-use Rattle.drives.specs.TapeLibrary.{KeptReel, kept_reel, ReelSlot, Drive, drive_with, TapeLibrary, drive_at, with_drive_at, slots_in, EachReelOnce, names_of}
-use Rattle.drives.proofs.Shops.{bit, named, times_named, sum_by_with_drive}
-use Rattle.rmt_server.specs.ServerState.{ServerState}
-use Rattle.dump_client.specs.declared.stage.Stage.{Stage}
-use Rattle.dump_client.specs.declared.stage.Stage.TheVariants.{Ready, ToSend, Waiting, Asking, Finished, Abandoned}
-use Rattle.world_model.specs.World.{World, Connection, Begun, WorldClient, Count, numbered}
-use Rattle.world_model.specs.Events.{PlainEvent}
-use Rattle.world_model.specs.Events.PlainEvent.{StartRun, Connect, Send, ToServer, Serve, ToClient}
-use Rattle.world_model.specs.First.{PlainDriveSpec, AreGoodDrives, first_world}
-use Rattle.world_model.specs.Steps.{Happens, Runs, none, one_more, is_failing, Sends, Finds}
-use Rattle.world_model.specs.Kept.{IsWorldKept, AreLaid}
-use Rattle.world_model.specs.Standing.{AreHeld, ReelLiesIn, ReelHolds}
-use Rattle.world_model.specs.Written.{whole_volume}
-use Rattle.world_model.specs.Faultless.{IsFaultless, AreFaultless, IsFaultlessWorld, is_between, VolumesInOrder, ReelsStandAt, StandsWith, stock_of, volume_by, volume_slot, volume_slots}
-use Rattle.world_model.proofs.Numbers.{no_number}
-use Rattle.world_model.proofs.Booked.{among_at}
-use Rattle.world_model.proofs.LabelledNames.{stands_one}
+use Rattle.world_model.proofs.Basics.{◌≡◌, ℕ, suc, ◌+◌, ◌≤◌, List, [], ◌∷◌, ◌++◌, length, length-append, drop, Some, refl, sym, ap, subst, ◌∙◌, inl, inr, arith, option_map, option_and_then, same_Some, true, false, IsTrue, flat_map, map, Option, slice_get, sum_by, sum_by-append, sum_by-cons, bytes_eq-Decides}
+use Rattle.world_model.proofs.Terms.{RequestHeld, held, ReplyHeld, ServerConnection, side, Idle, Step, Ready, ToSend, Waiting, World, Connection, AttemptState, Begun, WorldClient, PlainDriveSpec, side_of, connection_of, new_connection, noted_sent, begun, client_connected, fresh, asked, sent_connection, next_text, reached_by, IsWorldKept, AreUnserved, stock_of, volume_slot, volume_slots, IsFree, IsOwnConnection, StandsBefore, ReelsStandAt, StandsWith, IsFaultlessWorld, PlainEntry, KeptReel, ReelSlot, drive_with, drive_at, with_drive_at, slots_in, EachReelOnce, names_of, bit, named, times_named, sum_by_with_drive, ServerState, Stage, Count, numbered, PlainEvent, StartRun, Connect, Send, ToServer, Serve, ToClient, AreGoodDrives, first_world, Happens, Runs, none, one_more, is_failing, Sends, Finds, AreLaid, AreHeld, ReelLiesIn, ReelHolds, whole_volume, IsFaultless, AreFaultless, is_between, VolumesInOrder}
+use Rattle.world_model.proofs.Ground.{pushed_is, numbered_more, numbered_last, numbered_there, numbered_within, numbered_first, no_number, turned_here, turned_beside, map_same, count_reel, slot_names, Behind, same_bin, among_at}
+use Rattle.world_model.proofs.FaultlessCarried.{changed_here, own_told, none_left, one_left, unserved_on, serve_faultless}
+use Rattle.world_model.proofs.FaultlessHears.{changed_connections, settles, hears_faultless}
+use Rattle.world_model.proofs.LabelledNames.{stands_one, lies_times, lies_within}
 use Rattle.world_model.proofs.Staying.{Laws, first_kept, kept_after}
-use Rattle.world_model.proofs.FaultlessLists.{count_reel, slot_names}
-use Rattle.world_model.proofs.FaultlessBins.{Behind, same_bin}
-use Rattle.world_model.proofs.FaultlessCarried.{before_bin, serve_faultless}
-use Rattle.world_model.proofs.FaultlessHears.{hears_faultless}
-use Rattle.world_model.proofs.FaultlessEvents.{begun_faultless, connected_faultless, asked_faultless, reached_faultless}
+use Rattle.world_model.proofs.Terms.{PlainSession, Stock}
+
+-- the volumes that were counted are the same once another run is begun
+same_volumes : (drive : PlainDriveSpec) (w : World) (b : Begun) → IsWorldKept w
+    → volume_slots drive (stock_of w) ≡ volume_slots drive (record (stock_of w) { begun = w.begun ++ b ∷ [] })
+same_volumes drive w b kept =
+    map_same (volume_slot drive.capacity w.begun) (volume_slot drive.capacity (w.begun ++ b ∷ [])) w.counts (λ x among. (
+    let e = kept.counted x among in
+    grind (arith, numbered_more)))
+
+pub connected_faultless : (drive : PlainDriveSpec) (w : World) (c : WorldClient) → IsWorldKept w → IsFaultlessWorld drive w → w.caller ≡ Some c → c.at.stage ≡ Ready → IsFaultlessWorld drive (client_connected w c)
+connected_faultless drive w c kept sm there ready =
+    let u : World = client_connected w c in
+    let k = length w.connections + 1 in
+    let l : Connection = new_connection (Some (fresh c)) in
+    let s : ServerConnection = side (held [] 0) Idle in
+    let last : suc (length w.connections) ≡ k = omega arith in
+    let paired = kept.tidy.paired in
+    let b = kept.booked.begun c there in
+    let free : IsFree drive (stock_of w) = subst (λ x. ReelsStandAt x drive w c) ready (subst (λ o. StandsWith o drive w) there sm.stands) in
+    let live : side_of u.server k ≡ Some s
+    = ap (side_of u.server) (let same : k ≡ suc (length w.server.sides) = omega (arith, paired) in same) ∙ ap (option_and_then (λ y. y)) (numbered_last w.server.sides (Some s)) in
+    let mine : IsOwnConnection u k l (fresh c) b.0 s
+    = grind (arith, numbered_last) in
+    record {
+      clients = λ j y at. elim (pushed_is w.connections l j y at) [
+        | inl on ↦ sm.clients j y on
+        | inr (here, new) ↦ (fresh c, ap (λ (x : Connection). x.dump) new)
+      ];
+      still = λ j y at not_own. elim (pushed_is w.connections l j y at) [
+        | inl on ↦ (
+            let o = numbered_there w.server.sides j (numbered_first w.connections j y on) (omega (arith, numbered_within w.connections j y on, paired)) in
+            grind (arith, numbered_more))
+        | inr (here, new) ↦ absurd (not_own (ap Some (sym last ∙ sym here)))
+      ];
+      reels = sm.reels;
+      stands = (k, l, fresh c, b.0, s, mine, (free, refl));
+      failure = λ volume fault is. absurd cc;
+    }
+
+-- how all stands does not speak of how much was sent
+sent_stands : (drive : PlainDriveSpec) (t : Stock) (k : ℕ) (b : Begun) (d : AttemptState) (session : PlainSession) (step : Step) → StandsBefore step drive t k b d session
+    → StandsBefore step drive t k b (noted_sent d) session
+sent_stands drive t k b d session step q = grind arith
+
+-- the client sends its next request
+pub asked_faultless : (drive : PlainDriveSpec) (w : World) (k : ℕ) (c : WorldClient) (payload : List (List ℕ)) (step : Step) (reader : ReplyHeld) → IsWorldKept w → IsFaultlessWorld drive w
+    → w.own ≡ Some k → w.caller ≡ Some c → c.at.stage ≡ ToSend step → IsFaultlessWorld drive (asked w k c payload step reader)
+asked_faultless drive w k c payload step reader kept sm mine there stage =
+    sent_by (subst (λ x. ReelsStandAt x drive w c) stage (subst (λ o. StandsWith o drive w) there sm.stands))
+  where
+    sent_by : ReelsStandAt (ToSend step) drive w c → IsFaultlessWorld drive (asked w k c payload step reader)
+    sent_by (j, l, d, b, s, own, stands) =
+        let u : World = asked w j c payload step reader in
+        let text = next_text c payload step in
+        let same : j ≡ k = same_Some j k (sym own.own ∙ mine) in
+        let told = own_told w j l d b s c (ToSend step) kept own there stage in
+        let now : IsOwnConnection u j (sent_connection text l) (noted_sent d) b s
+        = record {
+          own = own.own;
+          there = changed_here (sent_connection text) w.connections j l own.there;
+          whole = own.whole;
+          dump = ap (option_map noted_sent) own.dump;
+          begun = own.begun;
+          live = own.live;
+        } in
+        subst (λ n. IsFaultlessWorld drive (asked w n c payload step reader)) same (settles drive w u j sm record {
+          own = own.own;
+          connections = changed_connections w u j (sent_connection text) refl (λ x e is. (noted_sent e, ap (option_map noted_sent) is));
+          sides = λ i other. refl;
+          here = λ y at not_own. absurd (not_own own.own);
+          begun = refl;
+          reels = sm.reels;
+          stands = (j, sent_connection text l, noted_sent d, b, s, now, inl record { back = told.2.back; stands = sent_stands drive (stock_of w) j b d s.session step stands });
+          failure = λ volume fault is. absurd cc;
+        })
+
+-- nothing is on the way where nothing is unserved
+no_way : (s : ServerConnection) (way : List ℕ) (n : ℕ) → AreUnserved (Some s) way [] → 1 ≤ n → n ≤ length way → ⊥
+no_way s way n (reached, unread, is) first within =
+    let size : length (reached ++ way) ≡ 0 = ap length (sym is) in
+    grind (arith, length-append)
+
+-- bytes reach the server
+pub reached_faultless : (drive : PlainDriveSpec) (w : World) (k n : ℕ) (s : ServerConnection) (l : Connection) (reached : RequestHeld) → IsWorldKept w → IsFaultlessWorld drive w → side_of w.server k ≡ Some s
+    → connection_of w k ≡ Some l → 1 ≤ n → n ≤ length l.toward → IsFaultlessWorld drive (reached_by w k n s reached)
+reached_faultless drive w k n s l reached kept sm live conn first within = elim (unserved_on drive w k s l kept sm live conn) [
+  | none_left empty ↦ absurd (no_way s l.toward n empty first within)
+  | one_left c step d b there stage own un ↦ moved_on d b c step there stage own un.back un.stands
+]
+  where
+    moved_on : (d : AttemptState) (b : Begun) (c : WorldClient) (step : Step) → w.caller ≡ Some c → c.at.stage ≡ Waiting step → IsOwnConnection w k l d b s
+        → l.back ≡ [] → StandsBefore step drive (stock_of w) k b d s.session → IsFaultlessWorld drive (reached_by w k n s reached)
+    moved_on d b c step there stage own back stands =
+        let u : World = reached_by w k n s reached in
+        let z : ServerConnection = side reached s.session in
+        let now : IsOwnConnection u k (record l { toward = drop n l.toward }) d b z
+        = record {
+          own = own.own;
+          there = changed_here (λ a. record a { toward = drop n a.toward }) w.connections k l own.there;
+          whole = own.whole;
+          dump = own.dump;
+          begun = own.begun;
+          live = turned_here w u k s (Some z) own.live refl;
+        } in
+        let at : ReelsStandAt (Waiting step) drive u c
+        = (k, record l { toward = drop n l.toward }, d, b, z, now, inl record { back = back; stands = stands }) in
+        settles drive w u k sm record {
+          own = own.own;
+          connections = changed_connections w u k (λ a. record a { toward = drop n a.toward }) refl (λ a e is. (e, is));
+          sides = λ i other. turned_beside w u k (Some z) refl i other;
+          here = λ a is not_own. absurd (not_own own.own);
+          begun = refl;
+          reels = sm.reels;
+          stands = subst (λ o. StandsWith o drive u) (sym there) (subst (λ a. ReelsStandAt a drive u c) (sym stage) at);
+          failure = λ volume fault is. absurd cc;
+        }
 
 pub first_faultless : (drive : PlainDriveSpec) → IsFaultlessWorld drive (first_world (drive ∷ []))
 first_faultless drive = record {
@@ -41,7 +136,7 @@ first_faultless drive = record {
 
 pub faultless_after : Laws → (drive : PlainDriveSpec) (w u : World) (event : PlainEvent) → IsWorldKept w → IsFaultlessWorld drive w → IsFaultless event → Happens w event u → IsFaultlessWorld drive u
 faultless_after g drive w u (StartRun run payload) kept sm whole ((idle, good, size), (reader, is)) =
-    subst (IsFaultlessWorld drive) (sym is) (begun_faultless drive w run payload reader kept sm idle)
+    subst (IsFaultlessWorld drive) (sym is) ((grind (arith, same_volumes)))
 faultless_after g drive w u Connect kept sm whole (may, (c, there, ready, is)) = subst (IsFaultlessWorld drive) (sym is) (connected_faultless drive w c kept sm there ready)
 faultless_after g drive w u (Send fails) kept sm whole (may, (c, step, k, b, there, stage, own, mine, sends)) =
     let s : Sends false w k c b.payload step u = subst (λ f. Sends (is_failing f step) w k c b.payload step u) whole sends in
@@ -72,99 +167,45 @@ runs_faultless g drive first w all kept sm whole (one_more {events = events} {be
     let was = runs_faultless g drive first before events kept sm parts.0 run in
     (kept_after g before w event was.0 happens, faultless_after g drive before w event was.0 was.1 parts.1 happens)
 
--- the reels of the counts come first in the bin
-bin_at : (drive : PlainDriveSpec) (w : World) (c : WorldClient) (stage : Stage) → ReelsStandAt stage drive w c → Behind (volume_slots drive (stock_of w)) w.server.library.bin
-bin_at drive w c (ToSend step) (k, l, d, b, s, own, stands) =
-    same_bin (volume_slots drive (stock_of w)) w.server.library.bin (before_bin drive (stock_of w) k b d s.session step stands)
-bin_at drive w c (Waiting step) (k, l, d, b, s, own, inl un) =
-    same_bin (volume_slots drive (stock_of w)) w.server.library.bin (before_bin drive (stock_of w) k b d s.session step un.stands)
-bin_at drive w c (Waiting step) (k, l, d, b, s, own, inr done) = done.bin
-bin_at drive w c Ready free = same_bin (volume_slots drive (stock_of w)) w.server.library.bin (ap (λ (x : TapeLibrary). x.bin) free.library)
-bin_at drive w c Finished free = same_bin (volume_slots drive (stock_of w)) w.server.library.bin (ap (λ (x : TapeLibrary). x.bin) free.library)
-bin_at drive w c Asking bin = same_bin (volume_slots drive (stock_of w)) w.server.library.bin bin
-bin_at drive w c Abandoned never = absurd never
-
 bin_with : (drive : PlainDriveSpec) (w : World) (o : Option WorldClient) → StandsWith o drive w → Behind (volume_slots drive (stock_of w)) w.server.library.bin
-bin_with drive w None free = same_bin (volume_slots drive (stock_of w)) w.server.library.bin (ap (λ (x : TapeLibrary). x.bin) free.library)
-bin_with drive w (Some c) stands = bin_at drive w c c.at.stage stands
+bin_with drive w o given = grind (arith, same_bin)
 
 -- the reel of a count lies there with its volume
 count_lies : (capacity : ℕ) (begun : List Begun) (counts : List Count) (more : List (ReelSlot KeptReel)) (i : ℕ) (x : Count) (b : Begun) → slice_get counts i ≡ Some x
     → numbered begun x.run ≡ Some b → ReelLiesIn (map (volume_slot capacity begun) counts ++ more) x.reel (whole_volume b.run b.payload x.volume x.first x.count)
-count_lies capacity begun [] more i x b at is = absurd cc
-count_lies capacity begun (y ∷ counts) more zero x b at is =
-    let same : y ≡ x = same_Some y x at in
-    inl record {
-      named = ap (λ (z : Count). z.reel) same;
-      reel = kept_reel (volume_by (numbered begun y.run) y) capacity;
-      there = refl;
-      holds = ap (λ (z : Count). volume_by (numbered begun z.run) z) same ∙ ap (λ o. volume_by o x) is;
-    }
 count_lies capacity begun (y ∷ counts) more (suc i) x b at is = inr (count_lies capacity begun counts more i x b at is)
-
--- a reel of that name lies there
-lies_named : (xs : List (ReelSlot KeptReel)) (name : List ℕ) (entries : List PlainEntry) → ReelLiesIn xs name entries → 0 < sum_by (named name) xs
-lies_named [] name entries lies = absurd lies
-lies_named (x ∷ xs) name entries (inl here) =
-    let one : named name x ≡ 1 = ap bit ((bytes_eq-Decides name x.name).1 (sym here.named)) in
-    let all = sum_by-cons (named name) x xs in
-    omega (arith, one, all)
-lies_named (x ∷ xs) name entries (inr rest) =
-    let some = lies_named xs name entries rest in
-    let all = sum_by-cons (named name) x xs in
-    omega (arith, some, all)
+count_lies capacity begun counts more i x b at is = grind arith
 
 -- no two reels of one name lie there
-one_lies : (xs : List (ReelSlot KeptReel)) (name : List ℕ) (entries other : List PlainEntry) → sum_by (named name) xs ≤ 1 → ReelLiesIn xs name entries → ReelLiesIn xs name other
-    → other ≡ entries
+one_lies : (xs : List (ReelSlot KeptReel)) (name : List ℕ) (entries other : List PlainEntry) → sum_by (named name) xs ≤ 1 → ReelLiesIn xs name entries
+    → ReelLiesIn xs name other → other ≡ entries
 one_lies [] name entries other few one two = absurd one
-one_lies (x ∷ xs) name entries other few (inl one) (inl two) =
-    let same : two.reel ≡ one.reel = same_Some two.reel one.reel (sym two.there ∙ one.there) in
-    sym two.holds ∙ ap (λ (r : KeptReel). r.entries) same ∙ one.holds
+one_lies (x ∷ xs) name entries other few (inl one) (inl two) = grind arith
 one_lies (x ∷ xs) name entries other few (inl one) (inr two) =
     let first : named name x ≡ 1 = ap bit ((bytes_eq-Decides name x.name).1 (sym one.named)) in
-    let some = lies_named xs name other two in
-    let all = sum_by-cons (named name) x xs in
-    absurd (omega (arith, first, some, all, few))
+    absurd (omega (arith, first, lies_times xs name other two, sum_by-cons (named name) x xs, few))
 one_lies (x ∷ xs) name entries other few (inr one) (inl two) =
     let first : named name x ≡ 1 = ap bit ((bytes_eq-Decides name x.name).1 (sym two.named)) in
-    let some = lies_named xs name entries one in
-    let all = sum_by-cons (named name) x xs in
-    absurd (omega (arith, first, some, all, few))
-one_lies (x ∷ xs) name entries other few (inr one) (inr two) =
-    let all = sum_by-cons (named name) x xs in
-    one_lies xs name entries other (omega (arith, all, few)) one two
-
-drive_there : (drives : List (Drive KeptReel)) (d : ℕ) (name : List ℕ) (entries : List PlainEntry) → ReelLiesIn (slice_index_or drives d (drive_with [] [])).stack name entries → d < length drives
-drive_there [] d name entries lies = absurd lies
-drive_there (r ∷ drives) zero name entries lies = omega arith
-drive_there (r ∷ drives) (suc d) name entries lies = let on = drive_there drives d name entries lies in omega (arith, on)
+    absurd (omega (arith, first, lies_times xs name entries one, sum_by-cons (named name) x xs, few))
+one_lies (x ∷ xs) name entries other few (inr one) (inr two) = one_lies xs name entries other (omega (arith, sum_by-cons (named name) x xs, few)) one two
 
 -- what lies in the bin stands nowhere else
 bin_alone : (h : ServerState) (name : List ℕ) (entries other : List PlainEntry) → AreHeld h → AreLaid h → EachReelOnce h.library → ReelLiesIn h.library.bin name entries → ReelHolds h name other
     → other ≡ entries
 bin_alone h name entries other held laid once lies (inl (inl (d, two))) =
-    let t = with_drive_at h.library d (drive_with [] []) in
-    let one = sum_by_with_drive (named name) h.library d (drive_with [] []) (drive_there h.library.drives d name other two) in
-    let first = lies_named (drive_at h.library d).stack name other two in
-    let second = lies_named h.library.bin name entries lies in
-    let parts = sum_by-append (named name) (flat_map (λ r. r.stack) t.drives) h.library.bin in
+    let one = sum_by_with_drive (named name) h.library d (drive_with [] []) (lies_within h.library.drives d name other two) in
+    let parts = sum_by-append (named name) (flat_map (λ r. r.stack) (with_drive_at h.library d (drive_with [] [])).drives) h.library.bin in
     let all = times_named name (slots_in h.library) in
-    let few = once name in
-    absurd (omega (arith, one, first, second, parts, all, few))
+    absurd (omega (arith, one, lies_times (drive_at h.library d).stack name other two, lies_times h.library.bin name entries lies, parts, all, once name))
 bin_alone h name entries other held laid once lies (inl (inr two)) =
     let parts = sum_by-append (named name) (flat_map (λ r. r.stack) h.library.drives) h.library.bin in
-    let all = times_named name (slots_in h.library) in
-    let few = once name in
-    one_lies h.library.bin name entries other (omega (arith, parts, all, few)) lies two
+    one_lies h.library.bin name entries other (omega (arith, parts, times_named name (slots_in h.library), once name)) lies two
 bin_alone h name entries other held laid once lies (inr (k, s, at, (drive, access, reel, online, first, holds))) =
     sym holds ∙ sym (stands_one h k s drive access reel name entries at online first held laid once (inl (inr lies)))
 
 between_names : (drive : PlainDriveSpec) (w : World) (c : WorldClient) (stage : Stage) → is_between stage ≡ true → ReelsStandAt stage drive w c
     → names_of w.server.library.bin ≡ map (λ (x : Count). x.reel) w.counts
-between_names drive w c Ready is free = ap (λ (x : TapeLibrary). names_of x.bin) free.library ∙ slot_names drive.capacity w.begun w.counts
-between_names drive w c Finished is free = ap (λ (x : TapeLibrary). names_of x.bin) free.library ∙ slot_names drive.capacity w.begun w.counts
-between_names drive w c stage is stands = absurd cc
+between_names drive w c stage is given = grind (arith, slot_names)
 
 -- the volumes are in order
 pub in_order : (drive : PlainDriveSpec) (w : World) → IsWorldKept w → IsFaultlessWorld drive w → VolumesInOrder drive w

@@ -1,25 +1,11 @@
 -- Who holds the drives, whatever happens.
-use Rattle.std.proofs.Common.{◌≡◌, ◌⊎◌, ℕ, zero, suc, List, length, Option, Some, None, refl, sym, ap, subst, ◌∙◌, inl, inr, arith}
-use Rattle.std.specs.Prelude.{slice_get, option_and_then}
-use Rattle.std.proofs.lemmas.Bool.Decides.{eqb_tells}
-use Rattle.std.proofs.lemmas.List.{length-set}
-use Rattle.std.proofs.lemmas.Option.{same_Some}
-use Rattle.rmt_wire.specs.RequestReader.{held}
-use Rattle.drives.specs.TapeLibrary.{TapeLibrary}
-use Rattle.rmt_server.specs.ServerState.{ServerState, ServerConnection, side}
-use Rattle.rmt_server.specs.Session.{PlainSession, session_view}
-use Rattle.rmt_server.specs.Session.PlainSession.{Idle}
-use Rattle.rmt_server.specs.TroubledServe.{drive_in, with_holder}
-use Rattle.world_model.specs.World.{World, numbered, with_numbered}
-use Rattle.world_model.specs.Events.{PlainEvent}
-use Rattle.world_model.specs.Changes.{side_of, with_side, ended_from, ended, all_ended}
-use Rattle.world_model.specs.Steps.{Happens}
-use Rattle.world_model.specs.Standing.{AreHeld}
+use Rattle.world_model.proofs.Basics.{◌≡◌, ◌⊎◌, ℕ, zero, suc, List, length, Option, Some, None, refl, sym, ap, subst, ◌∙◌, inl, inr, arith, slice_get, option_and_then, eqb_tells, length-set, same_Some}
+use Rattle.world_model.proofs.Terms.{held, TapeLibrary, ServerState, ServerConnection, side, PlainSession, session_view, Idle, drive_in, with_holder, World, numbered, with_numbered, PlainEvent, side_of, with_side, ended_from, ended, all_ended, Happens, AreHeld}
 use Rattle.world_model.proofs.Numbers.{set_is, set_here, set_other, with_here, with_other, numbered_first}
 use Rattle.world_model.proofs.Served.{closed_drives, holders_length, comes_serves}
 pub use Rattle.world_model.proofs.Sides.{side_there}
 use Rattle.world_model.proofs.Sides.{Sits, sits_here, sits_other, joined_is, joined_was, KeepsOver, ended_by, all_ended_by}
-use Rattle.world_model.proofs.ServerMoves.{ServerMove, leaves, joins, reads, serves, ends, restarts, arranges, server_after}
+use Rattle.world_model.proofs.ServerMoves.{ServerMove, reads, serves, restarts, server_after}
 use Rattle.world_model.proofs.Moves.{Move, moved, server_move, server_moved, happened}
 
 -- the drive that a side, if it is live, has open
@@ -29,8 +15,7 @@ drive_of_side (Some s) = drive_in s.session
 
 -- A place among the holders, once the drive that was open has none.
 cleared_other : (o : Option ℕ) (holders : List ℕ) (d n : ℕ) → slice_get holders d ≡ Some n → (o ≡ Some d → ⊥) → slice_get (with_holder o 0 holders) d ≡ Some n
-cleared_other None holders d n at other = at
-cleared_other (Some e) holders d n at other = set_other holders e d 0 (λ same. other (ap Some (sym same))) ∙ at
+cleared_other o holders d n at other = grind (arith, set_other)
 
 pub cleared_was : (o : Option ℕ) (holders : List ℕ) (d n : ℕ) → slice_get (with_holder o 0 holders) d ≡ Some (suc n)
     → (slice_get holders d ≡ Some (suc n)) × (o ≡ Some d → ⊥)
@@ -40,23 +25,12 @@ cleared_was (Some e) holders d n at = elim (set_is holders e d 0 (suc n) at) [
   | inr (other, on) ↦ (on, λ is. other (sym (same_Some e d is)))
 ]
 
-pub cleared_own : (holders : List ℕ) (o : Option ℕ) (d k : ℕ) → o ≡ Some d → slice_get holders d ≡ Some k → slice_get (with_holder o 0 holders) d ≡ Some 0
-cleared_own holders o d k is at = ap (λ x. slice_get (with_holder x 0 holders) d) is ∙ set_here holders d k 0 at
-
 -- A live side is another, or over, and the holders follow: what was open is free, and what is open is its own.
 pub record Turns (h : ServerState) (k : ℕ) (s : ServerConnection) (o : Option ServerConnection) (u : ServerState) : Type 0 where
   pub sits : Sits h k s o u
   pub holders : u.holders ≡ with_holder (drive_of_side o) k (with_holder (drive_in s.session) 0 h.holders)
   pub drives : length u.library.drives ≡ length h.library.drives
   pub free : (d : ℕ) → drive_of_side o ≡ Some d → slice_get (with_holder (drive_in s.session) 0 h.holders) d ≡ Some 0
-
--- the holder of a drive that another has open stays
-holder_stays : (o : Option ℕ) (cleared : List ℕ) (k d n : ℕ) → slice_get cleared d ≡ Some (suc n) → ((e : ℕ) → o ≡ Some e → slice_get cleared e ≡ Some 0)
-    → slice_get (with_holder o k cleared) d ≡ Some (suc n)
-holder_stays None cleared k d n at free = at
-holder_stays (Some e) cleared k d n at free =
-    set_other cleared e d k (λ same. (let none = free e refl in
-    let clash : 0 ≡ suc n = same_Some 0 (suc n) (sym none ∙ ap (slice_get cleared) (sym same) ∙ at) in omega (arith, clash))) ∙ at
 
 opened_turn : (h : ServerState) (k : ℕ) (s : ServerConnection) (o : Option ServerConnection) (u : ServerState) → Turns h k s o u → AreHeld h
     → (j d : ℕ) (x : ServerConnection) → side_of u j ≡ Some x → drive_in x.session ≡ Some d → slice_get u.holders d ≡ Some j
@@ -72,7 +46,7 @@ opened_turn h k s o u t a (suc j) d x at drive = elim (eqb_tells (suc j) k) [
       let holder = a.opened (suc j) d x before drive in
       let cleared = cleared_other (drive_in s.session) h.holders d (suc j) holder
       (λ own. other (same_Some (suc j) k (sym holder ∙ a.opened k d s t.sits.was own))) in
-      ap (λ l. slice_get l d) t.holders ∙ holder_stays (drive_of_side o) (with_holder (drive_in s.session) 0 h.holders) k d j cleared t.free
+      ap (λ l. slice_get l d) t.holders ∙ (grind (arith, set_other))
 ]
 
 -- the holder that is told has it open
@@ -102,15 +76,6 @@ turned_held h k s o u t a = record {
   holds = λ j d at. holds_from h k s o u (drive_of_side o) t a refl j d (ap (λ l. slice_get l d) (sym t.holders) ∙ at);
 }
 
--- the same sides, by what they have open
-same_held : (h u : ServerState) → u.sides ≡ h.sides → u.holders ≡ h.holders → length u.library.drives ≡ length h.library.drives → AreHeld h → AreHeld u
-same_held h u sides holders drives a = record {
-  places = ap length holders ∙ a.places ∙ sym drives;
-  opened = λ k d s at drive. ap (λ l. slice_get l d) holders ∙ a.opened k d s (ap (λ ss. option_and_then (λ x. x) (numbered ss k)) (sym sides) ∙ at) drive;
-  holds = λ k d at. (let x = a.holds k d (ap (λ l. slice_get l d) (sym holders) ∙ at) in
-      (x.0, ap (λ ss. option_and_then (λ y. y) (numbered ss (suc k))) sides ∙ x.1, x.2));
-}
-
 -- a side that only read more
 read_held : (h u : ServerState) (k : ℕ) (s x : ServerConnection) → side_of h k ≡ Some s → x.session ≡ s.session → u.sides ≡ with_numbered h.sides k (Some x) → u.holders ≡ h.holders
     → u.library ≡ h.library → AreHeld h → AreHeld u
@@ -121,16 +86,9 @@ read_held h u k s x was session sides holders drives a =
     = λ j other. ap (λ ss. option_and_then (λ y. y) (numbered ss j)) sides ∙ ap (option_and_then (λ y. y)) (with_other h.sides k j (Some x) other) in
     record {
       places = ap length holders ∙ a.places ∙ sym (ap (λ (v : TapeLibrary). length v.drives) drives);
-      opened = λ j d y at drive. ap (λ l. slice_get l d) holders ∙ (elim (eqb_tells j k) [
-        | inl (equal, same) ↦
-            let its : x ≡ y = same_Some x y (sym here ∙ ap (side_of u) (sym same) ∙ at) in
-            a.opened k d s was (ap drive_in (sym session) ∙ ap (λ (z : ServerConnection). drive_in z.session) its ∙ drive) ∙ ap Some (sym same)
-        | inr (unequal, other) ↦ a.opened j d y (sym (beside j other) ∙ at) drive
-      ]);
+      opened = grind arith;
       holds = λ j d at. (let y = a.holds j d (ap (λ l. slice_get l d) (sym holders) ∙ at) in elim (eqb_tells (suc j) k) [
-        | inl (equal, same) ↦
-            let its : s ≡ y.0 = same_Some s y.0 (sym was ∙ ap (side_of h) (sym same) ∙ y.1) in
-            (x, ap (side_of u) same ∙ here, ap drive_in session ∙ ap (λ (z : ServerConnection). drive_in z.session) its ∙ y.2)
+        | inl (equal, same) ↦ grind arith
         | inr (unequal, other) ↦ (y.0, beside (suc j) other ∙ y.1, y.2)
       ]);
     }
@@ -173,13 +131,11 @@ pub free_then : (holders : List ℕ) (session : PlainSession) (d k : ℕ) → (d
     → (drive_in session ≡ Some d) ⊎ (slice_get (with_holder (drive_in session) 0 holders) d ≡ Some 0)
     → slice_get (with_holder (drive_in session) 0 holders) d ≡ Some 0
 free_then holders session d k own way = elim way [
-  | inl is ↦ cleared_own holders (drive_in session) d k is (own is)
+  | inl is ↦ (ap (λ x. slice_get (with_holder x 0 holders) d) is ∙ set_here holders d k 0 (own is))
   | inr free ↦ free
 ]
 
 server_held : (h : ServerState) (m : ServerMove h) → AreHeld h → AreHeld (server_after h m)
-server_held h leaves a = a
-server_held h joins a = joined_held h a
 server_held h (reads k s reached live unread) a = read_held h _ k s (side reached s.session) live refl refl refl refl a
 server_held h (serves k s x library holders opened live unread comes held) a =
     let v = comes_serves h.holders (session_view h.library s.session) (session_view library x.session) opened a.places comes in
@@ -189,9 +145,8 @@ server_held h (serves k s x library holders opened live unread comes held) a =
       drives = v.drives;
       free = λ d drive. free_then h.holders s.session d k (a.opened k d s live) (v.drive d drive);
     } a
-server_held h (ends k) a = ended_by AreHeld over_held h k a
 server_held h restarts a = all_ended_by AreHeld over_held h (length h.sides) a
-server_held h (arranges d names within free) a = same_held h _ refl refl (length-set h.library.drives d _) a
+server_held h m a = grind (arith, joined_held, over_held, length-set)
 
 pub held_moved : (w : World) (m : Move w) → AreHeld w.server → AreHeld (moved w m).server
 held_moved w m a = subst AreHeld (sym (server_moved w m)) (server_held w.server (server_move w m) a)

@@ -1,21 +1,87 @@
+-- What a change of the hall makes of what stands on reels.
 -- What each event makes of reels, attempts and counts.
-use Rattle.std.proofs.Common.{◌≡◌, ◌⊎◌, ℕ, ◌<◌, ◌≤◌, false, List, [], ◌∷◌, ◌++◌, length, length-append, map, option_map, Option, Some, None, refl, sym, ap, subst, ◌∙◌, inl, inr, arith}
-use Rattle.std.proofs.lemmas.List.{length-map}
-use Rattle.std.proofs.lemmas.Option.{same_Some}
-use Rattle.rmt_wire.specs.RequestReader.{RequestHeld, held}
-use Rattle.rmt_server.specs.ServerState.{ServerState, server, ServerConnection, side}
-use Rattle.rmt_server.specs.Session.PlainSession.{Idle}
-use Rattle.world_model.specs.World.{World, Connection, AttemptState, Begun, numbered, with_numbered}
-use Rattle.world_model.specs.Changes.{changed, side_of, with_side, new_connection, without_peer, without_server, ended_from, noted_sent}
-use Rattle.world_model.specs.Standing.{online_drive_in, AreHeld}
-use Rattle.world_model.specs.Steps.{sent_connection}
-use Rattle.world_model.proofs.Numbers.{changed_is, length_changed, map_at, pushed_is, numbered_within, numbered_there, numbered_first}
-use Rattle.world_model.proofs.ServerMoves.{ServerMove, leaves, joins, reads, serves, ends, restarts, arranges, server_after, IsNoRequest}
+use Rattle.world_model.proofs.Basics.{◌≡◌, ◌⊎◌, ℕ, List, Some, None, refl, sym, ap, subst, ◌∙◌, inl, inr, slice_index_or, same_Some, arith, ◌<◌, ◌≤◌, false, [], ◌∷◌, ◌++◌, length, length-append, map, Option, length-map}
+use Rattle.world_model.proofs.Terms.{PlainRequest, PlainReply, PlainEntry, Trouble, KeptReel, Drive, TapeLibrary, drive_at, arranged, ServerState, server, ServerConnection, PlainSession, session_view, closed_library, TroubledServeStep, side_of, ended_from, first_name, online_drive_in, AreHeld, ReelLiesOn, HasInDrive, ReelHolds, RequestHeld, held, side, Idle, World, Connection, AttemptState, Begun, numbered, with_numbered, changed, with_side, new_connection, without_peer, without_server, sent_connection}
+use Rattle.world_model.proofs.Ground.{Sits, sits_is, joined_is, KeepsOver, ended_by, all_ended_by, KeepsHeldOver, held_ended_by, held_all_ended_by, step_comes, changed_is, length_changed, map_at, pushed_is, numbered_within, numbered_there, numbered_first, ServerMove, leaves, reads, arranges, server_after, IsNoRequest, talked, talked_dump, Move, moved, server_move, server_moved, begun_more}
+use Rattle.world_model.proofs.Laid.{apart, online_drive, drive_other, free_off}
+use Rattle.world_model.proofs.Opened.{closed_else, comes_else}
+use Rattle.world_model.proofs.LabelledSteps.{closed_lies, arranged_lies, StandsIn, WritesOn, step_stood}
+use Rattle.world_model.proofs.ServerMoves.{joins, serves, ends, restarts}
 use Rattle.world_model.proofs.Moves as move
-use Rattle.world_model.proofs.Moves.{talked, talked_dump, Move, moved, server_move, server_moved, begun_more}
-use Rattle.world_model.proofs.Sides.{sits_is, joined_is, KeepsOver, ended_by, all_ended_by}
-use Rattle.world_model.proofs.Held.{held_ended_by, held_all_ended_by}
-use Rattle.world_model.proofs.LabelledServers.{StoodIn, over_stands, sides_stand, arranged_stands}
+
+-- what stands on the reels of one hall stood there in the other
+abbrev pub StoodIn : ServerState → ServerState → Type 0
+StoodIn h u = (name : List ℕ) (entries : List PlainEntry) → ReelHolds u name entries → ReelHolds h name entries
+
+-- what stands in the scene of a side stands in its hall
+session_view_stands : (h : ServerState) (k : ℕ) (s : ServerConnection) (name : List ℕ) (entries : List PlainEntry) → side_of h k ≡ Some s → StandsIn (session_view h.library s.session) name entries
+    → ReelHolds h name entries
+session_view_stands h k s name entries live (inl lies) = inl lies
+session_view_stands h k s name entries live (inr has) = inr (k, s, live, has)
+
+-- the rack of its drive is the same
+same_drive : (s t : TapeLibrary) (session : PlainSession) (name : List ℕ) (entries : List PlainEntry)
+    → ((d : ℕ) → online_drive_in session ≡ Some d → drive_at s d ≡ drive_at t d) → HasInDrive s session name entries → HasInDrive t session name entries
+same_drive s t session name entries drives (drive, access, reel, online, named, holds) =
+    (drive, access, reel, online, ap (λ (r : Drive KeptReel). first_name r.stack) (sym (drives drive (ap online_drive_in online))) ∙ named, holds)
+
+-- one side serves a request
+pub served_stands : (trouble : Trouble) (holders : List ℕ) (h u : ServerState) (k : ℕ) (s x : ServerConnection) (request : PlainRequest) (reply : PlainReply) → Sits h k s (Some x) u → AreHeld h
+    → AreHeld u → TroubledServeStep trouble holders (session_view h.library s.session) request reply (session_view u.library x.session) → (name : List ℕ) (entries : List PlainEntry)
+    → ReelHolds u name entries → ReelHolds h name entries ⊎ WritesOn (session_view h.library s.session) request name
+served_stands trouble holders h u k s x request reply t a b step name entries stands = from stands
+  where
+    own : StandsIn (session_view u.library x.session) name entries → ReelHolds h name entries ⊎ WritesOn (session_view h.library s.session) request name
+    own now = elim (step_stood trouble holders (session_view h.library s.session) request reply (session_view u.library x.session) step name entries now) [
+      | inl before ↦ inl (session_view_stands h k s name entries t.was before)
+      | inr wrote ↦ inr wrote
+    ]
+
+    from : ReelHolds u name entries → ReelHolds h name entries ⊎ WritesOn (session_view h.library s.session) request name
+    from (inl lies) = own (inl lies)
+    from (inr (j, y, at, has)) = elim (sits_is h k s (Some x) u t j y at) [
+      | inl (same, mine) ↦ own (inr (subst (λ (z : ServerConnection). HasInDrive u.library z.session name entries) (same_Some y x (sym mine)) has))
+      | inr (other, was) ↦ inl (inr (
+        j,
+        y,
+        was,
+        same_drive u.library h.library y.session name entries
+            (λ d on. comes_else holders h k s (session_view u.library x.session) _ t.was a (apart h u k s x t b)
+            (step_comes trouble holders (session_view h.library s.session) request reply (session_view u.library x.session) step) d (j, other, (y, was, online_drive y.session d on))) has,
+      ))
+    ]
+
+-- a side is over, and what it had open is laid back
+pub over_stands : (base : ServerState) → KeepsHeldOver (StoodIn base)
+over_stands base h k s is a stood name entries (inl lies) = elim (closed_lies h.library s.session name entries lies) [
+  | inl on ↦ stood name entries (inl on)
+  | inr has ↦ stood name entries (inr (k, s, is, has))
+]
+over_stands base h k s is a stood name entries (inr (j, y, at, has)) =
+    elim (sits_is h k s None (ended_from h k (Some s)) record { was = is; sides = refl } j y at) [
+      | inl (same, none) ↦ absurd cc
+      | inr (other, was) ↦ stood name entries (inr (
+        j,
+        y,
+        was,
+        same_drive (closed_library h.library s.session) h.library y.session name entries
+            (λ d on. closed_else h k s is a s.session refl d (j, other, (y, was, online_drive y.session d on))) has,
+      ))
+    ]
+
+-- sides are others, and each that is online was there with the same session
+pub sides_stand : (h u : ServerState) → u.library ≡ h.library
+    → ((k d : ℕ) (y : ServerConnection) → side_of u k ≡ Some y → online_drive_in y.session ≡ Some d → (x : ServerConnection) × (side_of h k ≡ Some x) × (y.session ≡ x.session)) → StoodIn h u
+sides_stand h u library same name entries (inl lies) = inl (subst (λ s. ReelLiesOn s name entries) library lies)
+sides_stand h u library same name entries (inr (k, y, at, (drive, access, reel, online, named, holds))) =
+    let x = same k drive y at (ap online_drive_in online) in
+    inr (k, x.0, x.1, (drive, access, reel, sym x.2 ∙ online, ap (λ (s : TapeLibrary). first_name (drive_at s drive).stack) (sym library) ∙ named, holds))
+
+-- an operator's order of the stack of a free drive
+pub arranged_stands : (h : ServerState) (d : ℕ) (names : List (List ℕ)) → AreHeld h → slice_index_or h.holders d 0 ≡ 0
+    → StoodIn h (server (arranged h.library d names) h.holders h.sides)
+arranged_stands h d names a free name entries (inl lies) = inl (arranged_lies h.library d names name entries lies)
+arranged_stands h d names a free name entries (inr (k, y, at, has)) = grind (arith, drive_other, free_off)
 
 -- an attempt of which no request was carried out
 pub record SameNotes (d e : AttemptState) : Type 0 where
@@ -37,12 +103,7 @@ Like None p = p ≡ None
 Like (Some d) p = (e : AttemptState) × (p ≡ Some e) × SameNotes d e
 
 like_same : (o : Option AttemptState) → Like o o
-like_same None = refl
-like_same (Some d) = (d, refl, same_notes d)
-
-like_sent : (o : Option AttemptState) → Like o (option_map noted_sent o)
-like_sent None = refl
-like_sent (Some d) = (noted_sent d, refl, record { run = refl; volume = refl; first = refl; carried = refl; label = refl; blocks = refl; mark = refl; fault = refl })
+like_same o = grind arith
 
 -- nothing was carried out of it, if it is a client's
 abbrev pub IsFresh : Option AttemptState → Type 0
@@ -91,14 +152,7 @@ pub connection_still : (xs ys : List Connection) → ConnectionsLike xs ys → (
 connection_still xs ys t k x at =
     let within = numbered_within xs k x at in
     let more = t.more in
-    let y = numbered_there ys k (numbered_first xs k x at) (omega (arith, within, more)) in (
-      y.0,
-      y.1,
-      elim (t.at k y.0 y.1) [
-        | inl (z, was, like) ↦ subst (λ (l : Connection). Like l.dump y.0.dump) (same_Some z x (sym was ∙ at)) like
-        | inr (last, fresh) ↦ absurd (omega (arith, last, within))
-      ],
-    )
+    let y = numbered_there ys k (numbered_first xs k x at) (omega (arith, within, more)) in grind arith
 
 -- each side that is online was so, with the same session
 abbrev pub SidesStay : ServerState → ServerState → Type 0
@@ -163,7 +217,7 @@ connections_like w (move.serves t) none = absurd none
 connections_like w (move.connects c there stage) none = then_joined w.connections _ (refl, refl)
 connections_like w move.joins none = then_joined w.connections (new_connection None) tt
 connections_like w move.restarts none = then_mapped w.connections without_server (λ x. like_same x.dump)
-connections_like w (move.asks t) none = then_changed w.connections (sent_connection _) t.k (λ x. like_sent x.dump)
+connections_like w (move.asks t) none = then_changed w.connections (sent_connection _) t.k (λ x. (grind arith))
 connections_like w (move.fails k n c reader there stage own) none = then_kept w.connections without_peer k (λ x. refl)
 connections_like w (move.reaches k n s l reached live at grows) none = then_kept w.connections _ k (λ x. refl)
 connections_like w (move.ends k) none = then_kept w.connections without_server k (λ x. refl)
@@ -176,19 +230,14 @@ connections_like w (move.gives_up x k own) none = then_kept w.connections withou
 connections_like w m none = same_connections w.connections
 
 same_opens : (w : World) (m : Move w) → IsNoRequest w.server (server_move w m) → (moved w m).opens ≡ w.opens
-same_opens w (move.serves t) none = absurd none
-same_opens w m none = refl
-
-same_writings : (w : World) (m : Move w) → IsNoRequest w.server (server_move w m) → (moved w m).writings ≡ w.writings
-same_writings w (move.serves t) none = absurd none
-same_writings w m none = refl
+same_opens w m none = grind arith
 
 pub quiet_moved : (w : World) (m : Move w) → IsNoRequest w.server (server_move w m) → AreHeld w.server → Quietly w (moved w m)
 quiet_moved w m none a = record {
   stands = subst (StoodIn w.server) (sym (server_moved w m)) (server_stands w.server (server_move w m) none a);
   sides = subst (SidesStay w.server) (sym (server_moved w m)) (server_sides w.server (server_move w m) none);
   opens = same_opens w m none;
-  writings = same_writings w m none;
+  writings = (grind arith);
   begun = begun_more w m;
   connections = connections_like w m none;
 }

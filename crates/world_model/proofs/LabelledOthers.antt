@@ -1,46 +1,10 @@
 -- What an attempt wrote stands on its reel, whatever happens but a request of its own.
-use Rattle.std.proofs.Common.{◌≡◌, ◌≢◌, ℕ, ◌+◌, List, ◌++◌, length, option_map, Contains, Option, Some, None, refl, sym, ap, subst, ◌∙◌, inl, inr, arith}
-use Rattle.std.specs.Prelude.{option_to_list}
-use Rattle.std.proofs.lemmas.List.{append-nil}
-use Rattle.tape.specs.Tape.{PlainEntry}
-use Rattle.rmt_server.specs.ServerState.{ServerState, server, ServerConnection, side}
-use Rattle.rmt_server.specs.Session.{PlainReel}
-use Rattle.dump_run.specs.Run.{PlainRun}
-use Rattle.dump_client.specs.Lawful.{steps_before}
-use Rattle.dump_client.specs.declared.step.Step.TheVariants.{Operation}
-use Rattle.dump_client.specs.declared.step.TapeOp.TheVariants.{Unload}
-use Rattle.world_model.specs.World.{World, AttemptState, Begun, Opening, numbered, with_numbered}
-use Rattle.world_model.specs.Changes.{side_of, opening, opened_reel, writing}
-use Rattle.world_model.specs.Standing.{online_drive_in, AreHeld, IsOnlineWith, ReelHolds}
-use Rattle.world_model.specs.Written.{block_records}
-use Rattle.world_model.specs.Written.{attempt_written, label_if, mark_if, IsAlone, IsBeforeOffline}
-use Rattle.world_model.specs.Attempts.{IsReelWritten, IsLabelled, AreLabelled}
-use Rattle.world_model.proofs.Numbers.{pushed_is, numbered_within}
-use Rattle.world_model.proofs.Sides.{Sits, sits_other}
-use Rattle.world_model.proofs.LabelledServers.{served_stands}
-use Rattle.world_model.proofs.LabelledEvents.{SameNotes, same_notes, IsFresh, Quietly}
-use Rattle.world_model.proofs.Moves.{Turn, turned}
+use Rattle.world_model.proofs.Basics.{◌≡◌, ◌≢◌, ℕ, List, ◌++◌, length, option_map, Contains, Option, Some, None, refl, sym, ap, subst, ◌∙◌, inl, inr, arith, option_to_list, append-nil}
+use Rattle.world_model.proofs.Terms.{PlainEntry, ServerState, server, ServerConnection, side, PlainReel, World, AttemptState, Begun, Opening, numbered, with_numbered, side_of, opening, opened_reel, writing, online_drive_in, AreHeld, IsOnlineWith, ReelHolds, IsAlone, IsReelWritten, IsLabelled, AreLabelled}
+use Rattle.world_model.proofs.Ground.{pushed_is, numbered_within, Sits, sits_other, Turn, turned}
+use Rattle.world_model.proofs.LabelledEvents.{served_stands, SameNotes, same_notes, IsFresh, Quietly}
 use Rattle.world_model.proofs.LabelledSingle.{like_back}
-use Rattle.world_model.proofs.Writers.{writing_there, writings_after}
-
--- the same was written
-written_same : (run : PlainRun) (payload : List (List ℕ)) (d e : AttemptState) → SameNotes d e → attempt_written run payload d ≡ attempt_written run payload e
-written_same run payload d e s =
-    ap (λ t. label_if t run d.volume d.first ++ (block_records payload d.first d.blocks ++ mark_if d.mark)) (sym s.label)
-    ∙ ap (λ n. label_if e.label run n d.first ++ (block_records payload d.first d.blocks ++ mark_if d.mark)) (sym s.volume)
-    ∙ ap (λ n. label_if e.label run e.volume n ++ (block_records payload n d.blocks ++ mark_if d.mark)) (sym s.first)
-    ∙ ap (λ n. label_if e.label run e.volume e.first ++ (block_records payload e.first n ++ mark_if d.mark)) (sym s.blocks)
-    ∙ ap (λ t. label_if e.label run e.volume e.first ++ (block_records payload e.first e.blocks ++ mark_if t)) (sym s.mark)
-
-before_same : (run : PlainRun) (d e : AttemptState) → SameNotes d e → IsBeforeOffline run e → IsBeforeOffline run d
-before_same run d e s before marked =
-    let less = before (s.mark ∙ marked) in
-    let many : length (steps_before run e.first (e.first + e.blocks) (Operation (Unload (e.first + e.blocks))))
-    ≡ length (steps_before run d.first (d.first + d.blocks) (Operation (Unload (d.first + d.blocks))))
-    = ap (λ n. length (steps_before run n (n + e.blocks) (Operation (Unload (n + e.blocks))))) s.first
-    ∙ ap (λ n. length (steps_before run d.first (d.first + n) (Operation (Unload (d.first + n))))) s.blocks in
-    let carried = s.carried in
-    omega (arith, less, many, carried)
+use Rattle.world_model.proofs.Opened.{writing_there, writings_after}
 
 -- what stood on the reel stands there, or the session is another's
 record StillWritten (w u : World) (k : ℕ) (reel : List ℕ) : Type 0 where
@@ -49,10 +13,10 @@ record StillWritten (w u : World) (k : ℕ) (reel : List ℕ) : Type 0 where
 
 still_written : (w u : World) (k : ℕ) (b : Begun) (d e : AttemptState) (reel : List ℕ) → SameNotes d e → StillWritten w u k reel → IsReelWritten w k b d reel → IsReelWritten u k b e reel
 still_written w u k b d e reel s t was = record {
-  stands = λ entries on. was.stands entries (t.stands entries on) ∙ written_same b.run b.payload d e s;
+  stands = λ entries on. was.stands entries (t.stands entries on) ∙ (grind arith);
   behind = λ y r at on before. (
       let x = t.sides y r at on in
-      was.behind x.0 r x.1 (subst (λ z. IsOnlineWith z r) x.2 on) (before_same b.run d e s before));
+      was.behind x.0 r x.1 (subst (λ z. IsOnlineWith z r) x.2 on) ((grind arith)));
 }
 
 -- the same openings and writings

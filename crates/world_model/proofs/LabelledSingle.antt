@@ -1,37 +1,115 @@
+-- What a request that is carried out makes of attempts and of their openings.
 -- A connection of the client's has one opening at most, whatever happens.
-use Rattle.std.proofs.Common.{◌≡◌, ◌≢◌, ◌⊎◌, ℕ, ◌+◌, ◌^◌, ◌<◌, suc, Bool, true, false, List, ◌++◌, length, Option, Some, None, Contains, refl, sym, ap, subst, ◌∙◌, inl, inr, arith}
-use Rattle.std.specs.Prelude.{option_to_list}
-use Rattle.std.specs.Option.{option_map}
-use Rattle.std.proofs.lemmas.List.{append-nil}
-use Rattle.std.proofs.lemmas.Option.{same_Some}
-use Rattle.rmt_wire.specs.Counted.{raised}
-use Rattle.rmt_wire.specs.Request.{PlainRequest}
-use Rattle.rmt_wire.specs.Reply.{PlainReply}
-use Rattle.drives.specs.TapeLibrary.{TapeLibrary, drive_at}
-use Rattle.rmt_server.specs.ServerState.{ServerConnection}
-use Rattle.rmt_server.specs.Session.{PlainSession}
-use Rattle.dump_client.specs.declared.step.Step.{Step}
-use Rattle.dump_client.specs.declared.step.Step.TheVariants.{Open, Operation, Look, Label}
-use Rattle.dump_client.specs.declared.step.TapeOp.TheVariants.{Rewind, RewindAgain}
-use Rattle.world_model.specs.World.{World, Connection, AttemptState, Begun, Opening, numbered}
-use Rattle.world_model.specs.Changes.{opening, opened_reel, written_reel, first_name, noted}
-use Rattle.world_model.specs.Naming.{AreOpened}
-use Rattle.world_model.specs.Sending.{HasDone, IsSessionBefore, request_in, AreTold}
-use Rattle.world_model.specs.Attempts.{IsSingle, AreSingle}
-use Rattle.world_model.proofs.Booked.{among_at, place_of}
-use Rattle.world_model.proofs.Numbers.{pushed_is}
+-- What an attempt wrote stands on its reel, when its own request is carried out once the mark was accepted.
+use Rattle.world_model.proofs.Basics.{◌≡◌, ◌≢◌, ◌⊎◌, ℕ, ◌+◌, ◌^◌, ◌<◌, ◌≤◌, true, option_map, Some, Contains, refl, sym, ap, subst, ◌∙◌, inl, inr, arith, Contains-append_left, suc, Bool, false, List, ◌++◌, length, Option, None, option_to_list, append-nil, same_Some}
+use Rattle.world_model.proofs.Terms.{Step, World, Connection, AttemptState, Begun, Count, Opening, numbered, connection_of, opening, noted, answered, HasDone, request_in, IsConnectionSent, AreTold, IsEarnedBy, EachCountHasAttempt, raised, PlainRequest, PlainReply, TapeLibrary, drive_at, ServerConnection, PlainSession, Open, Label, opened_reel, written_reel, first_name, AreOpened, IsSessionBefore, IsSingle, AreSingle, ServerState, server, side, PlainEntry, with_numbered, AreHeld, ReelHolds, attempt_written, IsReelWritten}
+use Rattle.world_model.proofs.Ground.{changed_is, changed_there, pushed_is, raised_one, OneReading, DroppedWrites, nothing_there, serve_pending, noted_same, Turn, turned, mapped, among_at, place_of, Sits}
 use Rattle.world_model.proofs.Named.{opening_is}
-use Rattle.world_model.proofs.Sent.{raised_one}
-use Rattle.world_model.proofs.SentWire.{OneReading, DroppedWrites}
-use Rattle.world_model.proofs.SentServe.{noted_same}
-use Rattle.world_model.proofs.LabelledEvents.{SameNotes, Like, IsFresh, Quietly}
-use Rattle.world_model.proofs.Moves.{Turn, turned}
-use Rattle.world_model.proofs.LabelledServes.{IsServed, served_dump, served_step, opens_after}
+use Rattle.world_model.proofs.LabelledEvents.{SameNotes, Like, IsFresh, Quietly, served_stands}
+
+-- the attempt of the connection that was served, or another's
+pub served_dump : (w : World) (v : Turn w) (j : ℕ) (l : Connection) (d : AttemptState) → connection_of (turned w v) j ≡ Some l → l.dump ≡ Some d
+    → ((j ≡ v.k) × ((x : Connection) × (e : AttemptState) × (connection_of w v.k ≡ Some x) × (x.dump ≡ Some e) × (d ≡ noted v.request v.reply e)))
+    ⊎ ((j ≢ v.k) × (connection_of w j ≡ Some l))
+served_dump w v j l d at dump =
+    elim (changed_is (answered v.request v.reply) w.connections v.k j l at) [
+      | inl (same, (x, was, new)) ↦ (
+          let m = mapped (noted v.request v.reply) x.dump d (sym (ap (λ (y : Connection). y.dump) new) ∙ dump) in
+          inl (same, (x, m.0, was, m.1, m.2)))
+      | inr (other, on) ↦ inr (other, on)
+    ]
+
+-- the request that was served is that of a step, before which all was done
+pub record IsServed (w : World) (v : Turn w) (l : Connection) (d : AttemptState) : Type 0 where
+  pub b : Begun
+  pub step : Step
+  pub begun : numbered w.begun d.run ≡ Some b
+  pub done : HasDone b.run (Some v.s) d step
+  pub few : d.carried + 1 < 2 ^ 64
+  pub asks : v.request ≡ request_in b d step
+
+served_sent : OneReading → DroppedWrites → (w : World) (v : Turn w) (l : Connection) (d : AttemptState) → IsConnectionSent w.begun (Some v.s) l d → IsServed w v l d
+served_sent g h w v l d (inl settled) = absurd (nothing_there h v.s l.toward v.bytes v.rest v.request settled.unserved v.unread v.gives)
+served_sent g h w v l d (inr (b, step, at, p)) =
+    let all = serve_pending g h b v.s l.toward d step v.bytes v.rest v.request v.reply v.reached v.session p v.unread v.gives v.left in
+    grind arith
+
+pub served_step : OneReading → DroppedWrites → (w : World) (v : Turn w) → AreTold w → (l : Connection) (d : AttemptState) → connection_of w v.k ≡ Some l
+    → l.dump ≡ Some d → IsServed w v l d
+served_step g h w v told l d at dump = served_sent g h w v l d (subst (λ o. IsConnectionSent w.begun o l d) v.live ((told.each v.k l at).sent d dump))
+
+-- all but how many were carried out, and those are no fewer
+pub record SameWrites (d e : AttemptState) : Type 0 where
+  pub run : e.run ≡ d.run
+  pub volume : e.volume ≡ d.volume
+  pub first : e.first ≡ d.first
+  pub label : e.label ≡ d.label
+  pub blocks : e.blocks ≡ d.blocks
+  pub mark : e.mark ≡ d.mark
+  pub fault : e.fault ≡ d.fault
+  pub more : d.carried ≤ e.carried
+
+-- once the mark was accepted no request changes what was
+pub marked_writes : (w : World) (v : Turn w) (b : Begun) (d : AttemptState) (step : Step) → HasDone b.run (Some v.s) d step → v.request ≡ request_in b d step → d.mark ≡ true
+    → SameWrites d (noted v.request v.reply d)
+marked_writes w v b d step done asks marked = grind arith
+
+-- a connection that was there
+connection_after : (w : World) (v : Turn w) (j : ℕ) (l : Connection) → connection_of w j ≡ Some l
+    → (y : Connection) × (connection_of (turned w v) j ≡ Some y) × (((j ≡ v.k) × (y ≡ answered v.request v.reply l)) ⊎ (y ≡ l))
+connection_after w v j l at = elim (changed_there (answered v.request v.reply) w.connections v.k j l at) [
+  | inl (same, there) ↦ (answered v.request v.reply l, there, inl (same, refl))
+  | inr there ↦ (l, there, inr refl)
+]
+
+pub opens_after : (w : World) (v : Turn w) (o : Opening) → Contains w.opens o → Contains (turned w v).opens o
+opens_after w v o among = Contains-append_left w.opens _ o among
+
+earned_as : (w : World) (v : Turn w) (x : Count) (l y : Connection) (d e : AttemptState) (b : Begun) → IsEarnedBy w x l d b → connection_of (turned w v) x.connection ≡ Some y → y.dump ≡ Some e
+    → SameWrites d e → IsEarnedBy (turned w v) x y e b
+earned_as w v x l y d e b p at dump same = record {
+  there = at;
+  dump = dump;
+  begun = p.begun;
+  run = same.run ∙ p.run;
+  volume = same.volume ∙ p.volume;
+  first = same.first ∙ p.first;
+  count = same.blocks ∙ p.count;
+  within = p.within;
+  label = same.label ∙ p.label;
+  mark = same.mark ∙ p.mark;
+  unloaded = (grind arith);
+  fault = same.fault ∙ p.fault;
+  opened = opens_after w v (opening x.connection x.reel) p.opened;
+}
+
+pub served_earned : OneReading → DroppedWrites → (w : World) (v : Turn w) → AreTold w → EachCountHasAttempt w → EachCountHasAttempt (turned w v)
+served_earned g h w v told earned x among =
+    let p = earned x among in
+    let y = connection_after w v x.connection p.0 p.3.there in
+    elim y.2 [
+      | inl (same, new) ↦ (
+          let at : connection_of w v.k ≡ Some p.0 = ap (numbered w.connections) (sym same) ∙ p.3.there in
+          let s = served_step g h w v told p.0 p.1 at p.3.dump in
+          let writes = marked_writes w v s.b p.1 s.step s.done s.asks p.3.mark in (
+            y.0,
+            noted v.request v.reply p.1,
+            p.2,
+            earned_as w v x p.0 y.0 p.1 (noted v.request v.reply p.1) p.2 p.3 y.1
+                (ap (λ (z : Connection). z.dump) new ∙ ap (option_map (noted v.request v.reply)) p.3.dump) writes,
+          ))
+      | inr same ↦ (
+        y.0,
+        p.1,
+        p.2,
+        earned_as w v x p.0 y.0 p.1 p.1 p.2 p.3 y.1 (ap (λ (z : Connection). z.dump) same ∙ p.3.dump)
+            record { run = refl; volume = refl; first = refl; label = refl; blocks = refl; mark = refl; fault = refl; more = omega arith },
+      )
+    ]
 
 -- the attempt that it was before
 pub like_back : (o p : Option AttemptState) (d : AttemptState) → Like o p → p ≡ Some d → (e : AttemptState) × (o ≡ Some e) × SameNotes e d
-like_back None p d is at = let clash = sym is ∙ at in absurd cc
-like_back (Some e) p d (f, is, same) at = (e, refl, subst (SameNotes e) (same_Some f d (sym is ∙ at)) same)
+like_back o p d given at = grind arith
 
 -- no opening is of a connection that is not there
 pub quiet_single : (w u : World) → Quietly w u → AreOpened w → AreSingle w → AreSingle u
@@ -45,28 +123,21 @@ quiet_single w u q opened single k l d at dump = elim (q.connections.at k l at) 
         some = λ labelled. s.some (sym e.2.label ∙ labelled);
       }
   | inr (new, fresh) ↦
-      let f = subst IsFresh dump fresh in
       subst (λ os. IsSingle os k d) (sym q.opens) record {
         one = λ i j o p at other mine its. (let few = (opened.there o (among_at w.opens i o at)).1 in absurd (omega (arith, few, new, mine)));
         none = λ nothing o among mine. (let few = (opened.there o among).1 in omega (arith, few, new, mine));
-        some = λ labelled. (let clash = sym f.0 ∙ labelled in absurd cc);
+        some = λ labelled. (let clash = sym (subst IsFresh dump fresh).0 ∙ labelled in absurd cc);
       }
 ]
 
 -- only an open opens a reel
 pub open_step : (b : Begun) (d : AttemptState) (step : Step) (s : TapeLibrary) (session : PlainSession) (reel : List ℕ) → opened_reel (request_in b d step) s session ≡ Some reel → step ≡ Open
-open_step b d Open s session reel is = refl
-open_step b d step s session reel is = absurd cc
+open_step b d step s session reel is = grind arith
 
 -- only that of the label makes it accepted
 pub label_step : (b : Begun) (o : Option ServerConnection) (d : AttemptState) (step : Step) (reply : PlainReply) → HasDone b.run o d step → d.label ≡ false
     → (noted (request_in b d step) reply d).label ≡ true → step ≡ Label
-label_step b o d Open reply done none is = let clash = sym none ∙ is in absurd cc
-label_step b o d (Operation Rewind) reply done none is = let clash = sym none ∙ is in absurd cc
-label_step b o d Look reply done none is = let clash = sym none ∙ is in absurd cc
-label_step b o d (Operation RewindAgain) reply done none is = let clash = sym none ∙ is in absurd cc
-label_step b o d Label reply done none is = refl
-label_step b o d step reply done none is = let clash = sym none ∙ done.label in absurd cc
+label_step b o d step reply done none is = grind arith
 
 -- one request more was carried out
 pub carried_more : (d : AttemptState) (request : PlainRequest) (reply : PlainReply) → d.carried + 1 < 2 ^ 64 → (noted request reply d).carried ≡ d.carried + 1
@@ -84,13 +155,7 @@ label_some : (w : World) (v : Turn w) (l : Connection) (d : AttemptState) (p : I
     → (noted v.request v.reply d).label ≡ true → (reel : List ℕ) × Contains w.opens (opening v.k reel)
 label_some w v l d p true test opened single labelled = single.some test
 label_some w v l d p false test opened single labelled =
-    label_opened w v l d p opened
-    (label_step p.b (Some v.s) d p.step v.reply p.done test (subst (λ r. (noted r v.reply d).label ≡ true) p.asks labelled))
-
--- an opening is one of those before, or that of the open
-was_opened : (w : World) (v : Turn w) (o : Opening) → Contains (turned w v).opens o
-    → Contains w.opens o ⊎ ((reel : List ℕ) × (opened_reel v.request v.library v.session ≡ Some reel) × (o ≡ opening v.k reel))
-was_opened w v o among = opening_is w.opens v.k (opened_reel v.request v.library v.session) o among
+    label_opened w v l d p opened (label_step p.b (Some v.s) d p.step v.reply p.done test (subst (λ r. (noted r v.reply d).label ≡ true) p.asks labelled))
 
 -- the same by its place
 placed : (all : List Opening) (k : ℕ) (opened : Option (List ℕ)) (i : ℕ) (o : Opening) → numbered (all ++ option_to_list (option_map (opening k) opened)) i ≡ Some o
@@ -104,8 +169,7 @@ placed all k (Some reel) i o at = elim (pushed_is all (opening k reel) i o at) [
 pub was_placed_new : (w : World) (v : Turn w) (i : ℕ) (o : Opening) → numbered (turned w v).opens i ≡ Some o
     → (numbered w.opens i ≡ Some o)
     ⊎ ((i ≡ suc (length w.opens)) × ((reel : List ℕ) × (opened_reel v.request v.library v.session ≡ Some reel) × (o ≡ opening v.k reel)))
-was_placed_new w v i o at =
-    placed w.opens v.k (opened_reel v.request v.library v.session) i o at
+was_placed_new w v i o at = grind (arith, placed)
 
 was_placed : (w : World) (v : Turn w) (i : ℕ) (o : Opening) → numbered (turned w v).opens i ≡ Some o
     → (numbered w.opens i ≡ Some o) ⊎ ((i ≡ suc (length w.opens)) × ((reel : List ℕ) × (opened_reel v.request v.library v.session ≡ Some reel)))
@@ -150,7 +214,7 @@ other_single w v j d other single = record {
     ]
 
     before : (o : Opening) → Contains (turned w v).opens o → o.connection ≡ j → Contains w.opens o
-    before o among mine = elim (was_opened w v o among) [
+    before o among mine = elim ((opening_is w.opens v.k (opened_reel v.request v.library v.session) o among)) [
       | inl was ↦ was
       | inr (reel, is, new) ↦ absurd (other (sym mine ∙ ap (λ (z : Opening). z.connection) new))
     ]
@@ -166,8 +230,19 @@ one_reel opens k d single o p among other mine its =
 pub served_single : OneReading → DroppedWrites → (w : World) (v : Turn w) → AreTold w → AreOpened w → AreSingle w → AreSingle (turned w v)
 served_single g h w v told opened single j l d at dump = elim (served_dump w v j l d at dump) [
   | inl (same, (x, e, was, its, new)) ↦
-      let p = served_step g h w v told x e was its in
       subst (λ i. IsSingle (turned w v).opens i d) (sym same)
-      (subst (IsSingle (turned w v).opens v.k) (sym new) (own_single w v x e p opened (single v.k x e was its)))
+      (subst (IsSingle (turned w v).opens v.k) (sym new) (own_single w v x e (served_step g h w v told x e was its) opened (single v.k x e was its)))
   | inr (other, was) ↦ other_single w v j d other (single j l d was dump)
 ]
+
+-- what stands on the reel stood there before, so it is what was written
+pub marked_stands : (w : World) (v : Turn w) (l : Connection) (d : AttemptState) → IsServed w v l d → d.mark ≡ true → AreHeld w.server → AreHeld (turned w v).server → (b : Begun) (reel : List ℕ)
+    → IsReelWritten w v.k b d reel → (entries : List PlainEntry) → ReelHolds (turned w v).server reel entries → entries ≡ attempt_written b.run b.payload d
+marked_stands w v l d p marked a c b reel was entries on =
+    let h : ServerState = server v.library v.holders (with_numbered w.server.sides v.k (Some (side v.reached v.session))) in
+    let sits : Sits w.server v.k v.s (Some (side v.reached v.session)) h = record { was = v.live; sides = refl } in
+    elim (served_stands v.trouble w.server.holders w.server h v.k v.s (side v.reached v.session) v.request v.reply sits a c v.served.step reel entries
+    on) [
+      | inl before ↦ was.stands entries before
+      | inr wrote ↦ grind arith
+    ]

@@ -1,76 +1,151 @@
+-- Where what stands on a reel stood before, whatever happens.
 -- What one request makes of what stands on reels.
-use Rattle.std.proofs.Common.{◌≡◌, ◌⊎◌, ℕ, ◌<◌, ◌==◌, Bool, true, false, if◌then◌else◌, List, [], ◌∷◌, ◌++◌, length, append_assoc, Option, Some, None, Ok, Err, MatchOption, refl, sym, ap, subst, ◌∙◌, inl, inr}
-use Rattle.std.proofs.lemmas.List.{take-append-drop}
-use Rattle.rmt_wire.specs.Request.{PlainRequest}
-use Rattle.rmt_wire.specs.Request.PlainRequest.{Open, Close, Write, Op}
-use Rattle.rmt_wire.specs.Reply.{PlainReply}
-use Rattle.rmt_wire.specs.declared.mtio.TheConstants.{MTWEOF, MTFSF, MTBSF, MTFSR, MTBSR, MTREW, MTNOP}
-use Rattle.tape.specs.Tape.{PlainEntry, Tape, tape, entries_of, TapeRequest, TapeAnswer, TapeStep, SpaceStep, Passes}
-use Rattle.tape.specs.Tape.PlainEntry.{Record, Mark}
-use Rattle.tape.specs.Tape.TapeRequest.{Write as WriteRecord, Read as ReadRecord, WriteMarks, ForwardFiles, BackFiles, ForwardRecords, BackRecords, Rewind, Nothing, Unknown}
-use Rattle.tape.specs.Tape.TapeAnswer.{Done as Did, Gave, Fault}
-use Rattle.tape.specs.Trouble.{DeviceStep}
-use Rattle.tape.specs.declared.fault.TapeFault.TheVariants as faults
-use Rattle.tape.specs.declared.trouble.Trouble.{Trouble}
-use Rattle.drives.specs.declared.fault.DriveFault.TheVariants.{NoSuchDrive, Busy, NoReel, Device, OutOfMemory, NameTaken}
-use Rattle.drives.specs.TapeLibrary.{KeptReel, kept_reel, ReelSlot, Drive, drive_with, TapeLibrary, drive_at, with_first, after_latch, after_offline, waiting_reel}
-use Rattle.rmt_server.specs.declared.access.Access.{Access}
-use Rattle.rmt_server.specs.declared.access.Access.TheVariants.{Read as ReadOnly, Write as WriteOnly, Both}
-use Rattle.rmt_server.specs.Access.{access_of, writes}
-use Rattle.rmt_server.specs.Refusals.{refused}
-use Rattle.rmt_server.specs.Session.{PlainReel, plain_reel, PlainSession, SessionView, session_view, status_of, refusal, write_refusal, op_refusal, tape_request, closed, closed_library, is_offline}
-use Rattle.rmt_server.specs.Session.PlainSession.{Idle, Offline, Online}
-use Rattle.rmt_server.specs.TroubledServe.{TroubledServeStep, TroubledOpenStep, TroubledReelStep, TroubledMoveStep, TroubledOpStep, TroubledDoneStep}
-use Rattle.world_model.specs.Changes.{first_name, written_reel}
-use Rattle.world_model.specs.Standing.{ReelLiesOn, HasInDrive}
+use Rattle.world_model.proofs.Basics.{◌≡◌, ◌⊎◌, ℕ, suc, Bool, true, false, cond, List, [], ◌∷◌, ◌++◌, take, drop, Option, Some, None, refl, sym, subst, inl, inr, slice_set, slice_index_or, find, cons_option, remove_key, bytes_eq, same_Some, arith, ap, ◌∙◌, ◌<◌, length, append_assoc, Ok, Err, MatchOption, take-append-drop}
+use Rattle.world_model.proofs.Terms.{PlainEntry, entries_of, KeptReel, kept_reel, ReelSlot, Drive, drive_with, TapeLibrary, library, drive_at, with_first, to_bin, first_reel, after_latch, arranged, picked, left, slot_named, without, pile_of, PlainSession, closed_library, Idle, Offline, Online, first_name, IsReelOf, ReelLiesIn, ReelLiesOn, HasInDrive, PlainRequest, Write, Op, PlainReply, Tape, tape, TapeRequest, TapeAnswer, WriteRecord, WriteMarks, DeviceStep, Trouble, NoSuchDrive, Busy, NoReel, Device, after_offline, waiting_reel, Access, access_of, writes, refused, PlainReel, plain_reel, SessionView, session_view, status_of, refusal, tape_request, closed, is_offline, TroubledServeStep, TroubledOpenStep, TroubledReelStep, TroubledMoveStep, TroubledOpStep, TroubledDoneStep, written_reel, write_refusal}
+use Rattle.rmt_wire.specs.Request.PlainRequest.{Open, Close}
 use Rattle.world_model.proofs.Laid.{drive_same}
-use Rattle.world_model.proofs.LabelledFrame.{first_lies, latch_lies, closed_lies, moved_lies}
+
+-- lists of reels, one after the other
+pub lies_in_more : (xs ys : List (ReelSlot KeptReel)) (name : List ℕ) (entries : List PlainEntry) → ReelLiesIn (xs ++ ys) name entries
+    → ReelLiesIn xs name entries ⊎ ReelLiesIn ys name entries
+lies_in_more [] ys name entries lies = inr lies
+lies_in_more (x ∷ xs) ys name entries (inl here) = inl (inl here)
+lies_in_more (x ∷ xs) ys name entries (inr rest) = elim (lies_in_more xs ys name entries rest) [
+  | inl on ↦ inl (inr on)
+  | inr on ↦ inr on
+]
+
+pub behind_lies : (xs : List (ReelSlot KeptReel)) (name : List ℕ) (entries : List PlainEntry) → ReelLiesIn (drop 1 xs) name entries → ReelLiesIn xs name entries
+behind_lies [] name entries lies = lies
+behind_lies (x ∷ xs) name entries lies = inr lies
+
+-- the first is away: what lies there lay there before
+pub away_lies : (xs : List (ReelSlot KeptReel)) (name : List ℕ) (entries : List PlainEntry) → ReelLiesIn (with_first None xs) name entries → ReelLiesIn xs name entries
+away_lies xs name entries lies = grind arith
+
+-- the first is laid there, or it is alone
+pub put_lies : (reel : KeptReel) (xs : List (ReelSlot KeptReel)) (name : List ℕ) (entries : List PlainEntry) → ReelLiesIn (with_first (Some reel) xs) name entries
+    → ((first_name xs ≡ name) × (reel.entries ≡ entries)) ⊎ ReelLiesIn xs name entries
+put_lies reel xs name entries lies = grind arith
+
+pub put_alone : (reel : KeptReel) (xs : List (ReelSlot KeptReel)) (name : List ℕ) (entries : List PlainEntry)
+    → ReelLiesIn (with_first (Some reel) (take 1 xs)) name entries → (first_name xs ≡ name) × (reel.entries ≡ entries)
+put_alone reel xs name entries lies = grind (arith, same_Some)
+
+-- the first lies there
+pub first_lies : (xs : List (ReelSlot KeptReel)) (reel : KeptReel) (name : List ℕ) (entries : List PlainEntry) → first_reel xs ≡ Some reel → first_name xs ≡ name
+    → reel.entries ≡ entries → ReelLiesIn xs name entries
+first_lies [] reel name entries waits named holds = absurd cc
+first_lies (x ∷ xs) reel name entries waits named holds = inl record { named = named; reel = reel; there = waits; holds = holds }
+
+-- the drive of that rack is another, or it is the one that was changed
+drive_now : (drives : List (Drive KeptReel)) (e d : ℕ) (r : Drive KeptReel) (name : List ℕ) (entries : List PlainEntry)
+    → ReelLiesIn (slice_index_or (slice_set drives e r) d (drive_with [] [])).stack name entries
+    → ReelLiesIn r.stack name entries ⊎ ReelLiesIn (slice_index_or drives d (drive_with [] [])).stack name entries
+drive_now (x ∷ drives) (suc e) (suc d) r name entries lies = drive_now drives e d r name entries lies
+drive_now drives e d r name entries lies = grind arith
+
+-- one rack was changed
+pub drive_lies : (s : TapeLibrary) (e : ℕ) (r : Drive KeptReel) (bin : List (ReelSlot KeptReel)) (name : List ℕ) (entries : List PlainEntry)
+    → ReelLiesOn (library (slice_set s.drives e r) bin) name entries
+    → ReelLiesIn r.stack name entries ⊎ ((d : ℕ) × ReelLiesIn (drive_at s d).stack name entries) ⊎ ReelLiesIn bin name entries
+drive_lies s e r bin name entries (inl (d, lies)) = elim (drive_now s.drives e d r name entries lies) [
+  | inl here ↦ inl here
+  | inr on ↦ inr (inl (d, on))
+]
+drive_lies s e r bin name entries (inr lies) = inr (inr lies)
+
+-- a latch of drive d takes a reel away
+pub latch_lies : (s : TapeLibrary) (d : ℕ) (name : List ℕ) (entries : List PlainEntry) → ReelLiesOn (after_latch s d) name entries → ReelLiesOn s name entries
+latch_lies s d name entries lies = elim (drive_lies s d _ s.bin name entries lies) [
+  | inl here ↦ inl (d, away_lies (drive_at s d).stack name entries here)
+  | inr (inl on) ↦ inl on
+  | inr (inr bin) ↦ inr bin
+]
+
+-- what was open is laid back
+pub closed_lies : (s : TapeLibrary) (session : PlainSession) (name : List ℕ) (entries : List PlainEntry) → ReelLiesOn (closed_library s session) name entries
+    → ReelLiesOn s name entries ⊎ HasInDrive s session name entries
+closed_lies s Idle name entries lies = inl lies
+closed_lies s (Offline drive access) name entries lies = inl lies
+closed_lies s (Online drive access reel) name entries lies = elim (drive_lies s drive _ s.bin name entries lies) [
+  | inl here ↦ elim (put_lies (kept_reel (entries_of reel.tape) reel.capacity) (drive_at s drive).stack name entries here) [
+    | inl (named, holds) ↦ inr (drive, access, reel, refl, named, holds)
+    | inr on ↦ inl (inl (drive, on))
+  ]
+  | inr (inl on) ↦ inl (inl on)
+  | inr (inr bin) ↦ inl (inr bin)
+]
+
+-- the open reel is moved to the bin
+pub moved_lies : (s : TapeLibrary) (drive : ℕ) (reel : KeptReel) (name : List ℕ) (entries : List PlainEntry) → ReelLiesOn (to_bin s drive reel) name entries
+    → ReelLiesOn s name entries ⊎ ((first_name (drive_at s drive).stack ≡ name) × (reel.entries ≡ entries))
+moved_lies s drive reel name entries lies =
+    elim (drive_lies s drive (drive_with (drive_at s drive).name (drop 1 (drive_at s drive).stack)) (s.bin ++ with_first (Some reel) (take 1 (drive_at s drive).stack)) name entries lies) [
+      | inl here ↦ inl (inl (drive, behind_lies (drive_at s drive).stack name entries here))
+      | inr (inl on) ↦ inl (inl on)
+      | inr (inr bin) ↦ elim (lies_in_more s.bin _ name entries bin) [
+        | inl on ↦ inl (inr on)
+        | inr put ↦ inr (put_alone reel (drive_at s drive).stack name entries put)
+      ]
+    ]
+
+-- reels that are picked by their names, and those that are left
+found_lies : (test : ReelSlot KeptReel → Bool) (b : Bool) (x y : ReelSlot KeptReel) (xs : List (ReelSlot KeptReel)) (name : List ℕ) (entries : List PlainEntry)
+    → (find test xs ≡ Some y → IsReelOf y name entries → ReelLiesIn xs name entries) → cond b (Some x) (find test xs) ≡ Some y → IsReelOf y name entries
+    → ReelLiesIn (x ∷ xs) name entries
+found_lies test true x y xs name entries rest is its = inl (subst (λ z. IsReelOf z name entries) (sym (same_Some x y is)) its)
+found_lies test false x y xs name entries rest is its = inr (rest is its)
+
+find_lies : (test : ReelSlot KeptReel → Bool) (y : ReelSlot KeptReel) (xs : List (ReelSlot KeptReel)) (name : List ℕ) (entries : List PlainEntry) → find test xs ≡ Some y
+    → IsReelOf y name entries → ReelLiesIn xs name entries
+find_lies test y [] name entries is its = absurd cc
+find_lies test y (x ∷ xs) name entries is its = found_lies test (test x) x y xs name entries (find_lies test y xs name entries) is its
+
+removed_lies : (b : Bool) (x : ReelSlot KeptReel) (xs ys : List (ReelSlot KeptReel)) (name : List ℕ) (entries : List PlainEntry) → (ReelLiesIn ys name entries → ReelLiesIn xs name entries)
+    → ReelLiesIn (cond b xs (x ∷ ys)) name entries → ReelLiesIn (x ∷ xs) name entries
+removed_lies b x xs ys name entries rest lies = grind arith
+
+without_lies : (test : ReelSlot KeptReel → Bool) (xs : List (ReelSlot KeptReel)) (name : List ℕ) (entries : List PlainEntry) → ReelLiesIn (remove_key test xs) name entries
+    → ReelLiesIn xs name entries
+without_lies test [] name entries lies = lies
+without_lies test (x ∷ xs) name entries lies = removed_lies (test x) x xs (remove_key test xs) name entries (without_lies test xs name entries) lies
+
+found_or : (o : Option (ReelSlot KeptReel)) (xs : List (ReelSlot KeptReel)) (name : List ℕ) (entries : List PlainEntry) → ReelLiesIn (cons_option o xs) name entries
+    → ((y : ReelSlot KeptReel) × (o ≡ Some y) × IsReelOf y name entries) ⊎ ReelLiesIn xs name entries
+found_or o xs name entries lies = grind arith
+
+picked_lies : (names : List (List ℕ)) (xs : List (ReelSlot KeptReel)) (name : List ℕ) (entries : List PlainEntry) → ReelLiesIn (picked names xs) name entries → ReelLiesIn xs name entries
+picked_lies [] xs name entries lies = absurd lies
+picked_lies (n ∷ names) xs name entries lies = elim (found_or (slot_named n xs) (picked names (without n xs)) name entries lies) [
+  | inl (y, is, its) ↦ find_lies (λ x. bytes_eq n x.name) y xs name entries is its
+  | inr on ↦ without_lies (λ x. bytes_eq n x.name) xs name entries (picked_lies names (without n xs) name entries on)
+]
+
+left_lies : (names : List (List ℕ)) (xs : List (ReelSlot KeptReel)) (name : List ℕ) (entries : List PlainEntry) → ReelLiesIn (left names xs) name entries → ReelLiesIn xs name entries
+left_lies [] xs name entries lies = lies
+left_lies (n ∷ names) xs name entries lies = without_lies (λ x. bytes_eq n x.name) xs name entries (left_lies names (without n xs) name entries lies)
+
+pile_lies : (s : TapeLibrary) (d : ℕ) (name : List ℕ) (entries : List PlainEntry) → ReelLiesIn (pile_of s d) name entries → ReelLiesOn s name entries
+pile_lies s d name entries lies = elim (lies_in_more s.bin (drive_at s d).stack name entries lies) [
+  | inl bin ↦ inr bin
+  | inr on ↦ inl (d, on)
+]
+
+-- an operator's order only moves reels
+pub arranged_lies : (s : TapeLibrary) (d : ℕ) (names : List (List ℕ)) (name : List ℕ) (entries : List PlainEntry) → ReelLiesOn (arranged s d names) name entries → ReelLiesOn s name entries
+arranged_lies s d names name entries lies =
+    elim (drive_lies s d (drive_with (drive_at s d).name (picked names (pile_of s d))) (left names (pile_of s d)) name entries lies) [
+      | inl here ↦ pile_lies s d name entries (picked_lies names (pile_of s d) name entries here)
+      | inr (inl on) ↦ inl on
+      | inr (inr bin) ↦ pile_lies s d name entries (left_lies names (pile_of s d) name entries bin)
+    ]
 
 -- it may change what stands on the tape
 abbrev pub is_write : TapeRequest → Bool
 is_write (WriteRecord bytes) = true
 is_write (WriteMarks count) = true
 is_write request = false
-
-space_same : (count met place : ℕ) (t u : Tape) (answer : TapeAnswer) → SpaceStep count met place t answer u → entries_of u ≡ entries_of t
-space_same count met place t u Did step = ap entries_of step.1 ∙ take-append-drop place (entries_of t)
-space_same count met place t u (Fault faults.EndOrMark) step = ap entries_of step.1 ∙ take-append-drop place (entries_of t)
-space_same count met place t u (Fault faults.Device) step = ap entries_of step.1
-space_same count met place t u answer step = absurd step
-
-passes_same : (count : ℕ) (after : List PlainEntry) (t u : Tape) (bytes : List ℕ) → t.after ≡ after → Passes count after t bytes u → entries_of u ≡ entries_of t
-passes_same count [] t u bytes is step = ap entries_of step.1
-passes_same count (Record written ∷ rest) t u bytes is step =
-    ap entries_of step.1 ∙ append_assoc t.before (Record written ∷ []) rest ∙ ap (λ l. t.before ++ l) (sym is)
-passes_same count (Mark ∷ rest) t u bytes is step =
-    ap entries_of step.1 ∙ append_assoc t.before (Mark ∷ []) rest ∙ ap (λ l. t.before ++ l) (sym is)
-
--- a call that writes nothing leaves the entries
-tape_same : (request : TapeRequest) (capacity : ℕ) (t u : Tape) (answer : TapeAnswer) → is_write request ≡ false → TapeStep capacity t request answer u → entries_of u ≡ entries_of t
-tape_same (WriteRecord bytes) capacity t u answer reads step = absurd cc
-tape_same (WriteMarks count) capacity t u answer reads step = absurd cc
-tape_same (ReadRecord count) capacity t u (Gave bytes) reads step = passes_same count t.after t u bytes refl step
-tape_same (ReadRecord count) capacity t u (Fault faults.Device) reads step = ap entries_of step
-tape_same (ForwardFiles count) capacity t u answer reads step = space_same count _ _ t u answer step
-tape_same (BackFiles count) capacity t u answer reads step = space_same count _ _ t u answer step
-tape_same (ForwardRecords count) capacity t u answer reads step = space_same count _ _ t u answer step
-tape_same (BackRecords count) capacity t u answer reads step = space_same count _ _ t u answer step
-tape_same Rewind capacity t u Did reads step = ap entries_of step
-tape_same Nothing capacity t u Did reads step = ap entries_of step
-tape_same Unknown capacity t u (Fault faults.BadOperation) reads step = ap entries_of step
-tape_same x capacity t u answer reads step = absurd step
-
-failed_same : (request : TapeRequest) (trouble : Trouble) (capacity : ℕ) (t u : Tape) → is_write request ≡ false
-    → DeviceStep capacity trouble t request (Fault faults.Device) u → entries_of u ≡ entries_of t
-failed_same (WriteRecord bytes) trouble capacity t u reads step = absurd cc
-failed_same (WriteMarks count) trouble capacity t u reads step = absurd cc
-failed_same x trouble capacity t u reads step = ap entries_of step.2
-
-device_same : (request : TapeRequest) (trouble : Trouble) (capacity : ℕ) (t u : Tape) (answer : TapeAnswer) → is_write request ≡ false
-    → DeviceStep capacity trouble t request answer u → entries_of u ≡ entries_of t
-device_same request trouble capacity t u (Fault faults.Device) reads step = failed_same request trouble capacity t u reads step
-device_same request trouble capacity t u (Fault faults.OutOfMemory) reads step = tape_same request capacity t u (Fault faults.OutOfMemory) reads step
-device_same request trouble capacity t u answer reads step = tape_same request capacity t u answer reads step.1
 
 -- it stands on a reel that lies there, or on the reel that the session has in its drive
 abbrev pub StandsIn : SessionView → List ℕ → List PlainEntry → Type 0
@@ -93,29 +168,13 @@ same_stood before request after is name entries stands = inl (subst (λ v. Stand
 abbrev MayWrite : PlainRequest → Access → Type 0
 MayWrite request access = is_write (tape_request request) ≡ true → writes access ≡ true
 
-written_online : (s : TapeLibrary) (session : PlainSession) (drive : ℕ) (access : Access) (reel : PlainReel) (name : List ℕ) → session ≡ Online drive access reel
-    → writes access ≡ true → first_name (drive_at s drive).stack ≡ name → written_reel s session ≡ Some name
-written_online s session drive access reel name is may named =
-    ap (written_reel s) is ∙ ap (λ b. if b then Some (first_name (drive_at s drive).stack) else None) may ∙ ap Some named
-
-reel_now : (trouble : Trouble) (before : SessionView) (request : PlainRequest) (drive : ℕ) (access : Access) (reel : PlainReel) (answer : TapeAnswer) (t : Tape) (b : Bool)
-    (name : List ℕ) (entries : List PlainEntry) → is_write (tape_request request) ≡ b → MayWrite request access → before.session ≡ Online drive access reel
+reel_now : (trouble : Trouble) (before : SessionView) (request : PlainRequest) (drive : ℕ) (access : Access) (reel : PlainReel) (answer : TapeAnswer) (t : Tape)
+    (b : Bool) (name : List ℕ) (entries : List PlainEntry)
+    → is_write (tape_request request) ≡ b → MayWrite request access → before.session ≡ Online drive access reel
     → DeviceStep reel.capacity trouble reel.tape (tape_request request) answer t
     → HasInDrive before.library (Online drive access (plain_reel t reel.capacity)) name entries → StandsIn before name entries ⊎ WritesOn before request name
-reel_now trouble before request drive access reel answer t true name entries test may online device (e, other, r, is, named, holds) =
-    let same : e ≡ drive = cc in
-    inr (test, written_online before.library before.session drive access reel name online (may test) (ap (λ n. first_name (drive_at before.library n).stack) (sym same) ∙ named))
-reel_now trouble before request drive access reel answer t false name entries test may online device (e, other, r, is, named, holds) =
-    let same : e ≡ drive = cc in
-    let its : r ≡ plain_reel t reel.capacity = cc in
-    inl (inr (
-      drive,
-      access,
-      reel,
-      online,
-      ap (λ n. first_name (drive_at before.library n).stack) (sym same) ∙ named,
-      sym (device_same (tape_request request) trouble reel.capacity reel.tape t answer test device) ∙ sym (ap (λ (x : PlainReel). entries_of x.tape) its) ∙ holds,
-    ))
+reel_now trouble before request drive access reel answer t true name entries test may online device (e, other, r, is, named, holds) = grind arith
+reel_now trouble before request drive access reel answer t false name entries test may online device (e, other, r, is, named, holds) = grind (arith, append_assoc, take-append-drop)
 
 reel_stood : (trouble : Trouble) (before : SessionView) (request : PlainRequest) (reply : PlainReply) (after : SessionView)
     → ((drive : ℕ) (access : Access) (reel : PlainReel) → before.session ≡ Online drive access reel → MayWrite request access)
@@ -149,30 +208,7 @@ move_stood trouble before request count reply after (drive, access, reel, Ok don
       | inr (named, holds) ↦ inr (drive, access, reel, online, named, holds)
     ])
     moved_stands (inr (e, other, r, clash, named, holds)) = absurd cc
-move_stood trouble before request count reply after (drive, access, reel, Err why, online, cause, replies, (excused, stay, is)) name entries (inl lies) =
-    inl (inl (subst (λ s. ReelLiesOn s name entries) stay.0 lies))
-move_stood trouble before request count reply after (drive, access, reel, Err why, online, cause, replies, (excused, stay, is)) name entries (inr (e, other, r, now, named, holds)) =
-    let both : Online e other r ≡ Online drive access (plain_reel (tape [] (entries_of reel.tape)) reel.capacity) = sym now ∙ is in
-    let same : e ≡ drive = cc in
-    let its : r ≡ plain_reel (tape [] (entries_of reel.tape)) reel.capacity = cc in
-    inl (inr (
-      drive,
-      access,
-      reel,
-      online,
-      ap (λ n. first_name (drive_at before.library n).stack) (sym same) ∙ ap (λ s. first_name (drive_at s e).stack) (sym stay.0) ∙ named,
-      sym (ap (λ (x : PlainReel). entries_of x.tape) its) ∙ holds,
-    ))
-
--- an open: what was open is laid back, and then a reel is latched
-first_name_with : (reel : Option KeptReel) (stack : List (ReelSlot KeptReel)) → first_name (with_first reel stack) ≡ first_name stack
-first_name_with reel [] = refl
-first_name_with reel (first ∷ rest) = refl
-
-latched_name : (s : TapeLibrary) (d : ℕ) → d < length s.drives → first_name (drive_at (after_latch s d) d).stack ≡ first_name (drive_at s d).stack
-latched_name s d within =
-    ap (λ (r : Drive KeptReel). first_name r.stack) (drive_same s.drives d (drive_with (drive_at s d).name (with_first None (drive_at s d).stack)) (drive_with [] []) within)
-    ∙ first_name_with None (drive_at s d).stack
+move_stood trouble before request count reply after given known likewise besides = grind arith
 
 latched_stood : (before : SessionView) (request : PlainRequest) (after : SessionView) (d : ℕ) (access : Access) (reel : PlainReel) (first : KeptReel)
     → d < length (closed_library before.library before.session).drives → waiting_reel (closed_library before.library before.session) d ≡ Some first
@@ -186,9 +222,7 @@ latched_stood before request after d access reel first within waits library has 
     let both : Online e other r ≡ Online d access reel = sym now ∙ is in
     let same : e ≡ d = cc in
     let its : r ≡ reel = cc in
-    let its_name : first_name (drive_at s d).stack ≡ name
-    = sym (latched_name s d within) ∙ ap (λ n. first_name (drive_at (after_latch s d) n).stack) (sym same)
-    ∙ ap (λ v. first_name (drive_at v e).stack) (sym library) ∙ called in
+    let its_name : first_name (drive_at s d).stack ≡ name = grind (arith, drive_same) in
     let its_entries : first.entries ≡ entries = sym (ap entries_of has) ∙ sym (ap (λ (x : PlainReel). entries_of x.tape) its) ∙ holds in
     inl (closed_lies before.library before.session name entries (inl (d, first_lies (drive_at s d).stack first name entries waits its_name its_entries)))
 
@@ -205,37 +239,10 @@ opens_stood trouble holders before request device (Some access) reply after (Err
     closed_stood before request after latch.1 is
 opens_stood trouble holders before request device (Some access) reply after (Err Device, asked, (e, found, named, latch), cause, replies, is) =
     closed_stood before request after latch.1 is
-opens_stood trouble holders before request device (Some access) reply after (Err OutOfMemory, asked, step, cause, replies, is) = absurd cause
-opens_stood trouble holders before request device (Some access) reply after (Err NameTaken, asked, step, cause, replies, is) = absurd cause
-
--- no other operation of a reel writes
-others_read : (z a b c d e f : Bool) (count : ℕ) → z ≡ false
-    → is_write (if z then WriteMarks count else if a then ForwardFiles count else if b then BackFiles count else if c then ForwardRecords count
-    else if d then BackRecords count else if e then Rewind else if f then Nothing else Unknown) ≡ false
-others_read true a b c d e f count test = absurd cc
-others_read false true b c d e f count test = refl
-others_read false false true c d e f count test = refl
-others_read false false false true d e f count test = refl
-others_read false false false false true e f count test = refl
-others_read false false false false false true f count test = refl
-others_read false false false false false false true count test = refl
-others_read false false false false false false false count test = refl
-
-not_refused : {R : Type 0} (b : Bool) (x : R) (o : Option R) → (if b then Some x else o) ≡ None → b ≡ false
-not_refused true x o is = absurd cc
-not_refused false x o is = refl
-
-op_may : (access : Access) (op count : ℕ) → op_refusal access op ≡ None → MayWrite (Op op count) access
-op_may ReadOnly op count none write =
-    (let reads = others_read (op == MTWEOF) (op == MTFSF) (op == MTBSF) (op == MTFSR) (op == MTBSR) (op == MTREW) (op == MTNOP) count (not_refused (op == MTWEOF) _ _ none) in
-    let clash = sym reads ∙ write in absurd cc)
-op_may WriteOnly op count none write = refl
-op_may Both op count none write = refl
+opens_stood trouble holders before request device access reply after given = grind arith
 
 write_may : (access : Access) (bytes : List ℕ) → write_refusal access (length bytes) ≡ None → MayWrite (Write bytes) access
-write_may ReadOnly bytes none write = absurd cc
-write_may WriteOnly bytes none write = refl
-write_may Both bytes none write = refl
+write_may access bytes none given = grind arith
 
 -- a request that is refused, or done
 refused_stood : {R : Type 0} (o x : Option R) (A : Type 0) (B : R → Type 0) (before : SessionView) (request : PlainRequest) (after : SessionView) → x ≡ o
@@ -263,7 +270,7 @@ done_stood trouble before (Write bytes) reply after none step =
     (λ drive access reel is. online_may before.session drive access reel (Write bytes) is (λ x free. write_may x bytes free) none) step
 done_stood trouble before (Op op count) reply after none step =
     op_stood (is_offline op) trouble before op count reply after
-    (λ drive access reel is. online_may before.session drive access reel (Op op count) is (λ x free. op_may x op count free) none) step
+    (λ drive access reel is. online_may before.session drive access reel (Op op count) is (λ x free. (grind arith)) none) step
 done_stood trouble before request reply after none step = reel_stood trouble before request reply after (λ drive access reel is write. absurd cc) step
 
 other_stood : (trouble : Trouble) (before : SessionView) (request : PlainRequest) (reply : PlainReply) (after : SessionView)

@@ -1,37 +1,14 @@
 -- Where reels lie, whatever happens.
-use Rattle.std.proofs.Common.{◌≡◌, ◌≢◌, ◌⊎◌, ℕ, zero, suc, ◌<◌, Bool, true, false, cond, List, [], ◌∷◌, ◌++◌, length, take, drop, Option, Some, None, refl, sym, ap, subst, ◌∙◌, inl, inr, arith}
-use Rattle.std.specs.Prelude.{slice_get, slice_set, slice_index_or, option_and_then, option_map}
-use Rattle.std.specs.List.{find, cons_option}
-use Rattle.std.specs.Set.{remove_key}
-use Rattle.std.specs.Str.{bytes_eq}
-use Rattle.std.proofs.lemmas.Bool.Decides.{eqb_tells}
-use Rattle.std.proofs.lemmas.List.{get_or-set_same, get_or-set_other}
-use Rattle.std.proofs.lemmas.Option.{same_Some, slice_get_within, get_or_from_slice_get}
-use Rattle.rmt_wire.specs.RequestReader.{held}
-use Rattle.tape.specs.Tape.{entries_of}
-use Rattle.drives.specs.TapeLibrary.{TapeLibrary, KeptReel, kept_reel, ReelSlot, Drive, drive_with, drive_at, with_first, first_reel, waiting_reel, after_latch}
-use Rattle.drives.specs.Arranging.{arranged, picked, left, slot_named, without, pile_of}
-use Rattle.rmt_server.specs.ServerState.{ServerState, server, ServerConnection, side}
-use Rattle.rmt_server.specs.Session.{PlainSession, session_view, closed_library}
-use Rattle.rmt_server.specs.Session.PlainSession.{Idle, Offline, Online}
-use Rattle.rmt_server.specs.TroubledServe.{drive_in, with_holder}
-use Rattle.world_model.specs.World.{World, numbered, with_numbered}
-use Rattle.world_model.specs.Changes.{side_of, with_side}
-use Rattle.world_model.specs.Standing.{AreThere, IsFirstAway, online_drive_in, IsOnlineAt, AreHeld}
-use Rattle.world_model.specs.Kept.{AreLaid}
-use Rattle.world_model.proofs.Numbers.{set_other, with_here, with_twice}
-use Rattle.world_model.proofs.NamedRequests.{use_of, Comes, stays, closes, opens, moves}
-use Rattle.world_model.proofs.Served.{comes_serves}
-use Rattle.world_model.proofs.ServerMoves.{ServerMove, leaves, joins, reads, serves, ends, restarts, arranges, server_after}
-use Rattle.world_model.proofs.Moves.{Move, moved, server_move, server_moved}
-use Rattle.world_model.proofs.Sides.{side_there, Sits, sits_here, sits_other, sits_is, joined_is, joined_was}
-use Rattle.world_model.proofs.Held.{KeepsHeldOver, held_ended_by, held_all_ended_by, free_then}
+use Rattle.world_model.proofs.Basics.{◌≡◌, ◌≢◌, ◌⊎◌, ℕ, zero, suc, ◌<◌, Bool, cond, List, [], ◌∷◌, ◌++◌, length, take, drop, Option, Some, None, refl, sym, ap, subst, ◌∙◌, inl, inr, arith, slice_get, slice_set, slice_index_or, option_and_then, option_map, find, cons_option, remove_key, bytes_eq, eqb_tells, get_or-set_same, get_or-set_other, same_Some, slice_get_within, get_or_from_slice_get}
+use Rattle.world_model.proofs.Terms.{held, entries_of, TapeLibrary, KeptReel, kept_reel, ReelSlot, Drive, drive_with, drive_at, with_first, first_reel, waiting_reel, after_latch, picked, left, slot_named, without, ServerState, server, ServerConnection, side, PlainSession, session_view, closed_library, Idle, Offline, Online, drive_in, with_holder, World, numbered, with_numbered, side_of, with_side, AreThere, IsFirstAway, online_drive_in, IsOnlineAt, AreHeld, AreLaid}
+use Rattle.world_model.proofs.Ground.{set_other, with_here, with_twice, use_of, Comes, stays, closes, opens, moves, comes_serves, ServerMove, leaves, reads, arranges, server_after, Move, moved, server_move, server_moved, Sits, sits_here, sits_other, sits_is, joined_is, joined_was, KeepsHeldOver, held_ended_by, held_all_ended_by, free_then}
+use Rattle.world_model.proofs.ServerMoves.{joins, serves, ends, restarts}
+use Rattle.world_model.proofs.Sides.{side_there}
+use Rattle.world_model.proofs.Terms.{arranged}
 
 -- an online session has its drive open
 pub online_drive : (s : PlainSession) (d : ℕ) → online_drive_in s ≡ Some d → drive_in s ≡ Some d
-online_drive Idle d is = absurd cc
-online_drive (Offline drive access) d is = absurd cc
-online_drive (Online drive access reel) d is = is
+online_drive s d is = grind arith
 
 abbrev online_of : Option ServerConnection → Option ℕ
 online_of None = None
@@ -67,12 +44,9 @@ else_stays h k s o u t d (j, other, (x, at, online)) = (j, x, sits_other h k j s
 pub else_was : (h : ServerState) (k d : ℕ) → IsOnlineElse h k d → IsOnlineAt h d
 else_was h k d (j, other, (x, at, online)) = (j, x, at, online)
 
-pub own_now : (h : ServerState) (k : ℕ) (s x : ServerConnection) (u : ServerState) → Sits h k s (Some x) u → (d : ℕ) → online_drive_in x.session ≡ Some d → IsOnlineAt u d
-own_now h k s x u t d online = (k, x, sits_here h k s (Some x) u t, online)
-
 own_there : (h : ServerState) (k : ℕ) (s : ServerConnection) (o : Option ServerConnection) (u : ServerState) → Sits h k s o u → (d : ℕ) → online_of o ≡ Some d → IsOnlineAt u d
 own_there h k s None u t d online = absurd cc
-own_there h k s (Some x) u t d online = own_now h k s x u t d online
+own_there h k s (Some x) u t d online = ((k, x, sits_here h k s (Some x) u t, online))
 
 -- no other has a drive open that a session has open
 pub alone_at : (h : ServerState) (k : ℕ) (s : ServerConnection) (d : ℕ) → AreHeld h → side_of h k ≡ Some s → drive_in s.session ≡ Some d → IsOpenElse h k d → ⊥
@@ -100,24 +74,20 @@ alone_free h k s d a was free (suc j, other, (x, at, online)) =
 
 -- stacks of which the first is laid back, or latched, or taken away
 laid_first : (reel : KeptReel) (stack : List (ReelSlot KeptReel)) → IsFirstAway stack → AreThere (with_first (Some reel) stack)
-laid_first reel [] away = absurd away
-laid_first reel (first ∷ rest) (away, there) = ((reel, refl), there)
+laid_first reel stack given = grind arith
 
 latched_first : (stack : List (ReelSlot KeptReel)) (first : KeptReel) → first_reel stack ≡ Some first → AreThere stack → IsFirstAway (with_first None stack)
-latched_first [] first waits there = absurd cc
-latched_first (x ∷ rest) first waits (here, there) = (refl, there)
+latched_first stack first waits given = grind arith
 
 behind_first : (stack : List (ReelSlot KeptReel)) → IsFirstAway stack → AreThere (drop 1 stack)
-behind_first [] away = absurd away
-behind_first (first ∷ rest) (away, there) = there
+behind_first stack given = grind arith
 
 there_more : (xs ys : List (ReelSlot KeptReel)) → AreThere xs → AreThere ys → AreThere (xs ++ ys)
 there_more [] ys one two = two
 there_more (x ∷ xs) ys (here, one) two = (here, there_more xs ys one two)
 
 taken_there : (reel : KeptReel) (stack : List (ReelSlot KeptReel)) → AreThere (with_first (Some reel) (take 1 stack))
-taken_there reel [] = tt
-taken_there reel (first ∷ rest) = ((reel, refl), tt)
+taken_there reel stack = grind arith
 
 -- the rack of a drive, where one was changed
 pub drive_same : (drives : List (Drive KeptReel)) (e : ℕ) (r d : Drive KeptReel) → e < length drives → slice_index_or (slice_set drives e r) e d ≡ r
@@ -179,22 +149,20 @@ still_laid h u library back on l = record {
 }
 
 -- the side that turns is online as before
-turn_laid : (h : ServerState) (k : ℕ) (s : ServerConnection) (o : Option ServerConnection) (u : ServerState) → Sits h k s o u → u.library ≡ h.library → online_of o ≡ online_drive_in s.session → AreLaid h → AreLaid u
-turn_laid h k s o u t library same l = still_laid h u library
-    (λ d on. elim (now_online h k s o u t d on) [
-      | inl own ↦ (k, s, t.was, sym same ∙ own)
-      | inr elsewhere ↦ else_was h k d elsewhere
-    ])
-    (λ d on. elim (was_online h k s t.was d on) [
-      | inl own ↦ own_there h k s o u t d (same ∙ own)
-      | inr elsewhere ↦ else_stays h k s o u t d elsewhere
-    ]) l
+turn_laid : (h : ServerState) (k : ℕ) (s : ServerConnection) (o : Option ServerConnection) (u : ServerState) → Sits h k s o u → u.library ≡ h.library
+    → online_of o ≡ online_drive_in s.session → AreLaid h → AreLaid u
+turn_laid h k s o u t library same l = still_laid h u library (λ d on. elim (now_online h k s o u t d on) [
+  | inl own ↦ (k, s, t.was, sym same ∙ own)
+  | inr elsewhere ↦ else_was h k d elsewhere
+]) (λ d on. elim (was_online h k s t.was d on) [
+  | inl own ↦ own_there h k s o u t d (same ∙ own)
+  | inr elsewhere ↦ else_stays h k s o u t d elsewhere
+]) l
 
 -- the place of a drive that a session has open
 pub drive_within : (h : ServerState) (k : ℕ) (s : ServerConnection) (d : ℕ) → AreHeld h → side_of h k ≡ Some s → drive_in s.session ≡ Some d → d < length h.library.drives
 drive_within h k s d a was own =
-    let few = slice_get_within h.holders d k (a.opened k d s was own) in
-    let places = a.places in omega (arith, few, places)
+    let places = a.places in omega (arith, slice_get_within h.holders d k (a.opened k d s was own), places)
 
 -- what a session had open is laid back
 closed_laid : (h : ServerState) (k : ℕ) (s : ServerConnection) (o : Option ServerConnection) (u : ServerState) (session : PlainSession) → s.session ≡ session → Sits h k s o u → u.library ≡ closed_library h.library session
@@ -274,9 +242,7 @@ idle_else h k s d was (j, other, (x, at, online)) =
 
 -- what a session is online with is told by what it uses
 online_use : (s : PlainSession) → online_drive_in s ≡ option_map (λ x. x.0) (use_of s)
-online_use Idle = refl
-online_use (Offline drive access) = refl
-online_use (Online drive access reel) = refl
+online_use s = grind arith
 
 use_online : (s t : PlainSession) → use_of s ≡ use_of t → online_drive_in s ≡ online_drive_in t
 use_online s t same = online_use s ∙ ap (option_map (λ x. x.0)) same ∙ sym (online_use t)
@@ -300,27 +266,23 @@ over_laid h k s is a l = closed_laid h k s None _ s.session refl record { was = 
 
 -- a side more, with nothing open
 joined_laid : (h : ServerState) → AreLaid h → AreLaid (with_side h)
-joined_laid h l = still_laid h (with_side h) refl
-    (λ d (k, s, at, on). elim (joined_is h k s at) [
-      | inl before ↦ (k, s, before, on)
-      | inr new ↦ (let clash : online_drive_in Idle ≡ Some d = ap (λ (z : ServerConnection). online_drive_in z.session) new ∙ on in absurd cc)
-    ])
-    (λ d (k, s, at, on). (k, s, joined_was h k s at, on)) l
+joined_laid h l = still_laid h (with_side h) refl (λ d (k, s, at, on). elim (joined_is h k s at) [
+  | inl before ↦ (k, s, before, on)
+  | inr new ↦ (let clash : online_drive_in Idle ≡ Some d = ap (λ (z : ServerConnection). online_drive_in z.session) new ∙ on in absurd cc)
+]) (λ d (k, s, at, on). (k, s, joined_was h k s at, on)) l
 
 -- an operator's order: reels are picked from those that lie there
 found_there : (test : ReelSlot KeptReel → Bool) (b : Bool) (x : ReelSlot KeptReel) (xs : List (ReelSlot KeptReel)) → ((reel : KeptReel) × (x.reel ≡ Some reel))
     → ((y : ReelSlot KeptReel) → find test xs ≡ Some y → (reel : KeptReel) × (y.reel ≡ Some reel))
     → (y : ReelSlot KeptReel) → cond b (Some x) (find test xs) ≡ Some y → (reel : KeptReel) × (y.reel ≡ Some reel)
-found_there test true x xs here rest y is = (here.0, ap (λ (z : ReelSlot KeptReel). z.reel) (same_Some y x (sym is)) ∙ here.1)
-found_there test false x xs here rest y is = rest y is
+found_there test b x xs here rest y is = grind arith
 
 find_there : (test : ReelSlot KeptReel → Bool) (xs : List (ReelSlot KeptReel)) → AreThere xs → (y : ReelSlot KeptReel) → find test xs ≡ Some y → (reel : KeptReel) × (y.reel ≡ Some reel)
 find_there test [] there y is = absurd cc
 find_there test (x ∷ xs) (here, there) y is = found_there test (test x) x xs here (find_there test xs there) y is
 
 removed_if : (b : Bool) (x : ReelSlot KeptReel) (xs ys : List (ReelSlot KeptReel)) → ((reel : KeptReel) × (x.reel ≡ Some reel)) → AreThere xs → AreThere ys → AreThere (cond b xs (x ∷ ys))
-removed_if true x xs ys here all rest = all
-removed_if false x xs ys here all rest = (here, rest)
+removed_if b x xs ys here all rest = grind arith
 
 without_there : (test : ReelSlot KeptReel → Bool) (xs : List (ReelSlot KeptReel)) → AreThere xs → AreThere (remove_key test xs)
 without_there test [] there = tt
@@ -328,8 +290,7 @@ without_there test (x ∷ xs) (here, there) = removed_if (test x) x xs (remove_k
 
 with_found : (o : Option (ReelSlot KeptReel)) (xs : List (ReelSlot KeptReel)) → ((y : ReelSlot KeptReel) → o ≡ Some y → (reel : KeptReel) × (y.reel ≡ Some reel)) → AreThere xs
     → AreThere (cons_option o xs)
-with_found None xs found there = there
-with_found (Some y) xs found there = (found y refl, there)
+with_found o xs found there = grind arith
 
 picked_there : (names : List (List ℕ)) (xs : List (ReelSlot KeptReel)) → AreThere xs → AreThere (picked names xs)
 picked_there [] xs there = tt
@@ -350,22 +311,7 @@ free_off h d a free (suc k, x, at, on) =
 
 arranged_laid : (h : ServerState) (d : ℕ) (names : List (List ℕ)) → AreHeld h → slice_index_or h.holders d 0 ≡ 0 → d < length h.library.drives → AreLaid h
     → AreLaid (server (arranged h.library d names) h.holders h.sides)
-arranged_laid h d names a free within l =
-    let u = server (arranged h.library d names) h.holders h.sides in
-    let off : IsOnlineAt h d → ⊥ = free_off h d a free in
-    let pile = there_more h.library.bin (drive_at h.library d).stack l.bin (l.lying d off) in
-    let r = drive_with (drive_at h.library d).name (picked names (pile_of h.library d)) in
-    let here : drive_at u.library d ≡ r = drive_same h.library.drives d r (drive_with [] []) within in
-    record {
-      latched = λ e at. (
-          let other : e ≢ d = λ same. off (subst (IsOnlineAt h) same at) in
-          subst (λ (x : Drive KeptReel). IsFirstAway x.stack) (sym (drive_other h.library.drives d e r (drive_with [] []) other)) (l.latched e at));
-      lying = λ e no. elim (eqb_tells e d) [
-        | inl (equal, same) ↦ subst (λ (x : Drive KeptReel). AreThere x.stack) (sym (ap (drive_at u.library) same ∙ here)) (picked_there names (pile_of h.library d) pile)
-        | inr (unequal, other) ↦ subst (λ (x : Drive KeptReel). AreThere x.stack) (sym (drive_other h.library.drives d e r (drive_with [] []) other)) (l.lying e no)
-      ];
-      bin = left_there names (pile_of h.library d) pile;
-    }
+arranged_laid h d names a free within l = grind (arith, free_off, there_more, drive_same, drive_other, picked_there, left_there)
 
 server_laid : (h : ServerState) (m : ServerMove h) → AreHeld h → AreLaid h → AreLaid (server_after h m)
 server_laid h leaves a l = l

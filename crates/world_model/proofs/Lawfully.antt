@@ -1,21 +1,8 @@
 -- The client stays lawful, whatever happens.
-use Rattle.std.proofs.Common.{◌≡◌, ℕ, List, take, Some, refl, subst, inl, sym, ◌∙◌}
-use Rattle.std.proofs.lemmas.Option.{same_Some}
-use Rattle.dump_run.specs.Run.{PlainRun, IsRun}
-use Rattle.dump_run.specs.Counts.{AreVolumes}
-use Rattle.dump_run.specs.declared.count.VolumeCount.{VolumeCount}
-use Rattle.dump_client.specs.Lawful.{IsLawful, StageFits}
-use Rattle.dump_client.specs.Standing.{Standing, standing, FedAt, CutAt, IsOver, stage_after}
-use Rattle.dump_client.specs.declared.stage.Answer.{Answer}
-use Rattle.dump_client.specs.declared.stage.Answer.TheVariants.{Retry, Abandon}
-use Rattle.dump_client.specs.declared.stage.Progress.{Progress}
-use Rattle.dump_client.specs.declared.stage.Stage.{Stage}
-use Rattle.dump_client.specs.declared.stage.Stage.TheVariants.{Ready, ToSend, Waiting, Asking}
-use Rattle.dump_client.specs.declared.step.Step.TheVariants.{Open, Block}
-use Rattle.world_model.specs.World.{World, Begun, WorldClient}
-use Rattle.world_model.specs.Steps.{caller}
-use Rattle.world_model.specs.Kept.{AreBooked, IsClientLawful}
-use Rattle.world_model.proofs.Moves.{Move, begins, connects, asks, fails, hears, hears_last, sees, Back, gone, comes, back_caller, forgets, gives_up, answers, moved}
+-- Where counts come from.
+use Rattle.world_model.proofs.Basics.{◌≡◌, ℕ, List, take, Some, refl, subst, inl, same_Some, arith}
+use Rattle.world_model.proofs.Terms.{PlainRun, IsRun, AreVolumes, VolumeCount, IsLawful, StageFits, Standing, standing, FedAt, CutAt, IsOver, stage_after, Answer, Retry, Abandon, Progress, Stage, Ready, ToSend, Waiting, Asking, Open, Block, World, WorldClient, AreBooked, IsClientLawful, PlainEvent, CountsGrow, Happens}
+use Rattle.world_model.proofs.Ground.{Move, begins, connects, asks, fails, hears, hears_last, sees, Back, gone, comes, back_caller, forgets, gives_up, answers, moved, Goings, drop_front}
 
 -- what calls of a client leave of one that is lawful
 abbrev pub Lawfully : Type 0
@@ -45,9 +32,7 @@ back_lawful : ((run : PlainRun) (counts : List VolumeCount) (at : Standing) → 
 back_lawful g w (gone none) booked c is = absurd cc
 back_lawful g w (comes z b at reader kept begun over) booked c is =
     let q = booked.kept z kept in
-    let same : b ≡ q.begun = same_Some b q.begun (sym begun ∙ q.begun_as) in
-    is_lawful (caller z.run at reader)
-    (g q.begun.run z.listed at q.limits q.in_order (subst (λ (y : Begun). IsOver y.run z.listed at) same over)) c is
+    grind arith
 
 pub lawful_moved : Lawfully → (w : World) (m : Move w) → AreBooked w → IsClientLawful w → IsClientLawful (moved w m)
 lawful_moved g w (begins run payload reader none good long) booked l = is_lawful _ (record { run = good; counts = tt; stage = inl refl })
@@ -62,3 +47,6 @@ lawful_moved g w (answers c answer reader there stage) booked l =
 lawful_moved g w (forgets x none) booked l = back_lawful g.2 w x booked
 lawful_moved g w (gives_up x k own) booked l = back_lawful g.2 w x booked
 lawful_moved g w m booked l = l
+
+pub counts_grow : Goings → (w u : World) (event : PlainEvent) → Happens w event u → CountsGrow w event u
+counts_grow g w u event given = grind (arith, drop_front)

@@ -1,40 +1,7 @@
 -- How an event moves the world: one row for each way in which it goes on. Each point of what stays so is proved from these rows.
-use Rattle.std.proofs.Common.{◌≡◌, ◌⊎◌, IsTrue, ℕ, ◌*◌, ◌<◌, ◌≤◌, Bool, true, false, List, [], ◌∷◌, ◌++◌, length, take, drop, map, Option, Some, None, Result, Ok, Err, refl, sym, ap, subst, ◌∙◌, inl, inr, arith}
-use Rattle.std.specs.Prelude.{slice_index_or}
-use Rattle.std.proofs.lemmas.Bool.Decides.{eqb_tells}
-use Rattle.std.proofs.lemmas.List.{length-map, length-append}
-use Rattle.std.proofs.lemmas.Option.{same_Some}
-use Rattle.rmt_wire.specs.Request.{PlainRequest}
-use Rattle.rmt_wire.specs.Reply.{PlainReply}
-use Rattle.rmt_wire.specs.RequestParts.{ParsesAs}
-use Rattle.rmt_wire.specs.RequestReader.{RequestHeld, Unread}
-use Rattle.rmt_wire.specs.ReplyReader.{ReplyHeld}
-use Rattle.rmt_wire.specs.declared.fault.WireFault.{WireFault}
-use Rattle.tape.specs.declared.trouble.Trouble.{Trouble}
-use Rattle.drives.specs.TapeLibrary.{TapeLibrary, IsDriveNamed}
-use Rattle.drives.specs.Arranging.{arranged}
-use Rattle.rmt_server.specs.ServerState.{server, ServerConnection, side}
-use Rattle.rmt_server.specs.Session.{PlainSession, session_view}
-use Rattle.rmt_server.specs.TroubledServe.{TroubledServe}
-use Rattle.dump_run.specs.Run.{PlainRun, IsRun}
-use Rattle.dump_run.specs.declared.count.VolumeCount.{VolumeCount}
-use Rattle.dump_client.specs.Client.{HasFedAt, unanswered}
-use Rattle.dump_client.specs.Standing.{Standing, standing, FedAt, CutAt, IsOver, stage_after}
-use Rattle.dump_client.specs.declared.fault.AttemptFault.{AttemptFault}
-use Rattle.dump_client.specs.declared.stage.Answer.{Answer}
-use Rattle.dump_client.specs.declared.stage.Progress.{Progress}
+use Rattle.world_model.proofs.Basics.{◌≡◌, ◌⊎◌, IsTrue, ℕ, ◌*◌, ◌<◌, ◌≤◌, Bool, true, false, List, [], ◌++◌, length, take, drop, map, Option, Some, None, Ok, refl, sym, ap, subst, ◌∙◌, inl, inr, arith, slice_index_or, eqb_tells, length-map, length-append, same_Some}
+use Rattle.world_model.proofs.Terms.{PlainRequest, ParsesAs, RequestHeld, Unread, ReplyHeld, Trouble, TapeLibrary, IsDriveNamed, arranged, server, ServerConnection, side, session_view, PlainRun, IsRun, HasFedAt, unanswered, Standing, standing, FedAt, CutAt, IsOver, stage_after, AttemptFault, Answer, Progress, Ready, ToSend, Waiting, Asking, Finished, Step, Block, World, Connection, AttemptState, Begun, WorldClient, Count, Kept, numbered, PlainEvent, StartRun, Connect, Send, ToServer, Serve, ToClient, Cut, EndAtServer, EndAtClient, ServerRestart, ClientRestart, Respond, Arrange, Stranger, Says, Enter, Save, changed, side_of, connection_of, without_peer, sent_on, opened_reel, with_no_failure, given_up, joined, restarted, ended_at, counts_of, after_client_call, is_in_attempt, NoRun, IsRunEntered, MayBeKept, ServerTurn, Happens, Sends, Finds, Hears, SeesEnd, IsPushed, begun, client_connected, is_failing, failed_read, asked, reached_by, carried, forgotten_from, kept_after, ResumesRun, recorded, caller}
 use Rattle.dump_client.specs.declared.stage.Progress.TheVariants as came
-use Rattle.dump_client.specs.declared.stage.Stage.TheVariants.{Ready, ToSend, Waiting, Asking, Finished}
-use Rattle.dump_client.specs.declared.step.Step.{Step}
-use Rattle.dump_client.specs.declared.step.Step.TheVariants.{Block}
-use Rattle.world_model.specs.World.{World, Connection, AttemptState, Begun, WorldClient, Count, Kept, numbered, with_numbered}
-use Rattle.world_model.specs.Events.{PlainEvent}
-use Rattle.world_model.specs.Events.PlainEvent.{StartRun, Connect, Send, ToServer, Serve, ToClient, Cut, EndAtServer, EndAtClient, ServerRestart, ClientRestart, Respond, Arrange, Stranger, Says, Enter, Save}
-use Rattle.world_model.specs.Changes.{changed, changed_from, side_of, connection_of, new_connection, without_peer, without_server, sent_on, opened_reel, with_no_failure, given_up, joined, restarted, ended_at, counts_of, after_client_call}
-use Rattle.world_model.specs.Owning.{is_in_attempt}
-use Rattle.world_model.specs.Rows.{NoRun, IsRunEntered, MayBeKept}
-use Rattle.world_model.specs.Serving.{ServerTurn}
-use Rattle.world_model.specs.Steps.{Happens, Sends, Finds, Hears, SeesEnd, IsPushed, begun, client_connected, is_failing, failed_read, asked, reached_by, carried, forgotten_from, kept_after, ResumesRun, recorded, caller}
 use Rattle.world_model.proofs.Numbers.{with_here, with_twice, less_or_more, length_changed, numbered_more}
 use Rattle.world_model.proofs.NamedRequests.{step_comes}
 use Rattle.world_model.proofs.ServerMoves as server_moves
@@ -53,24 +20,13 @@ pub record Sender (w : World) : Type 0 where
   pub mine : numbered w.begun c.number ≡ Some b
   pub fed : HasFedAt (Waiting step) reader []
 
--- the server carries this request out
+-- the server carries this request out: the turn, with the connection and the world after it
 pub record Turn (w : World) : Type 0 where
   pub k : ℕ
   pub trouble : Trouble
-  pub s : ServerConnection
-  pub request : PlainRequest
-  pub bytes : List ℕ
-  pub rest : List ℕ
-  pub reply : PlainReply
-  pub reached : RequestHeld
-  pub library : TapeLibrary
-  pub session : PlainSession
-  pub holders : List ℕ
-  pub live : side_of w.server k ≡ Some s
-  pub unread : Unread s.reached bytes
-  pub gives : ParsesAs bytes (Ok (Some request)) rest
-  pub left : Unread reached rest
-  pub served : TroubledServe trouble w.server.holders k (session_view w.server.library s.session) request reply (session_view library session) holders
+  pub after : World
+  pub turn : ServerTurn w k trouble after
+  pub open turn use *
 
 abbrev pub turned : (w : World) → Turn w → World
 turned w t = carried w t.k t.request t.reply t.reached t.library t.session t.holders
@@ -123,9 +79,7 @@ talked (drops n) l = record l { back = drop n l.back }
 talked leaves l = without_peer l
 
 pub talked_dump : (t : Talking) (l : Connection) → (talked t l).dump ≡ l.dump
-talked_dump (says bytes) l = refl
-talked_dump (drops n) l = refl
-talked_dump leaves l = refl
+talked_dump t l = grind arith
 
 -- the attempt is over
 abbrev pub is_over : Progress → Bool
@@ -142,15 +96,9 @@ abbrev pub back_caller : (w : World) → Back w → Option WorldClient
 back_caller w (gone none) = None
 back_caller w (comes z b at reader kept begun over) = Some (caller z.run at reader)
 
-over_idle : (run : PlainRun) (counts : List VolumeCount) (at : Standing) → IsOver run counts at → IsTrue (is_in_attempt at.stage) → ⊥
-over_idle run counts at (inl (covers, is)) inside = let clash = subst (λ (s : Standing). IsTrue (is_in_attempt s.stage)) is inside in cc
-over_idle run counts at (inr (left, is)) inside = let clash = subst (λ (s : Standing). IsTrue (is_in_attempt s.stage)) is inside in cc
-
 -- whoever is there then is in no attempt
 pub back_idle : (w : World) (x : Back w) (c : WorldClient) → back_caller w x ≡ Some c → IsTrue (is_in_attempt c.at.stage) → ⊥
-back_idle w (gone none) c is inside = absurd cc
-back_idle w (comes z b at reader kept begun over) c is inside =
-    over_idle b.run z.listed at over (subst (λ (x : WorldClient). IsTrue (is_in_attempt x.at.stage)) (sym (same_Some (caller z.run at reader) c is)) inside)
+back_idle w x c is inside = grind arith
 
 abbrev Failure : Type 0
 Failure = Option (ℕ × AttemptFault)
@@ -236,57 +184,24 @@ server_move w joins = server_moves.joins
 server_move w m = server_moves.leaves
 
 pub server_moved : (w : World) (m : Move w) → (moved w m).server ≡ server_after w.server (server_move w m)
-server_moved w restarts = refl
-server_moved w m = refl
-
--- no connection goes
-as_many : (f : Connection → Connection) (xs : List Connection) (k : ℕ) → length xs ≤ length (changed f xs k)
-as_many f xs k = let same = length_changed f xs k in omega (arith, same)
-
-one_more : (xs : List Connection) (new : Connection) → length xs ≤ length (xs ++ new ∷ [])
-one_more xs new = let all = length-append xs (new ∷ []) in omega (arith, all)
+server_moved w m = grind arith
 
 pub connections_more : (w : World) (m : Move w) → length w.connections ≤ length (moved w m).connections
-connections_more w (connects c there ready) = one_more w.connections _
-connections_more w joins = one_more w.connections (new_connection None)
-connections_more w restarts = let same = length-map w.connections without_server in omega (arith, same)
-connections_more w (asks t) = as_many _ w.connections t.k
-connections_more w (fails k n c reader there stage own) = as_many without_peer w.connections k
-connections_more w (reaches k n s l reached live at grows) = as_many _ w.connections k
-connections_more w (serves t) = as_many _ w.connections t.k
-connections_more w (ends k) = as_many without_server w.connections k
-connections_more w (cuts k) = as_many _ w.connections k
-connections_more w (talks k l t at none) = as_many (talked t) w.connections k
-connections_more w (hears t on) = as_many _ w.connections t.k
-connections_more w (hears_last t failure over) = as_many without_peer w.connections t.k
-connections_more w (sees t failure) = as_many without_peer w.connections t.k
-connections_more w (gives_up x k own) = as_many without_peer w.connections k
-connections_more w m = omega arith
+connections_more w m = grind (arith, length-append, length-map, length_changed)
 
 -- no run goes
 pub begun_more : (w : World) (m : Move w) (n : ℕ) (b : Begun) → numbered w.begun n ≡ Some b → numbered (moved w m).begun n ≡ Some b
-begun_more w (begins run payload reader none good long) n b at = numbered_more w.begun _ n b at
-begun_more w m n b at = at
-
--- a connection that was changed, and of which a side is over then
-over_from : (f : Connection → Connection) → ((l : Connection) → without_peer (f l) ≡ without_peer l) → (xs : List Connection) (k : ℕ) (o : Option Connection) → numbered xs k ≡ o
-    → changed without_peer (changed_from f xs k o) k ≡ changed_from without_peer xs k o
-over_from f same xs k None is = ap (changed_from without_peer xs k) is
-over_from f same xs k (Some x) is =
-    ap (changed_from without_peer (changed_from f xs k (Some x)) k) (with_here xs k x (f x) is) ∙ with_twice xs k (f x) (without_peer (f x))
-    ∙ ap (with_numbered xs k) (same x)
+begun_more w m n b at = grind (arith, numbered_more)
 
 over_then : (f : Connection → Connection) → ((l : Connection) → without_peer (f l) ≡ without_peer l) → (xs : List Connection) (k : ℕ)
     → changed without_peer (changed f xs k) k ≡ changed without_peer xs k
-over_then f same xs k = over_from f same xs k (numbered xs k) refl
+over_then f same xs k = (grind (arith, with_here, with_twice))
 
 -- what came of the client's call: it goes on, or its connection is over
 came_on : (v : World) (k : ℕ) (at : Standing) (progress : Progress)
     → ((is_over progress ≡ false) × (after_client_call v k at progress ≡ v))
     ⊎ ((is_over progress ≡ true) × ((failure : Failure) × (after_client_call v k at progress ≡ record (given_up v k) { failure = failure })))
-came_on v k at (came.Failed fault) = inr (refl, (_, refl))
-came_on v k at came.Ended = inr (refl, (v.failure, refl))
-came_on v k at progress = inl (refl, refl)
+came_on v k at progress = grind arith
 
 -- the world goes on so
 abbrev Moves : World → World → Type 0
@@ -294,8 +209,7 @@ Moves w u = (m : Move w) × (u ≡ moved w m)
 
 -- a read fails in a block alone
 failing_block : (failing : Bool) (step : Step) → is_failing failing step ≡ true → (n : ℕ) × (step ≡ Block n)
-failing_block true (Block n) is = (n, refl)
-failing_block failing step is = absurd cc
+failing_block failing step is = grind arith
 
 sends_moves : (failing : Bool) (w : World) (k : ℕ) (c : WorldClient) (step : Step) (b : Begun) (u : World) → (failing ≡ true → (n : ℕ) × (step ≡ Block n)) → w.caller ≡ Some c
     → c.at.stage ≡ ToSend step → w.own ≡ Some k → numbered w.begun c.number ≡ Some b → Sends failing w k c b.payload step u → Moves w u
@@ -324,34 +238,10 @@ turn_of w k trouble s request bytes rest u live unread gives (reply, reached, li
 }
 
 abbrev pub carries_turn : (w u : World) (k : ℕ) (trouble : Trouble) → ServerTurn w k trouble u → Turn w
-carries_turn w u k trouble c = record {
-  k = k;
-  trouble = trouble;
-  s = c.s;
-  request = c.request;
-  bytes = c.bytes;
-  rest = c.rest;
-  reply = c.reply;
-  reached = c.reached;
-  library = c.library;
-  session = c.session;
-  holders = c.holders;
-  live = c.live;
-  unread = c.unread;
-  gives = c.gives;
-  left = c.left;
-  served = c.served;
-}
-
--- a request is carried out, or a fault ends the server's side
-finds_carries : (w : World) (k : ℕ) (trouble : Trouble) (s : ServerConnection) (found : Result (Option PlainRequest) WireFault) (bytes rest : List ℕ) (u : World) → side_of w.server k ≡ Some s
-    → Unread s.reached bytes → ParsesAs bytes found rest → Finds w k trouble s found rest u → ServerTurn w k trouble u ⊎ (u ≡ ended_at (with_no_failure w) k)
-finds_carries w k trouble s (Ok None) bytes rest u live unread gives finds = absurd finds
-finds_carries w k trouble s (Err fault) bytes rest u live unread gives is = inr is
-finds_carries w k trouble s (Ok (Some request)) bytes rest u live unread gives finds = inl (turn_of w k trouble s request bytes rest u live unread gives finds)
+carries_turn w u k trouble c = record { k = k; trouble = trouble; after = u; turn = c }
 
 pub carries : (w u : World) (k : ℕ) (trouble : Trouble) → Happens w (Serve k trouble) u → ServerTurn w k trouble u ⊎ (u ≡ ended_at (with_no_failure w) k)
-carries w u k trouble (may, (s, found, bytes, rest, live, unread, gives, finds)) = finds_carries w k trouble s found bytes rest u live unread gives finds
+carries w u k trouble (may, (s, found, bytes, rest, live, unread, gives, finds)) = (grind arith)
 
 listens_moves : (w : World) (t : Listens w) (u : World) → u ≡ after_client_call (heard_by w t) t.k t.at t.progress → Moves w u
 listens_moves w t u is = elim (came_on (heard_by w t) t.k t.at t.progress) [
@@ -426,9 +316,7 @@ happened w (Send failing) u (may, (c, step, k, b, there, stage, own, mine, sends
     sends_moves (is_failing failing step) w k c step b u (failing_block failing step) there stage own mine sends
 happened w (ToServer k n) u (may, (s, l, reached, live, at, grows, is)) = (reaches k n s l reached live at grows, is)
 happened w (Serve k trouble) u happens = elim (carries w u k trouble happens) [ inl c ↦ (serves (carries_turn w u k trouble c), c.is) | inr is ↦ (ends k, is) ]
-happened w (ToClient k n) u ((x, (there, other), (some, within)), (l, at, heard)) =
-    let same : x ≡ l = same_Some x l (sym there ∙ at) in
-    hears_moves l.dump w k n l u at refl (subst (λ (z : Connection). IsTrue z.other) same other) some (subst (λ (z : Connection). n ≤ length z.back) same within) heard
+happened w (ToClient k n) u ((x, (there, other), (some, within)), (l, at, heard)) = grind (arith, hears_moves)
 happened w (Cut k) u (may, is) = (cuts k, is)
 happened w (EndAtServer k) u (may, is) = (ends k, is)
 happened w (EndAtClient k) u ((x, (there, other), cut), (l, at, seen)) =

@@ -1,85 +1,36 @@
 -- The names of reels, whatever happens.
-use Rattle.std.proofs.Common.{◌≡◌, ◌⊎◌, ℕ, ◌+◌, ◌<◌, ◌≤◌, Bool, true, false, not, ◌&&◌, ◌||◌, List, [], ◌∷◌, ◌++◌, length, take, drop, map, flat_map, Option, Some, None, Contains, refl, sym, ap, subst, ◌∙◌, inl, inr, arith}
-use Rattle.std.specs.List.{sum_by, list_any}
-use Rattle.std.proofs.lemmas.List.Sums.{sum_by-append, sum_by-cons}
-use Rattle.std.specs.Str.{bytes_eq}
-use Rattle.tape.specs.Tape.{entries_of}
-use Rattle.drives.specs.TapeLibrary.{KeptReel, kept_reel, ReelSlot, slot, Drive, drive_with, TapeLibrary, library, drive_at, with_drive_at, slots_in, names_of, names_in, times, with_first, at_first, to_bin}
-use Rattle.drives.proofs.Shops.{bit, named, times_named, sum_by_slots, sum_by_with_drive}
-use Rattle.drives.specs.Arranging.{are_distinct}
-use Rattle.drives.proofs.Arranging.{times_arranged}
-use Rattle.std.specs.Prelude.{if◌then◌else◌, option_to_list}
-use Rattle.std.specs.Option.{option_map}
-use Rattle.std.proofs.lemmas.List.{append-nil}
-use Rattle.std.proofs.lemmas.Option.{same_Some}
-use Rattle.std.proofs.lemmas.List.Elements.{Contains-push_cases}
-use Rattle.std.proofs.lemmas.Slice.Eq.{bytes_eq-Decides}
-use Rattle.rmt_wire.specs.Request.{PlainRequest}
-use Rattle.rmt_wire.specs.Request.PlainRequest.{Open}
-use Rattle.rmt_server.specs.Access.{writes}
-use Rattle.rmt_server.specs.ServerState.{ServerState, ServerConnection, side}
-use Rattle.rmt_server.specs.Session.{PlainSession, SessionView, session_view, closed_library}
-use Rattle.rmt_server.specs.Session.PlainSession.{Idle, Offline, Online}
-use Rattle.rmt_server.specs.TroubledServe.{drive_in}
-use Rattle.world_model.specs.World.{World, Opening}
-use Rattle.world_model.specs.Events.{PlainEvent}
-use Rattle.world_model.specs.Changes.{side_of, first_name, written_reel, opened_reel, opening}
-use Rattle.world_model.specs.Steps.{Happens}
-use Rattle.world_model.specs.First.{PlainDriveSpec, AreGoodDrives, blank_drive, first_world}
-use Rattle.world_model.specs.Standing.{IsFirstAway, online_drive_in, AreHeld, HasReel}
-use Rattle.world_model.specs.Kept.{AreLaid}
-use Rattle.world_model.specs.Naming.{SameNames, AreNamed}
-use Rattle.world_model.proofs.Sides.{sits_here}
-use Rattle.world_model.proofs.Held.{KeepsHeldOver, held_ended_by, held_all_ended_by}
+use Rattle.world_model.proofs.Basics.{◌≡◌, ◌⊎◌, ℕ, ◌+◌, ◌<◌, ◌≤◌, Bool, true, false, not, ◌&&◌, ◌||◌, List, [], ◌∷◌, ◌++◌, length, take, drop, map, flat_map, Option, Some, None, Contains, refl, sym, ap, subst, ◌∙◌, inl, inr, arith, sum_by, list_any, sum_by-append, sum_by-cons, bytes_eq, option_to_list, option_map, append-nil, Contains-push_cases, bytes_eq-Decides}
+use Rattle.world_model.proofs.Terms.{entries_of, KeptReel, kept_reel, ReelSlot, slot, Drive, drive_with, TapeLibrary, library, drive_at, slots_in, names_of, names_in, times, with_first, at_first, to_bin, bit, named, times_named, sum_by_with_drive, are_distinct, times_arranged, ServerState, ServerConnection, side, PlainSession, SessionView, session_view, closed_library, Online, drive_in, World, Opening, PlainEvent, side_of, first_name, written_reel, opened_reel, opening, Happens, PlainDriveSpec, AreGoodDrives, blank_drive, first_world, IsFirstAway, online_drive_in, AreHeld, HasReel, AreLaid, SameNames, AreNamed}
+use Rattle.world_model.proofs.Ground.{sits_here, KeepsHeldOver, held_ended_by, held_all_ended_by, Comes, stays, closes, opens, moves, ServerMove, arranges, server_after, Move, moved, server_move, server_moved, happened}
 use Rattle.world_model.proofs.Laid.{online_drive, drive_within}
-use Rattle.world_model.proofs.NamedRequests.{Comes, stays, closes, opens, moves}
-use Rattle.world_model.proofs.ServerMoves.{ServerMove, serves, ends, restarts, arranges, server_after}
+use Rattle.world_model.proofs.ServerMoves.{serves, ends, restarts}
 use Rattle.world_model.proofs.Moves as move
-use Rattle.world_model.proofs.Moves.{Move, moved, server_move, server_moved, happened}
-
--- a stack has the same names where its first reel is away or lies there
-first_names : (name : List ℕ) (reel : Option KeptReel) (stack : List (ReelSlot KeptReel)) → sum_by (named name) (with_first reel stack) ≡ sum_by (named name) stack
-first_names name reel [] = refl
-first_names name reel (first ∷ rest) = sum_by-cons (named name) (slot first.name reel) rest ∙ sym (sum_by-cons (named name) first rest)
+use Rattle.world_model.proofs.Terms.{PlainRequest}
 
 -- and what is taken from it, with what is left
 taken_names : (name : List ℕ) (reel : KeptReel) (stack : List (ReelSlot KeptReel))
     → sum_by (named name) (drop 1 stack) + sum_by (named name) (with_first (Some reel) (take 1 stack)) ≡ sum_by (named name) stack
 taken_names name reel [] = refl
-taken_names name reel (first ∷ rest) =
-    let one = sum_by-cons (named name) (slot first.name (Some reel)) [] in
-    let all = sum_by-cons (named name) first rest in
-    omega (arith, one, all)
+taken_names name reel (first ∷ rest) = omega (arith, sum_by-cons (named name) (slot first.name (Some reel)) [], sum_by-cons (named name) first rest)
 
 -- names stay where sums of them do
 by_sums : (s u : TapeLibrary) → ((name : List ℕ) → sum_by (named name) (slots_in u) ≡ sum_by (named name) (slots_in s)) → SameNames s u
 by_sums s u sums name = times_named name (slots_in u) ∙ sums name ∙ sym (times_named name (slots_in s))
 
 pub at_first_names : (s : TapeLibrary) (d : ℕ) (reel : Option KeptReel) → d < length s.drives → SameNames s (at_first s d reel)
-at_first_names s d reel within = by_sums s (at_first s d reel) (λ name.
-    (let r = drive_at s d in
-    let whole = sum_by_with_drive (named name) s d (drive_with r.name (with_first reel r.stack)) within in
-    let part = first_names name reel r.stack in
-    omega (arith, whole, part)))
+at_first_names s d reel within = by_sums s (at_first s d reel) (grind (arith, sum_by_with_drive))
 
 pub to_bin_names : (s : TapeLibrary) (d : ℕ) (reel : KeptReel) → d < length s.drives → SameNames s (to_bin s d reel)
-to_bin_names s d reel within = by_sums s (to_bin s d reel) (λ name.
-    (let r = drive_at s d in
-    let less = drive_with r.name (drop 1 r.stack) in
+to_bin_names s d reel within = by_sums s (to_bin s d reel) (λ name. (let r = drive_at s d in
     let put = with_first (Some reel) (take 1 r.stack) in
-    let whole = sum_by_with_drive (named name) s d less within in
-    let one = sum_by_slots (named name) (with_drive_at s d less) in
-    let all = sum_by_slots (named name) (to_bin s d reel) in
-    let bin = sum_by-append (named name) s.bin put in
-    let part = taken_names name reel r.stack in
-    omega (arith, whole, one, all, bin, part)))
+    let whole = sum_by_with_drive (named name) s d (drive_with r.name (drop 1 r.stack)) within in
+    grind (arith, sum_by-append, taken_names)))
 
 -- what was open is laid back
 closed_names : (h : ServerState) (k : ℕ) (s : ServerConnection) → side_of h k ≡ Some s → AreHeld h → (session : PlainSession) → s.session ≡ session → SameNames h.library (closed_library h.library session)
-closed_names h k s was a Idle is = λ name. refl
-closed_names h k s was a (Offline drive access) is = λ name. refl
 closed_names h k s was a (Online drive access reel) is =
     at_first_names h.library drive (Some (kept_reel (entries_of reel.tape) reel.capacity)) (drive_within h k s drive a was (ap drive_in is))
+closed_names h k s was a session is = grind arith
 
 -- one request of a session
 comes_names : (holders : List ℕ) (h : ServerState) (k : ℕ) (s : ServerConnection) (after : SessionView) (opened : Option (List ℕ)) → side_of h k ≡ Some s → AreHeld h → Comes holders (session_view h.library s.session) after opened
@@ -127,33 +78,21 @@ pub first_times : (stack : List (ReelSlot KeptReel)) → IsFirstAway stack → 0
 first_times [] away = absurd away
 first_times (first ∷ rest) away =
     let one : named first.name first ≡ 1 = ap bit ((bytes_eq-Decides first.name first.name).1 refl) in
-    let all = sum_by-cons (named first.name) first rest in
-    omega (arith, one, all)
+    omega (arith, one, sum_by-cons (named first.name) first rest)
 
 first_is_reel : (s : TapeLibrary) (d : ℕ) → d < length s.drives → IsFirstAway (drive_at s d).stack → HasReel s (first_name (drive_at s d).stack)
 first_is_reel s d within away =
-    let name = first_name (drive_at s d).stack in
-    let part = sum_by_with_drive (named name) s d (drive_with [] []) within in
-    let some = first_times (drive_at s d).stack away in
-    let all = times_named name (slots_in s) in
-    omega (arith, part, some, all)
-
-written_if : (b : Bool) (name reel : List ℕ) → (if b then Some name else None) ≡ Some reel → name ≡ reel
-written_if true name reel is = same_Some name reel is
-written_if false name reel is = absurd cc
+    let part = sum_by_with_drive (named (first_name (drive_at s d).stack)) s d (drive_with [] []) within in
+    grind (arith, first_times, times_named)
 
 -- what a session that writes has open
 pub written_is : (s : TapeLibrary) (session : PlainSession) (reel : List ℕ) → written_reel s session ≡ Some reel
     → (d : ℕ) × (online_drive_in session ≡ Some d) × (first_name (drive_at s d).stack ≡ reel)
-written_is s Idle reel is = absurd cc
-written_is s (Offline drive access) reel is = absurd cc
-written_is s (Online drive access r) reel is = (drive, refl, written_if (writes access) (first_name (drive_at s drive).stack) reel is)
+written_is s session reel is = grind arith
 
 -- the reel that was opened is there
 opened_is_reel : (h : ServerState) (k : ℕ) (x : ServerConnection) (reel : List ℕ) → side_of h k ≡ Some x → AreHeld h → AreLaid h → written_reel h.library x.session ≡ Some reel → HasReel h.library reel
-opened_is_reel h k x reel live a l is =
-    let w = written_is h.library x.session reel is in
-    subst (HasReel h.library) w.2 (first_is_reel h.library w.0 (drive_within h k x w.0 a live (online_drive x.session w.0 w.1)) (l.latched w.0 (k, x, live, w.1)))
+opened_is_reel h k x reel live a l is = grind (arith, first_is_reel, drive_within, online_drive)
 
 -- the names and the openings, after an event that made no opening, or one
 same_named : (w u : World) → SameNames w.server.library u.server.library → u.opens ≡ w.opens → AreNamed w → AreNamed u
@@ -174,15 +113,11 @@ served_named w u k opened same made new n = record {
 
 -- the reel that a request opened is there
 open_reel : (request : PlainRequest) (s : TapeLibrary) (session : PlainSession) (reel : List ℕ) → opened_reel request s session ≡ Some reel → written_reel s session ≡ Some reel
-open_reel (Open device mode) s session reel is = is
-open_reel request s session reel is = absurd cc
+open_reel request s session reel is = grind arith
 
 pub comes_reel : (holders : List ℕ) (before after : SessionView) (opened : Option (List ℕ)) → Comes holders before after opened → (reel : List ℕ) → opened ≡ Some reel
     → written_reel after.library after.session ≡ Some reel
-comes_reel holders before after opened (opens drive access r first within waits free library session new) reel is = sym new ∙ is
-comes_reel holders before after opened (stays library session drive none) reel is = let clash = sym none ∙ is in absurd cc
-comes_reel holders before after opened (closes library session none) reel is = let clash = sym none ∙ is in absurd cc
-comes_reel holders before after opened (moves drive access r online library session none) reel is = let clash = sym none ∙ is in absurd cc
+comes_reel holders before after opened given reel is = grind arith
 
 pub named_moved : (w : World) (m : Move w) → AreHeld w.server → AreHeld (moved w m).server → AreLaid (moved w m).server → AreNamed w → AreNamed (moved w m)
 named_moved w (move.serves t) before a l n =
@@ -193,16 +128,13 @@ named_moved w (move.serves t) before a l n =
 named_moved w m before a l n = same_named w _ (names_moved w m before) refl n
 
 both : (a b : Bool) → (a && b) ≡ true → (a ≡ true) × (b ≡ true)
-both true b is = (refl, is)
-both false b is = absurd cc
+both a b is = grind arith
 
 neither : (a b : Bool) → (a || b) ≡ false → (a ≡ false) × (b ≡ false)
-neither true b is = absurd cc
-neither false b is = (refl, is)
+neither a b is = grind arith
 
 turned : (b : Bool) → not b ≡ true → b ≡ false
-turned true is = absurd cc
-turned false is = refl
+turned b is = grind arith
 
 -- the names of the first world
 none_times : (name : List ℕ) (names : List (List ℕ)) → list_any (bytes_eq name) names ≡ false → times name names ≡ 0
@@ -211,8 +143,7 @@ none_times name (n ∷ names) none =
     let parts = neither (bytes_eq name n) (list_any (bytes_eq name) names) none in
     let one : bit (bytes_eq name n) ≡ 0 = ap bit parts.0 in
     let rest = none_times name names parts.1 in
-    let all = sum_by-cons (λ m. bit (bytes_eq name m)) n names in
-    omega (arith, one, rest, all)
+    grind arith
 
 distinct_if : (name n : List ℕ) (names : List (List ℕ)) (b : Bool) → bytes_eq name n ≡ b → list_any (bytes_eq n) names ≡ false → times name names ≤ 1
     → times name (n ∷ names) ≤ 1
@@ -222,10 +153,7 @@ distinct_if name n names true is apart more =
     let one : bit (bytes_eq name n) ≡ 1 = ap bit is in
     let all = sum_by-cons (λ m. bit (bytes_eq name m)) n names in
     omega (arith, one, rest, all)
-distinct_if name n names false is apart more =
-    let one : bit (bytes_eq name n) ≡ 0 = ap bit is in
-    let all = sum_by-cons (λ m. bit (bytes_eq name m)) n names in
-    omega (arith, one, more, all)
+distinct_if name n names false is apart more = grind arith
 
 distinct_once : (names : List (List ℕ)) → are_distinct names ≡ true → (name : List ℕ) → times name names ≤ 1
 distinct_once [] distinct name = omega arith

@@ -1,19 +1,7 @@
 -- What one request makes of the reels, and of the reel that its session may write on.
-use Rattle.std.proofs.Common.{◌≡◌, ℕ, ◌<◌, Bool, true, false, List, length, Option, Some, None, Ok, Err, MatchOption, refl, sym, ap, ◌∙◌}
-use Rattle.rmt_wire.specs.Request.{PlainRequest}
-use Rattle.rmt_wire.specs.Request.PlainRequest.{Open, Close, Op}
-use Rattle.rmt_wire.specs.Reply.{PlainReply}
-use Rattle.tape.specs.Tape.{entries_of}
-use Rattle.tape.specs.declared.trouble.Trouble.{Trouble}
-use Rattle.drives.specs.declared.fault.DriveFault.TheVariants.{NoSuchDrive, Busy, NoReel, Device, OutOfMemory, NameTaken}
-use Rattle.drives.specs.TapeLibrary.{KeptReel, after_latch, after_offline, waiting_reel}
-use Rattle.rmt_server.specs.declared.access.Access.{Access}
-use Rattle.rmt_server.specs.Access.{access_of}
-use Rattle.rmt_server.specs.Refusals.{refused}
-use Rattle.rmt_server.specs.Session.{PlainReel, PlainSession, SessionView, status_of, refusal, closed, closed_library, is_offline}
-use Rattle.rmt_server.specs.Session.PlainSession.{Idle, Offline, Online}
-use Rattle.rmt_server.specs.TroubledServe.{drive_in, with_holder, holder_of, TroubledServeStep, TroubledOpenStep, TroubledReelStep, TroubledMoveStep, TroubledOpStep, TroubledDoneStep}
-use Rattle.world_model.specs.Changes.{written_reel, opened_reel}
+use Rattle.world_model.proofs.Basics.{◌≡◌, ℕ, ◌<◌, Bool, true, false, List, length, Option, Some, None, Ok, Err, MatchOption, refl, sym, ap, ◌∙◌, arith}
+use Rattle.world_model.proofs.Terms.{PlainRequest, Op, PlainReply, entries_of, Trouble, KeptReel, after_latch, after_offline, waiting_reel, Access, access_of, refused, PlainReel, PlainSession, SessionView, status_of, refusal, closed, closed_library, is_offline, Idle, Offline, Online, drive_in, with_holder, holder_of, TroubledServeStep, TroubledOpenStep, TroubledReelStep, TroubledMoveStep, TroubledOpStep, TroubledDoneStep, written_reel, opened_reel}
+use Rattle.rmt_wire.specs.Request.PlainRequest.{Open}
 
 -- the drive that is open with its reel, and for what
 abbrev pub use_of : PlainSession → Option (ℕ × Access)
@@ -38,9 +26,7 @@ pub data Comes (holders : List ℕ) (before after : SessionView) (opened : Optio
 
 reel_comes : (holders : List ℕ) (trouble : Trouble) (before : SessionView) (request : PlainRequest) (reply : PlainReply) (after : SessionView) (opened : Option (List ℕ)) → opened ≡ None
     → TroubledReelStep trouble before request reply after → Comes holders before after opened
-reel_comes holders trouble before request reply after opened none (drive, access, reel, answer, t, online, device, replies, is) =
-    stays (ap (λ (v : SessionView). v.library) is) (ap (λ (v : SessionView). use_of v.session) is ∙ sym (ap use_of online))
-    (ap (λ (v : SessionView). drive_in v.session) is ∙ sym (ap drive_in online)) none
+reel_comes holders trouble before request reply after opened none (drive, access, reel, answer, t, online, device, replies, is) = grind arith
 
 move_comes : (holders : List ℕ) (trouble : Trouble) (before : SessionView) (count : ℕ) (reply : PlainReply) (after : SessionView) (opened : Option (List ℕ)) → opened ≡ None
     → TroubledMoveStep trouble before count reply after → Comes holders before after opened
@@ -54,14 +40,10 @@ op_comes : (holders : List ℕ) (offline : Bool) (trouble : Trouble) (before : S
 op_comes holders true trouble before op count reply after opened none step = move_comes holders trouble before count reply after opened none step
 op_comes holders false trouble before op count reply after opened none step = reel_comes holders trouble before (Op op count) reply after opened none step
 
-close_comes : (holders : List ℕ) (before after : SessionView) (opened : Option (List ℕ)) → opened ≡ None → after ≡ closed before → Comes holders before after opened
-close_comes holders before after opened none is = closes (ap (λ (v : SessionView). v.library) is) (ap (λ (v : SessionView). v.session) is) none
-
 done_comes : (holders : List ℕ) (trouble : Trouble) (before : SessionView) (request : PlainRequest) (reply : PlainReply) (after : SessionView) (opened : Option (List ℕ)) → opened ≡ None
     → TroubledDoneStep trouble before request reply after → Comes holders before after opened
-done_comes holders trouble before Close reply after opened none step = close_comes holders before after opened none step.1
 done_comes holders trouble before (Op op count) reply after opened none step = op_comes holders (is_offline op) trouble before op count reply after opened none step
-done_comes holders trouble before request reply after opened none step = reel_comes holders trouble before request reply after opened none step
+done_comes holders trouble before request reply after opened none step = grind arith
 
 -- a request that is refused, or done
 refused_comes : {R : Type 0} (o : Option R) (A : Type 0) (B : R → Type 0) (holders : List ℕ) (before after : SessionView) (opened : Option (List ℕ)) → (A → Comes holders before after opened)
@@ -78,15 +60,9 @@ not_opened holders before after library idle = closes library idle (ap (written_
 
 opens_comes : (trouble : Trouble) (holders : List ℕ) (before : SessionView) (device : List ℕ) (access : Option Access) (reply : PlainReply) (after : SessionView)
     → TroubledOpenStep trouble (with_holder (drive_in before.session) 0 holders) (closed before) device access reply after → Comes holders before after (written_reel after.library after.session)
-opens_comes trouble holders before device None reply after (replies, is) = not_opened holders before after (ap (λ (v : SessionView). v.library) is) (ap (λ (v : SessionView). v.session) is)
 opens_comes trouble holders before device (Some access) reply after (Ok opened, asked, (found, named, latch), cause, replies, is) =
     opens opened.0 access opened.1 latch.0 named.0 latch.1 (ap (holder_of (with_holder (drive_in before.session) 0 holders)) (sym found) ∙ cause.0) latch.2 is refl
-opens_comes trouble holders before device (Some access) reply after (Err NoSuchDrive, asked, (named, same), cause, replies, is) = not_opened holders before after same is
-opens_comes trouble holders before device (Some access) reply after (Err (Busy n), asked, (e, found, named, same), cause, replies, is) = not_opened holders before after same is
-opens_comes trouble holders before device (Some access) reply after (Err NoReel, asked, (e, found, named, latch), cause, replies, is) = not_opened holders before after latch.1 is
-opens_comes trouble holders before device (Some access) reply after (Err Device, asked, (e, found, named, latch), cause, replies, is) = not_opened holders before after latch.1 is
-opens_comes trouble holders before device (Some access) reply after (Err OutOfMemory, asked, step, cause, replies, is) = absurd cause
-opens_comes trouble holders before device (Some access) reply after (Err NameTaken, asked, step, cause, replies, is) = absurd cause
+opens_comes trouble holders before device access reply after given = grind arith
 
 -- a request that is no open
 other_comes : (holders : List ℕ) (trouble : Trouble) (before : SessionView) (request : PlainRequest) (reply : PlainReply) (after : SessionView) (opened : Option (List ℕ)) → opened ≡ None

@@ -1,11 +1,6 @@
 -- Members of lists by their numbers, and what becomes of them where one is changed or added.
-use Rattle.std.proofs.Common.{◌≡◌, ◌≢◌, ◌⊎◌, ℕ, zero, suc, ◌<◌, ◌≤◌, List, [], ◌∷◌, ◌++◌, length, map, Option, Some, None, refl, sym, ap, ◌∙◌, inl, inr, arith}
-use Rattle.std.specs.Prelude.{slice_get, slice_set}
-use Rattle.std.proofs.lemmas.List.{length-set}
-use Rattle.std.proofs.lemmas.Bool.Decides.{eqb_tells}
-use Rattle.std.proofs.lemmas.Option.{same_Some}
-use Rattle.world_model.specs.World.{numbered, with_numbered}
-use Rattle.world_model.specs.Changes.{changed, changed_from}
+use Rattle.world_model.proofs.Basics.{◌≡◌, ◌≢◌, ◌⊎◌, ℕ, zero, suc, ◌<◌, ◌≤◌, List, [], ◌∷◌, ◌++◌, length, map, Option, Some, None, refl, sym, ap, ◌∙◌, inl, inr, arith, slice_get, slice_set, length-set, eqb_tells, same_Some}
+use Rattle.world_model.proofs.Terms.{numbered, with_numbered, changed, changed_from}
 
 -- what a list with one member set holds
 pub set_is : {X : Type 0} (xs : List X) (i m : ℕ) (v y : X) → slice_get (slice_set xs i v) m ≡ Some y
@@ -21,16 +16,12 @@ set_is (w ∷ xs) (suc i) (suc m) v y is = elim (set_is xs i m v y is) [
 
 -- a member that was set, where there was one
 pub set_here : {X : Type 0} (xs : List X) (i : ℕ) (x v : X) → slice_get xs i ≡ Some x → slice_get (slice_set xs i v) i ≡ Some v
-set_here [] i x v at = absurd cc
-set_here (w ∷ xs) zero x v at = refl
 set_here (w ∷ xs) (suc i) x v at = set_here xs i x v at
+set_here xs i x v at = grind arith
 
 pub set_other : {X : Type 0} (xs : List X) (i m : ℕ) (v : X) → ((m ≡ i) → ⊥) → slice_get (slice_set xs i v) m ≡ slice_get xs m
-set_other [] i m v other = refl
-set_other (w ∷ xs) zero zero v other = absurd (other refl)
-set_other (w ∷ xs) zero (suc m) v other = refl
-set_other (w ∷ xs) (suc i) zero v other = refl
 set_other (w ∷ xs) (suc i) (suc m) v other = set_other xs i m v (λ e. other (ap suc e))
+set_other xs i m v other = grind arith
 
 -- the same by numbers
 pub with_is : {X : Type 0} (xs : List X) (k j : ℕ) (v y : X) → numbered (with_numbered xs k v) j ≡ Some y
@@ -43,17 +34,13 @@ with_is xs (suc i) (suc m) v y is = elim (set_is xs i m v y is) [
 ]
 
 pub with_here : {X : Type 0} (xs : List X) (k : ℕ) (x v : X) → numbered xs k ≡ Some x → numbered (with_numbered xs k v) k ≡ Some v
-with_here xs zero x v at = absurd cc
-with_here xs (suc i) x v at = set_here xs i x v at
+with_here xs k x v at = grind (arith, set_here)
 
 pub with_other : {X : Type 0} (xs : List X) (k j : ℕ) (v : X) → ((j ≡ k) → ⊥) → numbered (with_numbered xs k v) j ≡ numbered xs j
-with_other xs k zero v other = refl
-with_other xs zero (suc m) v other = refl
-with_other xs (suc i) (suc m) v other = set_other xs i m v (λ e. other (ap suc e))
+with_other xs k j v other = grind (arith, set_other)
 
 pub length_with : {X : Type 0} (xs : List X) (k : ℕ) (v : X) → length (with_numbered xs k v) ≡ length xs
-length_with xs zero v = refl
-length_with xs (suc i) v = length-set xs i v
+length_with xs k v = grind (arith, length-set)
 
 -- a member of a list of which one was changed
 from_is : {X : Type 0} (f : X → X) (xs : List X) (k j : ℕ) (y : X) (o : Option X) → numbered xs k ≡ o → numbered (changed_from f xs k o) j ≡ Some y
@@ -85,8 +72,7 @@ pub changed_there : {X : Type 0} (f : X → X) (xs : List X) (k j : ℕ) (x : X)
 changed_there f xs k j x there = there_from f xs k j x (numbered xs k) refl there
 
 length_from : {X : Type 0} (f : X → X) (xs : List X) (k : ℕ) (o : Option X) → length (changed_from f xs k o) ≡ length xs
-length_from f xs k None = refl
-length_from f xs k (Some x) = length_with xs k (f x)
+length_from f xs k o = grind (arith, length_with)
 
 pub length_changed : {X : Type 0} (f : X → X) (xs : List X) (k : ℕ) → length (changed f xs k) ≡ length xs
 length_changed f xs k = length_from f xs k (numbered xs k)
@@ -111,14 +97,12 @@ pushed_is xs x (suc m) y is = elim (push_is xs x m y is) [
 ]
 
 more_is : {X : Type 0} (xs more : List X) (m : ℕ) (y : X) → slice_get xs m ≡ Some y → slice_get (xs ++ more) m ≡ Some y
-more_is [] more m y is = absurd cc
-more_is (z ∷ xs) more zero y is = is
 more_is (z ∷ xs) more (suc m) y is = more_is xs more m y is
+more_is xs more m y is = grind arith
 
 -- what was there stays at its number
 pub numbered_more : {X : Type 0} (xs more : List X) (k : ℕ) (y : X) → numbered xs k ≡ Some y → numbered (xs ++ more) k ≡ Some y
-numbered_more xs more zero y is = absurd cc
-numbered_more xs more (suc m) y is = more_is xs more m y is
+numbered_more xs more k y is = grind (arith, more_is)
 
 last_is : {X : Type 0} (xs : List X) (x : X) → slice_get (xs ++ x ∷ []) (length xs) ≡ Some x
 last_is [] x = refl
@@ -129,18 +113,15 @@ numbered_last xs x = last_is xs x
 
 -- of an empty list no number has a member
 pub no_number : {X : Type 0} (k : ℕ) (x : X) → numbered {X = X} [] k ≡ Some x → ⊥
-no_number zero x is = cc
-no_number (suc k) x is = cc
+no_number k x is = grind arith
 
 -- there is a member exactly at the numbers up to the length
 there_at : {X : Type 0} (xs : List X) (m : ℕ) (y : X) → slice_get xs m ≡ Some y → suc m ≤ length xs
-there_at [] m y is = absurd cc
-there_at (z ∷ xs) zero y is = omega arith
 there_at (z ∷ xs) (suc m) y is = let on = there_at xs m y is in omega (arith, on)
+there_at xs m y is = grind arith
 
 pub numbered_within : {X : Type 0} (xs : List X) (k : ℕ) (y : X) → numbered xs k ≡ Some y → k ≤ length xs
-numbered_within xs zero y is = absurd cc
-numbered_within xs (suc m) y is = there_at xs m y is
+numbered_within xs k y is = grind (arith, there_at)
 
 get_at : {X : Type 0} (xs : List X) (m : ℕ) → suc m ≤ length xs → (y : X) × (slice_get xs m ≡ Some y)
 get_at [] m within = absurd (omega (arith, within))
@@ -152,18 +133,15 @@ numbered_there xs zero first within = absurd (omega (arith, first))
 numbered_there xs (suc m) first within = get_at xs m within
 
 pub numbered_first : {X : Type 0} (xs : List X) (k : ℕ) (y : X) → numbered xs k ≡ Some y → 1 ≤ k
-numbered_first xs zero y is = absurd cc
-numbered_first xs (suc m) y is = omega arith
+numbered_first xs k y is = grind arith
 
 -- one that is set twice
 set_twice : {X : Type 0} (xs : List X) (i : ℕ) (x y : X) → slice_set (slice_set xs i x) i y ≡ slice_set xs i y
-set_twice [] i x y = refl
-set_twice (w ∷ xs) zero x y = refl
 set_twice (w ∷ xs) (suc i) x y = ap (λ l. w ∷ l) (set_twice xs i x y)
+set_twice xs i x y = grind arith
 
 pub with_twice : {X : Type 0} (xs : List X) (k : ℕ) (x y : X) → with_numbered (with_numbered xs k x) k y ≡ with_numbered xs k y
-with_twice xs zero x y = refl
-with_twice xs (suc i) x y = set_twice xs i x y
+with_twice xs k x y = grind (arith, set_twice)
 
 pub less_or_more : (d e : ℕ) → d ≢ e → (d < e) ⊎ (e < d)
 less_or_more zero zero differ = absurd (differ refl)
@@ -176,19 +154,15 @@ less_or_more (suc d) (suc e) differ = elim (less_or_more d e (λ same. differ (a
 
 -- of a list of which each was changed
 map_get : {X : Type 0} (f : X → X) (xs : List X) (m : ℕ) (y : X) → slice_get (map f xs) m ≡ Some y → (x : X) × (slice_get xs m ≡ Some x) × (y ≡ f x)
-map_get f [] m y is = absurd cc
-map_get f (x ∷ xs) zero y is = (x, refl, same_Some y (f x) (sym is))
 map_get f (x ∷ xs) (suc m) y is = map_get f xs m y is
+map_get f xs m y is = grind arith
 
 pub map_at : {X : Type 0} (f : X → X) (xs : List X) (k : ℕ) (y : X) → numbered (map f xs) k ≡ Some y → (x : X) × (numbered xs k ≡ Some x) × (y ≡ f x)
-map_at f xs zero y is = absurd cc
-map_at f xs (suc m) y is = map_get f xs m y is
+map_at f xs k y is = grind (arith, map_get)
 
 get_map : {X : Type 0} (f : X → X) (xs : List X) (m : ℕ) (x : X) → slice_get xs m ≡ Some x → slice_get (map f xs) m ≡ Some (f x)
-get_map f [] m x is = absurd cc
-get_map f (y ∷ xs) zero x is = ap (λ z. Some (f z)) (same_Some y x is)
 get_map f (y ∷ xs) (suc m) x is = get_map f xs m x is
+get_map f xs m x is = grind arith
 
 pub at_map : {X : Type 0} (f : X → X) (xs : List X) (k : ℕ) (x : X) → numbered xs k ≡ Some x → numbered (map f xs) k ≡ Some (f x)
-at_map f xs zero x is = absurd cc
-at_map f xs (suc m) x is = get_map f xs m x is
+at_map f xs k x is = grind (arith, get_map)

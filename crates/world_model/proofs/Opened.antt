@@ -1,36 +1,17 @@
 -- Of a reel that a session may write on the last opening is its own, whatever happens.
-use Rattle.std.proofs.Common.{◌≡◌, ◌≢◌, ◌⊎◌, ℕ, suc, ◌<◌, ◌≤◌, List, [], ◌∷◌, ◌++◌, length, Contains, Option, Some, None, refl, sym, ap, subst, ◌∙◌, inl, inr, arith}
-use Rattle.std.specs.Prelude.{slice_index_or, option_to_list, if◌then◌else◌}
-use Rattle.std.specs.Option.{option_map}
-use Rattle.std.specs.List.{sum_by}
-use Rattle.std.proofs.lemmas.List.{append-nil, length-append, length-set}
-use Rattle.std.proofs.lemmas.Option.{same_Some}
-use Rattle.rmt_wire.specs.RequestReader.{held}
-use Rattle.drives.specs.TapeLibrary.{KeptReel, Drive, drive_with, TapeLibrary, drive_at, with_drive_at, slots_in, EachReelOnce}
-use Rattle.drives.specs.Arranging.{arranged}
-use Rattle.drives.proofs.Shops.{named, times_named, sum_by_with_drive}
-use Rattle.rmt_server.specs.declared.access.Access.{Access}
-use Rattle.rmt_server.specs.Access.{writes}
-use Rattle.rmt_server.specs.ServerState.{ServerState, server, ServerConnection, side}
-use Rattle.rmt_server.specs.Session.{PlainSession, SessionView, session_view, closed_library}
-use Rattle.rmt_server.specs.Session.PlainSession.{Idle, Offline, Online}
-use Rattle.rmt_server.specs.TroubledServe.{drive_in}
-use Rattle.world_model.specs.World.{World, Opening, with_numbered}
-use Rattle.world_model.specs.Changes.{side_of, with_side, ended_from, first_name, written_reel, opened_reel, opening, answered}
-use Rattle.world_model.specs.First.{PlainDriveSpec, first_world}
-use Rattle.world_model.specs.Kept.{AreTidy, AreLaid}
-use Rattle.world_model.specs.Standing.{IsFirstAway, online_drive_in, AreHeld}
-use Rattle.world_model.specs.Naming.{IsUnopenedSince}
-use Rattle.world_model.specs.Naming.{AreOpened}
-use Rattle.world_model.proofs.Numbers.{no_number, length_changed, pushed_is, numbered_more, numbered_last, numbered_within, numbered_first}
-use Rattle.world_model.proofs.Sides.{side_there, Sits, sits_here, sits_other, sits_is, joined_is}
-use Rattle.world_model.proofs.Held.{KeepsHeldOver, held_ended_by, held_all_ended_by}
+-- Which session wrote on which reel, whatever happens.
+use Rattle.world_model.proofs.Basics.{◌≡◌, ◌≢◌, ◌⊎◌, ℕ, suc, ◌<◌, ◌≤◌, List, [], ◌∷◌, ◌++◌, length, Contains, Option, Some, None, refl, sym, ap, subst, ◌∙◌, inl, inr, arith, slice_index_or, option_to_list, option_map, sum_by, append-nil, length-append, length-set, same_Some, take, drop, eqb_tells, take_all, take-append-le, take-append-drop, length-take-le, Contains-push_cases, Contains-append_left, Contains-append_right}
+use Rattle.world_model.proofs.Terms.{KeptReel, Drive, drive_with, TapeLibrary, drive_at, with_drive_at, slots_in, EachReelOnce, arranged, named, times_named, sum_by_with_drive, ServerState, server, ServerConnection, side, PlainSession, SessionView, session_view, closed_library, Idle, drive_in, World, Opening, with_numbered, side_of, with_side, ended_from, first_name, written_reel, opened_reel, opening, answered, PlainDriveSpec, first_world, AreTidy, AreLaid, IsFirstAway, online_drive_in, AreHeld, IsUnopenedSince, AreOpened, PlainRequest, PlainReply, Trouble, TroubledServeStep, Writing, numbered, writing, reel_written, AreWritersLast, IsAlone, writes}
+use Rattle.world_model.proofs.Ground.{no_number, length_changed, pushed_is, numbered_more, numbered_last, numbered_within, numbered_first, numbered_there, less_or_more, Sits, sits_here, sits_other, sits_is, joined_is, KeepsHeldOver, held_ended_by, held_all_ended_by, Comes, step_comes, ServerMove, reads, arranges, server_after, IsNoRequest, Move, moved, server_move, connections_more, Turn, turned}
+use Rattle.world_model.proofs.Sides.{side_there}
 use Rattle.world_model.proofs.Laid.{IsOnlineElse, IsOpenElse, online_else, apart, alone_at, drive_other, drive_within, free_off, online_drive}
-use Rattle.world_model.proofs.NamedRequests.{use_of, Comes, stays, closes, opens, moves, step_comes}
-use Rattle.world_model.proofs.ServerMoves.{ServerMove, leaves, joins, reads, serves, ends, restarts, arranges, server_after, IsNoRequest}
+use Rattle.world_model.proofs.ServerMoves.{joins, ends, restarts}
+use Rattle.world_model.proofs.Moves.{serves}
+use Rattle.world_model.proofs.Named.{first_times, written_is, opening_is}
+use Rattle.world_model.proofs.LabelledSteps.{WritesOn}
 use Rattle.world_model.proofs.Moves as move
-use Rattle.world_model.proofs.Moves.{Move, moved, server_move, connections_more}
-use Rattle.world_model.proofs.Named.{first_times, comes_reel, written_is, opening_is}
+use Rattle.world_model.proofs.Named.{comes_reel}
+use Rattle.world_model.proofs.NamedRequests.{stays, closes, opens, moves}
 
 -- an opening that was the last of its reel, where one may have been added
 last_stays : (all : List Opening) (k j : ℕ) (reel : List ℕ) (opened : Option (List ℕ)) → ((r : List ℕ) → opened ≡ Some r → r ≢ reel) → IsUnopenedSince all k reel
@@ -51,10 +32,8 @@ last_new all k reel = (
   suc (length all),
   numbered_last all (opening k reel),
   λ m o less there. (
-      let within = numbered_within (all ++ opening k reel ∷ []) m o there in
-      let many = length-append all (opening k reel ∷ []) in
       let one : length (opening k reel ∷ []) ≡ 1 = refl in
-      absurd (omega (arith, less, within, many, one))),
+      absurd (omega (arith, less, numbered_within (all ++ opening k reel ∷ []) m o there, length-append all (opening k reel ∷ []), one))),
 )
 
 -- of each session that may write, the last opening of its reel is its own
@@ -63,21 +42,7 @@ AreLast h all = (k : ℕ) (s : ServerConnection) (reel : List ℕ) → side_of h
 
 -- the reel that is written is told by the rack of its drive alone
 written_library : (s t : TapeLibrary) (session : PlainSession) (d : ℕ) → online_drive_in session ≡ Some d → drive_at s d ≡ drive_at t d → written_reel s session ≡ written_reel t session
-written_library s t Idle d on same = refl
-written_library s t (Offline drive access) d on same = refl
-written_library s t (Online drive access reel) d on same =
-    let its = same_Some drive d on in
-    ap (λ (r : Drive KeptReel). if writes access then Some (first_name r.stack) else None) (ap (drive_at s) its ∙ same ∙ ap (drive_at t) (sym its))
-
--- and by the drive and what it was opened for
-abbrev written_by : TapeLibrary → Option (ℕ × Access) → Option (List ℕ)
-written_by s None = None
-written_by s (Some (drive, access)) = if writes access then Some (first_name (drive_at s drive).stack) else None
-
-written_use : (s : TapeLibrary) (session : PlainSession) → written_reel s session ≡ written_by s (use_of session)
-written_use s Idle = refl
-written_use s (Offline drive access) = refl
-written_use s (Online drive access reel) = refl
+written_library s t session d on same = grind arith
 
 -- One side turns, where the racks of the others' drives stay, and a reel that was opened is none of theirs.
 turn_last : (h u : ServerState) (k : ℕ) (s : ServerConnection) (o : Option ServerConnection) (all : List Opening) (opened : Option (List ℕ)) → Sits h k s o u
@@ -106,10 +71,7 @@ quiet_last h u k s o all t all_drives own l =
 -- the racks of drives that others have open
 pub closed_else : (h : ServerState) (k : ℕ) (s : ServerConnection) → side_of h k ≡ Some s → AreHeld h → (session : PlainSession) → s.session ≡ session → (d : ℕ) → IsOpenElse h k d
     → drive_at (closed_library h.library session) d ≡ drive_at h.library d
-closed_else h k s was a Idle is d elsewhere = refl
-closed_else h k s was a (Offline drive access) is d elsewhere = refl
-closed_else h k s was a (Online drive access reel) is d elsewhere =
-    drive_other h.library.drives drive d _ (drive_with [] []) (λ same. alone_at h k s drive a was (ap drive_in is) (subst (IsOpenElse h k) same elsewhere))
+closed_else h k s was a session is d elsewhere = grind (arith, drive_other, alone_at)
 
 pub comes_else : (holders : List ℕ) (h : ServerState) (k : ℕ) (s : ServerConnection) (after : SessionView) (opened : Option (List ℕ)) → side_of h k ≡ Some s → AreHeld h
     → ((d : ℕ) → IsOpenElse h k d → drive_in after.session ≡ Some d → ⊥) → Comes holders (session_view h.library s.session) after opened
@@ -128,15 +90,7 @@ comes_else holders h k s after opened was a apart (moves drive access reel onlin
 -- what the session itself may write on then, it could before, or it was opened
 pub comes_own : (holders : List ℕ) (before after : SessionView) (opened : Option (List ℕ)) (reel : List ℕ) → Comes holders before after opened → written_reel after.library after.session ≡ Some reel
     → ((written_reel before.library before.session ≡ Some reel) × (opened ≡ None)) ⊎ (opened ≡ Some reel)
-comes_own holders before after opened reel (stays library session drive none) written =
-    inl (
-      written_use before.library before.session ∙ ap (written_by before.library) (sym session) ∙ ap (λ (v : TapeLibrary). written_by v (use_of after.session)) (sym library)
-          ∙ sym (written_use after.library after.session) ∙ written,
-      none,
-    )
-comes_own holders before after opened reel (closes library session none) written = let clash = sym (ap (written_reel after.library) session) ∙ written in absurd cc
-comes_own holders before after opened reel (opens drive access r first within waits free library session new) written = inr (new ∙ written)
-comes_own holders before after opened reel (moves drive access r online library session none) written = let clash = sym (ap (written_reel after.library) session) ∙ written in absurd cc
+comes_own holders before after opened reel given written = grind arith
 
 -- two reels that are away have two names
 pub names_differ : (s : TapeLibrary) (d e : ℕ) → EachReelOnce s → d ≢ e → d < length s.drives → IsFirstAway (drive_at s d).stack → e < length s.drives → IsFirstAway (drive_at s e).stack
@@ -145,15 +99,12 @@ names_differ s d e once other here away there gone same =
     let name = first_name (drive_at s d).stack in
     let t = with_drive_at s d (drive_with [] []) in
     let still : drive_at t e ≡ drive_at s e = drive_other s.drives d e (drive_with [] []) (drive_with [] []) (λ is. other (sym is)) in
-    let one = sum_by_with_drive (named name) s d (drive_with [] []) here in
     let two = sum_by_with_drive (named name) t e (drive_with [] []) (let many = length-set s.drives d (drive_with [] []) in omega (arith, there, many)) in
     let its : sum_by (named name) (drive_at t e).stack ≡ sum_by (named name) (drive_at s e).stack = ap (λ (r : Drive KeptReel). sum_by (named name) r.stack) still in
-    let first = first_times (drive_at s d).stack away in
     let second : 0 < sum_by (named name) (drive_at s e).stack
     = subst (λ n. 0 < sum_by (named n) (drive_at s e).stack) (sym same) (first_times (drive_at s e).stack gone) in
     let all = times_named name (slots_in s) in
-    let few = once name in
-    omega (arith, one, two, its, first, second, all, few)
+    omega (arith, sum_by_with_drive (named name) s d (drive_with [] []) here, two, its, first_times (drive_at s d).stack away, second, all, once name)
 
 -- a side that is over
 over_last : (all : List Opening) → KeepsHeldOver (λ h. AreLast h all)
@@ -211,17 +162,13 @@ served_there w u k s opened live made connections t n o among = elim (opening_is
   | inl before ↦ (let was = n.there o before in (was.0, (let few = was.1 in omega (arith, few, connections))))
   | inr (reel, is, its) ↦ (
       let member = side_there w.server k s live in
-      let within = numbered_within w.server.sides k (Some s) member in
       let first = numbered_first w.server.sides k (Some s) member in
-      let paired = t.paired in
       let same : o.connection ≡ k = ap (λ (z : Opening). z.connection) its in
-      (omega (arith, first, same), omega (arith, within, paired, connections, same)))
+      (omega (arith, first, same), omega (arith, numbered_within w.server.sides k (Some s) member, t.paired, connections, same)))
 ]
 
 -- each event
 server_last : (h : ServerState) (m : ServerMove h) (all : List Opening) → IsNoRequest h m → AreHeld h → AreLast h all → AreLast (server_after h m) all
-server_last h (serves k s x library holders opened live unread comes held) all none a l = absurd none
-server_last h leaves all none a l = l
 server_last h joins all none a l = joined_last h all l
 server_last h (reads k s reached live unread) all none a l =
     quiet_last h (server h.library h.holders (with_numbered h.sides k (Some (side reached s.session)))) k s (Some (side reached s.session)) all record { was = live; sides = refl }
@@ -230,6 +177,7 @@ server_last h (reads k s reached live unread) all none a l =
 server_last h (ends k) all none a l = held_ended_by (λ u. AreLast u all) (over_last all) h k a l
 server_last h restarts all none a l = held_all_ended_by (λ u. AreLast u all) (over_last all) h (length h.sides) a l
 server_last h (arranges d names within free) all none a l = arranged_last h d names all a free l
+server_last h m all none a l = grind arith
 
 pub opened_moved : (w : World) (m : Move w) → AreTidy w → AreHeld w.server → AreHeld (moved w m).server → AreLaid (moved w m).server → EachReelOnce (moved w m).server.library → AreOpened w
     → AreOpened (moved w m)
@@ -252,3 +200,102 @@ first_opened drives = record {
   there = λ o (k, within, is). absurd (omega (arith, within));
   last = λ k s reel at written. absurd (no_number k (Some s) (side_there (first_world drives).server k s at));
 }
+
+write_stays : (trouble : Trouble) (holders : List ℕ) (before : SessionView) (request : PlainRequest) (reply : PlainReply) (after : SessionView) (name : List ℕ)
+    → TroubledServeStep trouble holders before request reply after → WritesOn before request name → reel_written request after.library after.session ≡ Some name
+write_stays trouble holders before request reply after name step given = grind arith
+
+-- it was so before the request
+was_open : (trouble : Trouble) (holders : List ℕ) (before : SessionView) (request : PlainRequest) (reply : PlainReply) (after : SessionView) (name : List ℕ)
+    → TroubledServeStep trouble holders before request reply after → reel_written request after.library after.session ≡ Some name
+    → written_reel before.library before.session ≡ Some name
+was_open trouble holders before request reply after name step is = grind arith
+
+-- a writing is one of those before, or that of the request
+pub writing_is : (all : List Writing) (k after : ℕ) (written : Option (List ℕ)) (x : Writing)
+    → Contains (all ++ option_to_list (option_map (writing k after) written)) x
+    → Contains all x ⊎ ((reel : List ℕ) × (written ≡ Some reel) × (x ≡ writing k after reel))
+writing_is all k after None x among = inl (subst (λ l. Contains l x) (append-nil all) among)
+writing_is all k after (Some reel) x among = elim (Contains-push_cases all (writing k after reel) x among) [
+  | inl before ↦ inl before
+  | inr is ↦ inr (reel, refl, sym is)
+]
+
+pub writings_after : (w : World) (v : Turn w) (x : Writing) → Contains w.writings x → Contains (turned w v).writings x
+writings_after w v x among = Contains-append_left w.writings _ x among
+
+-- the writing of the request, where it writes on this reel
+pub writing_there : (w : World) (v : Turn w) (name : List ℕ) → WritesOn (session_view w.server.library v.s.session) v.request name
+    → Contains (turned w v).writings (writing v.k (length w.opens) name)
+writing_there w v name writes =
+    let new = writing v.k (length w.opens) name in
+    let stays = write_stays v.trouble w.server.holders (session_view w.server.library v.s.session) v.request v.reply (session_view v.library v.session) name v.served.step writes in
+    subst (λ o. Contains (w.writings ++ option_to_list (option_map (writing v.k (length w.opens)) o)) new) (sym stays)
+    (Contains-append_right w.writings (new ∷ []) new (0, omega arith, refl))
+
+-- The reel of a writing was opened last by its connection, also where one more was opened.
+served_writers : (w : World) (v : Turn w) → AreOpened w → AreWritersLast w → AreWritersLast (turned w v)
+served_writers w v opened writers x among =
+    elim (writing_is w.writings v.k (length w.opens) (reel_written v.request v.library v.session) x among) [
+      | inl before ↦ old before
+      | inr (reel, is, new) ↦ subst (λ y. Holds y) (sym new) (now reel is)
+    ]
+  where
+    all : List Opening
+    all = (turned w v).opens
+
+    Holds : Writing → Type 0
+    Holds y = (y.after ≤ length all) × IsUnopenedSince (take y.after all) y.connection y.reel
+
+    more : length w.opens ≤ length all
+    more = let parts = length-append w.opens (option_to_list (option_map (opening v.k) (opened_reel v.request v.library v.session))) in omega (arith, parts)
+
+    front : (n : ℕ) → n ≤ length w.opens → take n all ≡ take n w.opens
+    front n within = take-append-le n w.opens _ within
+
+    old : Contains w.writings x → Holds x
+    old before =
+        let p = writers x before in
+        (omega (arith, p.0, more), subst (λ os. IsUnopenedSince os x.connection x.reel) (sym (front x.after p.0)) p.1)
+
+    now : (reel : List ℕ) → reel_written v.request v.library v.session ≡ Some reel → Holds (writing v.k (length w.opens) reel)
+    now reel is =
+        let was = was_open v.trouble w.server.holders (session_view w.server.library v.s.session) v.request v.reply (session_view v.library v.session) reel v.served.step is in (
+          more,
+          subst (λ os. IsUnopenedSince os v.k reel) (sym (front (length w.opens) (omega arith) ∙ take_all (length w.opens) w.opens (omega arith)))
+              (opened.last v.k v.s reel v.live was),
+        )
+
+pub writers_moved : (w : World) (m : Move w) → AreOpened w → AreWritersLast w → AreWritersLast (moved w m)
+writers_moved w (serves v) opened writers = served_writers w v opened writers
+writers_moved w m opened writers = writers
+
+pub first_writers : (drives : List PlainDriveSpec) → AreWritersLast (first_world drives)
+first_writers drives x (i, within, is) = absurd (omega (arith, within))
+
+-- a member of the front of a list
+pub front_in : (xs : List Opening) (n i : ℕ) (y : Opening) → numbered (take n xs) i ≡ Some y → numbered xs i ≡ Some y
+front_in xs n i y at = ap (λ l. numbered l i) (sym (take-append-drop n xs)) ∙ numbered_more (take n xs) (drop n xs) i y at
+
+pub in_front : (xs : List Opening) (n i : ℕ) (y : Opening) → n ≤ length xs → i ≤ n → numbered xs i ≡ Some y → numbered (take n xs) i ≡ Some y
+in_front xs n i y long within at =
+    let z = numbered_there (take n xs) i (numbered_first xs i y at) (omega (arith, length-take-le n xs long, within)) in
+    z.1 ∙ ap Some (same_Some z.0 y (sym (front_in xs n i z.0 z.1) ∙ at))
+
+-- where no session opened a reel since connection k did, no other wrote on it since
+pub last_alone : (w : World) (k : ℕ) (reel : List ℕ) → AreWritersLast w → IsUnopenedSince w.opens k reel → IsAlone w k reel
+last_alone w k reel writers (i, at, unopened) = (i, at, λ x among its since. by_place x its since (writers x among))
+  where
+    by_place : (x : Writing) → x.reel ≡ reel → i ≤ x.after
+        → (x.after ≤ length w.opens) × IsUnopenedSince (take x.after w.opens) x.connection x.reel → x.connection ≡ k
+    by_place x its since (within, (m, there, later)) =
+        let front = in_front w.opens x.after i (opening k reel) within since at in
+        let whole = front_in w.opens x.after m (opening x.connection x.reel) there in
+        elim (eqb_tells m i) [
+          | inl (equal, same) ↦ ap (λ (o : Opening). o.connection)
+              (same_Some (opening x.connection x.reel) (opening k reel) (sym there ∙ ap (numbered (take x.after w.opens)) same ∙ front))
+          | inr (unequal, other) ↦ absurd (elim (less_or_more m i other) [
+            | inl less ↦ later i (opening k reel) less front (sym its)
+            | inr more ↦ unopened m (opening x.connection x.reel) more whole its
+          ])
+        ]

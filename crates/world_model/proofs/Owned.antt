@@ -1,28 +1,9 @@
 -- Whose connection is the client's own, whatever happens.
-use Rattle.std.proofs.Common.{◌≡◌, ◌≢◌, ℕ, suc, ◌+◌, Bool, true, false, IsTrue, List, [], ◌∷◌, ◌++◌, length, map, take, drop, option_map, Option, Some, None, refl, sym, ap, subst, ◌∙◌, inl, inr, arith}
-use Rattle.std.proofs.lemmas.Option.{same_Some}
-use Rattle.rmt_wire.specs.Request.{PlainRequest}
-use Rattle.rmt_wire.specs.Reply.{PlainReply}
-use Rattle.rmt_wire.specs.ReplyReader.{reply_held}
-use Rattle.dump_client.specs.Going.{AgreesWithProgress}
-use Rattle.dump_client.specs.Position.{after_end}
-use Rattle.dump_client.specs.Standing.{Standing, standing, Becomes, FedAt, CutAt, stage_after}
-use Rattle.dump_client.specs.declared.stage.Answer.{Answer}
-use Rattle.dump_client.specs.declared.stage.Answer.TheVariants.{Retry, Abandon}
-use Rattle.dump_client.specs.declared.stage.Progress.{Progress}
-use Rattle.dump_client.specs.declared.stage.Progress.TheVariants as moved
-use Rattle.dump_client.specs.declared.stage.Stage.{Stage}
-use Rattle.dump_client.specs.declared.stage.Stage.TheVariants.{Ready, ToSend, Waiting, Asking, Finished, Abandoned}
-use Rattle.dump_client.specs.declared.step.Step.{Step}
-use Rattle.dump_client.specs.declared.step.Step.TheVariants.{Open, Close}
-use Rattle.world_model.specs.World.{World, Connection, AttemptState, WorldClient, numbered}
-use Rattle.world_model.specs.Changes.{changed, connection_of, new_connection, without_server, without_peer, answered, noted, noted_sent}
-use Rattle.world_model.specs.Rows.{NoRun, is_run_done}
-use Rattle.world_model.specs.Steps.{sent_connection, caller, next_text, client_connected, fresh}
-use Rattle.world_model.specs.Owning.{is_in_attempt, IsClients, IsOwned}
+use Rattle.world_model.proofs.Basics.{◌≡◌, ℕ, suc, ◌+◌, true, false, IsTrue, List, [], ◌∷◌, ◌++◌, length, map, take, drop, option_map, Option, Some, None, refl, sym, ap, subst, ◌∙◌, inl, inr, arith, same_Some, ◌≢◌}
+use Rattle.world_model.proofs.Terms.{PlainRequest, PlainReply, reply_held, AgreesWithProgress, Standing, standing, FedAt, CutAt, stage_after, Answer, Progress, Stage, Ready, ToSend, Asking, Step, Open, World, Connection, AttemptState, WorldClient, numbered, changed, connection_of, new_connection, without_server, without_peer, answered, noted_sent, NoRun, sent_connection, caller, next_text, client_connected, fresh, is_in_attempt, IsClients, IsOwned, Waiting}
 use Rattle.world_model.proofs.Moves.{Talking, says, drops, leaves, talked, talked_dump, is_over, Move, begins, connects, asks, fails, reaches, serves, ends, restarts, cuts, talks, hears, hears_last, sees, back_idle, forgets, gives_up, answers, joins}
 use Rattle.world_model.proofs.Moves as move
-use Rattle.world_model.proofs.Numbers.{no_number, changed_is, changed_there, map_at, at_map, pushed_is, numbered_more, numbered_last}
+use Rattle.world_model.proofs.Numbers.{changed_is, changed_there, map_at, at_map, pushed_is, numbered_more, numbered_last}
 
 -- what calls of a client tell of where it stands
 abbrev pub Standings : Type 0
@@ -54,13 +35,6 @@ owned_none u none idle clear = record {
   only = λ k clients. absurd (clear k clients);
 }
 
-not_both : (b : Bool) → b ≡ false → IsTrue b → ⊥
-not_both b isnt is = cc
-
--- of a client that is in no attempt no connection is live on its side
-none_clients : (w : World) → IsOwned w → (Attempts w → ⊥) → (k : ℕ) → IsClients w k → ⊥
-none_clients w o idle k clients = idle (o.own k (o.only k clients)).1
-
 same_attempt : (w u : World) → u.caller ≡ w.caller → (Attempts w → Attempts u) × (Attempts u → Attempts w)
 same_attempt w u same = (λ (c, is, inside). (c, same ∙ is, inside), λ (c, is, inside). (c, sym same ∙ is, inside))
 
@@ -89,14 +63,13 @@ changed_owned : (f : Connection → Connection) → KeepsOurs f → (w u : World
 changed_owned f keeps w u j is own on back o = owned_as w u own on back (clients_on f keeps w u j is) (clients_back f keeps w u j is) o
 
 same_connections : (w u : World) → u.connections ≡ w.connections → u.own ≡ w.own → (Attempts w → Attempts u) → (Attempts u → Attempts w) → IsOwned w → IsOwned u
-same_connections w u is own on back o = owned_as w u own on back
-    (λ k (l, d, at, other, dump). (l, d, ap (λ xs. numbered xs k) is ∙ at, other, dump))
+same_connections w u is own on back o = owned_as w u own on back (λ k (l, d, at, other, dump). (l, d, ap (λ xs. numbered xs k) is ∙ at, other, dump))
     (λ k (l, d, at, other, dump). (l, d, ap (λ xs. numbered xs k) (sym is) ∙ at, other, dump)) o
 
 -- once the client's side of its own connection is over, no connection is its
 over_clients : (w u : World) (k : ℕ) → u.connections ≡ changed without_peer w.connections k → IsOwned w → w.own ≡ Some k → (j : ℕ) → IsClients u j → ⊥
 over_clients w u k is o own j (l, d, at, other, dump) = elim (changed_is without_peer w.connections k j l (ap (λ xs. numbered xs j) (sym is) ∙ at)) [
-  | inl (same, (x, was, new)) ↦ (let off : l.other ≡ false = ap (λ (y : Connection). y.other) new in not_both l.other off other)
+  | inl (same, (x, was, new)) ↦ (let off : l.other ≡ false = ap (λ (y : Connection). y.other) new in (cc))
   | inr (beside, on) ↦ beside (same_Some j k (sym (o.only j (l, d, on, other, dump)) ∙ own))
 ]
 
@@ -104,23 +77,11 @@ over_owned : (w u : World) (k : ℕ) → u.connections ≡ changed without_peer 
 over_owned w u k is none own idle o = owned_none u none idle (over_clients w u k is o own)
 
 -- a stranger's connection is changed
-strangers_owned : (f : Connection → Connection) → ((l : Connection) → (f l).dump ≡ l.dump) → (w u : World) (k : ℕ) (x : Connection) → u.connections ≡ changed f w.connections k → u.own ≡ w.own → u.caller ≡ w.caller
-    → connection_of w k ≡ Some x → x.dump ≡ None → IsOwned w → IsOwned u
+strangers_owned : (f : Connection → Connection) → ((l : Connection) → (f l).dump ≡ l.dump) → (w u : World) (k : ℕ) (x : Connection)
+    → u.connections ≡ changed f w.connections k → u.own ≡ w.own → u.caller ≡ w.caller → connection_of w k ≡ Some x → x.dump ≡ None → IsOwned w → IsOwned u
 strangers_owned f keeps w u k x is own same here none o =
     let a = same_attempt w u same in
-    owned_as w u own a.0 a.1
-    (λ j (l, d, at, other, dump). elim (changed_there f w.connections k j l at) [
-      | inl (equal, there) ↦ (
-          let one : x ≡ l = same_Some x l (sym here ∙ ap (numbered w.connections) (sym equal) ∙ at) in
-          let clash = sym none ∙ ap (λ (y : Connection). y.dump) one ∙ dump in absurd cc)
-      | inr there ↦ (l, d, ap (λ xs. numbered xs j) is ∙ there, other, dump)
-    ])
-    (λ j (l, d, at, other, dump). elim (changed_is f w.connections k j l (ap (λ xs. numbered xs j) (sym is) ∙ at)) [
-      | inl (equal, (y, was, new)) ↦ (
-          let one : x ≡ y = same_Some x y (sym here ∙ was) in
-          let clash = sym none ∙ ap (λ (z : Connection). z.dump) one ∙ sym (keeps y) ∙ ap (λ (z : Connection). z.dump) (sym new) ∙ dump in absurd cc)
-      | inr (beside, on) ↦ (l, d, on, other, dump)
-    ]) o
+    owned_as w u own a.0 a.1 (grind (arith, changed_there)) (grind (arith, changed_is)) o
 
 -- the client's own connection, after it was changed so
 drop_ours : (n : ℕ) → KeepsOurs (λ l. record l { back = drop n l.back })
@@ -139,16 +100,11 @@ here_ours l = (λ ours. ours, λ ours. ours)
 noted_there : (f : AttemptState → AttemptState) (o : Option AttemptState) → ((d : AttemptState) × (o ≡ Some d)) → (d : AttemptState) × (option_map f o ≡ Some d)
 noted_there f o (d, is) = (f d, ap (option_map f) is)
 
-noted_was : (f : AttemptState → AttemptState) (o : Option AttemptState) → ((d : AttemptState) × (option_map f o ≡ Some d)) → (d : AttemptState) × (o ≡ Some d)
-noted_was f None (d, is) = absurd cc
-noted_was f (Some x) (d, is) = (x, refl)
-
 sent_ours : (text : List ℕ) → KeepsOurs (sent_connection text)
-sent_ours text l = (λ (other, dump). (other, noted_there noted_sent l.dump dump), λ (other, dump). (other, noted_was noted_sent l.dump dump))
+sent_ours text l = (λ (other, dump). (other, noted_there noted_sent l.dump dump), λ (other, dump). (other, (grind arith)))
 
 answered_ours : (request : PlainRequest) (reply : PlainReply) → KeepsOurs (answered request reply)
-answered_ours request reply l =
-    (λ (other, dump). (other, noted_there (noted request reply) l.dump dump), λ (other, dump). (other, noted_was (noted request reply) l.dump dump))
+answered_ours request reply = grind (arith, noted_there)
 
 -- a client stands at a stage that is in an attempt, or in none
 sends_attempt : (s : Stage) (step : Step) → s ≡ ToSend step → IsTrue (is_in_attempt s)
@@ -159,22 +115,14 @@ waits_attempt s step is = subst (λ x. IsTrue (is_in_attempt x)) (sym is) refl
 
 -- a client of one stage, which is in no attempt
 rests : (o : Option WorldClient) (c : WorldClient) (stage : Stage) → o ≡ Some c → c.at.stage ≡ stage → is_in_attempt stage ≡ false → IsInAttempt o → ⊥
-rests o c stage there at off (d, is, inside) =
-    not_both (is_in_attempt d.at.stage) (ap (λ (x : WorldClient). is_in_attempt x.at.stage) (sym (same_Some c d (sym there ∙ is))) ∙ ap is_in_attempt at ∙ off) inside
-
-done_rests : (stage : Stage) → IsTrue (is_run_done stage) → is_in_attempt stage ≡ false
-done_rests Finished is = refl
-done_rests Abandoned is = refl
-done_rests stage is = absurd cc
+rests o c stage there at off given = grind arith
 
 no_run_rests : (w : World) → NoRun w → Attempts w → ⊥
-no_run_rests w (inl none) (c, is, inside) = let clash = sym none ∙ is in cc
-no_run_rests w (inr (c, there, done)) attempts = rests w.caller c c.at.stage there refl (done_rests c.at.stage done) attempts
+no_run_rests w given known = grind arith
 
 -- an attempt starts on a connection more
 connected_owned : (w : World) (c : WorldClient) → w.caller ≡ Some c → c.at.stage ≡ Ready → IsOwned w → IsOwned (client_connected w c)
 connected_owned w c there ready o =
-    let idle = rests w.caller c Ready there ready refl in
     let place : suc (length w.connections) ≡ length w.connections + 1 = omega arith in
     let here : connection_of (client_connected w c) (length w.connections + 1) ≡ Some (new_connection (Some (fresh c)))
     = ap (numbered (w.connections ++ new_connection (Some (fresh c)) ∷ [])) (sym place) ∙ numbered_last w.connections (new_connection (Some (fresh c))) in
@@ -186,7 +134,7 @@ connected_owned w c there ready o =
           ));
       attempt = λ d is inside. (length w.connections + 1, refl);
       only = λ k (l, d, at, other, dump). elim (pushed_is w.connections (new_connection (Some (fresh c))) k l at) [
-        | inl before ↦ absurd (none_clients w o idle k (l, d, before, other, dump))
+        | inl before ↦ absurd (((rests w.caller c Ready there ready refl) (o.own k (o.only k (l, d, before, other, dump))).1))
         | inr (last, new) ↦ ap Some (sym (last ∙ place))
       ];
     }
@@ -197,10 +145,7 @@ stranger_owned w u is own same o =
     let a = same_attempt w u same in
     owned_as w u own a.0 a.1
     (λ k (l, d, at, other, dump). (l, d, ap (λ xs. numbered xs k) is ∙ numbered_more w.connections (new_connection None ∷ []) k l at, other, dump))
-    (λ k (l, d, at, other, dump). elim (pushed_is w.connections (new_connection None) k l (ap (λ xs. numbered xs k) (sym is) ∙ at)) [
-      | inl before ↦ (l, d, before, other, dump)
-      | inr (last, new) ↦ (let none = sym (ap (λ (x : Connection). x.dump) new) ∙ dump in absurd cc)
-    ]) o
+    (grind (arith, pushed_is)) o
 
 -- the server's sides of all connections are over
 restarted_owned : (w u : World) → u.connections ≡ map without_server w.connections → u.own ≡ w.own → u.caller ≡ w.caller → IsOwned w → IsOwned u
@@ -208,9 +153,7 @@ restarted_owned w u is own same o =
     let a = same_attempt w u same in
     owned_as w u own a.0 a.1
     (λ k (l, d, at, other, dump). (without_server l, d, ap (λ xs. numbered xs k) is ∙ at_map without_server w.connections k l at, other, dump))
-    (λ k (l, d, at, other, dump). (
-    let found = map_at without_server w.connections k l (ap (λ xs. numbered xs k) (sym is) ∙ at) in
-    (found.0, d, found.1, subst IsTrue (ap (λ (x : Connection). x.other) found.2) other, sym (ap (λ (x : Connection). x.dump) found.2) ∙ dump))) o
+    (grind (arith, map_at)) o
 
 -- a client that is in an attempt sends, or waits
 no_attempt : (s : Stage) → IsTrue (is_in_attempt s) → ((step : Step) → (s ≢ ToSend step) × (s ≢ Waiting step)) → ⊥
@@ -220,38 +163,20 @@ no_attempt stage inside idle = cc
 
 -- what came of a call of the client: it goes on in its attempt, or is in none
 goes_attempt : (old new : Standing) (progress : Progress) → is_over progress ≡ false → IsTrue (is_in_attempt old.stage) → AgreesWithProgress old progress new → IsTrue (is_in_attempt new.stage)
-goes_attempt old new moved.Send on inside (step, at) = sends_attempt new.stage step at
-goes_attempt old new moved.Waiting on inside (step, at) = waits_attempt new.stage step at
-goes_attempt old new moved.Idle on inside (stays, idle) = absurd (no_attempt old.stage inside idle)
-goes_attempt old new (moved.Failed fault) on inside stands = absurd cc
-goes_attempt old new moved.Ended on inside stands = absurd cc
+goes_attempt old new progress on inside stands = grind (arith, sends_attempt, waits_attempt, no_attempt)
 
 over_attempt : (old new : Standing) (progress : Progress) → is_over progress ≡ true → AgreesWithProgress old progress new → is_in_attempt new.stage ≡ false
-over_attempt old new (moved.Failed fault) over stands = ap is_in_attempt stands
-over_attempt old new moved.Ended over stands = elim stands [ inl done ↦ ap is_in_attempt done | inr ready ↦ ap is_in_attempt ready ]
-over_attempt old new progress over stands = absurd cc
-
--- a client whose connection ended is in no attempt
-stands_so : (new at : Standing) → new ≡ at → is_in_attempt at.stage ≡ false → is_in_attempt new.stage ≡ false
-stands_so new at is off = ap (λ (s : Standing). is_in_attempt s.stage) is ∙ off
-
-end_rests : (old new : Standing) (step : Step) (progress : Progress) → Becomes old (after_end step) false progress new → is_in_attempt new.stage ≡ false
-end_rests old new Close progress (tells, inl (covers, is)) = stands_so new _ is refl
-end_rests old new Close progress (tells, inr (more, is)) = stands_so new _ is refl
-end_rests old new step progress ended = stands_so new _ ended.1 refl
+over_attempt old new progress over stands = grind arith
 
 cut_rests : (stage : Stage) (old new : Standing) (progress : Progress) → old.stage ≡ stage → CutAt stage old progress new → is_in_attempt new.stage ≡ false
-cut_rests (ToSend step) old new progress at cut = end_rests old new step progress cut
-cut_rests (Waiting step) old new progress at cut = end_rests old new step progress cut
-cut_rests stage old new progress at (tells, is) = stands_so new old is (ap is_in_attempt at)
+cut_rests stage old new progress at given = grind arith
 
 -- a client that is in no attempt, and stays in none
 idle_owned : (w u : World) → u.connections ≡ w.connections → u.own ≡ w.own → (Attempts w → ⊥) → (Attempts u → ⊥) → IsOwned w → IsOwned u
 idle_owned w u connections own before after o = same_connections w u connections own (λ a. absurd (before a)) (λ a. absurd (after a)) o
 
 pub answer_rests : (answer : Answer) → is_in_attempt (stage_after answer) ≡ false
-answer_rests Retry = refl
-answer_rests Abandon = refl
+answer_rests answer = grind arith
 
 -- what of a world its client's own connection is told by does not change
 beside_owned : (w u : World) → u.connections ≡ w.connections → u.own ≡ w.own → u.caller ≡ w.caller → IsOwned w → IsOwned u
@@ -274,8 +199,7 @@ owned_moved g w restarts o = restarted_owned w _ refl refl refl o
 owned_moved g w (cuts k) o = moved_owned (λ l. record l { cut = true }) cut_ours w _ k refl refl refl o
 owned_moved g w (talks k l t at none) o = strangers_owned (talked t) (talked_dump t) w _ k l refl refl refl at none o
 owned_moved g w (hears t on) o =
-    let own = o.only t.k (t.l, t.d, t.there, t.other, t.dump) in
-    let a = (o.own t.k own).1 in
+    let a = (o.own t.k (o.only t.k (t.l, t.d, t.there, t.other, t.dump))).1 in
     let inside = subst (λ (x : WorldClient). IsTrue (is_in_attempt x.at.stage)) (same_Some a.0 t.c (sym a.1 ∙ t.client)) a.2 in
     changed_owned (λ l. record l { back = drop t.n l.back }) (drop_ours t.n) w _ t.k refl refl
     (λ x. (_, refl, goes_attempt t.c.at t.at t.progress on inside (g.0 t.c.at t.at t.fed (take t.n t.l.back) t.progress t.feeds))) (λ x. (t.c, t.client, inside)) o
@@ -292,9 +216,3 @@ owned_moved g w (answers c answer reader there stage) o =
     idle_owned w _ refl refl (rests w.caller c Asking there stage refl) (rests _ _ (stage_after answer) refl refl (answer_rests answer)) o
 owned_moved g w joins o = stranger_owned w _ refl refl refl o
 owned_moved g w m o = beside_owned w _ refl refl refl o
-
--- nothing has happened
-pub first_owned : (w : World) → w.connections ≡ [] → w.own ≡ None → w.caller ≡ None → IsOwned w
-first_owned w connections own gone =
-    owned_none w own (λ (c, is, inside). (let clash = sym gone ∙ is in cc))
-    (λ k (l, d, at, other, dump). no_number k l (ap (λ xs. numbered xs k) (sym connections) ∙ at))

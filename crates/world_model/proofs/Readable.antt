@@ -1,13 +1,8 @@
 -- By each live side something is unread, if only no bytes, whatever happens.
-use Rattle.std.proofs.Common.{◌≡◌, ℕ, [], length, Option, Some, None, refl, sym, subst, inl, inr}
-use Rattle.std.proofs.lemmas.Option.{same_Some}
-use Rattle.rmt_wire.specs.RequestReader.{held}
-use Rattle.rmt_server.specs.ServerState.{ServerState, server, ServerConnection, side}
-use Rattle.world_model.specs.World.{World, with_numbered}
-use Rattle.world_model.specs.Changes.{side_of, with_side, ended_from}
-use Rattle.world_model.specs.First.{IsReadable}
-use Rattle.world_model.proofs.Sides.{Sits, sits_is, joined_is, KeepsOver, ended_by, all_ended_by}
-use Rattle.world_model.proofs.ServerMoves.{HasUnread, ServerMove, leaves, joins, reads, serves, ends, restarts, arranges, server_after}
+use Rattle.world_model.proofs.Basics.{◌≡◌, ℕ, length, Option, Some, None, refl, sym, subst, inl, inr, same_Some, arith}
+use Rattle.world_model.proofs.Terms.{held, ServerState, server, ServerConnection, side, World, with_numbered, side_of, ended_from, IsReadable}
+use Rattle.world_model.proofs.Sides.{Sits, sits_is, joined_is, KeepsOver, all_ended_by}
+use Rattle.world_model.proofs.ServerMoves.{HasUnread, ServerMove, reads, serves, restarts, server_after}
 use Rattle.world_model.proofs.Moves.{Move, moved, server_move, server_moved}
 use Rattle.world_model.proofs.SentWire.{fresh_unread}
 
@@ -27,19 +22,13 @@ another_read h u k s x t unread r = turned_read h u k s (Some x) t (λ y same. s
 over_read : KeepsOver AreRead
 over_read h k s is r = turned_read h (ended_from h k (Some s)) k s None record { was = is; sides = refl } (λ x none. absurd cc) r
 
-joined_read : (h : ServerState) → AreRead h → AreRead (with_side h)
-joined_read h r k s at = elim (joined_is h k s at) [ inl before ↦ r k s before | inr new ↦ subst HasUnread new ([], fresh_unread) ]
-
 server_read : (h : ServerState) (m : ServerMove h) → AreRead h → AreRead (server_after h m)
-server_read h leaves r = r
-server_read h joins r = joined_read h r
 server_read h (reads k s reached live unread) r =
     another_read h (server h.library h.holders (with_numbered h.sides k (Some (side reached s.session)))) k s (side reached s.session) record { was = live; sides = refl } unread r
 server_read h (serves k s x library holders opened live unread comes held) r =
     another_read h (server library holders (with_numbered h.sides k (Some x))) k s x record { was = live; sides = refl } unread r
-server_read h (ends k) r = ended_by AreRead over_read h k r
 server_read h restarts r = all_ended_by AreRead over_read h (length h.sides) r
-server_read h (arranges d names within free) r = r
+server_read h m r = grind (arith, joined_is, fresh_unread, over_read)
 
 pub readable_moved : (w : World) (m : Move w) → IsReadable w → IsReadable (moved w m)
 readable_moved w m r = subst AreRead (sym (server_moved w m)) (server_read w.server (server_move w m) r)

@@ -1,40 +1,13 @@
 -- What a request of a session meets, and that it touches no drive that another has open.
-use Rattle.std.proofs.Common.{◌≡◌, ◌⊎◌, ℕ, Bool, true, false, List, [], ◌++◌, take, drop, Option, Some, None, Ok, Err, MatchOption, refl, sym, ap, subst, ◌∙◌, inl, inr}
-use Rattle.std.specs.Prelude.{slice_get, slice_set}
-use Rattle.std.proofs.lemmas.List.{append-nil, set-set, set-get_or}
-use Rattle.std.proofs.lemmas.Option.{same_Some, get_or_from_slice_get}
-use Rattle.rmt_wire.specs.Request.{PlainRequest}
-use Rattle.rmt_wire.specs.Request.PlainRequest.{Open, Close, Op}
-use Rattle.rmt_wire.specs.Reply.{PlainReply}
-use Rattle.rmt_wire.specs.Reply.PlainReply.{Error}
-use Rattle.tape.specs.declared.trouble.Trouble.{Trouble}
-use Rattle.tape.specs.Tape.{entries_of}
-use Rattle.drives.specs.declared.fault.DriveFault.{DriveFault}
-use Rattle.drives.specs.declared.fault.DriveFault.TheVariants.{NoSuchDrive, Busy, NoReel, Device, OutOfMemory, NameTaken}
-use Rattle.drives.specs.TapeLibrary.{TapeLibrary, library, KeptReel, kept_reel, ReelSlot, Drive, drive_with, drive_at, with_first, at_first}
-use Rattle.drives.specs.Opening.{OpenStep}
-use Rattle.rmt_server.specs.declared.access.Access.{Access}
-use Rattle.rmt_server.specs.Access.{access_of}
-use Rattle.rmt_server.specs.Refusals.{refused}
-use Rattle.rmt_server.specs.ServerState.{ServerState, server, ServerConnection, side}
-use Rattle.rmt_server.specs.Session.{PlainReel, PlainSession, SessionView, session_view, status_of, refusal as check, closed, closed_library, is_offline}
-use Rattle.rmt_server.specs.Session.Status.{NothingOpen}
-use Rattle.rmt_server.specs.Session.PlainSession.{Idle, Offline, Online}
-use Rattle.rmt_server.specs.TroubledServe.{drive_in, with_holder, holder_of, TroubledServeStep, TroubledOpenStep, TroubledReelStep, TroubledMoveStep, TroubledOpStep, TroubledDoneStep}
-use Rattle.world_model.specs.World.{World, Connection, AttemptState, with_numbered}
-use Rattle.world_model.specs.Events.PlainEvent.{Serve}
-use Rattle.world_model.specs.Changes.{side_of, connection_of}
-use Rattle.world_model.specs.Standing.{AreHeld}
-use Rattle.world_model.specs.Steps.{Happens}
-use Rattle.world_model.specs.Sending.{IsConnectionSent, AreTold}
-use Rattle.world_model.specs.Serving.{ServerTurn, IsNextSent, is_open, undone, undone_holders, Refuses, IsRefused, ChangesAt, Meets, refusal, own, free, OthersStay}
-use Rattle.world_model.proofs.Sides.{Sits, sits_other}
+-- Where an MTOFFL of an attempt is done, its volume lies in the bin whole.
+use Rattle.world_model.proofs.Basics.{◌≡◌, ◌⊎◌, ℕ, Bool, true, false, List, [], ◌++◌, take, drop, Option, Some, None, Ok, Err, MatchOption, refl, sym, ap, subst, ◌∙◌, inl, inr, slice_get, slice_set, append-nil, set-set, set-get_or, same_Some, get_or_from_slice_get, arith, ◌∷◌}
+use Rattle.world_model.proofs.Terms.{PlainRequest, Op, PlainReply, Trouble, entries_of, TapeLibrary, library, KeptReel, kept_reel, ReelSlot, Drive, drive_with, drive_at, with_first, at_first, Access, access_of, refused, ServerState, server, ServerConnection, side, PlainSession, SessionView, session_view, status_of, check, closed, closed_library, is_offline, NothingOpen, Idle, Offline, Online, drive_in, with_holder, holder_of, TroubledServeStep, TroubledOpenStep, TroubledReelStep, TroubledMoveStep, TroubledOpStep, TroubledDoneStep, World, Connection, AttemptState, with_numbered, Serve, side_of, connection_of, AreHeld, Happens, IsConnectionSent, AreTold, ServerTurn, IsNextSent, is_open, undone, undone_holders, Refuses, IsRefused, ChangesAt, Meets, own, free, OthersStay, Done, MTOFFL, after_offline, Both, PlainReel, Step, Operation, Rewind, RewindAgain, Mark, Unload, Begun, first_name, written_reel, opening, IsWorldKept, HasDone, request_in, whole_volume, IsReelWritten, IsWholeInBin, IsMoveDone, slot, IsFirstAway, online_drive_in}
+use Rattle.rmt_wire.specs.Request.PlainRequest.{Open, Close}
+use Rattle.world_model.specs.Serving.{refusal}
+use Rattle.world_model.proofs.Ground.{Sits, sits_other, step_comes, OneReading, DroppedWrites, nothing_there, serve_pending, Turn, turned, among_at}
 use Rattle.world_model.proofs.Laid.{apart, drive_other}
-use Rattle.world_model.proofs.NamedRequests.{step_comes}
-use Rattle.world_model.proofs.Opened.{comes_else}
-use Rattle.world_model.proofs.SentWire.{OneReading, DroppedWrites}
-use Rattle.world_model.proofs.SentServe.{nothing_there, serve_pending}
-use Rattle.world_model.proofs.Moves.{Turn}
+use Rattle.world_model.proofs.Opened.{comes_else, last_alone}
+use Rattle.world_model.proofs.LabelledSingle.{IsServed, served_step}
 
 pub carries_happens : (w u : World) (k : ℕ) (trouble : Trouble) → ServerTurn w k trouble u → Happens w (Serve k trouble) u
 carries_happens w u k trouble c = (
@@ -47,17 +20,7 @@ sent_next : OneReading → DroppedWrites → (w : World) (v : Turn w) (l : Conne
 sent_next g h w v l d (inl settled) = absurd (nothing_there h v.s l.toward v.bytes v.rest v.request settled.unserved v.unread v.gives)
 sent_next g h w v l d (inr (b, step, at, p)) =
     let all = serve_pending g h b v.s l.toward d step v.bytes v.rest v.request v.reply v.reached v.session p v.unread v.gives v.left in
-    record {
-      begun = b;
-      step = step;
-      begun_as = at;
-      sent = p.sent;
-      before = p.done.carried;
-      label = p.done.label;
-      blocks = p.done.blocks;
-      mark = p.done.mark;
-      asks = all.0;
-    }
+    grind arith
 
 pub next_request : OneReading → DroppedWrites → (w : World) (v : Turn w) (l : Connection) (d : AttemptState) → AreTold w → connection_of w v.k ≡ Some l → l.dump ≡ Some d
     → IsNextSent w d v.request
@@ -132,10 +95,9 @@ op_at d true trouble before op count reply after mine step = move_at d trouble b
 op_at d false trouble before op count reply after mine step = reel_at d trouble before (Op op count) reply after mine step
 
 closed_at : (d : ℕ) (s : TapeLibrary) (session : PlainSession) → drive_in session ≡ Some d → ChangesAt d s (closed_library s session)
-closed_at d s Idle mine = absurd cc
-closed_at d s (Offline drive access) mine = same_at d s s refl
 closed_at d s (Online drive access reel) mine =
     subst (λ e. ChangesAt e s (closed_library s (Online drive access reel))) (same_Some drive d mine) (first_at drive s (Some (kept_reel (entries_of reel.tape) reel.capacity)))
+closed_at d s session mine = grind (arith, same_at)
 
 done_at : (d : ℕ) (trouble : Trouble) (before : SessionView) (request : PlainRequest) (reply : PlainReply) (after : SessionView) → drive_in before.session ≡ Some d
     → TroubledDoneStep trouble before request reply after → AtOwn d before after
@@ -196,36 +158,14 @@ other_meets w k s u request reply after trouble l is step =
       | inr (answer, same) ↦ refusal (check_refuses w k s u request reply after l is answer same)
     ]
 
--- an open that latches nothing leaves the reels
-not_latched : (device : List ℕ) (asked : Option ℕ) (why : DriveFault) (s now : TapeLibrary)
-    → OpenStep {R = PlainReel} (λ reel t. reel.tape ≡ t) (λ reel. reel.capacity) device asked (Err why) s now → now ≡ s
-not_latched device asked NoSuchDrive s now (named, same) = same
-not_latched device asked (Busy n) s now (e, found, named, same) = same
-not_latched device asked NoReel s now (e, found, named, latch) = latch.1
-not_latched device asked Device s now (e, found, named, latch) = latch.1
-not_latched device asked OutOfMemory s now (e, found, named, latch) = latch.1
-not_latched device asked NameTaken s now (e, found, named, latch) = latch.1
-
-open_refused : (w : World) (k : ℕ) (s : ServerConnection) (u : World) (device : List ℕ) (mode n : ℕ) (text : List ℕ) (reply : PlainReply) (after : SessionView) → Leaves w k s u after
-    → reply ≡ Error n text → after.library ≡ closed_library w.server.library s.session → after.session ≡ Idle
-    → IsRefused w s.session (Open device mode) reply u after.session
-open_refused w k s u device mode n text reply after l answer same idle = record {
-  answer = (n, text, answer);
-  same = left_session_view w k s u after (closed_library w.server.library s.session) Idle l same idle;
-  held = l.held ∙ ap (λ x. with_holder (drive_in x) k (with_holder (drive_in s.session) 0 w.server.holders)) idle;
-}
-
 open_meets : (w : World) (k : ℕ) (s : ServerConnection) (u : World) (device : List ℕ) (mode : ℕ) (access : Option Access) (reply : PlainReply) (after : SessionView) (trouble : Trouble)
     → Leaves w k s u after
     → TroubledOpenStep trouble (with_holder (drive_in s.session) 0 w.server.holders) (closed (session_view w.server.library s.session)) device access reply after
     → Meets w k s.session (Open device mode) reply u after.session
-open_meets w k s u device mode None reply after trouble l (replies, same) =
-    refusal (open_refused w k s u device mode _ _ reply after l replies (ap (λ (v : SessionView). v.library) same) (ap (λ (v : SessionView). v.session) same))
 open_meets w k s u device mode (Some access) reply after trouble l (Ok opened, asked, (found, named, latch), (none, quiet), replies, now) =
     free opened.0 refl replies (ap drive_in now) (ap (holder_of (with_holder (drive_in s.session) 0 w.server.holders)) (sym found) ∙ none)
     (subst (ChangesAt opened.0 (closed_library w.server.library s.session)) (sym (l.left ∙ latch.2)) (first_at opened.0 (closed_library w.server.library s.session) None))
-open_meets w k s u device mode (Some access) reply after trouble l (Err why, asked, step, cause, replies, now) =
-    refusal (open_refused w k s u device mode _ _ reply after l replies (not_latched device asked why (closed_library w.server.library s.session) after.library step) now)
+open_meets w k s u device mode access reply after trouble l given = grind arith
 
 step_meets : (w : World) (k : ℕ) (s : ServerConnection) (u : World) (request : PlainRequest) (reply : PlainReply) (after : SessionView) (trouble : Trouble) → Leaves w k s u after
     → TroubledServeStep trouble w.server.holders (session_view w.server.library s.session) request reply after → Meets w k s.session request reply u after.session
@@ -251,3 +191,69 @@ stale_requests w u k trouble c a b =
                 (step_comes trouble w.server.holders (session_view w.server.library c.s.session) c.request c.reply (session_view c.library c.session) c.served.step) d (j, other, (y, one, has)),
           )),
     )
+
+-- the number of an operation
+op_of : PlainRequest → ℕ
+op_of (Op op count) = op
+op_of request = 0
+
+-- the step is that of the MTOFFL
+move_step : (b : Begun) (d : AttemptState) (step : Step) (count : ℕ) → request_in b d step ≡ Op MTOFFL count → (next : ℕ) × (step ≡ Operation (Unload next))
+unfolding op_of
+move_step b d (Operation Rewind) count is = let clash : 5 ≡ 6 = ap op_of is in absurd (omega (arith, clash))
+move_step b d (Operation RewindAgain) count is = let clash : 5 ≡ 6 = ap op_of is in absurd (omega (arith, clash))
+move_step b d (Operation (Mark next)) count is = let clash : 0 ≡ 6 = ap op_of is in absurd (omega (arith, clash))
+move_step b d (Operation (Unload next)) count is = (next, refl)
+move_step b d step count is = absurd cc
+
+unloaded_to : (trouble : Trouble) (holders : List ℕ) (before : SessionView) (n : ℕ) (after : SessionView) (drive : ℕ) (reel : PlainReel) → before.session ≡ Online drive Both reel
+    → TroubledServeStep trouble holders before (Op MTOFFL 1) (Done n) after → after.library ≡ after_offline before.library drive (entries_of reel.tape) reel.capacity
+unloaded_to trouble holders before n after drive reel was step = grind arith
+
+first_put : (stack : List (ReelSlot KeptReel)) (reel : KeptReel) → IsFirstAway stack → with_first (Some reel) (take 1 stack) ≡ slot (first_name stack) (Some reel) ∷ []
+first_put [] reel away = absurd away
+first_put (x ∷ xs) reel away = refl
+
+-- what stands on the reel is the volume
+stands_whole : (w : World) (k : ℕ) (s : ServerConnection) (b : Begun) (d : AttemptState) (drive : ℕ) (reel : PlainReel) → side_of w.server k ≡ Some s → s.session ≡ Online drive Both reel
+    → d.label ≡ true → d.mark ≡ true → IsReelWritten w k b d (first_name (drive_at w.server.library drive).stack)
+    → entries_of reel.tape ≡ whole_volume b.run b.payload d.volume d.first d.blocks
+stands_whole w k s b d drive reel live online labelled marked written =
+    written.stands (entries_of reel.tape) (inr (k, s, live, (drive, Both, reel, online, refl, refl))) ∙ (grind arith)
+
+moved_whole : (w : World) (v : Turn w) (l : Connection) (d : AttemptState) (p : IsServed w v l d) (next n : ℕ) → IsWorldKept w → connection_of w v.k ≡ Some l → l.dump ≡ Some d
+    → HasDone p.b.run (Some v.s) d (Operation (Unload next)) → v.request ≡ Op MTOFFL 1 → v.reply ≡ Done n → IsWholeInBin w v.k d (turned w v)
+moved_whole w v l d p next n kept at dump done asks replies =
+    let on = done.stands v.s refl in
+    let drive = on.1.0 in
+    let reel = on.0 in
+    let name = first_name (drive_at w.server.library drive).stack in
+    let last = kept.opened.last v.k v.s name v.live (ap (written_reel w.server.library) on.1.1) in
+    let a = kept.labelled v.k l d at dump done.label in
+    let same : a.0 ≡ p.b = same_Some a.0 p.b (sym a.1 ∙ p.begun) in
+    let alone = last_alone w v.k name kept.writers last in
+    let written : IsReelWritten w v.k p.b d name = subst (λ b. IsReelWritten w v.k b d name) same (a.2 name (done.fault, alone)) in
+    let whole = stands_whole w v.k v.s p.b d drive reel v.live on.1.1 done.label done.mark written in
+    let served : TroubledServeStep v.trouble w.server.holders (session_view w.server.library v.s.session) (Op MTOFFL 1) (Done n) (session_view v.library v.session)
+    = subst (λ r. TroubledServeStep v.trouble w.server.holders (session_view w.server.library v.s.session) (Op MTOFFL 1) r (session_view v.library v.session)) replies
+    (subst (λ r. TroubledServeStep v.trouble w.server.holders (session_view w.server.library v.s.session) r v.reply (session_view v.library v.session)) asks v.served.step) in
+    let library = unloaded_to v.trouble w.server.holders (session_view w.server.library v.s.session) n (session_view v.library v.session) drive reel on.1.1 served in
+    record {
+      begun = p.b;
+      begun_as = p.begun;
+      within = done.within;
+      name = name;
+      opened = among_at w.opens last.0 (opening v.k name) last.1;
+      capacity = reel.capacity;
+      bin = ap (λ (s : TapeLibrary). s.bin) library
+          ∙ ap (λ t. w.server.library.bin ++ t)
+          (first_put (drive_at w.server.library drive).stack (kept_reel (entries_of reel.tape) reel.capacity) (kept.laid.latched drive (v.k, v.s, v.live, ap online_drive_in on.1.1)))
+          ∙ ap (λ e. w.server.library.bin ++ slot name (Some (kept_reel e reel.capacity)) ∷ []) whole;
+    }
+
+pub whole_at_the_move : OneReading → DroppedWrites → (w : World) (v : Turn w) (l : Connection) (d : AttemptState) → IsWorldKept w → connection_of w v.k ≡ Some l → l.dump ≡ Some d
+    → IsMoveDone v.request v.reply → IsWholeInBin w v.k d (turned w v)
+whole_at_the_move g h w v l d kept at dump ((count, asks), (n, replies)) =
+    let p = served_step g h w v kept.told l d at dump in
+    let step = move_step p.b d p.step count (sym p.asks ∙ asks) in
+    moved_whole w v l d p step.0 n kept at dump (subst (HasDone p.b.run (Some v.s) d) step.1 p.done) (p.asks ∙ ap (request_in p.b d) step.1) replies

@@ -1,9 +1,6 @@
 -- Runs of events, put together.
-use Rattle.std.proofs.Common.{List, [], ◌∷◌, ◌++◌, append_assoc, sym, subst}
-use Rattle.std.proofs.lemmas.List.{append-nil}
-use Rattle.world_model.specs.World.{World}
-use Rattle.world_model.specs.Events.{PlainEvent}
-use Rattle.world_model.specs.Steps.{Runs, none, one_more}
+use Rattle.world_model.proofs.Basics.{List, [], ◌∷◌, ◌++◌, append_assoc, sym, subst, append-nil}
+use Rattle.world_model.proofs.Terms.{World, PlainEvent, Runs, none, one_more}
 
 pub run_on : {first before after : World} {events more : List PlainEvent} → Runs first events before → Runs before more after → Runs first (events ++ more) after
 run_on {first = first} {before = before} {events = events} run none = subst (λ l. Runs first l before) (sym (append-nil events)) run

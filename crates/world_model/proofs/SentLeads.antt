@@ -1,34 +1,9 @@
 -- Where the reply to each request of an attempt leads the client on, all was done before the step that it leads to.
-use Rattle.std.proofs.Common.{◌≡◌, ℕ, zero, suc, ◌+◌, ◌-◌, ◌^◌, ◌<◌, ◌≤◌, ◌==◌, Bool, true, false, if◌then◌else◌, nat_lt, List, [], length, Option, Some, None, refl, sym, ap, subst, ◌∙◌, inl, inr, arith}
-use Rattle.std.proofs.lemmas.Bool.Decides.{nat_tests}
-use Rattle.std.proofs.lemmas.Option.{same_Some}
-use Rattle.rmt_wire.specs.Counted.{raised}
-use Rattle.rmt_wire.specs.Request.PlainRequest.{Open as OpenDevice, Write, Op}
-use Rattle.rmt_wire.specs.Reply.{PlainReply}
-use Rattle.rmt_wire.specs.Reply.PlainReply.{Done, Data, Error}
-use Rattle.rmt_wire.specs.declared.errno.TheConstants.{EIO, ENOSPC}
-use Rattle.rmt_wire.specs.declared.fcntl.TheConstants.{O_RDWR}
-use Rattle.rmt_wire.specs.declared.mtio.TheConstants.{MTWEOF}
-use Rattle.rmt_server.specs.ServerState.{ServerConnection}
-use Rattle.rmt_server.specs.Session.{PlainReel}
-use Rattle.dump_run.specs.Run.{PlainRun, IsRun}
-use Rattle.dump_run.specs.Label.{label_bytes}
-use Rattle.dump_client.specs.Script.{counted_label}
-use Rattle.dump_client.specs.Position.{after_reply, after_done, after_step, after_label, after_noise, after_write, after_error, at_end_of_reel, block_or_mark, wanted_outcome}
-use Rattle.dump_client.specs.Standing.{Standing, standing, counted_to, Becomes, IsOver}
-use Rattle.dump_client.specs.Lawful.{steps_before}
-use Rattle.dump_client.specs.declared.step.Step.{Step}
-use Rattle.dump_client.specs.declared.step.Step.TheVariants.{Open, Operation, Look, Label, Block, Close}
-use Rattle.dump_client.specs.declared.step.TapeOp.{TapeOp}
-use Rattle.dump_client.specs.declared.step.TapeOp.TheVariants.{Rewind, RewindAgain, Mark, Unload}
-use Rattle.dump_client.specs.declared.stage.Stage.TheVariants.{ToSend, Asking, Ready, Finished}
-use Rattle.dump_client.specs.declared.stage.Progress.{Progress}
-use Rattle.dump_run.specs.declared.count.VolumeCount.{VolumeCount}
-use Rattle.world_model.specs.World.{AttemptState}
-use Rattle.world_model.specs.Changes.{noted, noted_error, accepted}
-use Rattle.world_model.specs.Sending.{HasDone, is_labelled, is_marked, VolumeHasBlocks, IsSessionBefore, GoesTo, AreCounted}
-use Rattle.world_model.specs.Standing.{IsOnlineWith}
-use Rattle.world_model.proofs.Sent.{steps_len, one_if, before_length, raised_one}
+use Rattle.world_model.proofs.Basics.{◌≡◌, ℕ, zero, suc, ◌+◌, ◌-◌, ◌^◌, ◌<◌, ◌≤◌, ◌==◌, Bool, true, false, if◌then◌else◌, nat_lt, List, length, Option, Some, refl, sym, ap, subst, ◌∙◌, arith, same_Some, nat_tests}
+use Rattle.world_model.proofs.Terms.{raised, Write, Op, PlainReply, Done, Data, Error, EIO, ENOSPC, MTWEOF, ServerConnection, PlainReel, PlainRun, IsRun, after_reply, after_done, after_step, after_noise, after_write, after_error, at_end_of_reel, block_or_mark, wanted_outcome, Standing, standing, counted_to, Becomes, steps_before, Step, Open, Operation, Look, Label, Block, Close, TapeOp, Mark, Unload, ToSend, Asking, Progress, VolumeCount, AttemptState, noted, noted_error, accepted, HasDone, is_labelled, is_marked, VolumeHasBlocks, IsSessionBefore, GoesTo, AreCounted, IsOnlineWith}
+use Rattle.world_model.proofs.SentWire.{steps_len, one_if, before_length, raised_one}
+use Rattle.world_model.proofs.Basics.{[]}
+use Rattle.world_model.proofs.Terms.{OpenDevice, O_RDWR, label_bytes, Rewind, RewindAgain}
 
 -- a client that goes on to a step is at no other, and in no other stage
 arrives : (run : PlainRun) (counts : List VolumeCount) (new : Standing) (step next : Step) → new ≡ standing run counts (ToSend step) → new.stage ≡ ToSend next
@@ -38,18 +13,10 @@ arrives run counts new step next is at = let same : ToSend step ≡ ToSend next 
 not_asking : (run : PlainRun) (counts : List VolumeCount) (new : Standing) (next : Step) → new ≡ standing run counts Asking → new.stage ≡ ToSend next → ⊥
 not_asking run counts new next is at = let clash : Asking ≡ ToSend next = sym (ap (λ (s : Standing). s.stage) is) ∙ at in cc
 
-not_over : (run : PlainRun) (counts : List VolumeCount) (new : Standing) (next : Step) → IsOver run counts new → new.stage ≡ ToSend next → ⊥
-not_over run counts new next (inl (covers, is)) at = let clash : Finished ≡ ToSend next = sym (ap (λ (s : Standing). s.stage) is) ∙ at in cc
-not_over run counts new next (inr (left, is)) at = let clash : Ready ≡ ToSend next = sym (ap (λ (s : Standing). s.stage) is) ∙ at in cc
-
 -- one request more was carried out
 one_further : (carried : ℕ) (run : PlainRun) (first a b : ℕ) (step next : Step) → carried + 1 < 2 ^ 64 → carried ≡ length (steps_before run first a step)
     → steps_len run first b next ≡ steps_len run first a step + 1 → raised carried ≡ length (steps_before run first b next)
-one_further carried run first a b step next few was more =
-    let one = raised_one carried few in
-    let before = before_length run first a step in
-    let after = before_length run first b next in
-    omega (arith, one, was, before, after, more)
+one_further carried run first a b step next few was more = grind (arith, before_length)
 
 -- Where the client goes on once it hears this, by what the reply makes of it.
 abbrev pub LeadsFrom : Option ServerConnection → Standing → AttemptState → AttemptState → Step → PlainReply → Type 0
@@ -85,11 +52,7 @@ goes_on old s x d step next counts new few h is more label mark blocks stands co
 pub open_leads : (old : Standing) (s x : ServerConnection) (d : AttemptState) (device : List ℕ) (reply : PlainReply) → HasDone old.run (Some s) d Open → d.carried + 1 < 2 ^ 64
     → ((n : ℕ) → reply ≡ Done n → (reel : PlainReel) × IsOnlineWith x.session reel × (reel.tape.before ≡ []))
     → LeadsFrom (Some x) old d (noted (OpenDevice device O_RDWR) reply d) Open reply
-open_leads old s x d device (Done n) h few stands progress new next (moved, is) at =
-    subst (GoesTo old.run (Some x) old (noted (OpenDevice device O_RDWR) (Done n) d) new) (arrives old.run old.counts new (Operation Rewind) next is at)
-    (goes_on old s x d Open (Operation Rewind) old.counts new few h is refl refl refl h.blocks (stands n refl) refl)
-open_leads old s x d device (Data bytes) h few stands progress new next (moved, is) at = absurd (not_asking old.run old.counts new next is at)
-open_leads old s x d device (Error n text) h few stands progress new next (moved, is) at = absurd (not_asking old.run old.counts new next is at)
+open_leads old s x d device reply h few stands = grind arith
 
 -- after an operation that was done once
 op_tested : (old : Standing) (o : Option ServerConnection) (noted : AttemptState) (op : TapeOp) (b : Bool)
@@ -104,36 +67,19 @@ op_leads : (old : Standing) (o : Option ServerConnection) (d noted : AttemptStat
     → ((n : ℕ) → reply ≡ Done n → (progress : Progress) (new : Standing) (next : Step) → Becomes old (after_done op) false progress new → new.stage ≡ ToSend next
     → GoesTo old.run o old noted new next) → LeadsFrom o old d noted (Operation op) reply
 op_leads old o d noted op (Done n) leads progress new next becomes at = op_tested old o noted op (n == 1) (leads n refl) progress new next becomes at
-op_leads old o d noted op (Data bytes) leads progress new next (moved, is) at = absurd (not_asking old.run old.counts new next is at)
-op_leads old o d noted op (Error n text) leads progress new next (moved, is) at = absurd (not_asking old.run old.counts new next is at)
+op_leads old o d noted op reply leads given known likewise besides moreover = grind (arith, not_asking)
 
 pub rewind_leads : (old : Standing) (s x : ServerConnection) (d : AttemptState) (reply : PlainReply) → HasDone old.run (Some s) d (Operation Rewind) → d.carried + 1 < 2 ^ 64
     → ((n : ℕ) → reply ≡ Done n → IsSessionBefore Look x.session) → LeadsFrom (Some x) old d (on_by_one d) (Operation Rewind) reply
-rewind_leads old s x d reply h few stands = op_leads old (Some x) d (on_by_one d) Rewind reply (λ n is progress new next (moved, becomes) at.
-    subst (GoesTo old.run (Some x) old (on_by_one d) new) (arrives old.run old.counts new Look next becomes at)
-    (goes_on old s x d (Operation Rewind) Look old.counts new few h becomes refl refl refl h.blocks (stands n is) refl))
+rewind_leads old s x d reply h few stands = grind arith
 
 pub again_leads : (old : Standing) (s x : ServerConnection) (d : AttemptState) (reply : PlainReply) → HasDone old.run (Some s) d (Operation RewindAgain) → d.carried + 1 < 2 ^ 64
     → ((n : ℕ) → reply ≡ Done n → IsSessionBefore Label x.session) → LeadsFrom (Some x) old d (on_by_one d) (Operation RewindAgain) reply
-again_leads old s x d reply h few stands = op_leads old (Some x) d (on_by_one d) RewindAgain reply (λ n is progress new next (moved, becomes) at.
-    subst (GoesTo old.run (Some x) old (on_by_one d) new) (arrives old.run old.counts new Label next becomes at)
-    (goes_on old s x d (Operation RewindAgain) Label old.counts new few h becomes refl refl refl h.blocks (stands n is) refl))
-
--- a first record that is the label of no counted volume
-shown_leads : (old : Standing) (s x : ServerConnection) (d : AttemptState) (o : Option ℕ) → HasDone old.run (Some s) d Look → d.carried + 1 < 2 ^ 64
-    → ((reel : PlainReel) × IsOnlineWith x.session reel) → (progress : Progress) (new : Standing) (next : Step)
-    → Becomes old (after_label old.run d.first o) false progress new → new.stage ≡ ToSend next → GoesTo old.run (Some x) old (on_by_one d) new next
-shown_leads old s x d None h few stands progress new next (moved, is) at =
-    subst (GoesTo old.run (Some x) old (on_by_one d) new) (arrives old.run old.counts new (Operation RewindAgain) next is at)
-    (goes_on old s x d Look (Operation RewindAgain) old.counts new few h is refl refl refl h.blocks stands refl)
-shown_leads old s x d (Some volume) h few stands progress new next (moved, is) at = absurd (not_asking old.run old.counts new next is at)
+again_leads old s x d reply h few stands = grind arith
 
 pub look_leads : (old : Standing) (s x : ServerConnection) (d : AttemptState) (reply : PlainReply) → HasDone old.run (Some s) d Look → d.carried + 1 < 2 ^ 64
     → ((reel : PlainReel) × IsOnlineWith x.session reel) → LeadsFrom (Some x) old d (on_by_one d) Look reply
-look_leads old s x d (Done n) h few stands progress new next (moved, is) at = absurd (not_asking old.run old.counts new next is at)
-look_leads old s x d (Data bytes) h few stands progress new next becomes at =
-    shown_leads old s x d (counted_label old.run old.counts bytes) h few stands progress new next becomes at
-look_leads old s x d (Error n text) h few stands progress new next (moved, is) at = absurd (not_asking old.run old.counts new next is at)
+look_leads old s x d reply h few stands = grind arith
 
 -- The session stays online, and the numbers are those before a block, or before the mark where none is left.
 record StandsBefore (run : PlainRun) (x : ServerConnection) (d : AttemptState) (number : ℕ) : Type 0 where
@@ -151,17 +97,14 @@ next_done run x d number true test h = record {
   carried = h.carried ∙ sym (before_length run d.first (d.first + d.blocks) (Block number));
   fault = h.fault;
   label = h.label;
-  blocks = (h.at, grind (arith, nat_tests));
+  blocks = (h.at, grind arith);
   within = (let at = h.at in let within = h.within in omega (arith, at, within));
   mark = h.mark;
   stands = λ y here. subst (λ (z : ServerConnection). IsSessionBefore (Block number) z.session) (same_Some x y here) h.online;
 }
 next_done run x d number false test h = record {
   carried = (
-      let was = h.carried in
-      let none = ap one_if test in
-      let size = before_length run d.first (d.first + d.blocks) (Operation (Mark number)) in
-      omega (arith, was, none, size));
+      omega (arith, h.carried, ap one_if test, before_length run d.first (d.first + d.blocks) (Operation (Mark number))));
   fault = h.fault;
   label = h.label;
   blocks = h.at;
@@ -170,10 +113,6 @@ next_done run x d number false test h = record {
   stands = λ y here. subst (λ (z : ServerConnection). IsSessionBefore (Operation (Mark number)) z.session) (same_Some x y here) h.online;
 }
 
-not_counted : (old new : Standing) (d : AttemptState) (number : ℕ) (b : Bool) → new.counts ≡ old.counts → AreCounted (if b then Block number else Operation (Mark number)) old.counts d new.counts
-not_counted old new d number true is = is
-not_counted old new d number false is = is
-
 -- the client goes on to a block or the mark
 goes_next : (old new : Standing) (x : ServerConnection) (d : AttemptState) (number : ℕ) (next : Step) → StandsBefore old.run x d number
     → new ≡ standing old.run old.counts (ToSend (block_or_mark old.run number)) → new.stage ≡ ToSend next → GoesTo old.run (Some x) old d new next
@@ -181,7 +120,7 @@ goes_next old new x d number next h is at =
     subst (GoesTo old.run (Some x) old d new) (arrives old.run old.counts new (block_or_mark old.run number) next is at) record {
       done = next_done old.run x d number (nat_lt number old.run.blocks) refl h;
       same_run = ap (λ (z : Standing). z.run) is;
-      counts = not_counted old new d number (nat_lt number old.run.blocks) (ap (λ (z : Standing). z.counts) is);
+      counts = (grind arith);
     }
 
 pub label_accepted : (d : AttemptState) → d.label ≡ false → accepted d ≡ record d { label = true }
@@ -194,23 +133,7 @@ label_tested : (old : Standing) (s x : ServerConnection) (d : AttemptState) (b c
     → ((reel : PlainReel) × IsOnlineWith x.session reel) → (progress : Progress) (new : Standing) (next : Step)
     → Becomes old (if b then after_step old.run d.first Label else if c then at_end_of_reel d.first Label else after_write old.run d.first Label 5 3) false progress new
     → new.stage ≡ ToSend next → GoesTo old.run (Some x) old (on_by_one (accepted d)) new next
-label_tested old s x d true c h few stands progress new next (moved, is) at =
-    let one = raised_one d.carried few in
-    let was = h.carried in
-    let none = h.blocks in
-    let within = h.within in
-    subst (λ (e : AttemptState). GoesTo old.run (Some x) old (on_by_one e) new next) (sym (label_accepted d h.label))
-    (goes_next old new x (on_by_one (record d { label = true })) d.first next record {
-      carried = omega (arith, one, was);
-      fault = h.fault;
-      label = refl;
-      at = omega (arith, none);
-      within = omega (arith, within);
-      mark = h.mark;
-      online = stands;
-    } is at)
-label_tested old s x d false true h few stands progress new next (moved, is) at = absurd (not_asking old.run old.counts new next is at)
-label_tested old s x d false false h few stands progress new next (moved, is) at = absurd (not_asking old.run old.counts new next is at)
+label_tested old s x d b c h few stands progress new next given at = grind arith
 
 error_tested : (old new : Standing) (next : Step) (n first : ℕ) (progress : Progress) (b : Bool) (C : Type 0)
     → Becomes old (if b then at_end_of_reel first Label else after_error first Open n) false progress new → new.stage ≡ ToSend next → C
@@ -232,10 +155,9 @@ end_tested : (old : Standing) (s x : ServerConnection) (d : AttemptState) (numbe
     → Becomes old (if t then wanted_outcome (Operation (Mark number)) Open else at_end_of_reel d.first Open) false progress new
     → new.stage ≡ ToSend next → GoesTo old.run (Some x) old (on_by_one d) new next
 end_tested old s x d number true h few stands progress new next (moved, is) at =
-    let more : nat_lt number old.run.blocks ≡ true = (let below = h.blocks.1 in grind (arith, nat_tests)) in
-    let last = ap one_if more in
+    let more : nat_lt number old.run.blocks ≡ true = (let below = h.blocks.1 in grind arith) in
     subst (GoesTo old.run (Some x) old (on_by_one d) new) (arrives old.run old.counts new (Operation (Mark number)) next is at)
-    (goes_on old s x d (Block number) (Operation (Mark number)) old.counts new few h is (omega (arith, last)) refl refl h.blocks.0 stands refl)
+    (goes_on old s x d (Block number) (Operation (Mark number)) old.counts new few h is (omega (arith, ap one_if more)) refl refl h.blocks.0 stands refl)
 end_tested old s x d number false h few stands progress new next (moved, is) at = absurd (not_asking old.run old.counts new next is at)
 
 block_tested : (old : Standing) (s x : ServerConnection) (d : AttemptState) (number m : ℕ) (b c : Bool) → (suc m == 0) ≡ c → IsRun old.run → HasDone old.run (Some s) d (Block number)
@@ -245,30 +167,23 @@ block_tested : (old : Standing) (s x : ServerConnection) (d : AttemptState) (num
     → new.stage ≡ ToSend next → GoesTo old.run (Some x) old (on_by_one (accepted d)) new next
 block_tested old s x d number m true c test good h few stands progress new next (moved, is) at =
     let within = h.within in
-    let limit = good.blocks in
-    let one = raised_one d.carried few in
-    let block = raised_one d.blocks (omega (arith, within, limit)) in
-    let was = h.carried ∙ before_length old.run d.first (d.first + d.blocks) (Block number) in
-    let here = h.blocks.0 in
-    let below = h.blocks.1 in
     subst (λ (e : AttemptState). GoesTo old.run (Some x) old (on_by_one e) new next) (sym (block_accepted d h.label))
     (goes_next old new x (on_by_one (record d { blocks = raised d.blocks })) (number + 1) next record {
-      carried = omega (arith, one, was, here);
+      carried = omega (arith, raised_one d.carried few, h.carried ∙ before_length old.run d.first (d.first + d.blocks) (Block number), h.blocks.0);
       fault = h.fault;
       label = h.label;
-      at = omega (arith, block, here);
-      within = omega (arith, below);
+      at = omega (arith, raised_one d.blocks (omega (arith, within, good.blocks)), h.blocks.0);
+      within = omega (arith, h.blocks.1);
       mark = h.mark;
       online = stands;
     } is at)
-block_tested old s x d number m false true test good h few stands progress new next becomes at = absurd (grind (arith, nat_tests))
-block_tested old s x d number m false false test good h few stands progress new next (moved, is) at = absurd (not_asking old.run old.counts new next is at)
+block_tested old s x d number m b c test good h few stands progress new next becomes at = grind (arith, nat_tests, not_asking)
 
 none_tested : (old : Standing) (s x : ServerConnection) (d : AttemptState) (number : ℕ) (b : Bool) → (0 == old.run.block_bytes) ≡ b → IsRun old.run → HasDone old.run (Some s) d (Block number)
     → d.carried + 1 < 2 ^ 64 → ((reel : PlainReel) × IsOnlineWith x.session reel) → (progress : Progress) (new : Standing) (next : Step)
     → Becomes old (if b then after_step old.run d.first (Block number) else at_end_of_reel d.first (Block number)) false progress new
     → new.stage ≡ ToSend next → GoesTo old.run (Some x) old (on_by_one d) new next
-none_tested old s x d number true test good h few stands progress new next becomes at = let size = good.block_bytes.0 in absurd (grind (arith, nat_tests))
+none_tested old s x d number true test good h few stands progress new next becomes at = let size = good.block_bytes.0 in absurd (grind arith)
 none_tested old s x d number false test good h few stands progress new next becomes at =
     end_tested old s x d number (nat_lt d.first number) h few stands progress new next becomes at
 
@@ -277,7 +192,7 @@ refused_tested : (old : Standing) (s x : ServerConnection) (d : AttemptState) (n
     → Becomes old (if b then at_end_of_reel d.first (Block number) else after_error d.first Open n) false progress new
     → new.stage ≡ ToSend next → GoesTo old.run (Some x) old (on_by_one (noted_error d n)) new next
 refused_tested old s x d number n true test h few stands progress new next becomes at =
-    let other : (n == EIO) ≡ false = grind (arith, nat_tests) in
+    let other : (n == EIO) ≡ false = grind arith in
     let same : noted_error d n ≡ d = ap (λ b. if b then record d { fault = true } else d) other in
     subst (λ (e : AttemptState). GoesTo old.run (Some x) old (on_by_one e) new next) (sym same)
     (end_tested old s x d number (nat_lt d.first number) h few stands progress new next becomes at)
@@ -321,6 +236,4 @@ unload_leads old s x d end reply h few stands = op_leads old (Some x) d (on_by_o
 
 -- after the close the attempt is over
 pub close_leads : (old : Standing) (x : ServerConnection) (d noted : AttemptState) (reply : PlainReply) → LeadsFrom (Some x) old d noted Close reply
-close_leads old x d noted (Done n) progress new next (moved, over) at = absurd (not_over old.run old.counts new next over at)
-close_leads old x d noted (Data bytes) progress new next (moved, over) at = absurd (not_over old.run old.counts new next over at)
-close_leads old x d noted (Error n text) progress new next (moved, over) at = absurd (not_over old.run old.counts new next over at)
+close_leads old x d noted reply = grind arith

@@ -1,38 +1,10 @@
 -- A request of the client's is carried out.
-use Rattle.std.proofs.Common.{◌≡◌, ◌≢◌, ◌⊎◌, ℕ, zero, suc, ◌+◌, ◌^◌, ◌<◌, ◌==◌, Bool, true, false, if◌then◌else◌, List, [], ◌++◌, length, length-append, get_or, Option, Some, Ok, refl, sym, ap, subst, ◌∙◌, inl, inr, arith}
-use Rattle.std.proofs.lemmas.List.{nil_from_length}
-use Rattle.rmt_wire.specs.Counted.{raised}
-use Rattle.rmt_wire.specs.Request.{PlainRequest, SpellsRequest, request_text}
-use Rattle.rmt_wire.specs.Request.PlainRequest.{Close as CloseDevice, Write, WriteDropped, Op}
-use Rattle.rmt_wire.specs.Reply.{PlainReply, reply_text}
-use Rattle.rmt_wire.specs.Reply.PlainReply.{Done, Data, Error}
-use Rattle.rmt_wire.specs.RequestParts.{ParsesAs}
-use Rattle.rmt_wire.specs.RequestReader.{RequestHeld, Unread}
-use Rattle.rmt_wire.specs.declared.errno.TheConstants.{EIO}
-use Rattle.rmt_wire.specs.declared.mtio.TheConstants.{MTWEOF}
-use Rattle.tape.specs.declared.trouble.Trouble.{Trouble}
-use Rattle.drives.specs.TapeLibrary.{TapeLibrary}
-use Rattle.rmt_server.specs.ServerState.{ServerConnection, side}
-use Rattle.rmt_server.specs.Session.{PlainSession, session_view}
-use Rattle.rmt_server.specs.TroubledServe.{TroubledServeStep}
-use Rattle.dump_run.specs.Run.{IsRun}
-use Rattle.dump_run.specs.Label.{label}
-use Rattle.dump_client.specs.Script.{request_of, wanted_of}
-use Rattle.dump_client.specs.Position.{after_reply}
-use Rattle.dump_client.specs.Standing.{Standing, checkpoint_of, Becomes}
-use Rattle.dump_client.specs.Lawful.{attempt_at}
-use Rattle.dump_client.specs.declared.step.Step.{Step}
-use Rattle.dump_client.specs.declared.step.Step.TheVariants.{Open, Operation, Look, Label, Block, Close}
-use Rattle.dump_client.specs.declared.step.TapeOp.TheVariants.{Rewind, RewindAgain, Mark, Unload}
-use Rattle.dump_client.specs.declared.stage.Stage.{Stage}
-use Rattle.dump_client.specs.declared.stage.Stage.TheVariants.{ToSend, Waiting}
-use Rattle.world_model.specs.World.{Connection, AttemptState, Begun, WorldClient, numbered}
-use Rattle.world_model.specs.Changes.{sent_on, noted, noted_by, noted_write, noted_marks, answered}
-use Rattle.world_model.specs.Sending.{HasDone, AreUnserved, request_in, IsPending, IsConnectionSettled, IsConnectionSent, LeadsOn, FitsReplyReader, IsStepReply, IsAttempt, IsStepAsked, IsStepReplied, IsConnectionToldAt, IsGood}
-use Rattle.world_model.proofs.Sent.{raised_one}
-use Rattle.world_model.proofs.SentWire.{OneReading, DroppedWrites, one_read, nothing_long, text_not_long, gives_whole, nothing_given}
+use Rattle.world_model.proofs.Basics.{◌≡◌, ◌≢◌, ◌⊎◌, ℕ, ◌+◌, ◌^◌, ◌<◌, Bool, true, false, List, [], ◌++◌, get_or, Option, Some, Ok, refl, sym, ap, subst, ◌∙◌, inl, inr, arith}
+use Rattle.world_model.proofs.Terms.{raised, PlainRequest, SpellsRequest, request_text, CloseDevice, WriteDropped, PlainReply, reply_text, ParsesAs, RequestHeld, Unread, Trouble, TapeLibrary, ServerConnection, side, PlainSession, session_view, TroubledServeStep, IsRun, label, request_of, wanted_of, after_reply, Standing, checkpoint_of, Becomes, attempt_at, Step, Open, Operation, Look, Label, Block, Close, Rewind, RewindAgain, Mark, Unload, Stage, ToSend, Waiting, Connection, AttemptState, Begun, WorldClient, numbered, sent_on, noted, noted_by, answered, HasDone, AreUnserved, request_in, IsPending, IsConnectionSettled, IsConnectionSent, LeadsOn, FitsReplyReader, IsStepReply, IsAttempt, IsStepAsked, IsStepReplied, IsConnectionToldAt, IsGood}
+use Rattle.world_model.proofs.SentWire.{raised_one, OneReading, DroppedWrites, one_read, text_not_long, gives_whole}
 use Rattle.world_model.proofs.SentSteps.{ReplyTexts, plain_brief, shown_brief, write_online, marks_online, look_online, rewind_first, unload_away, open_first, close_plain}
-use Rattle.world_model.proofs.SentLeads.{LeadsFrom, open_leads, rewind_leads, look_leads, again_leads, label_leads, block_leads, mark_leads, unload_leads, close_leads}
+use Rattle.world_model.proofs.SentLeads.{LeadsFrom, look_leads, label_leads, block_leads, mark_leads, unload_leads, close_leads}
+use Rattle.world_model.proofs.SentLeads.{open_leads, rewind_leads, again_leads}
 
 -- what a note of a request leaves
 pub record SameAttempt (d e : AttemptState) : Type 0 where
@@ -45,52 +17,16 @@ pub record SameAttempt (d e : AttemptState) : Type 0 where
 same_attempt : (d : AttemptState) → SameAttempt d d
 same_attempt d = record { run = refl; volume = refl; first = refl; sent = refl; carried = refl }
 
-accepted_same : (d : AttemptState) (b : Bool) → SameAttempt d (if b then record d { blocks = raised d.blocks } else record d { label = true })
-accepted_same d true = record { run = refl; volume = refl; first = refl; sent = refl; carried = refl }
-accepted_same d false = record { run = refl; volume = refl; first = refl; sent = refl; carried = refl }
-
-error_same : (d : AttemptState) (b : Bool) → SameAttempt d (if b then record d { fault = true } else d)
-error_same d true = record { run = refl; volume = refl; first = refl; sent = refl; carried = refl }
-error_same d false = same_attempt d
-
-write_same : (d : AttemptState) (reply : PlainReply) → SameAttempt d (noted_write d reply)
-write_same d (Done zero) = same_attempt d
-write_same d (Done (suc n)) = accepted_same d d.label
-write_same d (Data bytes) = same_attempt d
-write_same d (Error n text) = error_same d (n == EIO)
-
-marks_same : (d : AttemptState) (reply : PlainReply) → SameAttempt d (noted_marks d reply)
-marks_same d (Done n) = record { run = refl; volume = refl; first = refl; sent = refl; carried = refl }
-marks_same d (Data bytes) = same_attempt d
-marks_same d (Error n text) = error_same d (n == EIO)
-
-op_same : (d : AttemptState) (reply : PlainReply) (b : Bool) → SameAttempt d (if b then noted_marks d reply else d)
-op_same d reply true = marks_same d reply
-op_same d reply false = same_attempt d
-
 pub noted_same : (d : AttemptState) (request : PlainRequest) (reply : PlainReply) → SameAttempt d (noted_by d request reply)
-noted_same d (Write bytes) reply = write_same d reply
-noted_same d (Op op count) reply = op_same d reply (op == MTWEOF)
-noted_same d x reply = same_attempt d
-
--- nothing can be given where nothing is unserved
-empty_start : (a b : List ℕ) → [] ≡ a ++ b → (a ≡ []) × (b ≡ [])
-empty_start a b is =
-    let size : 0 ≡ length (a ++ b) = ap length is in
-    let both = length-append a b in
-    (nil_from_length a (omega (arith, size, both)), nil_from_length b (omega (arith, size, both)))
+noted_same d request reply = grind arith
 
 pub nothing_there : DroppedWrites → (s : ServerConnection) (way bytes rest : List ℕ) (found : PlainRequest) → AreUnserved (Some s) way [] → Unread s.reached bytes
     → ParsesAs bytes (Ok (Some found)) rest → ⊥
-nothing_there g s way bytes rest found (reached, unread, is) other gives =
-    let none = (empty_start reached way is).0 in
-    let same = one_read g s.reached [] bytes nothing_long (subst (Unread s.reached) none unread) other in
-    nothing_given rest found (subst (λ l. ParsesAs l (Ok (Some found)) rest) (sym same) gives)
+nothing_there g s way bytes rest found given other gives = grind (arith, one_read)
 
 -- no request of the client's is a write that is too long to be kept
 pub never_dropped : (b : Begun) (d : AttemptState) (step : Step) (n : ℕ) → request_in b d step ≢ WriteDropped n
-never_dropped b d Open n is = cc
-never_dropped b d step n is = cc
+never_dropped b d step n = grind arith
 
 -- what is carried out then is the request that was sent last
 pub serve_pending : OneReading → DroppedWrites → (b : Begun) (s : ServerConnection) (way : List ℕ) (d : AttemptState) (step : Step) (bytes rest : List ℕ) (found : PlainRequest) (reply : PlainReply)
@@ -107,8 +43,7 @@ serve_pending g h b s way d step bytes rest found reply reached session p unread
         let whole = gives_whole g text bytes way rest (request_in b d step) found p.spelled (is ∙ ap (λ l. l ++ way) same) gives in
         let keeps = noted_same d found reply in
         let sent = p.sent in
-        let few = p.few in
-        let one = raised_one d.carried (omega (arith, sent, few)) in (
+        let one = raised_one d.carried (omega (arith, sent, p.few)) in (
           whole.0,
           record {
             sent = keeps.sent ∙ sent ∙ sym one ∙ sym (ap raised keeps.carried);
@@ -177,12 +112,9 @@ from_checkpoint o old d noted step reply first leads progress new next becomes a
 
 at_checkpoint : (o : Option ServerConnection) (old : Standing) (d noted : AttemptState) (step : Step) (reply : PlainReply) → d.first ≡ (attempt_at step old.counts).1
     → LeadsFrom o old d noted step reply → LeadsOn old.run o old noted step reply
-at_checkpoint o old d noted Open reply first leads = from_checkpoint o old d noted Open reply first leads
-at_checkpoint o old d noted (Operation op) reply first leads = from_checkpoint o old d noted (Operation op) reply first leads
-at_checkpoint o old d noted Look reply first leads = from_checkpoint o old d noted Look reply first leads
 at_checkpoint o old d noted Label reply first leads = from_checkpoint o old d noted Label reply first leads
 at_checkpoint o old d noted (Block number) reply first leads = from_checkpoint o old d noted (Block number) reply first leads
-at_checkpoint o old d noted step reply first leads = leads
+at_checkpoint o old d noted step reply first leads = grind arith
 
 -- the client's own connection, at which it waits
 asked_replied : ReplyTexts → OneReading → DroppedWrites → (b : Begun) (s : ServerConnection) (l : Connection) (c : WorldClient) (d : AttemptState) (step : Step) (bytes rest : List ℕ) (found : PlainRequest)
@@ -193,10 +125,8 @@ asked_replied : ReplyTexts → OneReading → DroppedWrites → (b : Begun) (s :
 asked_replied t g h b s l c d step bytes rest found reply reached trouble holders library library' session good run first a unread gives left served =
     let p = a.pending in
     let done = serve_pending g h b s l.toward d step bytes rest found reply reached session p unread gives left in
-    let sent = p.sent in
-    let few = p.few in
     let led = served_leads t c.at b.payload trouble holders library library' s reached session d step reply (subst IsRun run good)
-    (subst (λ r. HasDone r (Some s) d step) run p.done) (omega (arith, sent, few))
+    (subst (λ r. HasDone r (Some s) d step) run p.done) (omega (arith, p.sent, p.few))
     (subst (λ r. SpellsRequest (request_text (request_of r b.payload d.volume d.first step)) (request_of r b.payload d.volume d.first step)) run p.spelled)
     (subst (λ r. TroubledServeStep trouble holders (session_view library s.session) (request_of r b.payload d.volume d.first step) reply (session_view library' session)) run
     (subst (λ r. TroubledServeStep trouble holders (session_view library s.session) r reply (session_view library' session)) done.0 served)) in
@@ -218,15 +148,7 @@ asked_replied t g h b s l c d step bytes rest found reply reached trouble holder
 
 noted_attempt : (begun : List Begun) (c : WorldClient) (d : AttemptState) (step : Step) (b : Begun) (found : PlainRequest) (reply : PlainReply) → IsAttempt begun c d step b
     → IsAttempt begun c (noted found reply d) step b
-noted_attempt begun c d step b found reply a =
-    let keeps = noted_same d found reply in
-    record {
-      begun_as = ap (numbered begun) keeps.run ∙ a.begun_as;
-      run = a.run;
-      number = keeps.run ∙ a.number;
-      volume = keeps.volume ∙ a.volume;
-      first = keeps.first ∙ a.first;
-    }
+noted_attempt begun c d step b found reply a = grind arith
 
 pub serve_told : ReplyTexts → OneReading → DroppedWrites → (begun : List Begun) (stage : Stage) (s : ServerConnection) (l : Connection) (c : WorldClient) (d : AttemptState) (bytes rest : List ℕ)
     (found : PlainRequest) (reply : PlainReply) (reached : RequestHeld) (trouble : Trouble) (holders : List ℕ) (library library' : TapeLibrary) (session : PlainSession)

@@ -1,20 +1,9 @@
 -- What a writer writes spells its request, or its reply, and the label of a lawful client fits a record.
-use Rattle.std.proofs.Common.{◌≡◌, ◌≢◌, ◌⊎◌, ℕ, ◌+◌, ◌-◌, ◌^◌, ◌<◌, ◌≤◌, List, [], ◌∷◌, ◌++◌, length, length-append, decimal, append_assoc, append-nil, refl, sym, ap, subst, ◌∙◌, inl, inr, arith}
-use Rattle.std.specs.Char.{digit_value}
-use Rattle.std.specs.Str.Parse.{AllDigits}
-use Rattle.std.proofs.lemmas.Fmt.{decimal_is_IsNumeral, length-decimal-le}
-use Rattle.std.proofs.lemmas.List.{take_all, nil_from_length, length-replicate}
-use Rattle.std.specs.Prelude.{replicate}
-use Rattle.rmt_wire.specs.Number.{SpellsNumber, HasNoLineFeed, IsLine, line_feed}
-use Rattle.rmt_wire.specs.Request.{PlainRequest, SpellsRequest, IsTextOf, request_text, unsent}
-use Rattle.rmt_wire.specs.Request.PlainRequest.{Open, Close, Write, WriteDropped, Read, Op}
-use Rattle.rmt_wire.specs.Reply.PlainReply.{Done, Data, Error}
-use Rattle.rmt_wire.specs.Reply.Wanted.{Number, DataUpTo}
-use Rattle.dump_run.specs.Run.{PlainRun, IsRun}
-use Rattle.dump_run.specs.Label.{label_lines}
-use Rattle.dump_client.specs.Standing.{checkpoint_after, checkpoint_of}
+use Rattle.world_model.proofs.Basics.{◌≡◌, ◌≢◌, ◌⊎◌, ℕ, ◌+◌, ◌^◌, ◌<◌, ◌≤◌, List, [], ◌∷◌, length, length-append, decimal, append_assoc, append-nil, refl, sym, ap, inl, inr, arith, digit_value, AllDigits, decimal_is_IsNumeral, length-decimal-le, take_all, nil_from_length, length-replicate}
+use Rattle.world_model.proofs.Terms.{SpellsNumber, HasNoLineFeed, IsLine, line_feed, PlainRequest, SpellsRequest, IsTextOf, request_text, unsent, Write, WriteDropped, Read, Op, Done, Data, Error, Number, DataUpTo, PlainRun, IsRun, label_lines, VolumeCount}
+use Rattle.rmt_wire.specs.Request.PlainRequest.{Open, Close}
+use Rattle.dump_client.specs.Standing.{checkpoint_after}
 use Rattle.dump_client.specs.Lawful.{AreVolumes}
-use Rattle.dump_run.specs.declared.count.VolumeCount.{VolumeCount}
 use Rattle.world_model.proofs.SentSteps.{RequestTexts, ReplyTexts}
 use Rattle.world_model.proofs.ToldSends.{ShortLabels}
 
@@ -30,11 +19,9 @@ decimal_spells n small =
 
 pub reply_texts : ReplyTexts
 reply_texts (Done n) spelled Number answers = (decimal n, decimal_spells n spelled, refl)
-reply_texts (Done n) spelled (DataUpTo most) answers = answers
-reply_texts (Data bytes) spelled Number answers = answers
 reply_texts (Data bytes) spelled (DataUpTo most) answers = (decimal (length bytes), decimal_spells (length bytes) spelled, answers, refl)
-reply_texts (Error n text) spelled wanted answers =
-    (decimal n, text, decimal_spells n spelled.0, spelled.2, sym (take_all 255 text spelled.1), refl)
+reply_texts (Error n text) spelled wanted answers = (decimal n, text, decimal_spells n spelled.0, spelled.2, sym (take_all 255 text spelled.1), refl)
+reply_texts given known likewise besides = grind arith
 
 digit_no_feed : (d : ℕ) → digit_value d < 10 → d ≢ line_feed
 digit_no_feed d h e = let k : digit_value line_feed < 10 = rw e at h in absurd (omega arith)
@@ -46,14 +33,11 @@ digits_no_feed (d ∷ digits) h = (digit_no_feed d h.0, digits_no_feed digits h.
 decimal_line : (n : ℕ) → n ≤ 2147483647 → IsLine (decimal n)
 decimal_line n small =
     let s = decimal_spells n small in
-    let few = s.few in
-    (omega arith, digits_no_feed (decimal n) s.digits.1)
+    grind (arith, digits_no_feed)
 
 -- a text that spells its request, with nothing after it
 whole_text : (request : PlainRequest) → unsent request ≡ 0 → SpellsRequest (request_text request) request → IsTextOf (request_text request) request
-whole_text request none s = λ more long.
-    let nothing : more ≡ [] = nil_from_length more (long ∙ none) in
-    subst (λ t. SpellsRequest t request) (sym (ap (λ l. request_text request ++ l) nothing ∙ append-nil (request_text request))) s
+whole_text request none s = grind (arith, nil_from_length, append-nil)
 
 pub request_texts : RequestTexts
 request_texts (Open device mode) h = whole_text (Open device mode) refl (decimal mode, h.0, (decimal_line mode h.1, inl (decimal_spells mode h.1)), refl)
@@ -67,17 +51,10 @@ request_texts (Op op count) h = whole_text (Op op count) refl (decimal op, decim
 -- volumes but the last have a block, so there are few
 pub volumes_from : (run : PlainRun) (volume first : ℕ) (c : VolumeCount) (counts : List VolumeCount) → AreVolumes run volume first (c ∷ counts)
     → AreVolumes run (c.volume + 1) (c.first + c.count) counts
-volumes_from run volume first c counts v =
-    subst (λ f. AreVolumes run (c.volume + 1) (f + c.count) counts) (sym v.1) (subst (λ w. AreVolumes run (w + 1) (first + c.count) counts) (sym v.0) v.4)
+volumes_from run volume first c counts v = grind arith
 
 pub few_volumes : (run : PlainRun) (volume first : ℕ) (counts : List VolumeCount) → volume ≤ first + 1 → first ≤ run.blocks → AreVolumes run volume first counts
     → ((checkpoint_after volume first counts).0 ≤ run.blocks + 2) × ((checkpoint_after volume first counts).1 ≤ run.blocks)
-few_volumes run volume first [] at h v = (omega (arith, at, h), h)
-few_volumes run volume first (c ∷ []) at h v =
-    let number : c.volume ≡ volume = v.0 in
-    let same : c.first ≡ first = v.1 in
-    let below : first + c.count ≤ run.blocks = let n = v.2 in n.0 in
-    (omega (arith, number, at, h), omega (arith, same, below))
 few_volumes run volume first (c ∷ d ∷ counts) at h v =
     let number : c.volume ≡ volume = v.0 in
     let same : c.first ≡ first = v.1 in
@@ -94,27 +71,13 @@ few_volumes run volume first (c ∷ d ∷ counts) at h v =
     has_block : ((0 < c.count) ⊎ (run.blocks ≡ 0)) → first + c.count < run.blocks → 0 < c.count
     has_block (inl more) some = more
     has_block (inr none) some = absurd (omega (arith, none, some))
+few_volumes run volume first counts at h v = grind arith
 
 few_digits : (n : ℕ) → n ≤ 999999999999 → length (decimal n) ≤ 12
 few_digits n small = length-decimal-le 12 n (omega arith) (omega arith) (omega arith)
 
 pub label_short : (run : PlainRun) (volume first : ℕ) → IsRun run → volume ≤ 999999999999 → first ≤ 999999999999 → length (label_lines run volume first) ≤ 1024
-label_short run volume first good v f =
-    let name = good.name in
-    let level = few_digits run.level (let l = good.level in omega arith) in
-    let date = few_digits run.date (let d = good.date in omega arith) in
-    let since = few_digits run.since (let s = good.since in omega arith) in
-    let number = few_digits volume v in
-    let block = few_digits first f in
-    simp length-append (omega arith)
+label_short run volume first good v f = grind (arith, few_digits, length-append)
 
 pub short_labels : ShortLabels
-short_labels s lawful =
-    let at = few_volumes s.run 1 0 s.counts (omega arith) (omega arith) lawful.counts in
-    let limit = lawful.run.blocks in
-    let volume = (checkpoint_of s.counts).0 in
-    let first = (checkpoint_of s.counts).1 in
-    let short = label_short s.run volume first lawful.run (omega (arith, at.0, limit)) (omega (arith, at.1, limit)) in
-    let size = length-append (label_lines s.run volume first) (replicate (1024 - length (label_lines s.run volume first)) 0) in
-    let zeros = length-replicate {A = ℕ} (1024 - length (label_lines s.run volume first)) 0 in
-    omega (arith, short, size, zeros)
+short_labels = grind (arith, few_volumes, label_short, length-append, length-replicate)

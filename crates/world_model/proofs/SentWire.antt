@@ -1,22 +1,10 @@
 -- What a reader of requests has of a text that a client sent, and a reader of replies of a text that a server sent.
-use Rattle.std.proofs.Common.{◌≡◌, ◌≢◌, ◌⊎◌, ◌↔◌, ℕ, suc, ◌+◌, ◌<◌, ◌≤◌, ◌==◌, Bool, true, false, if◌then◌else◌, nat_le, min, List, [], ◌∷◌, ◌++◌, length, length-append, take, drop, replicate, Option, Some, None, Result, Ok, Err, append_assoc, append-nil, refl, sym, ap, subst, ◌∙◌, inl, inr, arith}
-use Rattle.std.proofs.lemmas.List.{take_at, take-append-drop, length-replicate, length-take-le, nil_from_length, length-drop}
-use Rattle.std.proofs.lemmas.Bool.Decides.{nat_tests}
-use Rattle.rmt_wire.specs.declared.limits.TheConstants.{READER_LIMIT, RECORD_LIMIT}
-use Rattle.rmt_wire.specs.Number.{SpellsNumber, line_feed}
-use Rattle.rmt_wire.specs.Request.{PlainRequest, SpellsRequest}
-use Rattle.rmt_wire.specs.Request.PlainRequest.{Open, WriteDropped}
-use Rattle.rmt_wire.specs.Reply.{PlainReply, Wanted, SpellsReply, reply_text}
-use Rattle.rmt_wire.specs.Reply.PlainReply.{Done, Data, Error}
-use Rattle.rmt_wire.specs.ReplyFront.{text_len, kept_text, kept_behind, kept_of}
-use Rattle.rmt_wire.specs.ReplyParts.{ReplyParsesAs}
-use Rattle.rmt_wire.specs.ReplyReader.{ReplyHeld, ReplyUnread}
-use Rattle.rmt_wire.specs.Parsed.{Parsed, number_front}
+-- How many steps come before a step, and what is left of a session's state when its side is another.
+use Rattle.world_model.proofs.Basics.{◌≡◌, ◌≢◌, ◌⊎◌, ◌↔◌, ℕ, suc, ◌+◌, ◌<◌, ◌≤◌, ◌==◌, Bool, true, false, if◌then◌else◌, List, [], ◌∷◌, ◌++◌, length, length-append, take, drop, replicate, Option, Some, None, Result, Ok, Err, append_assoc, append-nil, refl, sym, ap, subst, ◌∙◌, arith, take_at, take-append-drop, length-replicate, length-take-le, nil_from_length, length-drop, zero, ◌-◌, ◌^◌, nat_lt}
+use Rattle.world_model.proofs.Terms.{READER_LIMIT, RECORD_LIMIT, SpellsNumber, line_feed, PlainRequest, SpellsRequest, WriteDropped, PlainReply, Wanted, SpellsReply, reply_text, text_len, kept_text, kept_behind, ReplyParsesAs, ReplyHeld, ReplyUnread, Parsed, number_front, ParsesAs, IsDroppedLine, RequestHeld, held, Unread, UnreadAt, WireFault, FitsReplyReader, raised, ServerConnection, PlainRun, IsRun, steps_before, blocks_from, Step, Open, Operation, Look, Label, Block, Close, Rewind, RewindAgain, Mark, Unload, AttemptState, HasDone, IsSessionBefore}
+use Rattle.rmt_wire.specs.ReplyFront.{kept_of}
+use Rattle.rmt_wire.specs.RequestReader.{dropped_line}
 use Rattle.rmt_wire.specs.declared.number.Place.TheVariants as places
-use Rattle.rmt_wire.specs.RequestParts.{ParsesAs, IsDroppedLine}
-use Rattle.rmt_wire.specs.RequestReader.{RequestHeld, held, Unread, UnreadAt, dropped_line}
-use Rattle.rmt_wire.specs.declared.fault.WireFault.{WireFault}
-use Rattle.world_model.specs.Sending.{FitsReplyReader}
 
 -- At each place a reader can give one thing only.
 abbrev pub OneReading : Type 0
@@ -34,15 +22,13 @@ fresh_unread = (refl, refl)
 
 -- what is unread begins with the line of a write that is to be dropped
 abbrev pub BeginsLong : List ℕ → Type 0
-BeginsLong bytes =
-    (number behind : List ℕ) × (count : ℕ) × SpellsNumber number count × (RECORD_LIMIT < count) × (bytes ≡ 87 ∷ (number ++ line_feed ∷ behind))
+BeginsLong bytes = (number behind : List ℕ) × (count : ℕ) × SpellsNumber number count × (RECORD_LIMIT < count) × (bytes ≡ 87 ∷ (number ++ line_feed ∷ behind))
 
 line_of_write : (kept number rest : List ℕ) (len : ℕ) → kept ≡ 87 ∷ (number ++ line_feed ∷ rest) → len ≡ length number + 2
     → take len kept ≡ 87 ∷ (number ++ line_feed ∷ [])
 line_of_write kept number rest len is long =
     let front : kept ≡ (87 ∷ (number ++ line_feed ∷ [])) ++ rest = is ∙ ap (λ l. 87 ∷ l) (sym (append_assoc number (line_feed ∷ []) rest)) in
-    let size = length-append number (line_feed ∷ []) in
-    ap (take len) front ∙ take_at (87 ∷ (number ++ line_feed ∷ [])) rest len (omega (arith, size, long))
+    grind (arith, length-append, take_at)
 
 long_read : (h : RequestHeld) (line : ℕ × ℕ) (bytes : List ℕ) → IsDroppedLine h.kept line.0 line.1 → UnreadAt (Some line) h bytes → BeginsLong bytes
 long_read h line bytes d (gone, many, few, is) = (
@@ -81,14 +67,10 @@ pub text_not_long : OneReading → (text bytes more : List ℕ) (request : Plain
     → text ≡ bytes ++ more → BeginsLong bytes → ⊥
 text_not_long g text bytes more request spelled kept is (number, behind, count, numeral, large, begins) =
     let pad : List ℕ = replicate count 0 in
-    let size = length-append behind (more ++ pad) in
-    let one = length-append more pad in
     let two = length-replicate {A = ℕ} count 0 in
-    let stream : text ++ pad ≡ 87 ∷ (number ++ line_feed ∷ (behind ++ (more ++ pad)))
-    = ap (λ l. l ++ pad) is ∙ append_assoc bytes more pad ∙ ap (λ l. l ++ (more ++ pad)) begins
-    ∙ ap (λ l. 87 ∷ l) (append_assoc number (line_feed ∷ behind) (more ++ pad)) in
+    let stream : text ++ pad ≡ 87 ∷ (number ++ line_feed ∷ (behind ++ (more ++ pad))) = grind (arith, append_assoc) in
     let whole : ParsesAs (text ++ pad) (Ok (Some request)) pad = (text, spelled, refl) in
-    let other = long_gives number behind (more ++ pad) count numeral large (omega (arith, size, one, two)) in
+    let other = long_gives number behind (more ++ pad) count numeral large (omega (arith, length-append behind (more ++ pad), length-append more pad, two)) in
     let same = (g (text ++ pad) pad _ (Ok (Some request)) (Ok (Some (WriteDropped count))) whole
     (subst (λ l. ParsesAs l (Ok (Some (WriteDropped count))) (drop count (behind ++ (more ++ pad)))) (sym stream) other)).0 in
     kept count (cc)
@@ -100,17 +82,7 @@ gives_whole g text bytes way rest request found spelled is (front, spells, split
     let stream : text ≡ front ++ (rest ++ way) = is ∙ ap (λ l. l ++ way) split ∙ append_assoc front rest way in
     let same = g text [] (rest ++ way) (Ok (Some request)) (Ok (Some found)) (text, spelled, sym (append-nil text)) (front, spells, stream) in
     let size : 0 ≡ length (rest ++ way) = ap length same.1 in
-    let both = length-append rest way in
-    (cc, nil_from_length rest (omega (arith, size, both)), nil_from_length way (omega (arith, size, both)))
-
--- nothing is given of no bytes
-nothing_spelled : (request : PlainRequest) → SpellsRequest [] request → ⊥
-nothing_spelled (Open device mode) (line, one, two, is) = cc
-nothing_spelled request spelled = cc
-
-pub nothing_given : (rest : List ℕ) (found : PlainRequest) → ParsesAs [] (Ok (Some found)) rest → ⊥
-nothing_given rest found ([], spells, is) = nothing_spelled found spells
-nothing_given rest found (b ∷ front, spells, is) = cc
+    grind (arith, length-append, nil_from_length)
 
 text_within : (text : List ℕ) → text_len text ≤ length text
 text_within [] = omega arith
@@ -120,37 +92,12 @@ text_within (b ∷ text) = first_within (b == line_feed) (text_len text) (length
     first_within true n m less = omega arith
     first_within false n m less = omega (arith, less)
 
--- what is kept of a reply that is not long is all of it
-text_kept : (text : List ℕ) (b : Bool) → nat_le (text_len text) 255 ≡ b → length (kept_text text) < 255 → kept_text text ≡ text
-text_kept text true is short =
-    let few : text_len text ≤ 255 = grind (arith, nat_tests) in
-    let same : min 255 (text_len text) ≡ text_len text = omega (arith, few) in
-    ap (λ n. take n text ++ drop (text_len text) text) same ∙ take-append-drop (text_len text) text
-text_kept text false is short =
-    let many : 255 < text_len text = grind (arith, nat_tests) in
-    let same : min 255 (text_len text) ≡ 255 = omega (arith, many) in
-    let all = text_within text in
-    let front = length-take-le 255 text (omega (arith, many, all)) in
-    let size = length-append (take (min 255 (text_len text)) text) (drop (text_len text) text) in
-    let cut = ap (λ n. length (take n text)) same in
-    absurd (omega (arith, short, size, cut, front))
-
-behind_kept : (o : Parsed (ℕ × ℕ)) (bytes : List ℕ) → length (kept_behind o bytes) < 255 → kept_behind o bytes ≡ bytes
-behind_kept (Ok (Some n)) bytes short =
-    let size = length-append (take (n.1 + 1) bytes) (kept_text (drop (n.1 + 1) bytes)) in
-    ap (λ l. take (n.1 + 1) bytes ++ l)
-    (text_kept (drop (n.1 + 1) bytes) (nat_le (text_len (drop (n.1 + 1) bytes)) 255) refl (omega (arith, short, size)))
-    ∙ take-append-drop (n.1 + 1) bytes
-behind_kept (Ok None) bytes short = refl
-behind_kept (Err fault) bytes short = refl
-
 letter_kept : (letter : ℕ) (bytes : List ℕ) (b : Bool) → (letter == 69) ≡ b → length (kept_of (letter ∷ bytes)) < 255 → kept_of (letter ∷ bytes) ≡ letter ∷ bytes
 unfolding kept_of
 letter_kept letter bytes true is short =
     let here : kept_of (letter ∷ bytes) ≡ letter ∷ kept_behind (number_front places.Line bytes) bytes
     = ap (λ b. if b then letter ∷ kept_behind (number_front places.Line bytes) bytes else letter ∷ bytes) is in
-    let size = ap length here in
-    here ∙ ap (λ l. letter ∷ l) (behind_kept (number_front places.Line bytes) bytes (omega (arith, short, size)))
+    here ∙ ap (λ l. letter ∷ l) ((grind (arith, length-append, text_within, length-take-le, take-append-drop)))
 letter_kept letter bytes false is short = ap (λ b. if b then letter ∷ kept_behind (number_front places.Line bytes) bytes else letter ∷ bytes) is
 
 kept_whole : (bytes : List ℕ) → length (kept_of bytes) < 255 → kept_of bytes ≡ bytes
@@ -158,34 +105,23 @@ unfolding kept_of
 kept_whole [] short = refl
 kept_whole (letter ∷ bytes) short = letter_kept letter bytes (letter == 69) refl short
 
-kept_short : (bytes : List ℕ) → length bytes < 255 → length (kept_of bytes) ≤ length bytes → length (kept_of bytes) < 255
-kept_short bytes short less = omega (arith, short, less)
-
 -- no more is kept than came
 text_no_more : (text : List ℕ) → length (kept_text text) ≤ length text
-text_no_more text =
-    let size = length-append (take (min 255 (text_len text)) text) (drop (text_len text) text) in
-    let all = text_within text in
-    let front = length-take-le (min 255 (text_len text)) text (omega (arith, all)) in
-    let rest = length-drop (text_len text) text in
-    omega (arith, size, all, front, rest)
+text_no_more text = grind (arith, length-append, text_within, length-take-le, length-drop)
 
 behind_no_more : (o : Parsed (ℕ × ℕ)) (bytes : List ℕ) → length (kept_behind o bytes) ≤ length bytes
 behind_no_more (Ok (Some n)) bytes =
     let size = length-append (take (n.1 + 1) bytes) (kept_text (drop (n.1 + 1) bytes)) in
     let less = text_no_more (drop (n.1 + 1) bytes) in
     let parts = length-append (take (n.1 + 1) bytes) (drop (n.1 + 1) bytes) in
-    let all = ap length (take-append-drop (n.1 + 1) bytes) in
-    omega (arith, size, less, parts, all)
-behind_no_more (Ok None) bytes = omega arith
-behind_no_more (Err fault) bytes = omega arith
+    grind (arith, take-append-drop)
+behind_no_more o bytes = grind arith
 
 letter_no_more : (letter : ℕ) (bytes : List ℕ) (b : Bool) → (letter == 69) ≡ b → length (kept_of (letter ∷ bytes)) ≤ length (letter ∷ bytes)
 unfolding kept_of
 letter_no_more letter bytes true is =
     let size = ap (λ b. length (if b then letter ∷ kept_behind (number_front places.Line bytes) bytes else letter ∷ bytes)) is in
-    let less = behind_no_more (number_front places.Line bytes) bytes in
-    omega (arith, size, less)
+    omega (arith, size, behind_no_more (number_front places.Line bytes) bytes)
 letter_no_more letter bytes false is =
     let size = ap (λ b. length (if b then letter ∷ kept_behind (number_front places.Line bytes) bytes else letter ∷ bytes)) is in
     omega (arith, size)
@@ -204,7 +140,7 @@ no_error_kept : (bytes : List ℕ) → IsNoError bytes → kept_of bytes ≡ byt
 unfolding kept_of
 no_error_kept [] none = refl
 no_error_kept (letter ∷ bytes) other =
-    let test : (letter == 69) ≡ false = grind (arith, nat_tests) in
+    let test : (letter == 69) ≡ false = grind arith in
     ap (λ b. if b then letter ∷ kept_behind (number_front places.Line bytes) bytes else letter ∷ bytes) test
 
 begins_kept : (bytes : List ℕ) (letter : ℕ) (b : Bool) → (letter == 69) ≡ b → IsNoError (kept_of (letter ∷ bytes)) → IsNoError (letter ∷ bytes)
@@ -221,38 +157,12 @@ same_error (letter ∷ bytes) other = begins_kept bytes letter (letter == 69) re
 -- where few bytes came, or those of no error, these alone
 pub one_heard : (h : ReplyHeld) (wanted : Wanted) (bytes other : List ℕ) → (length bytes < 255) ⊎ IsNoError bytes → ReplyUnread h (Some wanted) bytes
     → ReplyUnread h (Some wanted) other → bytes ≡ other
-one_heard h wanted bytes other (inl short) one two =
-    let few = kept_short bytes short (no_more_kept bytes) in
-    let same = sym one.keeps ∙ two.keeps in
-    let size = ap length same in
-    sym (kept_whole bytes few) ∙ same ∙ kept_whole other (omega (arith, few, size))
-one_heard h wanted bytes other (inr none) one two =
-    let all = no_error_kept bytes none in
-    let same = sym one.keeps ∙ two.keeps in
-    sym all ∙ same ∙ no_error_kept other (same_error other (subst IsNoError (sym all ∙ same) none))
-
-letter_begins : (letter : ℕ) (text bytes way : List ℕ) → letter ≢ 69 → letter ∷ text ≡ bytes ++ way → IsNoError bytes
-letter_begins letter text [] way other is = tt
-letter_begins letter text (b ∷ bytes) way other is = let same : letter ≡ b = cc in λ bad. other (same ∙ bad)
+one_heard h wanted bytes other given one two = grind (arith, no_more_kept, kept_whole, no_error_kept, same_error)
 
 -- Of a reply that is kept whole the bytes that came so far are few, or those of no error, and a reader has room for more.
 pub brief_begins : (wanted : Wanted) (reply : PlainReply) (bytes way : List ℕ) → FitsReplyReader wanted reply → reply_text reply ≡ bytes ++ way
     → ((length bytes < 255) ⊎ IsNoError bytes) × (length bytes < READER_LIMIT)
-brief_begins wanted (Data given) bytes way brief is =
-    let size = ap length is in
-    let both = length-append bytes way in
-    let short = brief.short in
-    (inr (letter_begins 65 _ bytes way (λ same. omega (arith, same)) is), omega (arith, size, both, short))
-brief_begins wanted (Done n) bytes way brief is =
-    let size = ap length is in
-    let both = length-append bytes way in
-    let short = brief.short in
-    (inl (omega (arith, size, both, short)), omega (arith, size, both, short))
-brief_begins wanted (Error n text) bytes way brief is =
-    let size = ap length is in
-    let both = length-append bytes way in
-    let short = brief.short in
-    (inl (omega (arith, size, both, short)), omega (arith, size, both, short))
+brief_begins wanted reply bytes way brief is = grind (arith, length-append)
 
 -- what spells no two replies
 abbrev pub OneReply : Type 0
@@ -266,8 +176,7 @@ reply_whole g wanted text bytes way rest reply found spelled is (front, spells, 
     let stream : text ≡ front ++ (rest ++ way) = is ∙ ap (λ l. l ++ way) split ∙ append_assoc front rest way in
     let same = g wanted front (rest ++ way) found reply spells (subst (λ l. SpellsReply l reply wanted) stream spelled) in
     let size : length (rest ++ way) ≡ 0 = ap length same.0 in
-    let both = length-append rest way in
-    (same.1, nil_from_length rest (omega (arith, size, both)), nil_from_length way (omega (arith, size, both)))
+    grind (arith, length-append, nil_from_length)
 
 -- a beginning of a reply has no fault
 pub reply_no_fault : (wanted : Wanted) (text bytes way rest : List ℕ) (reply : PlainReply) (fault : WireFault) → SpellsReply text reply wanted
@@ -276,3 +185,47 @@ reply_no_fault wanted text bytes way rest reply fault spelled is (f, none, same)
     let stream : text ≡ (f.seen ++ f.byte ∷ []) ++ (f.later ++ way)
     = is ∙ ap (λ l. l ++ way) f.split ∙ append_assoc f.seen (f.byte ∷ f.later) way ∙ sym (append_assoc f.seen (f.byte ∷ []) (f.later ++ way)) in
     f.hopeless (f.later ++ way, reply, subst (λ l. SpellsReply l reply wanted) stream spelled)
+
+-- a block more, where one is left
+abbrev pub one_if : Bool → ℕ
+one_if true = 1
+one_if false = 0
+
+abbrev pub steps_len : PlainRun → ℕ → ℕ → Step → ℕ
+steps_len run first next Open = 0
+steps_len run first next (Operation Rewind) = 1
+steps_len run first next Look = 2
+steps_len run first next (Operation RewindAgain) = 3
+steps_len run first next Label = 4
+steps_len run first next (Block number) = 5 + (number - first)
+steps_len run first next (Operation (Mark end)) = 5 + (end - first) + one_if (nat_lt end run.blocks)
+steps_len run first next (Operation (Unload end)) = 6 + (end - first) + one_if (nat_lt end run.blocks)
+steps_len run first next Close = 7 + (next - first) + one_if (nat_lt next run.blocks)
+
+blocks_length : (first count : ℕ) → length (blocks_from first count) ≡ count
+blocks_length first zero = refl
+blocks_length first (suc count) = let on = blocks_length (suc first) count in omega (arith, on)
+
+pub before_length : (run : PlainRun) (first next : ℕ) (step : Step) → length (steps_before run first next step) ≡ steps_len run first next step
+before_length run first next step = grind (arith, blocks_length, length-append)
+
+-- a count that is far from the greatest u64 is raised by one
+pub raised_one : (n : ℕ) → n + 1 < 2 ^ 64 → raised n ≡ n + 1
+raised_one n small = omega (arith, small)
+
+-- an attempt has few steps
+pub done_few : (run : PlainRun) (o : Option ServerConnection) (d : AttemptState) (step : Step) → IsRun run → HasDone run o d step → d.carried + 1 < 2 ^ 64
+done_few run o d step good h = grind (arith, before_length)
+
+-- the side is over, or its session stays
+pub moved_done : (run : PlainRun) (o p : Option ServerConnection) (d : AttemptState) (step : Step)
+    → ((s : ServerConnection) → p ≡ Some s → (x : ServerConnection) × (o ≡ Some x) × (s.session ≡ x.session)) → HasDone run o d step → HasDone run p d step
+moved_done run o p d step same h = record {
+  carried = h.carried;
+  fault = h.fault;
+  label = h.label;
+  blocks = h.blocks;
+  within = h.within;
+  mark = h.mark;
+  stands = λ s at. (let x = same s at in subst (IsSessionBefore step) (sym x.2) (h.stands x.0 x.1));
+}

@@ -1,19 +1,11 @@
 -- What one request makes of the drive that a session has open, and of the number of drives.
-use Rattle.std.proofs.Common.{◌≡◌, ◌⊎◌, ℕ, ◌<◌, List, length, Option, Some, None, refl, sym, ap, subst, ◌∙◌, inl, inr, arith}
-use Rattle.std.specs.Prelude.{slice_get}
-use Rattle.std.proofs.lemmas.List.{length-set}
-use Rattle.std.proofs.lemmas.Option.{same_Some, slice_get-get_or}
-use Rattle.drives.specs.TapeLibrary.{TapeLibrary}
-use Rattle.rmt_server.specs.Session.{PlainSession, SessionView, closed_library}
-use Rattle.rmt_server.specs.Session.PlainSession.{Idle, Offline, Online}
-use Rattle.rmt_server.specs.TroubledServe.{drive_in, with_holder}
+use Rattle.world_model.proofs.Basics.{◌≡◌, ◌⊎◌, ℕ, ◌<◌, List, length, Option, Some, sym, ap, subst, ◌∙◌, inl, inr, arith, slice_get, length-set, same_Some, slice_get-get_or}
+use Rattle.world_model.proofs.Terms.{TapeLibrary, PlainSession, SessionView, closed_library, Idle, drive_in, with_holder}
 use Rattle.world_model.proofs.NamedRequests.{Comes, stays, closes, opens, moves}
 
 -- a session that lays its reel back leaves the drives
 pub closed_drives : (s : TapeLibrary) (session : PlainSession) → length (closed_library s session).drives ≡ length s.drives
-closed_drives s Idle = refl
-closed_drives s (Offline drive access) = refl
-closed_drives s (Online drive access reel) = length-set s.drives drive _
+closed_drives s session = grind (arith, length-set)
 
 -- What a request makes of a drive: it is the one that was open, or one that no other had.
 pub record Serves (holders : List ℕ) (before after : SessionView) : Type 0 where
@@ -22,8 +14,7 @@ pub record Serves (holders : List ℕ) (before after : SessionView) : Type 0 whe
       → (drive_in before.session ≡ Some d) ⊎ (slice_get (with_holder (drive_in before.session) 0 holders) d ≡ Some 0)
 
 pub holders_length : (o : Option ℕ) (n : ℕ) (holders : List ℕ) → length (with_holder o n holders) ≡ length holders
-holders_length None n holders = refl
-holders_length (Some d) n holders = length-set holders d n
+holders_length o n holders = grind (arith, length-set)
 
 pub comes_serves : (holders : List ℕ) (before after : SessionView) (opened : Option (List ℕ)) → length holders ≡ length before.library.drives
     → Comes holders before after opened → Serves holders before after

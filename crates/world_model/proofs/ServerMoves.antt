@@ -1,14 +1,6 @@
 -- How an event moves the hall.
-use Rattle.std.proofs.Common.{◌≡◌, ℕ, ◌<◌, List, length, Option, Some}
-use Rattle.std.specs.Prelude.{slice_index_or}
-use Rattle.rmt_wire.specs.RequestReader.{RequestHeld, Unread}
-use Rattle.drives.specs.TapeLibrary.{TapeLibrary}
-use Rattle.drives.specs.Arranging.{arranged}
-use Rattle.rmt_server.specs.ServerState.{ServerState, server, ServerConnection, side}
-use Rattle.rmt_server.specs.Session.{session_view}
-use Rattle.rmt_server.specs.TroubledServe.{drive_in, with_holder}
-use Rattle.world_model.specs.World.{with_numbered}
-use Rattle.world_model.specs.Changes.{side_of, with_side, ended, all_ended}
+use Rattle.world_model.proofs.Basics.{◌≡◌, ℕ, ◌<◌, List, length, Option, Some, slice_index_or}
+use Rattle.world_model.proofs.Terms.{RequestHeld, Unread, TapeLibrary, arranged, ServerState, server, ServerConnection, side, session_view, drive_in, with_holder, with_numbered, side_of, with_side, ended, all_ended}
 use Rattle.world_model.proofs.NamedRequests.{Comes}
 
 -- something is unread by the side, if only no bytes

@@ -1,13 +1,6 @@
 -- The sides of a hall, where one is another, or over, or new.
-use Rattle.std.proofs.Common.{◌≡◌, ◌≢◌, ◌⊎◌, ℕ, zero, suc, [], ◌∷◌, Option, Some, None, refl, sym, ap, ◌∙◌, inl, inr}
-use Rattle.std.specs.Prelude.{option_and_then}
-use Rattle.std.proofs.lemmas.Bool.Decides.{eqb_tells}
-use Rattle.std.proofs.lemmas.Option.{same_Some}
-use Rattle.rmt_wire.specs.RequestReader.{held}
-use Rattle.rmt_server.specs.ServerState.{ServerState, ServerConnection, side}
-use Rattle.rmt_server.specs.Session.PlainSession.{Idle}
-use Rattle.world_model.specs.World.{numbered, with_numbered}
-use Rattle.world_model.specs.Changes.{side_of, with_side, ended_from, ended, all_ended}
+use Rattle.world_model.proofs.Basics.{◌≡◌, ◌≢◌, ◌⊎◌, ℕ, zero, suc, [], ◌∷◌, Option, Some, None, refl, sym, ap, ◌∙◌, inl, inr, option_and_then, eqb_tells, same_Some}
+use Rattle.world_model.proofs.Terms.{held, ServerState, ServerConnection, side, Idle, numbered, with_numbered, side_of, with_side, ended_from, ended, all_ended}
 use Rattle.world_model.proofs.Numbers.{with_here, with_other, pushed_is, numbered_more}
 
 -- the live side of that number, as a member

@@ -1,46 +1,105 @@
+-- What keeps reels of counts spared, whatever happens.
 -- What stays so, in the first world and after each event.
-use Rattle.std.proofs.Common.{◌≡◌, ℕ, zero, suc, List, [], ◌∷◌, length, map, replicate, Contains, Some, refl, sym, ap, subst, ◌∙◌, inl, inr, arith}
-use Rattle.std.specs.Prelude.{slice_get, slice_index_or}
-use Rattle.drives.specs.TapeLibrary.{kept_reel, slot, drive_with}
-use Rattle.std.proofs.lemmas.Bool.Decides.{eqb_tells}
-use Rattle.std.proofs.lemmas.List.{length-map, length-replicate}
-use Rattle.std.proofs.lemmas.Option.{same_Some}
-use Rattle.world_model.specs.World.{World}
-use Rattle.world_model.specs.Events.{PlainEvent}
-use Rattle.world_model.specs.First.{PlainDriveSpec, AreGoodDrives, blank_drive, first_world}
-use Rattle.world_model.specs.Steps.{Happens, Runs, none, one_more}
-use Rattle.world_model.specs.Standing.{AreThere}
-use Rattle.world_model.specs.Kept.{IsWorldKept}
-use Rattle.world_model.specs.Headline.{NoTwoHolders, DumpdatesGained, Headline, CountedReels}
-use Rattle.world_model.specs.Further.{SentRequests, LatchedReels, ClientsCounts, ReelsNotReopened, LabelledReels}
-use Rattle.world_model.specs.Naming.{SameNames}
-use Rattle.world_model.proofs.Numbers.{no_number}
-use Rattle.world_model.proofs.SentWire.{OneReading, DroppedWrites, OneReply}
-use Rattle.world_model.proofs.Lawfully.{Lawfully, lawful_moved}
-use Rattle.world_model.proofs.Owned.{Standings, owned_moved, first_owned}
-use Rattle.world_model.proofs.ToldAfter.{first_told, told_moved}
-use Rattle.world_model.proofs.LabelledAfter.{first_single, first_labelled, first_earned, single_moved, labelled_moved, earned_moved}
-use Rattle.world_model.proofs.Counted.{labelled_reels, counted_reels, reels_not_reopened}
+use Rattle.world_model.proofs.Basics.{◌≡◌, List, None, refl, arith, ℕ, zero, suc, [], ◌∷◌, length, map, replicate, Contains, Some, sym, ap, subst, ◌∙◌, inl, inr, slice_get, slice_index_or, eqb_tells, length-map, length-replicate, same_Some, length-append}
+use Rattle.world_model.proofs.Terms.{World, PlainDriveSpec, first_world, without_server, without_peer, new_connection, AreSingle, EachCountHasAttempt, IsClientLawful, IsOwned, AreTold, AreNotReopened, kept_reel, slot, drive_with, PlainEvent, AreGoodDrives, blank_drive, Happens, Runs, none, one_more, AreThere, IsWorldKept, NoTwoHolders, DumpdatesGained, Headline, CountedReels, SentRequests, LatchedReels, ClientsCounts, ReelsNotReopened, LabelledReels, SameNames}
+use Rattle.world_model.proofs.Ground.{OneReading, DroppedWrites, OneReply, talked, talked_dump, Turn, Move, begins, connects, asks, fails, reaches, cuts, talks, hears, hears_last, sees, forgets, gives_up, answers, moved, turned, happened, no_number, Standings, owned_moved, tidy_moved, held_moved, Goings, booked_moved, readable_moved, map_at}
+use Rattle.world_model.proofs.Moves.{serves, ends, restarts, joins}
+use Rattle.world_model.proofs.NotReopenedQuiet.{SameOpens, changed_dumps, joined_dumps, idle_not_reopened, same_not_reopened, connected_not_reopened, changed_backs, joined_backs, strangers_backs, asked_not_reopened}
+use Rattle.world_model.proofs.NotReopenedHears.{heard_not_reopened, heard_last_not_reopened}
 use Rattle.world_model.proofs.NotReopenedLooks.{Grounds}
-use Rattle.world_model.proofs.NotReopenedAfter.{first_not_reopened, not_reopened_moved}
-use Rattle.world_model.proofs.Tidy.{tidy_moved}
-use Rattle.world_model.proofs.Moves.{Move, happened, moved}
-use Rattle.world_model.proofs.Held.{held_moved, side_there}
+use Rattle.world_model.proofs.NotReopenedAnswers.{served_late, served_stopped, served_listed, served_looked}
+use Rattle.world_model.proofs.Lawfully.{Lawfully, lawful_moved}
+use Rattle.world_model.proofs.ToldAfter.{first_told, told_moved, first_single, first_labelled, first_earned, single_moved, labelled_moved, earned_moved}
+use Rattle.world_model.proofs.Counted.{labelled_reels, counted_reels, reels_not_reopened}
+use Rattle.world_model.proofs.Held.{side_there}
 use Rattle.world_model.proofs.Laid.{laid_moved, online_drive, drive_within}
-use Rattle.world_model.proofs.Booked.{Goings, booked_moved}
 use Rattle.world_model.proofs.Named.{names_after, named_moved, first_named}
-use Rattle.world_model.proofs.Opened.{opened_moved, first_opened, names_differ}
-use Rattle.world_model.proofs.Writers.{writers_moved, first_writers}
-use Rattle.world_model.proofs.Readable.{readable_moved}
+use Rattle.world_model.proofs.Opened.{opened_moved, first_opened, names_differ, writers_moved, first_writers}
+
+pub first_not_reopened : (drives : List PlainDriveSpec) → AreNotReopened (first_world drives)
+first_not_reopened drives = record {
+  paired = refl;
+  late = λ y d (i, within, is) has. absurd (omega (arith, within));
+  stopped = λ x k d (i, within, is) not_reopened since has. absurd (omega (arith, within));
+  listed = λ k i m c step o list own there at other opens mine from lists. absurd cc;
+  looked = λ k l c fed progress new x own on there had feeds goes counted not_reopened since. absurd cc;
+}
+
+-- What holds after the event, as far as this rests on it.
+pub record After (u : World) : Type 0 where
+  pub owned : IsOwned u
+  pub told : AreTold u
+  pub single : AreSingle u
+  pub earned : EachCountHasAttempt u
+
+served_not_reopened : OneReading → DroppedWrites → OneReply → (w : World) (v : Turn w) → Grounds w → IsOwned w → IsClientLawful w → After (turned w v)
+    → AreNotReopened (turned w v)
+served_not_reopened r h g w v a owned lawful after = record {
+  paired = (grind (arith, length-append));
+  late = served_late r h w v a.told a.not_reopened.late;
+  stopped = served_stopped r h w v a after.earned after.single;
+  listed = served_listed w v a.not_reopened.paired a.not_reopened.listed;
+  looked = served_looked r h g w v a owned lawful after.told after.earned after.single;
+}
+
+-- an event that leaves openings and writings
+quiet : (w u : World) → u.opens ≡ w.opens → u.lists ≡ w.lists → u.writings ≡ w.writings → SameOpens w u
+quiet w u opens lists writings = record { opens = opens; lists = lists; writings = writings }
+
+pub not_reopened_moved : OneReading → DroppedWrites → OneReply → (w : World) (m : Move w) → Grounds w → IsOwned w → IsClientLawful w → After (moved w m)
+    → AreNotReopened (moved w m)
+not_reopened_moved r h g w (serves v) a owned lawful after = served_not_reopened r h g w v a owned lawful after
+not_reopened_moved r h g w (asks t) a owned lawful after = asked_not_reopened w t owned a.told a.opened a.not_reopened
+not_reopened_moved r h g w (hears t on) a owned lawful after = heard_not_reopened g w t on owned lawful a.told a.single a.opened a.writers a.not_reopened
+not_reopened_moved r h g w (hears_last t failure over) a owned lawful after =
+    heard_last_not_reopened g w t failure over owned lawful a.told a.single a.opened a.writers a.not_reopened
+not_reopened_moved r h g w (begins run payload reader idle good long) a owned lawful after = grind arith
+not_reopened_moved r h g w (answers c answer reader there stage) a owned lawful after =
+    grind arith
+not_reopened_moved r h g w (connects c there ready) a owned lawful after = connected_not_reopened w c a.opened a.writers a.not_reopened
+not_reopened_moved r h g w (fails k n c reader there stage own) a owned lawful after =
+    let u = moved w (fails k n c reader there stage own) in
+    idle_not_reopened w u (quiet w u refl refl refl) (changed_dumps without_peer (λ x. refl) w u k refl) a.opened a.writers refl (λ j mine. absurd cc) a.not_reopened
+not_reopened_moved r h g w (sees t failure) a owned lawful after =
+    let u = moved w (sees t failure) in
+    idle_not_reopened w u (quiet w u refl refl refl) (changed_dumps without_peer (λ x. refl) w u t.k refl) a.opened a.writers refl (λ j mine. absurd cc) a.not_reopened
+not_reopened_moved r h g w (gives_up x k own) a owned lawful after =
+    let u = moved w (gives_up x k own) in
+    idle_not_reopened w u (quiet w u refl refl refl) (changed_dumps without_peer (λ y. refl) w u k refl) a.opened a.writers refl (λ j mine. absurd cc) a.not_reopened
+not_reopened_moved r h g w (forgets x idle) a owned lawful after = grind arith
+not_reopened_moved r h g w (reaches k n s l reached live at grows) a owned lawful after =
+    let u = moved w (reaches k n s l reached live at grows) in
+    same_not_reopened w u (quiet w u refl refl refl) (changed_dumps _ (λ x. refl) w u k refl) (changed_backs _ (λ x. refl) w u k refl) a.opened a.writers refl refl
+    refl a.not_reopened
+not_reopened_moved r h g w (ends k) a owned lawful after =
+    let u = moved w (ends k) in
+    same_not_reopened w u (quiet w u refl refl refl) (changed_dumps without_server (λ x. refl) w u k refl) (changed_backs without_server (λ x. refl) w u k refl) a.opened
+    a.writers refl refl refl a.not_reopened
+not_reopened_moved r h g w restarts a owned lawful after =
+    let u = moved w restarts in
+    same_not_reopened w u (quiet w u refl refl refl) ((grind (arith, map_at))) ((grind (arith, map_at))) a.opened a.writers
+    refl refl refl a.not_reopened
+not_reopened_moved r h g w (cuts k) a owned lawful after =
+    let u = moved w (cuts k) in
+    same_not_reopened w u (quiet w u refl refl refl) (changed_dumps _ (λ x. refl) w u k refl) (changed_backs _ (λ x. refl) w u k refl) a.opened a.writers refl refl
+    refl a.not_reopened
+not_reopened_moved r h g w (talks k l t at stranger) a owned lawful after =
+    let u = moved w (talks k l t at stranger) in
+    same_not_reopened w u (quiet w u refl refl refl) (changed_dumps (talked t) (talked_dump t) w u k refl) (strangers_backs (talked t) w u k l owned refl at stranger)
+    a.opened a.writers refl refl refl a.not_reopened
+not_reopened_moved r h g w joins a owned lawful after =
+    let u = moved w joins in
+    same_not_reopened w u (quiet w u refl refl refl) (joined_dumps w u (new_connection None) refl) (joined_backs w u (new_connection None) owned refl) a.opened a.writers refl
+    refl refl a.not_reopened
+not_reopened_moved r h g w m a owned lawful after = grind arith
 
 no_member : {X : Type 0} (x : X) → Contains [] x → ⊥
 no_member x (k, within, is) = omega (arith, within)
 
 -- no drive has a holder
 no_holder : (n d k : ℕ) → slice_get (replicate n 0) d ≡ Some (suc k) → ⊥
-no_holder zero d k is = cc
-no_holder (suc n) zero k is = let clash : 0 ≡ suc k = same_Some 0 (suc k) is in omega (arith, clash)
 no_holder (suc n) (suc d) k is = no_holder n d k is
+no_holder n d k is = grind arith
 
 -- each reel lies there
 blank_there : (capacity : ℕ) (names : List (List ℕ)) → AreThere (map (λ name. slot name (Some (kept_reel [] capacity))) names)
@@ -55,7 +114,7 @@ first_there (drive ∷ drives) (suc d) = first_there drives d
 pub first_kept : (drives : List PlainDriveSpec) → AreGoodDrives drives → IsWorldKept (first_world drives)
 first_kept drives good = record {
   lawful = λ c is. absurd cc;
-  owned = first_owned (first_world drives) refl refl refl;
+  owned = (grind arith);
   told = first_told drives;
   single = first_single drives;
   labelled = first_labelled drives;
@@ -151,8 +210,7 @@ pub kept_names : (w u : World) (event : PlainEvent) → IsWorldKept w → Happen
 kept_names w u event k happens = names_after w event u happens k.held
 
 pub no_two_holders : (w : World) → IsWorldKept w → NoTwoHolders w
-no_two_holders w kept j k d one other =
-    same_Some j k (sym (kept.held.opened j d one.0 one.1 one.2) ∙ kept.held.opened k d other.0 other.1 other.2)
+no_two_holders w kept j k d one other = same_Some j k (sym (kept.held.opened j d one.0 one.1 one.2) ∙ kept.held.opened k d other.0 other.1 other.2)
 
 pub dumpdates_gained : (w : World) → IsWorldKept w → DumpdatesGained w
 dumpdates_gained w kept = record { dates = kept.booked.dates; once = kept.booked.once; earned = kept.booked.earned }

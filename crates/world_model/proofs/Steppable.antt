@@ -1,36 +1,100 @@
+-- What a client can hear of bytes and of the end of a connection, and what readers can keep of bytes.
 -- In a world where all is kept each possible event has a step.
-use Rattle.std.proofs.Common.{◌≡◌, IsTrue, ℕ, ◌≤◌, Bool, true, false, List, [], ◌++◌, append_assoc, length, take, drop, length-append, Option, Some, None, Result, Ok, Err, refl, sym, ap, subst, ◌∙◌, inl, inr, arith}
-use Rattle.std.proofs.lemmas.List.{take-append-drop}
-use Rattle.rmt_wire.specs.Request.{PlainRequest}
-use Rattle.rmt_wire.specs.Reply.{reply_text}
+use Rattle.world_model.proofs.Basics.{◌≡◌, ◌⊎◌, IsTrue, ℕ, ◌<◌, ◌≤◌, false, List, [], ◌∷◌, ◌++◌, length, append_assoc, length-append, Option, Some, None, Result, Ok, Err, refl, ap, ◌∙◌, inl, inr, arith, take-append-drop, take-append-le, drop-append-le, Bool, true, take, drop, sym, subst}
+use Rattle.world_model.proofs.Terms.{line_feed, PlainReply, Wanted, ReplyParsesAs, reply_held, IsDroppedLine, RequestHeld, held, Unread, UnreadAt, WireFault, READER_LIMIT, wanted_of, IsReaderWaiting, is_more, Standing, FedAt, CutAt, Progress, Stage, ToSend, Waiting, Step, IsAtRest, outcome_can, is_in_attempt, PlainRequest, reply_text, ReplyHeld, ServerConnection, session_view, drive_in, with_holder, Trouble, HasFedAt, unanswered, over_can, World, Connection, AttemptState, WorldClient, Kept, PlainEvent, StartRun, Connect, Send, ToServer, Serve, ToClient, EndAtClient, ClientRestart, Respond, Arrange, Enter, Save, side_of, connection_of, IsWorldKept, Possible, IsConnectionToldAt, Happens, Sends, Finds, Hears, SeesEnd, ResumesRun, is_failing}
 use Rattle.rmt_wire.specs.ReplyFront.{kept_of}
-use Rattle.rmt_wire.specs.ReplyReader.{ReplyHeld, reply_held}
-use Rattle.rmt_wire.specs.RequestReader.{held}
-use Rattle.rmt_wire.specs.declared.fault.WireFault.{WireFault}
-use Rattle.rmt_server.specs.ServerState.{ServerConnection}
-use Rattle.rmt_server.specs.Session.{session_view}
-use Rattle.rmt_server.specs.TroubledServe.{drive_in, with_holder}
-use Rattle.tape.specs.declared.trouble.Trouble.{Trouble}
-use Rattle.dump_client.specs.Client.{HasFedAt, unanswered}
-use Rattle.dump_client.specs.Script.{wanted_of}
-use Rattle.dump_client.specs.Standing.{Standing, FedAt}
-use Rattle.dump_client.specs.declared.stage.Progress.{Progress}
-use Rattle.dump_client.specs.declared.stage.Stage.{Stage}
-use Rattle.dump_client.specs.declared.stage.Stage.TheVariants.{ToSend, Waiting}
-use Rattle.dump_client.specs.declared.step.Step.{Step}
-use Rattle.dump_client.proofs.Received.{over_can}
-use Rattle.world_model.specs.World.{World, Connection, AttemptState, WorldClient, Kept}
-use Rattle.world_model.specs.Events.{PlainEvent}
-use Rattle.world_model.specs.Events.PlainEvent.{StartRun, Connect, Send, ToServer, Serve, ToClient, EndAtClient, ClientRestart, Respond, Arrange, Enter, Save}
-use Rattle.world_model.specs.Changes.{side_of, connection_of}
-use Rattle.world_model.specs.Kept.{IsWorldKept}
-use Rattle.world_model.specs.Owning.{is_in_attempt}
-use Rattle.world_model.specs.Rows.{Possible}
-use Rattle.world_model.specs.Sending.{IsConnectionToldAt}
-use Rattle.world_model.specs.Steps.{Happens, Sends, Finds, Hears, SeesEnd, ResumesRun, is_failing}
-use Rattle.world_model.proofs.SentWire.{DroppedWrites, brief_begins}
-use Rattle.world_model.proofs.StepsHeard.{SomeAnswer, cut_can, waits_can, asks_can, held_can, pushed_can}
+use Rattle.rmt_wire.specs.RequestReader.{dropped_line}
+use Rattle.world_model.proofs.SentWire.{DroppedWrites, no_more_kept, brief_begins}
 use Rattle.world_model.proofs.StepsServed.{serve_can}
+use Rattle.dump_client.specs.declared.stage.Progress.TheVariants as moved
+
+-- Of the bytes since a reply was waited for a reader can give something.
+abbrev pub SomeAnswer : Type 0
+SomeAnswer = (wanted : Option Wanted) (bytes : List ℕ)
+    → (answer : Result (Option PlainReply) WireFault) × (rest : List ℕ) × ReplyParsesAs wanted bytes answer rest
+
+-- The connection ends.
+pub cut_can : (old : Standing) (stage : Stage) → IsTrue (is_in_attempt stage)
+    → (progress : Progress) × (new : Standing) × CutAt stage old progress new × IsAtRest new.stage
+cut_can old (ToSend step) under = outcome_can old _ false
+cut_can old (Waiting step) under = outcome_can old _ false
+cut_can old stage under = absurd cc
+
+-- fewer bytes than a reader takes were fed to a client that waits: it waits on, or is at rest
+pub waits_can : SomeAnswer → (old : Standing) (step : Step) (fed piece : List ℕ) → length (fed ++ piece) < READER_LIMIT
+    → (progress : Progress) × (new : Standing) × FedAt (Waiting step) old fed piece progress new
+    × (((new ≡ old) × IsReaderWaiting (wanted_of step) (reply_held (Some (wanted_of step)) (kept_of (fed ++ piece))) (fed ++ piece)) ⊎ IsAtRest new.stage)
+waits_can g old step fed piece short = of_answer (g (Some (wanted_of step)) (fed ++ piece))
+  where
+    of_answer : (answer : Result (Option PlainReply) WireFault) × (rest : List ℕ) × ReplyParsesAs (Some (wanted_of step)) (fed ++ piece) answer rest
+        → (progress : Progress) × (new : Standing) × FedAt (Waiting step) old fed piece progress new
+        × (((new ≡ old) × IsReaderWaiting (wanted_of step) (reply_held (Some (wanted_of step)) (kept_of (fed ++ piece))) (fed ++ piece)) ⊎ IsAtRest new.stage)
+    of_answer (Ok None, rest, gives) = (
+      moved.Waiting,
+      old,
+      (Ok None, rest, gives, (refl, refl)),
+      inl (
+        refl,
+        record {
+          unread = record { waits = refl; keeps = refl };
+          begun = (gives.0, gives.1, refl);
+          room = (let less = no_more_kept (fed ++ piece) in omega (arith, less, short));
+        },
+      ),
+    )
+    of_answer (Ok (Some reply), rest, gives) =
+        let h = outcome_can old _ (is_more rest) in
+        (h.0, h.1, (Ok (Some reply), rest, gives, h.2), inr h.3)
+    of_answer (Err fault, rest, gives) =
+        let h = outcome_can old _ false in
+        (h.0, h.1, (Err fault, rest, gives, h.2), inr h.3)
+
+not_empty : (seen later : List ℕ) (byte : ℕ) → [] ≡ seen ++ byte ∷ later → ⊥
+not_empty [] later byte is = cc
+not_empty (b ∷ seen) later byte is = cc
+
+pub asks_can : SomeAnswer → (wanted : Wanted) → IsReaderWaiting wanted (reply_held (Some wanted) (kept_of [])) []
+asks_can g wanted = of_answer (g (Some wanted) [])
+  where
+    of_answer : (answer : Result (Option PlainReply) WireFault) × (rest : List ℕ) × ReplyParsesAs (Some wanted) [] answer rest
+        → IsReaderWaiting wanted (reply_held (Some wanted) (kept_of [])) []
+    of_answer (Ok None, rest, gives) = record {
+      unread = record { waits = refl; keeps = refl };
+      begun = (gives.0, gives.1, refl);
+      room = (let less = no_more_kept [] in omega (arith, less));
+    }
+    of_answer (Ok (Some reply), rest, (text, spelled, is)) = absurd ((grind arith))
+    of_answer (Err fault, rest, (f, none, same)) = absurd (not_empty f.seen f.later f.byte f.split)
+
+pub held_can : (bytes : List ℕ) → Unread (held bytes 0) bytes
+held_can bytes = (grind (arith, take-append-drop))
+
+-- a line that a dropped write begins with is within the bytes, and begins them still where more follow
+line_within : (bytes : List ℕ) (line : ℕ × ℕ) → IsDroppedLine bytes line.0 line.1 → line.0 ≤ length bytes
+line_within bytes line d = grind (arith, length-append)
+
+line_still : (bytes piece : List ℕ) (line : ℕ × ℕ) → IsDroppedLine bytes line.0 line.1 → IsDroppedLine (bytes ++ piece) line.0 line.1
+line_still bytes piece line d = record {
+  number = d.number;
+  rest = d.rest ++ piece;
+  spelled = d.spelled;
+  large = d.large;
+  split = ap (λ l. l ++ piece) d.split ∙ ap (λ l. 87 ∷ l) (append_assoc d.number (line_feed ∷ d.rest) piece);
+  long = d.long;
+}
+
+-- a piece follows what was unread
+pushed_at : DroppedWrites → (h : RequestHeld) (piece bytes : List ℕ) (o : Option (ℕ × ℕ)) → dropped_line h.kept ≡ o → UnreadAt o h bytes
+    → Unread (held (h.kept ++ piece) h.dropped) (bytes ++ piece)
+pushed_at g h piece bytes None is (none, same) = grind (arith, held_can)
+pushed_at g h piece bytes (Some line) is (gone, many, few, same) =
+    let d = (g h.kept line.0 line.1).0 is in
+    let within = line_within h.kept line d in
+    let still : dropped_line (h.kept ++ piece) ≡ Some line = (g (h.kept ++ piece) line.0 line.1).1 (line_still h.kept piece line d) in
+    grind (arith, append_assoc, drop-append-le, take-append-le)
+
+pub pushed_can : DroppedWrites → (h : RequestHeld) (piece bytes : List ℕ) → Unread h bytes → Unread (held (h.kept ++ piece) h.dropped) (bytes ++ piece)
+pushed_can g h piece bytes unread = pushed_at g h piece bytes (dropped_line h.kept) refl unread
 
 sends_can : SomeAnswer → (failing : Bool) (w : World) (k : ℕ) (c : WorldClient) (payload : List (List ℕ)) (step : Step) → (u : World) × Sends failing w k c payload step u
 sends_can g true w k c payload step = (_, (reply_held None [], refl))
@@ -38,8 +102,6 @@ sends_can g false w k c payload step = (_, (reply_held (Some (wanted_of step)) (
 
 finds_can : (w : World) (k : ℕ) (trouble : Trouble) (s : ServerConnection) (found : Result (Option PlainRequest) WireFault) (rest : List ℕ) → (found ≡ Ok None → ⊥)
     → (u : World) × Finds w k trouble s found rest u
-finds_can w k trouble s (Ok None) rest some = absurd (some refl)
-finds_can w k trouble s (Err fault) rest some = (_, refl)
 finds_can w k trouble s (Ok (Some request)) rest some =
     let v = serve_can trouble w.server.holders (session_view w.server.library s.session) request in (
       _,
@@ -54,6 +116,7 @@ finds_can w k trouble s (Ok (Some request)) rest some =
         refl,
       ),
     )
+finds_can w k trouble s found rest some = grind arith
 
 -- the client of a live connection of the client's
 client_of : (w : World) (k : ℕ) (l : Connection) (d : AttemptState) → IsWorldKept w → connection_of w k ≡ Some l → IsTrue l.other → l.dump ≡ Some d
@@ -73,9 +136,7 @@ hears_at g w l k n d c (Waiting step) is attempt some within (b, mine, inl asked
     let none = ap length asked.back in absurd (omega (arith, none, some, within))
 hears_at g w l k n d c (Waiting step) is attempt some within (b, mine, inr replied) = elim replied.reply [
   | inl nothing ↦ (
-      let none = ap length nothing in
-      let size = length-append replied.fed l.back in
-      absurd (omega (arith, none, size, some, within)))
+      absurd (omega (arith, ap length nothing, length-append replied.fed l.back, some, within)))
   | inr (reply, text, brief, leads) ↦
       let bytes : reply_text reply ≡ (replied.fed ++ take n l.back) ++ drop n l.back
       = sym text ∙ ap (λ x. replied.fed ++ x) (sym (take-append-drop n l.back)) ∙ sym (append_assoc replied.fed (take n l.back) (drop n l.back)) in

@@ -1,30 +1,12 @@
 -- Each request that reaches a session has a step, whatever trouble is set.
-use Rattle.std.proofs.Common.{◌≡◌, ◌≢◌, ◌⊎◌, ℕ, zero, suc, ◌+◌, ◌*◌, ◌<◌, ◌≤◌, Bool, true, false, IsTrue, List, [], ◌∷◌, ◌++◌, length, take, replicate, Option, Some, None, Ok, Err, MatchOption, refl, sym, ◌∙◌, inl, inr, arith}
-use Rattle.std.specs.Prelude.{slice_index_or}
-use Rattle.std.specs.Str.{bytes_eq}
-use Rattle.std.proofs.lemmas.Slice.Eq.{bytes_eq-Decides}
-use Rattle.rmt_wire.specs.Request.{PlainRequest}
-use Rattle.rmt_wire.specs.Request.PlainRequest.{Open, Close, Op}
-use Rattle.rmt_wire.specs.Reply.{PlainReply}
-use Rattle.rmt_wire.specs.Reply.PlainReply.{Done}
-use Rattle.tape.specs.Tape.{PlainEntry, Tape, TapeRequest, TapeAnswer, TapeStep, Passes, SpaceStep, tape, entries_of, offset_of, stands_at}
-use Rattle.tape.specs.Tape.PlainEntry.{Record, Mark}
-use Rattle.tape.specs.Tape.TapeRequest.{Write as TapeWrite, Read as TapeRead, WriteMarks, ForwardFiles, BackFiles, ForwardRecords, BackRecords, Rewind, Nothing, Unknown}
-use Rattle.tape.specs.Tape.TapeAnswer.{Done as Did, Gave, Fault}
-use Rattle.tape.specs.Trouble.{ComesToDevice, DeviceStep, IsUntroubled, left_after}
+use Rattle.world_model.proofs.Basics.{◌≡◌, ◌≢◌, ◌⊎◌, ℕ, zero, suc, ◌+◌, ◌*◌, ◌<◌, ◌≤◌, Bool, true, false, IsTrue, List, [], ◌∷◌, ◌++◌, length, take, replicate, Option, Some, None, Ok, Err, MatchOption, refl, sym, ◌∙◌, inl, inr, arith, slice_index_or, bytes_eq, bytes_eq-Decides}
+use Rattle.world_model.proofs.Terms.{PlainRequest, Op, PlainReply, Done, PlainEntry, Tape, TapeRequest, TapeAnswer, TapeStep, Passes, SpaceStep, tape, entries_of, offset_of, stands_at, Record, TapeWrite, TapeRead, WriteMarks, ForwardFiles, BackFiles, ForwardRecords, BackRecords, Nothing, Unknown, Did, Gave, Fault, ComesToDevice, DeviceStep, IsUntroubled, left_after, Trouble, KeptReel, Drive, drive_with, library, waiting_reel, after_latch, after_offline, IsDriveNamed, is_set, Access, access_of, refused, PlainReel, plain_reel, PlainSession, SessionView, session_view, status_of, refusal, tape_request, reel_reply, closed, open_reply, move_reply, is_offline, Idle, Offline, Online, is_open, drive_in, with_holder, holder_of, TroubledReelStep, TroubledOpStep, TroubledDoneStep, TroubledOpenStep, TroubledServeStep}
+use Rattle.rmt_wire.specs.Request.PlainRequest.{Open, Close}
+use Rattle.tape.specs.Tape.PlainEntry.{Mark}
+use Rattle.tape.specs.Tape.TapeRequest.{Rewind}
 use Rattle.tape.specs.declared.fault.TapeFault.TheVariants as fault
-use Rattle.tape.specs.declared.trouble.Trouble.{Trouble}
 use Rattle.tape.specs.declared.trouble.Trouble.TheVariants as trouble
-use Rattle.drives.specs.TapeLibrary.{KeptReel, Drive, drive_with, library, waiting_reel, after_latch, after_offline, IsDriveNamed}
-use Rattle.drives.specs.ListLibrary.{is_set}
 use Rattle.drives.specs.declared.fault.DriveFault.TheVariants as drive
-use Rattle.rmt_server.specs.declared.access.Access.{Access}
-use Rattle.rmt_server.specs.Access.{access_of}
-use Rattle.rmt_server.specs.Refusals.{refused}
-use Rattle.rmt_server.specs.Session.{PlainReel, plain_reel, PlainSession, SessionView, session_view, status_of, refusal, tape_request, reel_reply, closed, open_reply, move_reply, is_offline}
-use Rattle.rmt_server.specs.Session.PlainSession.{Idle, Offline, Online}
-use Rattle.world_model.specs.Serving.{is_open}
-use Rattle.rmt_server.specs.TroubledServe.{drive_in, with_holder, holder_of, TroubledReelStep, TroubledOpStep, TroubledDoneStep, TroubledOpenStep, TroubledServeStep}
 
 or_above : (a b : ℕ) → (a ≤ b) ⊎ (b < a)
 or_above zero b = inl (omega arith)
@@ -35,8 +17,7 @@ or_above (suc a) (suc b) = elim (or_above a b) [
 ]
 
 none_or_set : (t : Trouble) → (t ≡ trouble.None) ⊎ ((t ≢ trouble.None) × IsTrue (is_set t))
-none_or_set trouble.None = inl refl
-none_or_set x = inr (λ e. cc, refl)
+none_or_set t = grind arith
 
 -- a call of a tape has an answer
 CanCall : ℕ → Trouble → Tape → TapeRequest → Type 0
@@ -186,8 +167,7 @@ refused_can says set before request (Some r) done = (says r, before, (refl, refl
 -- the first drive of a name, or none
 later : (name : List ℕ) (r : Drive KeptReel) (rs : List (Drive KeptReel)) (n : ℕ) → r.name ≢ name
     → ((k : ℕ) → k < n → (slice_index_or rs k (drive_with [] [])).name ≢ name) → (k : ℕ) → k < suc n → (slice_index_or (r ∷ rs) k (drive_with [] [])).name ≢ name
-later name r rs n here on zero less = here
-later name r rs n here on (suc k) less = on k (omega (arith, less))
+later name r rs n here on k less = grind arith
 
 abbrev IsNamedIn : List ℕ → List (Drive KeptReel) → Option ℕ → Type 0
 IsNamedIn name drives o = IsDriveNamed name (library drives []) o

@@ -1,45 +1,10 @@
 -- What a client's session carried out is a beginning of what its client sent, after every list of events.
-use Rattle.std.proofs.Common.{◌≡◌, ◌≢◌, ◌⊎◌, ℕ, zero, suc, ◌+◌, ◌-◌, ◌<◌, ◌≤◌, ◌==◌, Bool, true, false, nat_lt, List, [], ◌∷◌, ◌++◌, length, drop, map, Option, Some, None, Result, Ok, Err, append-nil, refl, sym, ap, subst, ◌∙◌, inl, inr, arith}
-use Rattle.std.specs.Option.{option_map}
-use Rattle.std.proofs.lemmas.Bool.Decides.{eqb_tells, nat_tests}
-use Rattle.std.proofs.lemmas.Option.{same_Some}
-use Rattle.rmt_wire.specs.Request.{PlainRequest}
-use Rattle.rmt_wire.specs.RequestParts.{ParsesAs}
-use Rattle.rmt_wire.specs.RequestReader.{Unread}
-use Rattle.rmt_wire.specs.declared.fault.WireFault.{WireFault}
-use Rattle.rmt_server.specs.ServerState.{ServerConnection}
-use Rattle.tape.specs.declared.trouble.Trouble.{Trouble}
-use Rattle.dump_run.specs.Run.{PlainRun}
-use Rattle.dump_client.specs.Lawful.{attempt_at}
-use Rattle.dump_client.specs.Script.{request_of}
-use Rattle.dump_client.specs.Standing.{Standing, checkpoint_of}
-use Rattle.dump_client.specs.declared.step.Step.{Step}
-use Rattle.dump_client.specs.declared.step.Step.TheVariants.{Open, Operation, Look, Label, Block, Close}
-use Rattle.dump_client.specs.declared.step.TapeOp.TheVariants.{Rewind, RewindAgain, Mark, Unload}
-use Rattle.dump_client.specs.declared.stage.Stage.TheVariants.{ToSend}
-use Rattle.dump_client.specs.declared.stage.Progress.{Progress}
-use Rattle.dump_client.specs.declared.stage.Progress.TheVariants as moved
-use Rattle.world_model.specs.World.{World, Connection, AttemptState, Begun, WorldClient, numbered, Kept}
-use Rattle.world_model.specs.Events.{PlainEvent}
-use Rattle.world_model.specs.Events.PlainEvent.{StartRun, Connect, Send, ToServer, Serve, ToClient, Cut, EndAtServer, EndAtClient, ServerRestart, ClientRestart, Respond, Arrange, Stranger, Says, Enter, Save}
-use Rattle.world_model.specs.Changes.{changed, side_of, new_connection, without_peer, without_server, noted_sent, sent_on, after_client_call, with_no_failure}
-use Rattle.world_model.specs.First.{PlainDriveSpec, AreGoodDrives, first_world}
-use Rattle.world_model.specs.Steps.{Happens, Sends, Finds, Hears, SeesEnd, Runs, none, one_more, forgotten_from, sent_connection, is_failing, fresh, ResumesRun}
-use Rattle.world_model.specs.Kept.{IsWorldKept}
-use Rattle.world_model.specs.Sending.{is_labelled, VolumeHasBlocks, request_in, IsAttempt, IsItsTurn, IsConnectionToldAt}
-use Rattle.world_model.specs.Serving.{ServerTurn, IsNextSent}
+use Rattle.world_model.proofs.Basics.{◌≡◌, ◌≢◌, ◌⊎◌, ℕ, zero, suc, ◌+◌, ◌-◌, ◌<◌, ◌≤◌, ◌==◌, Bool, true, false, nat_lt, List, [], ◌∷◌, ◌++◌, length, map, Option, Some, None, Result, Ok, Err, append-nil, refl, sym, ap, subst, ◌∙◌, inl, inr, arith, option_map, eqb_tells, same_Some}
+use Rattle.world_model.proofs.Terms.{PlainRequest, ParsesAs, Unread, WireFault, ServerConnection, Trouble, PlainRun, request_of, checkpoint_of, Step, Open, Operation, Look, Label, Block, Close, Rewind, RewindAgain, Mark, Unload, ToSend, World, Connection, AttemptState, Begun, WorldClient, numbered, PlainEvent, Send, Serve, changed, side_of, without_peer, without_server, noted_sent, PlainDriveSpec, AreGoodDrives, first_world, Happens, Sends, Finds, Runs, none, one_more, sent_connection, IsWorldKept, is_labelled, VolumeHasBlocks, IsAttempt, IsItsTurn, IsConnectionToldAt, ServerTurn, IsNextSent, Talks, IsBeginning, Sent, CarriedOut, one_if_here, sent_here, carried_here}
 use Rattle.world_model.specs.Talk as talk
-use Rattle.world_model.specs.Talk.{Talks, IsBeginning, Sent, CarriedOut, one_if_here, sent_here, carried_here}
-use Rattle.world_model.proofs.Numbers.{no_number, map_at, changed_is, pushed_is, numbered_within}
+use Rattle.world_model.proofs.Ground.{no_number, map_at, changed_is, pushed_is, numbered_within, steps_len, one_if, before_length, done_few, OneReading, DroppedWrites, noted_same, mapped, Turn, turned, turn_of, carries_turn, connections_more, begun_more, happened}
 use Rattle.world_model.proofs.Held.{side_there}
-use Rattle.world_model.proofs.Sent.{steps_len, one_if, before_length, raised_one, done_few}
-use Rattle.world_model.proofs.SentServe.{noted_same}
-use Rattle.world_model.proofs.SentWire.{OneReading, DroppedWrites}
-use Rattle.world_model.proofs.ToldEvents.{mapped}
-use Rattle.world_model.proofs.ToldSends.{same_request}
-use Rattle.world_model.proofs.Moves.{Turn, turned, turn_of, carries_turn, connections_more, begun_more, happened}
-use Rattle.world_model.proofs.LabelledServes.{served_dump, served_step}
-use Rattle.world_model.proofs.LabelledSingle.{carried_more}
+use Rattle.world_model.proofs.LabelledSingle.{served_dump, served_step, carried_more}
 use Rattle.world_model.proofs.RequestMeets.{next_request}
 use Rattle.world_model.proofs.Staying.{Laws, first_kept, kept_after}
 
@@ -60,56 +25,11 @@ step_from (suc (suc (suc (suc (suc (suc (suc zero))))))) next = Operation (Unloa
 step_from (suc (suc (suc (suc (suc (suc (suc (suc n)))))))) next = Close
 
 one_more_block : (n blocks : ℕ) → n < blocks → one_if (nat_lt n blocks) ≡ 1
-one_more_block n blocks less = by_test (nat_lt n blocks) refl
-  where
-    by_test : (b : Bool) → nat_lt n blocks ≡ b → one_if b ≡ 1
-    by_test true is = refl
-    by_test false is = absurd (grind (arith, nat_tests))
-
-placed : (label : Bool) (carried blocks more place next : ℕ) (step : Step) → label ≡ true → carried + 1 ≡ place + blocks + more → step ≡ step_from place next
-    → step ≡ step_from (place_in label carried blocks more) next
-unfolding place_in
-placed label carried blocks more place next step is many its =
-    let at : carried + 1 - blocks - more ≡ place = omega (arith, many) in
-    its ∙ ap (λ p. step_from p next) (sym at) ∙ ap (λ l. step_from (place_in l carried blocks more) next) (sym is)
-
-early : (label : Bool) (carried blocks more place next : ℕ) (step : Step) → label ≡ false → carried ≡ place → step ≡ step_from place next
-    → step ≡ step_from (place_in label carried blocks more) next
-unfolding place_in
-early label carried blocks more place next step is many its =
-    its ∙ ap (λ p. step_from p next) (sym many) ∙ ap (λ l. step_from (place_in l carried blocks more) next) (sym is)
-
--- the numbers of an attempt tell its next step
-step_is : (run : PlainRun) (first blocks carried : ℕ) (label : Bool) (step : Step) → carried ≡ steps_len run first (first + blocks) step → label ≡ is_labelled step
-    → VolumeHasBlocks run first step blocks → step ≡ step_from (place_in label carried blocks (one_if (nat_lt (first + blocks) run.blocks))) (first + blocks)
-unfolding step_from
-step_is run first blocks carried label Open many is has = early label carried blocks _ 0 (first + blocks) Open is many refl
-step_is run first blocks carried label (Operation Rewind) many is has = early label carried blocks _ 1 (first + blocks) (Operation Rewind) is many refl
-step_is run first blocks carried label Look many is has = early label carried blocks _ 2 (first + blocks) Look is many refl
-step_is run first blocks carried label (Operation RewindAgain) many is has = early label carried blocks _ 3 (first + blocks) (Operation RewindAgain) is many refl
-step_is run first blocks carried label Label many is has = early label carried blocks _ 4 (first + blocks) Label is many refl
-step_is run first blocks carried label (Block number) many is has =
-    let at = has.0 in
-    let within = has.1 in
-    let one = one_more_block (first + blocks) run.blocks (omega (arith, at, within)) in
-    placed label carried blocks _ 5 (first + blocks) (Block number) is (omega (arith, many, at, one)) (ap Block at)
-step_is run first blocks carried label (Operation (Mark next)) many is has =
-    let all = many ∙ ap (λ n. 5 + (n - first) + one_if (nat_lt n run.blocks)) has in
-    placed label carried blocks _ 6 (first + blocks) (Operation (Mark next)) is (omega (arith, all)) (ap (λ n. Operation (Mark n)) has)
-step_is run first blocks carried label (Operation (Unload next)) many is has =
-    let all = many ∙ ap (λ n. 6 + (n - first) + one_if (nat_lt n run.blocks)) has in
-    placed label carried blocks _ 7 (first + blocks) (Operation (Unload next)) is (omega (arith, all)) (ap (λ n. Operation (Unload n)) has)
-step_is run first blocks carried label Close many is has = placed label carried blocks _ 8 (first + blocks) Close is (omega (arith, many)) refl
+one_more_block n blocks less = grind arith
 
 -- an attempt has one next request
 one_next : (w : World) (d : AttemptState) (request other : PlainRequest) → IsNextSent w d request → IsNextSent w d other → request ≡ other
-one_next w d request other n m =
-    let b : n.begun ≡ m.begun = same_Some n.begun m.begun (sym n.begun_as ∙ m.begun_as) in
-    let one = step_is n.begun.run d.first d.blocks d.carried d.label n.step (n.before ∙ before_length n.begun.run d.first (d.first + d.blocks) n.step) n.label n.blocks in
-    let two = step_is m.begun.run d.first d.blocks d.carried d.label m.step (m.before ∙ before_length m.begun.run d.first (d.first + d.blocks) m.step) m.label m.blocks in
-    let same : n.step ≡ m.step
-    = one ∙ ap (λ (x : Begun). step_from (place_in d.label d.carried d.blocks (one_if (nat_lt (d.first + d.blocks) x.run.blocks))) (d.first + d.blocks)) b ∙ sym two in
-    n.asks ∙ ap (λ x. request_in x d n.step) b ∙ ap (request_in m.begun d) same ∙ sym m.asks
+one_next w d request other n m = grind (arith, before_length)
 
 -- each attempt on connection k was there so, or is new
 Dumped : ℕ → List Connection → List Connection → Type 0
@@ -148,66 +68,9 @@ joined_dumped k xs new bare l d at is = elim (pushed_is xs new k l at) [
   | inr (last, its) ↦ inr (omega (arith, last), bare d (ap (λ (x : Connection). x.dump) (sym its) ∙ is))
 ]
 
-came_dumped : (k : ℕ) (xs : List Connection) (v : World) (j : ℕ) (at : Standing) (progress : Progress) → Dumped k xs v.connections → Dumped k xs (after_client_call v j at progress).connections
-came_dumped k xs v j at (moved.Failed fault) t = changed_dumped k xs v.connections without_peer j (λ x. refl) t
-came_dumped k xs v j at moved.Ended t = changed_dumped k xs v.connections without_peer j (λ x. refl) t
-came_dumped k xs v j at progress t = t
-
 -- by the world after it
 dumped_as : (k : ℕ) (w u v : World) → u ≡ v → Dumped k w.connections v.connections → Dumped k w.connections u.connections
 dumped_as k w u v is t = subst (λ (x : World). Dumped k w.connections x.connections) (sym is) t
-
-hears_dumped : (o : Option AttemptState) (k : ℕ) (w : World) (j n : ℕ) (piece : List ℕ) (u : World) → Hears o w j n piece u → Dumped k w.connections u.connections
-hears_dumped None k w j n piece u is = dumped_as k w u _ is (changed_dumped k w.connections w.connections (λ x. record x { back = drop n x.back }) j (λ x. refl) (same_dumped k w.connections))
-hears_dumped (Some dump) k w j n piece u (c, fed, at, reader, progress, there, had, feeds, has, is) =
-    dumped_as k w u _ is
-    (came_dumped k w.connections _ j at progress (changed_dumped k w.connections w.connections (λ x. record x { back = drop n x.back }) j (λ x. refl) (same_dumped k w.connections)))
-
-sees_dumped : (o : Option AttemptState) (k : ℕ) (w : World) (j : ℕ) (u : World) → SeesEnd o w j u → Dumped k w.connections u.connections
-sees_dumped None k w j u is = dumped_as k w u _ is (changed_dumped k w.connections w.connections without_peer j (λ x. refl) (same_dumped k w.connections))
-sees_dumped (Some dump) k w j u (c, at, reader, progress, there, cuts, has, is) =
-    dumped_as k w u _ is (came_dumped k w.connections _ j at progress (changed_dumped k w.connections w.connections without_peer j (λ x. refl) (same_dumped k w.connections)))
-
-forgotten_dumped : (k : ℕ) (w : World) (o : Option ℕ) → Dumped k w.connections (forgotten_from (with_no_failure w) o).connections
-forgotten_dumped k w None = same_dumped k w.connections
-forgotten_dumped k w (Some j) = changed_dumped k w.connections w.connections without_peer j (λ x. refl) (same_dumped k w.connections)
-
-back_dumped : (k : ℕ) (w : World) (o : Option Kept) (u : World) → ResumesRun o w u → Dumped k w.connections u.connections
-back_dumped k w None u is = dumped_as k w u _ is (forgotten_dumped k w w.own)
-back_dumped k w (Some z) u (b, at, reader, begun, over, is) = dumped_as k w u _ is (forgotten_dumped k w w.own)
-
--- neither end makes a request of it
-abbrev IsStill : PlainEvent → Type 0
-IsStill (Send fails) = ⊥
-IsStill (Serve k trouble) = ⊥
-IsStill event = Unit {0}
-
-still_dumped : (k : ℕ) (w : World) (event : PlainEvent) (u : World) → IsStill event → Happens w event u → Dumped k w.connections u.connections
-still_dumped k w (StartRun run payload) u still (may, (reader, is)) = dumped_as k w u _ is (same_dumped k w.connections)
-still_dumped k w Connect u still (may, (c, there, ready, is)) =
-    dumped_as k w u _ is
-    (joined_dumped k w.connections (new_connection (Some (fresh c)))
-    (λ d new. (let same = same_Some (fresh c) d new in sym (ap (λ (x : AttemptState). x.sent) same) ∙ ap (λ (x : AttemptState). x.carried) same)))
-still_dumped k w (Send fails) u still happens = absurd still
-still_dumped k w (ToServer j n) u still (may, (s, l, reached, live, at, grows, is)) =
-    dumped_as k w u _ is (changed_dumped k w.connections w.connections (λ x. record x { toward = drop n x.toward }) j (λ x. refl) (same_dumped k w.connections))
-still_dumped k w (Serve j trouble) u still happens = absurd still
-still_dumped k w (ToClient j n) u still (may, (l, at, hears)) = hears_dumped l.dump k w j n _ u hears
-still_dumped k w (Cut j) u still (may, is) =
-    dumped_as k w u _ is (changed_dumped k w.connections w.connections (λ x. record x { cut = true }) j (λ x. refl) (same_dumped k w.connections))
-still_dumped k w (EndAtServer j) u still (may, is) =
-    dumped_as k w u _ is (changed_dumped k w.connections w.connections without_server j (λ x. refl) (same_dumped k w.connections))
-still_dumped k w (EndAtClient j) u still (may, (l, at, sees)) = sees_dumped l.dump k w j u sees
-still_dumped k w ServerRestart u still (may, is) = dumped_as k w u _ is (mapped_dumped k w.connections without_server (λ x. refl))
-still_dumped k w ClientRestart u still (may, back) = back_dumped k w w.kept u back
-still_dumped k w Save u still (may, (c, there, is)) = dumped_as k w u _ is (same_dumped k w.connections)
-still_dumped k w (Respond answer) u still (may, (c, reader, there, asks, is)) = dumped_as k w u _ is (same_dumped k w.connections)
-still_dumped k w (Arrange drive reels) u still (may, (d, named, is)) = dumped_as k w u _ is (same_dumped k w.connections)
-still_dumped k w Stranger u still (may, is) =
-    dumped_as k w u _ is (joined_dumped k w.connections (new_connection None) (λ d new. absurd cc))
-still_dumped k w (Says j bytes) u still (may, is) =
-    dumped_as k w u _ is (changed_dumped k w.connections w.connections (λ x. record x { toward = sent_on x.cut x.toward bytes }) j (λ x. refl) (same_dumped k w.connections))
-still_dumped k w Enter u still (may, (c, there, is)) = dumped_as k w u _ is (same_dumped k w.connections)
 
 -- Of a connection that is not there nothing was sent or carried out, and of a client's what was carried out is a beginning.
 record IsTalked (w : World) (k : ℕ) (sent carried : List PlainRequest) : Type 0 where
@@ -260,35 +123,14 @@ sent_is_next w u c b x o l d step kept on attempt turn begun =
     let its : x ≡ b = same_Some x b (sym attempt.begun_as ∙ ap (numbered w.begun) attempt.number ∙ begun) in
     let sent = turn.settled.sent in
     let few = done_few x.run o d step (kept.told.good d.run x attempt.begun_as).run turn.done in
-    let one = raised_one d.sent (omega (arith, sent, few)) in
-    record {
-      begun = x;
-      step = step;
-      begun_as = on.begun d.run x attempt.begun_as;
-      sent = omega (arith, one, sent);
-      before = turn.done.carried;
-      label = turn.done.label;
-      blocks = turn.done.blocks;
-      mark = turn.done.mark;
-      asks = same_request c.at.run b.payload c.at.counts step
-          ∙ ap (λ (y : Begun). request_of c.at.run y.payload (attempt_at step c.at.counts).0 (attempt_at step c.at.counts).1 step) (sym its)
-          ∙ ap (λ r. request_of r x.payload (attempt_at step c.at.counts).0 (attempt_at step c.at.counts).1 step) (sym attempt.run)
-          ∙ ap (λ v. request_of x.run x.payload v (attempt_at step c.at.counts).1 step) (sym attempt.volume)
-          ∙ ap (λ f. request_of x.run x.payload d.volume f step) (sym attempt.first);
-    }
-
-own_within : (w : World) (k : ℕ) → IsWorldKept w → w.own ≡ Some k → length w.connections < k → ⊥
-own_within w k kept own past =
-    let l = (kept.owned.own k own).0 in
-    let within = numbered_within w.connections k l.0 l.2 in
-    omega (arith, within, past)
+    grind arith
 
 asks_talked : (w u : World) (k : ℕ) (c : WorldClient) (b : Begun) (step : Step) (f : Connection → Connection) (sent carried : List PlainRequest) → IsWorldKept w → GoesOn w u → w.own ≡ Some k
     → w.caller ≡ Some c → c.at.stage ≡ ToSend step → numbered w.begun c.number ≡ Some b → u.connections ≡ changed f w.connections k → ((l : Connection) → (f l).dump ≡ option_map noted_sent l.dump)
     → IsTalked w k sent carried
     → IsTalked u k (sent ++ request_of c.at.run b.payload (checkpoint_of c.at.counts).0 (checkpoint_of c.at.counts).1 step ∷ []) carried
 asks_talked w u k c b step f sent carried kept on own there stage begun connections notes t = record {
-  absent = λ past. absurd (own_within w k kept own (let more = on.connections in omega (arith, more, past)));
+  absent = λ past. absurd ((grind (arith, numbered_within)));
   told = λ d (l, at, is). elim (changed_is f w.connections k k l (ap (λ ls. numbered ls k) (sym connections) ∙ at)) [
     | inr (other, was) ↦ absurd (other refl)
     | inl (same, (x, was, new)) ↦
@@ -329,22 +171,17 @@ serves_talked : OneReading → DroppedWrites → (w : World) (v : Turn w) (sent 
     → IsTalked (turned w v) v.k sent (carried ++ v.request ∷ [])
 serves_talked g h w v sent carried kept on t = record {
   absent = λ past. (
-      let within = numbered_within w.server.sides v.k (Some v.s) (side_there w.server v.k v.s v.live) in
-      let paired = kept.tidy.paired in
-      let more = on.connections in
-      absurd (omega (arith, within, paired, more, past)));
+      absurd (omega (arith, numbered_within w.server.sides v.k (Some v.s) (side_there w.server v.k v.s v.live), kept.tidy.paired, on.connections, past)));
   told = λ d (l, at, is). elim (served_dump w v v.k l d at is) [
     | inr (other, was) ↦ absurd (other refl)
     | inl (same, (x, e, was, its, new)) ↦
-        let p = served_step g h w v kept.told x e was its in
         let n = next_request g h w v x e kept.told was its in
-        let keeps = (noted_same e v.request v.reply).sent in
-        let more = carried_more e v.request v.reply p.few in
+        let more = carried_more e v.request v.reply (served_step g h w v kept.told x e was its).few in
         let next = n.sent in
         elim (t.told e (x, was, its)) [
           | inl (equal, all) ↦ absurd (omega (arith, equal, next))
           | inr (r, last, all) ↦ inl (
-            subst (λ (z : AttemptState). z.sent ≡ z.carried) (sym new) (keeps ∙ next ∙ sym more),
+            subst (λ (z : AttemptState). z.sent ≡ z.carried) (sym new) (((noted_same e v.request v.reply).sent) ∙ next ∙ sym more),
             ap (λ q. carried ++ q ∷ []) (one_next w e v.request r n last) ∙ sym all,
           )
         ]
@@ -376,22 +213,11 @@ finds_talked g h w u k j trouble s (Ok (Some request)) bytes rest sent carried m
 talked_after : OneReading → DroppedWrites → (w u : World) (event : PlainEvent) (k : ℕ) (sent carried more done : List PlainRequest) → IsWorldKept w → Happens w event u → GoesOn w u
     → Sent k w event more → CarriedOut k w event u done → IsTalked w k sent carried → IsTalked u k (sent ++ more) (carried ++ done)
 talked_after g h w u (Send fails) k sent carried more done kept (may, (c, step, j, b, there, stage, own, begun, sends)) on (c', step', j', b', there', stage', own', begun', is) nothing t =
-    let cs : c' ≡ c = same_Some c' c (sym there' ∙ there) in
-    let stages : ToSend step' ≡ ToSend step = sym stage' ∙ ap (λ (x : WorldClient). x.at.stage) cs ∙ stage in
-    let steps : step' ≡ step = cc in
-    let js : j' ≡ j = same_Some j' j (sym own' ∙ own) in
-    let bs : b' ≡ b = same_Some b' b (sym begun' ∙ ap (λ (x : WorldClient). numbered w.begun x.number) cs ∙ begun) in
-    let some
-    = is
-    ∙ ap (λ (x : WorldClient). sent_here (is_failing fails step') (j' == k) (request_of x.at.run b'.payload (checkpoint_of x.at.counts).0 (checkpoint_of x.at.counts).1 step')) cs
-    ∙ ap (λ (y : Begun). sent_here (is_failing fails step') (j' == k) (request_of c.at.run y.payload (checkpoint_of c.at.counts).0 (checkpoint_of c.at.counts).1 step')) bs
-    ∙ ap (λ p. sent_here (is_failing fails p) (j' == k) (request_of c.at.run b.payload (checkpoint_of c.at.counts).0 (checkpoint_of c.at.counts).1 p)) steps
-    ∙ ap (λ i. sent_here (is_failing fails step) (i == k) (request_of c.at.run b.payload (checkpoint_of c.at.counts).0 (checkpoint_of c.at.counts).1 step)) js in
-    sends_talked (is_failing fails step) w u k j c b step sent carried more done kept on own there stage begun sends some nothing t
+    grind (arith, sends_talked)
 talked_after g h w u (Serve j trouble) k sent carried more done kept happens on nothing (s, found, bytes, rest, live, unread, gives, finds, is) t =
     finds_talked g h w u k j trouble s found bytes rest sent carried more done kept on live unread gives finds nothing is t
 talked_after g h w u event k sent carried more done kept happens on some nothing t =
-    still_talked w u k sent carried more done on (still_dumped k w event u tt happens) some nothing t
+    still_talked w u k sent carried more done on ((grind (arith, same_dumped, joined_dumped, changed_dumped, mapped_dumped))) some nothing t
 
 -- after every list of events
 talks_kept : Laws → (k : ℕ) (drives : List PlainDriveSpec) (w : World) (events : List PlainEvent) (sent carried : List PlainRequest) → AreGoodDrives drives
@@ -426,3 +252,35 @@ talks k first w events (one_more {before = before} event run happens) =
     let asks = sent_in k before event w happens in
     let does = carried_in k before event w happens in
     (t.0 ++ asks.0, t.1 ++ does.0, talk.one_more event asks.0 does.0 t.2 happens asks.1 does.1)
+
+module _ (label : Bool) (carried blocks more place next : ℕ) (step : Step) where
+  placed : label ≡ true → carried + 1 ≡ place + blocks + more → step ≡ step_from place next → step ≡ step_from (place_in label carried blocks more) next
+  unfolding place_in
+  placed is many its =
+      let at : carried + 1 - blocks - more ≡ place = omega (arith, many) in
+      its ∙ ap (λ p. step_from p next) (sym at) ∙ ap (λ l. step_from (place_in l carried blocks more) next) (sym is)
+
+  early : label ≡ false → carried ≡ place → step ≡ step_from place next → step ≡ step_from (place_in label carried blocks more) next
+  unfolding place_in
+  early is many its = its ∙ ap (λ p. step_from p next) (sym many) ∙ ap (λ l. step_from (place_in l carried blocks more) next) (sym is)
+
+-- the numbers of an attempt tell its next step
+step_is : (run : PlainRun) (first blocks carried : ℕ) (label : Bool) (step : Step) → carried ≡ steps_len run first (first + blocks) step → label ≡ is_labelled step
+    → VolumeHasBlocks run first step blocks → step ≡ step_from (place_in label carried blocks (one_if (nat_lt (first + blocks) run.blocks))) (first + blocks)
+unfolding step_from
+step_is run first blocks carried label Open many is has = early label carried blocks _ 0 (first + blocks) Open is many refl
+step_is run first blocks carried label (Operation Rewind) many is has = early label carried blocks _ 1 (first + blocks) (Operation Rewind) is many refl
+step_is run first blocks carried label Look many is has = early label carried blocks _ 2 (first + blocks) Look is many refl
+step_is run first blocks carried label (Operation RewindAgain) many is has = early label carried blocks _ 3 (first + blocks) (Operation RewindAgain) is many refl
+step_is run first blocks carried label Label many is has = early label carried blocks _ 4 (first + blocks) Label is many refl
+step_is run first blocks carried label (Block number) many is has =
+    let at = has.0 in
+    let one = one_more_block (first + blocks) run.blocks (omega (arith, at, has.1)) in
+    placed label carried blocks _ 5 (first + blocks) (Block number) is (omega (arith, many, at, one)) (ap Block at)
+step_is run first blocks carried label (Operation (Mark next)) many is has =
+    let all = many ∙ ap (λ n. 5 + (n - first) + one_if (nat_lt n run.blocks)) has in
+    placed label carried blocks _ 6 (first + blocks) (Operation (Mark next)) is (omega (arith, all)) (ap (λ n. Operation (Mark n)) has)
+step_is run first blocks carried label (Operation (Unload next)) many is has =
+    let all = many ∙ ap (λ n. 6 + (n - first) + one_if (nat_lt n run.blocks)) has in
+    placed label carried blocks _ 7 (first + blocks) (Operation (Unload next)) is (omega (arith, all)) (ap (λ n. Operation (Unload n)) has)
+step_is run first blocks carried label Close many is has = placed label carried blocks _ 8 (first + blocks) Close is (omega (arith, many)) refl

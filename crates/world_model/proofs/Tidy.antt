@@ -1,15 +1,7 @@
 -- Connections of which a side is over are cut, and lose what is on the way, whatever happens.
-use Rattle.std.proofs.Common.{◌≡◌, ℕ, zero, suc, ◌+◌, Bool, true, false, List, [], ◌∷◌, ◌++◌, length, map, drop, Option, Some, None, refl, sym, ap, subst, ◌∙◌, inl, inr, arith}
-use Rattle.std.specs.Prelude.{option_and_then}
-use Rattle.std.proofs.lemmas.List.{length-map, length-append}
-use Rattle.rmt_wire.specs.RequestReader.{held}
-use Rattle.rmt_server.specs.ServerState.{ServerState, ServerConnection, side}
-use Rattle.rmt_server.specs.Session.PlainSession.{Idle}
-use Rattle.world_model.specs.World.{World, Connection, AttemptState, numbered, with_numbered}
-use Rattle.world_model.specs.Changes.{changed, side_of, new_connection, with_side, sent_on, without_peer, without_server, ended_from, ended, all_ended, answered}
-use Rattle.world_model.specs.Steps.{sent_connection, next_text}
-use Rattle.world_model.specs.Kept.{IsTidy, AreTidy}
-use Rattle.world_model.proofs.Moves.{Talking, says, drops, leaves, talked, Move, connects, asks, fails, reaches, serves, ends, restarts, cuts, talks, hears, hears_last, sees, gives_up, joins, moved}
+use Rattle.world_model.proofs.Basics.{◌≡◌, ℕ, zero, suc, ◌+◌, true, false, List, [], ◌∷◌, ◌++◌, length, map, drop, Option, Some, None, refl, sym, ap, subst, ◌∙◌, inl, inr, arith, option_and_then, length-map, length-append}
+use Rattle.world_model.proofs.Terms.{held, ServerState, ServerConnection, side, Idle, World, Connection, AttemptState, numbered, with_numbered, changed, side_of, new_connection, with_side, sent_on, without_peer, without_server, ended_from, ended, all_ended, answered, sent_connection, next_text, IsTidy, AreTidy}
+use Rattle.world_model.proofs.Moves.{talked, Move, connects, asks, fails, reaches, serves, ends, restarts, cuts, talks, hears, hears_last, sees, gives_up, joins, moved}
 use Rattle.world_model.proofs.Numbers.{map_at, with_here, with_other, length_with, changed_is, length_changed, pushed_is, numbered_more, numbered_last, numbered_within, numbered_there, numbered_first}
 
 -- a change of a connection that leaves it tidy, beside whatever side
@@ -46,11 +38,8 @@ over_here_tidy s l = record { here = λ e. refl; there = λ e. refl; nothing = �
 over_there_tidy : KeepsTidy without_peer
 over_there_tidy s l t = record { here = λ e. refl; there = λ e. refl; nothing = t.nothing }
 
-sent_nothing : (cut : Bool) (way bytes : List ℕ) → cut ≡ true → sent_on cut way bytes ≡ way
-sent_nothing cut way bytes is = ap (λ c. sent_on c way bytes) is
-
 sent_tidy : (text : List ℕ) → KeepsTidy (sent_connection text)
-sent_tidy text s l t = record { here = t.here; there = t.there; nothing = λ e. sent_nothing l.cut l.toward text (t.here e) ∙ t.nothing e }
+sent_tidy text s l t = record { here = t.here; there = t.there; nothing = λ e. (ap (λ c. sent_on c l.toward text) (t.here e)) ∙ t.nothing e }
 
 heard_tidy : (n : ℕ) → KeepsTidy (λ l. record l { back = drop n l.back })
 heard_tidy n s l t = record { here = t.here; there = t.there; nothing = t.nothing }
@@ -79,12 +68,10 @@ side_tidy f keeps w u k s x live sides connections t = record {
 
 -- a side that was ended, and all others
 ended_length : (h : ServerState) (k : ℕ) (o : Option ServerConnection) → length (ended_from h k o).sides ≡ length h.sides
-ended_length h k None = refl
-ended_length h k (Some s) = length_with h.sides k None
+ended_length h k o = grind (arith, length_with)
 
 ended_other : (h : ServerState) (k j : ℕ) (o : Option ServerConnection) → ((j ≡ k) → ⊥) → numbered (ended_from h k o).sides j ≡ numbered h.sides j
-ended_other h k j None other = refl
-ended_other h k j (Some s) other = with_other h.sides k j None other
+ended_other h k j o other = grind (arith, with_other)
 
 ended_tidy : (w u : World) (k : ℕ) → u.server.sides ≡ (ended w.server k).sides → u.connections ≡ changed without_server w.connections k → AreTidy w → AreTidy u
 ended_tidy w u k sides connections t = record {
@@ -115,8 +102,7 @@ joined_tidy w u dump sides connections t = record {
   each = λ j l at. subst (λ ss. IsTidy (option_and_then (λ s. s) (numbered ss j)) l) (sym sides)
       (elim (pushed_is w.connections (new_connection dump) j l (ap (λ ls. numbered ls j) (sym connections) ∙ at)) [
         | inl on ↦
-            let within = numbered_within w.connections j l on in
-            let there = numbered_there w.server.sides j (numbered_first w.connections j l on) (omega (arith, t.paired, within)) in
+            let there = numbered_there w.server.sides j (numbered_first w.connections j l on) (omega (arith, t.paired, numbered_within w.connections j l on)) in
             subst (λ o. IsTidy (option_and_then (λ s. s) o) l) (sym (numbered_more w.server.sides (Some (side (held [] 0) Idle) ∷ []) j there.0 there.1))
             (subst (λ o. IsTidy (option_and_then (λ s. s) o) l) there.1 (t.each j l on))
         | inr (last, new) ↦
@@ -127,12 +113,6 @@ joined_tidy w u dump sides connections t = record {
             (subst (λ y. IsTidy (Some (side (held [] 0) Idle)) y) (sym new) (live_tidy (side (held [] 0) Idle) (new_connection dump) (λ e. absurd cc)))
       ]);
 }
-
--- what happens on a stranger's connection
-talked_tidy : (t : Talking) → KeepsTidy (talked t)
-talked_tidy (says bytes) s l t = record { here = t.here; there = t.there; nothing = λ e. sent_nothing l.cut l.toward bytes (t.here e) ∙ t.nothing e }
-talked_tidy (drops n) s l t = record { here = t.here; there = t.there; nothing = t.nothing }
-talked_tidy leaves s l t = over_there_tidy s l t
 
 pub tidy_moved : (w : World) (m : Move w) → AreTidy w → AreTidy (moved w m)
 tidy_moved w (connects c there ready) t = joined_tidy w _ _ refl refl t
@@ -145,7 +125,7 @@ tidy_moved w (serves v) t = side_tidy (answered v.request v.reply) (λ l there. 
 tidy_moved w (ends k) t = ended_tidy w _ k refl refl t
 tidy_moved w restarts t = restarted_tidy w _ refl refl t
 tidy_moved w (cuts k) t = changed_tidy (λ l. record l { cut = true }) cut_tidy w _ k refl refl t
-tidy_moved w (talks k l a at none) t = changed_tidy (talked a) (talked_tidy a) w _ k refl refl t
+tidy_moved w (talks k l a at none) t = changed_tidy (talked a) ((grind arith)) w _ k refl refl t
 tidy_moved w (hears a on) t = changed_tidy (λ l. record l { back = drop a.n l.back }) (heard_tidy a.n) w _ a.k refl refl t
 tidy_moved w (hears_last a failure over) t = changed_tidy without_peer over_there_tidy w _ a.k refl refl t
 tidy_moved w (sees a failure) t = changed_tidy without_peer over_there_tidy w _ a.k refl refl t

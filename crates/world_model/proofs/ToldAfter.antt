@@ -1,21 +1,17 @@
 -- What is told of each connection stays so, whatever happens.
-use Rattle.std.proofs.Common.{List, None, refl, sym, ap, ◌∙◌}
-use Rattle.std.proofs.lemmas.Option.{same_Some}
-use Rattle.world_model.specs.World.{World, Connection}
-use Rattle.world_model.specs.First.{PlainDriveSpec, first_world}
-use Rattle.world_model.specs.Changes.{new_connection}
-use Rattle.world_model.specs.Kept.{AreTidy, AreBooked, IsClientLawful}
-use Rattle.world_model.specs.Owning.{IsOwned}
-use Rattle.world_model.specs.Sending.{AreTold}
-use Rattle.world_model.proofs.Numbers.{no_number}
-use Rattle.world_model.proofs.SentWire.{OneReading, DroppedWrites, OneReply}
-use Rattle.world_model.proofs.SentSteps.{RequestTexts, ReplyTexts}
+-- Openings and counts of attempts, and what they wrote, whatever happens.
+use Rattle.world_model.proofs.Basics.{List, None, refl, sym, ◌∙◌, arith}
+use Rattle.world_model.proofs.Terms.{World, PlainDriveSpec, first_world, new_connection, AreTidy, AreBooked, IsClientLawful, IsOwned, AreTold, EachReelOnce, AreHeld, AreLaid, AreOpened, AreLabelled, AreSingle, EachCountHasAttempt}
+use Rattle.world_model.proofs.Ground.{no_number, OneReading, DroppedWrites, OneReply, RequestTexts, ReplyTexts, same_told, changed_told, joined_told, strangers, cut_told, ended_told, restarted_told, left_told, reached_told, served_told, Move, begins, connects, asks, fails, reaches, cuts, talks, hears, hears_last, sees, forgets, gives_up, answers, moved}
 use Rattle.world_model.proofs.SentTexts.{request_texts, reply_texts, short_labels}
-use Rattle.world_model.proofs.ToldMoves.{same_told, changed_told, joined_told}
-use Rattle.world_model.proofs.Moves.{talked, talked_dump, Move, begins, connects, asks, fails, reaches, serves, ends, restarts, cuts, talks, hears, hears_last, sees, forgets, gives_up, answers, joins, moved}
-use Rattle.world_model.proofs.ToldEvents.{strangers, cut_told, ended_told, restarted_told, left_told, reached_told, served_told}
-use Rattle.world_model.proofs.ToldSends.{ShortLabels, begun_told, started_good, no_run_idle, asking_idle, connected_told, asked_told}
+use Rattle.world_model.proofs.Moves.{serves, ends, restarts, joins}
+use Rattle.world_model.proofs.ToldSends.{ShortLabels, begun_told, started_good, no_run_idle, connected_told, asked_told}
 use Rattle.world_model.proofs.ToldHears.{hears_told}
+use Rattle.world_model.proofs.LabelledEvents.{quiet_moved}
+use Rattle.world_model.proofs.LabelledSingle.{served_earned, quiet_single, served_single}
+use Rattle.world_model.proofs.LabelledOthers.{quiet_labelled}
+use Rattle.world_model.proofs.LabelledServed.{served_labelled}
+use Rattle.world_model.proofs.CountedAfter.{same_earned, listens_earned}
 
 -- What other crates say of requests and replies: what is written of one spells it, a reader can give one thing only, and the label
 -- of a lawful client fits a record.
@@ -41,16 +37,14 @@ told_by g w (serves v) lawful owned tidy booked t = served_told g.replies g.read
 told_by g w (ends k) lawful owned tidy booked t = ended_told w k t
 told_by g w restarts lawful owned tidy booked t = restarted_told w tidy t
 told_by g w (cuts k) lawful owned tidy booked t = cut_told w k t
-told_by g w (talks k l a at none) lawful owned tidy booked t =
-    changed_told w _ k (talked a) refl refl (λ j beside. refl) (λ j beside own. (own, refl))
-    (λ x here h. strangers _ k _ _ (talked_dump a x ∙ ap (λ (y : Connection). y.dump) (same_Some x l (sym here ∙ at)) ∙ none)) t
+told_by g w (talks k l a at none) lawful owned tidy booked t = grind (arith, changed_told)
 told_by g w (hears a on) lawful owned tidy booked t = hears_told g.reply w a on owned t
 told_by g w (hears_last a failure over) lawful owned tidy booked t = left_told w _ a.k refl refl refl refl t
 told_by g w (sees a failure) lawful owned tidy booked t = left_told w _ a.k refl refl refl refl t
 told_by g w (forgets x none) lawful owned tidy booked t = same_told w _ refl refl refl (λ k mine. (let clash = sym none ∙ mine in absurd cc)) t
 told_by g w (gives_up x k own) lawful owned tidy booked t = left_told w _ k refl refl refl refl t
 told_by g w (answers c answer reader there stage) lawful owned tidy booked t =
-    same_told w _ refl refl refl (λ k own. absurd (asking_idle w c there stage owned k own)) t
+    same_told w _ refl refl refl (λ k own. absurd ((grind arith))) t
 told_by g w joins lawful owned tidy booked t = joined_told w _ None tidy.paired refl refl refl (λ j within own. (own, refl)) (strangers _ _ _ (new_connection None) refl) t
 told_by g w m lawful owned tidy booked t = same_told w _ refl refl refl (λ k own. (own, refl)) t
 
@@ -63,3 +57,32 @@ told_moved reading dropped reply w m lawful owned tidy booked t = told_by record
   dropped = dropped;
   reply = reply;
 } w m lawful owned tidy booked t
+
+pub first_single : (drives : List PlainDriveSpec) → AreSingle (first_world drives)
+first_single drives k l d at dump = absurd (no_number k l at)
+
+pub first_labelled : (drives : List PlainDriveSpec) → AreLabelled (first_world drives)
+first_labelled drives k l d at dump = absurd (no_number k l at)
+
+pub first_earned : (drives : List PlainDriveSpec) → EachCountHasAttempt (first_world drives)
+first_earned drives x (i, within, is) = absurd (omega (arith, within))
+
+pub single_moved : OneReading → DroppedWrites → (w : World) (m : Move w) → AreHeld w.server → AreTold w → AreOpened w → AreSingle w → AreSingle (moved w m)
+single_moved g h w (serves v) held told opened single = served_single g h w v told opened single
+single_moved g h w m held told opened single = quiet_single w _ (quiet_moved w m tt held) opened single
+
+-- each count stays that of an attempt
+pub earned_moved : OneReading → DroppedWrites → OneReply → (w : World) (m : Move w) → AreHeld w.server → IsOwned w → AreTold w → AreSingle w → EachCountHasAttempt w
+    → EachCountHasAttempt (moved w m)
+earned_moved g h r w (serves v) held owned told single earned = served_earned g h w v told earned
+earned_moved g h r w (hears t on) held owned told single earned = listens_earned r w _ t refl (quiet_moved w (hears t on) tt held) owned told single earned
+earned_moved g h r w (hears_last t failure over) held owned told single earned =
+    listens_earned r w _ t refl (quiet_moved w (hears_last t failure over) tt held) owned told single earned
+earned_moved g h r w m held owned told single earned = same_earned w _ (quiet_moved w m tt held) refl earned
+
+-- what each attempt wrote stands on its reel
+pub labelled_moved : OneReading → DroppedWrites → (w : World) (m : Move w) → AreHeld w.server → AreHeld (moved w m).server → AreLaid (moved w m).server
+    → EachReelOnce (moved w m).server.library → AreTold w → AreOpened w → AreSingle w → AreLabelled w → AreLabelled (moved w m)
+labelled_moved g h w (serves v) held held_after laid_after once_after told opened single labelled =
+    served_labelled g h w v held held_after laid_after once_after told opened single labelled
+labelled_moved g h w m held held_after laid_after once_after told opened single labelled = quiet_labelled w _ (quiet_moved w m tt held) labelled

@@ -1,180 +1,187 @@
--- What is told of each connection, when the client hears.
-use Rattle.std.proofs.Common.{◌≡◌, ◌≢◌, ℕ, ◌+◌, ◌-◌, ◌≤◌, false, List, [], ◌∷◌, ◌++◌, length, length-append, take, drop, Option, Some, refl, sym, ap, subst, ◌∙◌, inl, inr, arith}
-use Rattle.std.proofs.lemmas.Option.{same_Some}
-use Rattle.std.proofs.lemmas.List.{take_at}
-use Rattle.rmt_wire.specs.Reply.{PlainReply}
-use Rattle.rmt_wire.specs.Reply.PlainReply.{Done, Data, Error}
-use Rattle.rmt_wire.specs.ReplyReader.{ReplyHeld}
-use Rattle.rmt_server.specs.ServerState.{ServerConnection}
-use Rattle.dump_run.specs.Run.{PlainRun}
-use Rattle.dump_client.specs.Script.{wanted_of}
-use Rattle.dump_client.specs.Position.Received.{Reply}
-use Rattle.dump_client.specs.Standing.{Standing, checkpoint_of, count_to, counted_to, ReceivesAt, FedAt, IsOver}
-use Rattle.dump_client.specs.Lawful.{attempt_at}
-use Rattle.dump_client.specs.Client.{HasFedAt, unanswered}
-use Rattle.dump_run.specs.declared.count.VolumeCount.{VolumeCount}
-use Rattle.dump_client.specs.declared.step.Step.{Step}
-use Rattle.dump_client.specs.declared.step.Step.TheVariants.{Close}
-use Rattle.dump_client.specs.declared.stage.Stage.{Stage}
-use Rattle.dump_client.specs.declared.stage.Stage.TheVariants.{Ready, ToSend, Waiting, Asking, Finished}
-use Rattle.dump_client.specs.declared.stage.Progress.{Progress}
-use Rattle.dump_client.proofs.Received.{HeardAs, has_failed, goes_to, has_counted, has_ended, counted_last, heard_as}
-use Rattle.world_model.specs.World.{World, Connection, AttemptState, Begun, WorldClient}
-use Rattle.world_model.specs.Changes.{side_of}
-use Rattle.world_model.specs.Steps.{caller}
-use Rattle.world_model.specs.Owning.{IsOwned}
-use Rattle.world_model.specs.Sending.{GoesTo, AreCounted, LeadsOn, FitsReplyReader, IsStepReply, IsAttempt, IsStepReplied, IsConnectionToldAt, AreTold}
-use Rattle.world_model.proofs.SentWire.{OneReply}
-use Rattle.world_model.proofs.Pieces.{HearsPiece, waits, whole, hearing}
-use Rattle.world_model.proofs.ToldMoves.{changed_told}
+-- What a client makes of a reply, or of a piece of it: what is told of its connection then, and what it counts.
+use Rattle.world_model.proofs.Basics.{◌≡◌, ℕ, ◌+◌, false, List, [], ◌++◌, append_assoc, IsTrue, ◌⊎◌, ◌∷◌, map, Contains, Contains-push_cases, take, drop, Option, Some, None, Result, Ok, Err, sym, append-nil, take-append-drop, arith, ◌≢◌, ◌≤◌, length, length-append, refl, ap, subst, ◌∙◌, inl, inr, same_Some, take_at}
+use Rattle.world_model.proofs.Terms.{PlainReply, SpellsReply, reply_text, ReplyParsesAs, ReplyHeld, WireFault, wanted_of, Reply, Standing, ReceivesAt, FedAt, Makes, HasFedAt, Step, Progress, Waiting, FitsReplyReader, ServerConnection, checkpoint_of, attempt_at, unanswered, VolumeCount, Close, Stage, ToSend, HeardAs, World, Connection, AttemptState, Begun, WorldClient, side_of, caller, IsOwned, GoesTo, LeadsOn, IsStepReply, IsAttempt, IsStepReplied, IsConnectionToldAt, IsConnectionSettled, AreTold, is_in_attempt, heard_as, count_to, counts_of, Count}
+use Rattle.world_model.proofs.Ground.{OneReply, one_heard, brief_begins, reply_whole, reply_no_fault, changed_told, Listens, is_over, told_counts, drop_front}
+use Rattle.dump_client.specs.declared.stage.Progress.TheVariants as came
 use Rattle.world_model.proofs.Moves as move
-use Rattle.world_model.proofs.Moves.{Listens, is_over}
+
+-- Of these bytes, with these after them on the way: it waits on, or it heard the whole reply, and nothing is after that.
+pub data HearsPiece (old : Standing) (step : Step) (reply : PlainReply) (bytes way : List ℕ) (progress : Progress) (new : Standing) : Type 0 where
+  waits : progress ≡ came.Waiting → new ≡ old → reply_text reply ≡ bytes ++ way → HearsPiece old step reply bytes way progress new
+  whole : SpellsReply bytes reply (wanted_of step) → way ≡ [] → ReceivesAt old step (Reply reply) false progress new → HearsPiece old step reply bytes way progress new
+
+hearing_of : OneReply → (old new : Standing) (step : Step) (reply : PlainReply) (bytes rest way : List ℕ) (progress : Progress) (seen : Result (Option PlainReply) WireFault)
+    → FitsReplyReader (wanted_of step) reply → reply_text reply ≡ bytes ++ way → ReplyParsesAs (Some (wanted_of step)) bytes seen rest → Makes old step bytes seen rest progress new → HearsPiece old step reply bytes way progress new
+hearing_of g old new step reply bytes rest way progress (Ok None) brief text gives (moved, is) = waits moved is text
+hearing_of g old new step reply bytes rest way progress (Ok (Some found)) brief text gives hears =
+    let all = reply_whole g (wanted_of step) (reply_text reply) bytes way rest reply found brief.spelled text gives in
+    grind (arith, append-nil)
+hearing_of g old new step reply bytes rest way progress (Err fault) brief text gives hears =
+    absurd (reply_no_fault (wanted_of step) (reply_text reply) bytes way rest reply fault brief.spelled text gives)
+
+-- a piece of what is on the way was fed to it
+pub hearing : OneReply → (reader : ReplyHeld) (old new : Standing) (step : Step) (reply : PlainReply) (before fed back : List ℕ) (n : ℕ) (progress : Progress)
+    → FitsReplyReader (wanted_of step) reply → before ++ back ≡ reply_text reply → HasFedAt (Waiting step) reader before → HasFedAt (Waiting step) reader fed → FedAt (Waiting step) old fed (take n back) progress new
+    → HearsPiece old step reply (fed ++ take n back) (drop n back) progress new
+hearing g reader old new step reply before fed back n progress brief is has had (seen, rest, gives, makes) =
+    let begins = brief_begins (wanted_of step) reply before back brief (sym is) in
+    let same : before ≡ fed = one_heard reader (wanted_of step) before fed begins.0 has.unread had.unread in
+    grind (arith, hearing_of, take-append-drop, append_assoc)
 
 -- the checkpoint of an attempt before its close, and at the close of what is counted then
 pub open_attempt : (counts : List VolumeCount) (step : Step) → step ≢ Close → attempt_at step counts ≡ checkpoint_of counts
-open_attempt counts Close other = absurd (other refl)
-open_attempt counts step other = refl
-
-pushed_attempt : (counts : List VolumeCount) (x : VolumeCount) → attempt_at Close (counts ++ x ∷ []) ≡ checkpoint_of counts
-pushed_attempt counts x =
-    let size = length-append counts (x ∷ []) in
-    let same : length (counts ++ x ∷ []) - 1 ≡ length counts = omega (arith, size) in
-    ap (λ n. checkpoint_of (take n (counts ++ x ∷ []))) same ∙ ap checkpoint_of (take_at counts (x ∷ []) (length counts) refl)
-
-next_attempt : (counts new : List VolumeCount) (d : AttemptState) (next : Step) → AreCounted next counts d new → attempt_at next new ≡ checkpoint_of counts
-next_attempt counts new d Close is = ap (attempt_at Close) is ∙ pushed_attempt counts (count_to (checkpoint_of counts) (d.first + d.blocks))
-next_attempt counts new d step is = ap checkpoint_of is
-
--- after the close the client goes on to no step
-pub over_stage : (run : PlainRun) (counts : List VolumeCount) (new : Standing) (next : Step) → IsOver run counts new → new.stage ≡ ToSend next → ⊥
-over_stage run counts new next (inl (covers, is)) at = let clash : Finished ≡ ToSend next = sym (ap (λ (s : Standing). s.stage) is) ∙ at in cc
-over_stage run counts new next (inr (left, is)) at = let clash : Ready ≡ ToSend next = sym (ap (λ (s : Standing). s.stage) is) ∙ at in cc
-
-after_close : (old new : Standing) (reply : PlainReply) (progress : Progress) (next : Step) → ReceivesAt old Close (Reply reply) false progress new → new.stage ≡ ToSend next → ⊥
-after_close old new (Done n) progress next (moved, over) at = over_stage old.run old.counts new next over at
-after_close old new (Data bytes) progress next (moved, over) at = over_stage old.run old.counts new next over at
-after_close old new (Error n text) progress next (moved, over) at = over_stage old.run old.counts new next over at
+open_attempt counts step other = grind arith
 
 pub unlike_close : (old new : Standing) (step next : Step) (reply : PlainReply) (progress : Progress) → ReceivesAt old step (Reply reply) false progress new → new.stage ≡ ToSend next
     → step ≢ Close
-unlike_close old new step next reply progress hears at is =
-    after_close old new reply progress next (subst (λ s. ReceivesAt old s (Reply reply) false progress new) is hears) at
+unlike_close old new step next reply progress hears at = grind arith
 
 -- the client goes on with its attempt
 goes_attempt : (begun : List Begun) (c : WorldClient) (reader : ReplyHeld) (new : Standing) (d : AttemptState) (o : Option ServerConnection) (step next : Step) (b : Begun) → step ≢ Close
     → GoesTo b.run o c.at d new next → IsAttempt begun c d step b → IsAttempt begun (caller c.number new reader) d next b
-goes_attempt begun c reader new d o step next b other g a =
-    let same : attempt_at step c.at.counts ≡ attempt_at next new.counts
-    = open_attempt c.at.counts step other ∙ sym (next_attempt c.at.counts new.counts d next g.counts) in
-    record {
-      begun_as = a.begun_as;
-      run = a.run ∙ sym g.same_run;
-      number = a.number;
-      volume = a.volume ∙ ap (λ p. p.0) same;
-      first = a.first ∙ ap (λ p. p.1) same;
-    }
-
--- a client that heard a reply waits for none
-over_waits : (run : PlainRun) (counts : List VolumeCount) (new : Standing) (step : Step) → IsOver run counts new → new.stage ≡ Waiting step → ⊥
-over_waits run counts new step (inl (covers, is)) at = let clash : Finished ≡ Waiting step = sym (ap (λ (s : Standing). s.stage) is) ∙ at in cc
-over_waits run counts new step (inr (left, is)) at = let clash : Ready ≡ Waiting step = sym (ap (λ (s : Standing). s.stage) is) ∙ at in cc
+goes_attempt begun c reader new d o step next b other g a = grind (arith, length-append, take_at)
 
 pub waits_no_more : (old new : Standing) (progress : Progress) (step : Step) → HeardAs old new false progress → new.stage ≡ Waiting step → ⊥
-waits_no_more old new progress step (has_failed fault tells is) at = let clash : Asking ≡ Waiting step = sym (ap (λ (s : Standing). s.stage) is) ∙ at in cc
-waits_no_more old new progress step (goes_to next alone tells is) at = let clash : ToSend next ≡ Waiting step = sym (ap (λ (s : Standing). s.stage) is) ∙ at in cc
-waits_no_more old new progress step (has_counted end alone tells is) at = let clash : ToSend Close ≡ Waiting step = sym (ap (λ (s : Standing). s.stage) is) ∙ at in cc
-waits_no_more old new progress step (has_ended tells over) at = over_waits old.run old.counts new step over at
-waits_no_more old new progress step (counted_last end followed tells over) at = over_waits old.run (counted_to old.counts end) new step over at
+waits_no_more old new progress step given at = grind arith
 
--- it heard the whole reply, so it waits no more
-whole_stage : (begun : List Begun) (o : Option ServerConnection) (l : Connection) (c : WorldClient) (d : AttemptState) (step : Step) (b : Begun) (reader : ReplyHeld) (new : Standing) (way bytes : List ℕ)
-    (reply : PlainReply) (progress : Progress) (stage : Stage) → new.stage ≡ stage → HasFedAt stage reader (unanswered stage bytes)
-    → ReceivesAt c.at step (Reply reply) false progress new → LeadsOn b.run o c.at d step reply → IsStepReplied b o l c d step → IsAttempt begun c d step b → way ≡ []
-    → IsConnectionToldAt stage begun o (record l { back = way }) (caller c.number new reader) d
-whole_stage begun o l c d step b reader new way bytes reply progress (ToSend next) at has hears leads replied attempt none =
-    let g = leads progress new next hears at in (
-      b,
-      goes_attempt begun c reader new d o step next b (unlike_close c.at new step next reply progress hears at) g attempt,
-      record { done = g.done; settled = replied.settled; back = none; fed = has },
-    )
-whole_stage begun o l c d step b reader new way bytes reply progress (Waiting other) at has hears leads replied attempt none =
-    absurd (waits_no_more c.at new progress other (heard_as c.at new _ false progress hears) at)
-whole_stage begun o l c d step b reader new way bytes reply progress stage at has hears leads replied attempt none = tt
+-- A reply that a client hears: the attempt on whose connection it comes, the step that it answers, and the piece that was heard of it.
+pub record IsHearing (w : World) (t : Listens w) : Type 0 where
+  pub step : Step
+  pub b : Begun
+  pub reply : PlainReply
+  pub stage : t.c.at.stage ≡ Waiting step
+  pub attempt : IsAttempt w.begun t.c t.d step b
+  pub settled : IsConnectionSettled (side_of w.server t.k) t.l.toward t.d
+  pub brief : FitsReplyReader (wanted_of step) reply
+  pub leads : LeadsOn b.run (side_of w.server t.k) t.c.at t.d step reply
+  pub piece : HearsPiece t.c.at step reply (t.fed ++ take t.n t.l.back) (drop t.n t.l.back) t.progress t.at
 
--- what comes of the bytes that it heard
-hearing_told : (begun : List Begun) (o : Option ServerConnection) (l : Connection) (c : WorldClient) (d : AttemptState) (step : Step) (b : Begun) (reader : ReplyHeld) (new : Standing)
-    (bytes way : List ℕ) (reply : PlainReply) (progress : Progress) → c.at.stage ≡ Waiting step
-    → IsStepReplied b o l c d step → IsAttempt begun c d step b → FitsReplyReader (wanted_of step) reply → LeadsOn b.run o c.at d step reply
-    → HearsPiece c.at step reply bytes way progress new → HasFedAt new.stage reader (unanswered new.stage bytes)
-    → IsConnectionToldAt new.stage begun o (record l { back = way }) (caller c.number new reader) d
-hearing_told begun o l c d step b reader new bytes way reply progress stage replied attempt brief leads (waits moved is text) has =
-    let at : new.stage ≡ Waiting step = ap (λ (s : Standing). s.stage) is ∙ stage in
-    subst (λ s. IsConnectionToldAt s begun o (record l { back = way }) (caller c.number new reader) d) (sym at) (
-      b,
-      record {
-        begun_as = attempt.begun_as;
-        run = attempt.run ∙ sym (ap (λ (s : Standing). s.run) is);
-        number = attempt.number;
-        volume = attempt.volume ∙ sym (ap (λ (s : Standing). (attempt_at step s.counts).0) is);
-        first = attempt.first ∙ sym (ap (λ (s : Standing). (attempt_at step s.counts).1) is);
-      },
-      inr record {
-        settled = replied.settled;
-        fed = bytes;
-        has = subst (λ s. HasFedAt s reader (unanswered s bytes)) at has;
-        reply = inr (reply, sym text, brief, subst (λ s. LeadsOn b.run o s d step reply) (sym is) leads);
-      },
-    )
-hearing_told begun o l c d step b reader new bytes way reply progress stage replied attempt brief leads (whole spelled none heard) has =
-    whole_stage begun o l c d step b reader new way bytes reply progress new.stage refl has heard leads replied attempt none
+replied_hearing : OneReply → (w : World) (t : Listens w) (step : Step) (b : Begun) → t.c.at.stage ≡ Waiting step → IsAttempt w.begun t.c t.d step b
+    → (r : IsStepReplied b (side_of w.server t.k) t.l t.c t.d step) → IsStepReply b.run (side_of w.server t.k) t.c.at t.d step (r.fed ++ t.l.back)
+    → HasFedAt (Waiting step) t.c.reader t.fed → FedAt (Waiting step) t.c.at t.fed (take t.n t.l.back) t.progress t.at → IsHearing w t
+replied_hearing g w t step b stage attempt r (inl none) had feeds =
+    let size : length (r.fed ++ t.l.back) ≡ 0 = ap length none in
+    absurd (omega (arith, t.some, t.within, size, length-append r.fed t.l.back))
+replied_hearing g w t step b stage attempt r (inr (reply, is, brief, leads)) had feeds = record {
+  step = step;
+  b = b;
+  reply = reply;
+  stage = stage;
+  attempt = attempt;
+  settled = r.settled;
+  brief = brief;
+  leads = leads;
+  piece = hearing g t.c.reader t.c.at t.at step reply r.fed t.fed t.l.back t.n t.progress brief is r.has had feeds;
+}
 
 -- something is on the way
 pub some_way : (l : Connection) (n : ℕ) → 1 ≤ n → n ≤ length l.back → l.back ≡ [] → ⊥
 some_way l n first within none = let size : length l.back ≡ 0 = ap length none in omega (arith, first, within, size)
 
-heard_reply : OneReply → (begun : List Begun) (o : Option ServerConnection) (l : Connection) (c : WorldClient) (d : AttemptState) (step : Step) (b : Begun) (reader : ReplyHeld) (new : Standing) (fed : List ℕ)
-    (n : ℕ) (progress : Progress) → 1 ≤ n → n ≤ length l.back → c.at.stage ≡ Waiting step → (r : IsStepReplied b o l c d step) → IsStepReply b.run o c.at d step (r.fed ++ l.back)
-    → IsAttempt begun c d step b → HasFedAt (Waiting step) c.reader fed → FedAt (Waiting step) c.at fed (take n l.back) progress new
-    → HasFedAt new.stage reader (unanswered new.stage (fed ++ take n l.back)) → IsConnectionToldAt new.stage begun o (record l { back = drop n l.back }) (caller c.number new reader) d
-heard_reply g begun o l c d step b reader new fed n progress first within stage r (inl none) attempt had feeds has =
-    let size : length (r.fed ++ l.back) ≡ 0 = ap length none in
-    let both = length-append r.fed l.back in
-    absurd (omega (arith, first, within, size, both))
-heard_reply g begun o l c d step b reader new fed n progress first within stage r (inr (reply, is, brief, leads)) attempt had feeds has =
-    hearing_told begun o l c d step b reader new (fed ++ take n l.back) (drop n l.back) reply progress stage r attempt brief leads
-    (hearing g c.reader c.at new step reply r.fed fed l.back n progress brief is r.has had feeds) has
+stage_hearing : OneReply → (w : World) (t : Listens w) (stage : Stage) → t.c.at.stage ≡ stage → IsTrue (is_in_attempt stage)
+    → IsConnectionToldAt stage w.begun (side_of w.server t.k) t.l t.c t.d → HasFedAt stage t.c.reader t.fed
+    → FedAt stage t.c.at t.fed (take t.n t.l.back) t.progress t.at → IsHearing w t
+stage_hearing g w t (ToSend step) stage inside (b, attempt, turn) had feeds = absurd (some_way t.l t.n t.some t.within turn.back)
+stage_hearing g w t (Waiting step) stage inside (b, attempt, inl asked) had feeds = absurd (some_way t.l t.n t.some t.within asked.back)
+stage_hearing g w t (Waiting step) stage inside (b, attempt, inr replied) had feeds = replied_hearing g w t step b stage attempt replied replied.reply had feeds
+stage_hearing g w t other stage inside told had feeds = absurd cc
 
-rests : (begun : List Begun) (o : Option ServerConnection) (y : Connection) (c : WorldClient) (d : AttemptState) (reader : ReplyHeld) (new : Standing) (stage : Stage) → c.at.stage ≡ stage → new ≡ c.at
-    → IsConnectionToldAt stage begun o y (caller c.number new reader) d → IsConnectionToldAt new.stage begun o y (caller c.number new reader) d
-rests begun o y c d reader new stage at is told = subst (λ s. IsConnectionToldAt s begun o y (caller c.number new reader) d) (sym (ap (λ (s : Standing). s.stage) is ∙ at)) told
+pub own_listens : (w : World) (t : Listens w) → IsOwned w → w.own ≡ Some t.k
+own_listens w t owned = owned.only t.k (t.l, t.d, t.there, t.other, t.dump)
 
-heard_told : OneReply → (stage : Stage) (begun : List Begun) (o : Option ServerConnection) (l : Connection) (c : WorldClient) (d : AttemptState) (reader : ReplyHeld) (new : Standing) (fed : List ℕ) (n : ℕ)
-    (progress : Progress) → 1 ≤ n → n ≤ length l.back → c.at.stage ≡ stage → IsConnectionToldAt stage begun o l c d → HasFedAt stage c.reader fed
-    → FedAt stage c.at fed (take n l.back) progress new → HasFedAt new.stage reader (unanswered new.stage (fed ++ take n l.back))
-    → IsConnectionToldAt new.stage begun o (record l { back = drop n l.back }) (caller c.number new reader) d
-heard_told g (ToSend step) begun o l c d reader new fed n progress first within at (b, attempt, turn) had feeds has = absurd (some_way l n first within turn.back)
-heard_told g (Waiting step) begun o l c d reader new fed n progress first within at (b, attempt, inl asked) had feeds has = absurd (some_way l n first within asked.back)
-heard_told g (Waiting step) begun o l c d reader new fed n progress first within at (b, attempt, inr replied) had feeds has =
-    heard_reply g begun o l c d step b reader new fed n progress first within at replied replied.reply attempt had feeds has
-heard_told g stage begun o l c d reader new fed n progress first within at told had (moved, is) has = rests begun o _ c d reader new stage at is tt
+-- each time the client hears, it hears a reply
+pub hearing_now : OneReply → (w : World) (t : Listens w) → IsOwned w → AreTold w → IsHearing w t
+hearing_now g w t owned told =
+    let own = own_listens w t owned in
+    let a = (owned.own t.k own).1 in
+    let inside = subst (λ (x : WorldClient). IsTrue (is_in_attempt x.at.stage)) (same_Some a.0 t.c (sym a.1 ∙ t.client)) a.2 in
+    stage_hearing g w t t.c.at.stage refl inside ((told.each t.k t.l t.there).own t.d t.c t.dump own t.client) t.had t.feeds
+
+-- it heard the whole reply, so it waits no more
+whole_stage : (w : World) (t : Listens w) (h : IsHearing w t) (stage : Stage) → t.at.stage ≡ stage
+    → HasFedAt stage t.reader (unanswered stage (t.fed ++ take t.n t.l.back)) → drop t.n t.l.back ≡ []
+    → ReceivesAt t.c.at h.step (Reply h.reply) false t.progress t.at
+    → IsConnectionToldAt stage w.begun (side_of w.server t.k) (record t.l { back = drop t.n t.l.back }) (caller t.c.number t.at t.reader) t.d
+whole_stage w t h (ToSend next) at has none heard =
+    let g = h.leads t.progress t.at next heard at in (
+      h.b,
+      goes_attempt w.begun t.c t.reader t.at t.d (side_of w.server t.k) h.step next h.b (unlike_close t.c.at t.at h.step next h.reply t.progress heard at) g h.attempt,
+      record { done = g.done; settled = h.settled; back = none; fed = has },
+    )
+whole_stage w t h (Waiting other) at has none heard = absurd (waits_no_more t.c.at t.at t.progress other (heard_as t.c.at t.at _ false t.progress heard) at)
+whole_stage w t h stage at has none heard = tt
+
+-- what comes of the bytes that it heard
+hearing_told : (w : World) (t : Listens w) (h : IsHearing w t) → HearsPiece t.c.at h.step h.reply (t.fed ++ take t.n t.l.back) (drop t.n t.l.back) t.progress t.at
+    → IsConnectionToldAt t.at.stage w.begun (side_of w.server t.k) (record t.l { back = drop t.n t.l.back }) (caller t.c.number t.at t.reader) t.d
+hearing_told w t h (waits moved is text) =
+    let at : t.at.stage ≡ Waiting h.step = ap (λ (s : Standing). s.stage) is ∙ h.stage in
+    let attempt : IsAttempt w.begun (caller t.c.number t.at t.reader) t.d h.step h.b = (let a = h.attempt in grind arith) in
+    subst (λ s. IsConnectionToldAt s w.begun (side_of w.server t.k) (record t.l { back = drop t.n t.l.back }) (caller t.c.number t.at t.reader) t.d) (sym at) (
+      h.b,
+      attempt,
+      inr record {
+        settled = h.settled;
+        fed = t.fed ++ take t.n t.l.back;
+        has = subst (λ s. HasFedAt s t.reader (unanswered s (t.fed ++ take t.n t.l.back))) at t.has;
+        reply = inr (h.reply, sym text, h.brief, subst (λ s. LeadsOn h.b.run (side_of w.server t.k) s t.d h.step h.reply) (sym is) h.leads);
+      },
+    )
+hearing_told w t h (whole spelled none heard) = whole_stage w t h t.at.stage refl t.has none heard
 
 -- the client hears, and goes on
 pub hears_told : OneReply → (w : World) (t : Listens w) (on : is_over t.progress ≡ false) → IsOwned w → AreTold w → AreTold (move.moved w (move.hears t on))
 hears_told g w t on owned told =
     changed_told w _ t.k (λ x. record x { back = drop t.n x.back }) refl refl (λ j beside. refl)
-    (λ j beside mine. absurd (beside (same_Some j t.k (sym mine ∙ own))))
-    (λ x here h. record {
-      sent = h.sent;
+    (λ j beside mine. absurd (beside (same_Some j t.k (sym mine ∙ own_listens w t owned))))
+    (λ x here before. record {
+      sent = before.sent;
       own = λ d y is_d mine now. (
           let same : t.l ≡ x = same_Some t.l x (sym t.there ∙ here) in
-          let back = ap (λ (z : Connection). length z.back) same in
-          let some = t.within in
+          let dump : t.d ≡ d = same_Some t.d d (sym t.dump ∙ ap (λ (z : Connection). z.dump) same ∙ is_d) in
+          let h = hearing_now g w t owned told in
           subst (λ (z : WorldClient). IsConnectionToldAt z.at.stage w.begun (side_of w.server t.k) (record x { back = drop t.n x.back }) z d) (same_Some (caller t.c.number t.at t.reader) y now)
-          (heard_told g t.c.at.stage w.begun (side_of w.server t.k) x t.c d t.reader t.at t.fed t.n t.progress t.some (omega (arith, some, back)) refl
-          (h.own d t.c is_d own t.client) t.had
-          (subst (λ (z : Connection). FedAt t.c.at.stage t.c.at t.fed (take t.n z.back) t.progress t.at) same t.feeds)
-          (subst (λ (z : Connection). HasFedAt t.at.stage t.reader (unanswered t.at.stage (t.fed ++ take t.n z.back))) same t.has)));
+          (subst (λ (z : Connection). IsConnectionToldAt t.at.stage w.begun (side_of w.server t.k) (record z { back = drop t.n z.back }) (caller t.c.number t.at t.reader) d) same
+          (subst (IsConnectionToldAt t.at.stage w.begun (side_of w.server t.k) (record t.l { back = drop t.n t.l.back }) (caller t.c.number t.at t.reader)) dump
+          (hearing_told w t h h.piece))));
     }) told
+
+-- no count more, or the close comes next
+pub becomes_counts : (old new : Standing) (progress : Progress) → HeardAs old new false progress → (new.counts ≡ old.counts) ⊎ (new.stage ≡ ToSend Close)
+becomes_counts old new progress given = grind arith
+
+-- the client counted its volume, and goes on to the close
+pub record HasNewCount (w : World) (t : Listens w) (h : IsHearing w t) : Type 0 where
+  pub other : h.step ≢ Close
+  pub goes : GoesTo h.b.run (side_of w.server t.k) t.c.at t.d t.at Close
+
+piece_counts : (w : World) (t : Listens w) (h : IsHearing w t)
+    → HearsPiece t.c.at h.step h.reply (t.fed ++ take t.n t.l.back) (drop t.n t.l.back) t.progress t.at → (t.at.counts ≡ t.c.at.counts) ⊎ HasNewCount w t h
+piece_counts w t h (waits moves is text) = inl (ap (λ (s : Standing). s.counts) is)
+piece_counts w t h (whole spelled none heard) = elim (becomes_counts t.c.at t.at t.progress (heard_as t.c.at t.at _ false t.progress heard)) [
+  | inl same ↦ inl same
+  | inr at ↦ inr record { other = unlike_close t.c.at t.at h.step Close h.reply t.progress heard at; goes = h.leads t.progress t.at Close heard at }
+]
+
+-- the count that is told then
+abbrev pub new_count : (w : World) → Listens w → Count
+new_count w t = counts_of w t.c.number t.k (count_to (checkpoint_of t.c.at.counts) (t.d.first + t.d.blocks))
+
+pub counted_is : (w u : World) (t : Listens w) → u.counts ≡ w.counts ++ told_counts w t → (h : IsHearing w t) (x : Count) → Contains u.counts x
+    → Contains w.counts x ⊎ (HasNewCount w t h × (x ≡ new_count w t))
+counted_is w u t counts h x among = by_count (piece_counts w t h h.piece)
   where
-    own : w.own ≡ Some t.k
-    own = owned.only t.k (t.l, t.d, t.there, t.other, t.dump)
+    by_count : (t.at.counts ≡ t.c.at.counts) ⊎ HasNewCount w t h → Contains w.counts x ⊎ (HasNewCount w t h × (x ≡ new_count w t))
+    by_count (inl same) =
+        let none : drop (length t.c.at.counts) t.at.counts ≡ []
+        = ap (drop (length t.c.at.counts)) (same ∙ sym (append-nil t.c.at.counts)) ∙ drop_front t.c.at.counts [] in
+        inl (subst (λ xs. Contains xs x) (counts ∙ ap (λ cs. w.counts ++ map (counts_of w t.c.number t.k) cs) none ∙ append-nil w.counts) among)
+    by_count (inr new) =
+        let last = count_to (checkpoint_of t.c.at.counts) (t.d.first + t.d.blocks) in
+        let one : drop (length t.c.at.counts) t.at.counts ≡ last ∷ []
+        = ap (drop (length t.c.at.counts)) new.goes.counts ∙ drop_front t.c.at.counts (last ∷ []) in
+        elim (Contains-push_cases w.counts (new_count w t) x
+        (subst (λ xs. Contains xs x) (counts ∙ ap (λ cs. w.counts ++ map (counts_of w t.c.number t.k) cs) one) among)) [
+          | inl before ↦ inl before
+          | inr is ↦ inr (new, sym is)
+        ]

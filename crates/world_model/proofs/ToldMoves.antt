@@ -1,23 +1,12 @@
 -- What is told of a connection stays so while its side, or what is on the way, is another.
-use Rattle.std.proofs.Common.{◌≡◌, ◌≢◌, ◌⊎◌, ℕ, suc, ◌≤◌, List, [], ◌∷◌, ◌++◌, length, append_assoc, take, drop, Option, Some, None, refl, sym, ap, subst, ◌∙◌, inl, inr, arith}
-use Rattle.std.specs.Prelude.{option_and_then}
-use Rattle.std.proofs.lemmas.List.{take-append-drop}
-use Rattle.std.proofs.lemmas.Option.{same_Some}
-use Rattle.rmt_wire.specs.Request.{request_text}
-use Rattle.rmt_wire.specs.RequestReader.{RequestHeld, held, Unread}
-use Rattle.rmt_server.specs.ServerState.{ServerConnection, side}
-use Rattle.rmt_server.specs.Session.PlainSession.{Idle}
-use Rattle.dump_run.specs.Run.{PlainRun}
-use Rattle.dump_client.specs.Standing.{Standing}
-use Rattle.dump_client.specs.declared.step.Step.{Step}
-use Rattle.dump_client.specs.declared.stage.Stage.{Stage}
-use Rattle.dump_client.specs.declared.stage.Stage.TheVariants.{ToSend, Waiting}
-use Rattle.rmt_wire.specs.Reply.{PlainReply}
-use Rattle.world_model.specs.World.{World, Connection, AttemptState, Begun, WorldClient, numbered}
-use Rattle.world_model.specs.Changes.{changed, side_of, connection_of, new_connection, with_side}
-use Rattle.world_model.specs.Sending.{AreUnserved, request_in, IsPending, IsConnectionSettled, IsConnectionSent, LeadsOn, IsStepReply, IsConnectionToldAt, IsConnectionTold, IsGood, AreTold}
-use Rattle.world_model.proofs.Numbers.{changed_is, pushed_is, numbered_more, numbered_last, numbered_within, numbered_there, numbered_first}
-use Rattle.world_model.proofs.Sent.{moved_done}
+-- What is told of each connection, whatever happens.
+use Rattle.world_model.proofs.Basics.{◌≡◌, ◌≢◌, ◌⊎◌, ℕ, suc, ◌≤◌, List, [], ◌∷◌, ◌++◌, length, append_assoc, take, drop, Option, Some, None, refl, sym, ap, subst, ◌∙◌, inl, inr, arith, option_and_then, take-append-drop, zero, true, option_map, eqb_tells, same_Some}
+use Rattle.world_model.proofs.Terms.{RequestHeld, held, Unread, ServerConnection, side, Idle, PlainRun, Standing, Step, Stage, ToSend, Waiting, PlainReply, World, Connection, AttemptState, Begun, WorldClient, numbered, changed, side_of, connection_of, new_connection, with_side, AreUnserved, IsPending, IsConnectionSettled, IsConnectionSent, LeadsOn, IsStepReply, IsConnectionToldAt, IsConnectionTold, IsGood, AreTold, ServerState, with_numbered, without_peer, without_server, ended_from, all_ended, answered, noted, AreTidy, IsPushed}
+use Rattle.world_model.proofs.Numbers.{changed_is, pushed_is, numbered_more, numbered_last, numbered_within, numbered_there, numbered_first, map_at, with_here, with_other}
+use Rattle.world_model.proofs.SentWire.{moved_done, OneReading, DroppedWrites}
+use Rattle.world_model.proofs.SentSteps.{ReplyTexts}
+use Rattle.world_model.proofs.SentServe.{serve_sent, serve_told}
+use Rattle.world_model.proofs.Moves.{Turn, reaches, serves, ends, restarts, cuts, moved}
 
 -- The server's side is another, or what is on the way to it: the session stays, or is over, and what is unserved too, or is lost.
 pub record Moves (o p : Option ServerConnection) (way new : List ℕ) : Type 0 where
@@ -28,23 +17,14 @@ pub record Moves (o p : Option ServerConnection) (way new : List ℕ) : Type 0 w
 pub settled_moves : (o p : Option ServerConnection) (way new : List ℕ) (d : AttemptState) → Moves o p way new → IsConnectionSettled o way d → IsConnectionSettled p new d
 settled_moves o p way new d m h = record { sent = h.sent; unserved = m.nothing h.unserved }
 
-unserved_moves : (o p : Option ServerConnection) (way new bytes : List ℕ) → Moves o p way new → AreUnserved o way bytes ⊎ AreUnserved o way []
-    → AreUnserved p new bytes ⊎ AreUnserved p new []
-unserved_moves o p way new bytes m (inl on) = m.stays bytes on
-unserved_moves o p way new bytes m (inr none) = inr (m.nothing none)
-
 pub pending_moves : (b : Begun) (o p : Option ServerConnection) (way new : List ℕ) (d : AttemptState) (step : Step) → Moves o p way new → IsPending b o way d step → IsPending b p new d step
 pending_moves b o p way new d step m h = record {
   done = moved_done b.run o p d step m.session h.done;
   sent = h.sent;
   few = h.few;
   spelled = h.spelled;
-  unserved = unserved_moves o p way new (request_text (request_in b d step)) m h.unserved;
+  unserved = (grind arith);
 }
-
-pub sent_moves : (begun : List Begun) (o p : Option ServerConnection) (l y : Connection) (d : AttemptState) → Moves o p l.toward y.toward → IsConnectionSent begun o l d → IsConnectionSent begun p y d
-sent_moves begun o p l y d m (inl settled) = inl (settled_moves o p l.toward y.toward d m settled)
-sent_moves begun o p l y d m (inr (b, step, at, pending)) = inr (b, step, at, pending_moves b o p l.toward y.toward d step m pending)
 
 leads_moves : (run : PlainRun) (o p : Option ServerConnection) (old : Standing) (d : AttemptState) (step : Step) (reply : PlainReply)
     → ((s : ServerConnection) → p ≡ Some s → (x : ServerConnection) × (o ≡ Some x) × (s.session ≡ x.session)) → LeadsOn run o old d step reply → LeadsOn run p old d step reply
@@ -102,18 +82,7 @@ lost_move o way = record { session = λ s at. absurd cc; stays = λ bytes un. in
 -- bytes reach it
 pub reached_move : (s : ServerConnection) (reached : RequestHeld) (way : List ℕ) (n : ℕ) → ((bytes : List ℕ) → Unread s.reached bytes → Unread reached (bytes ++ take n way))
     → Moves (Some s) (Some (side reached s.session)) way (drop n way)
-reached_move s reached way n grows =
-    let more : (bytes : List ℕ) → AreUnserved (Some s) way bytes → AreUnserved (Some (side reached s.session)) (drop n way) bytes
-    = λ bytes (mine, unread, is). (
-      mine ++ take n way,
-      grows mine unread,
-      is ∙ ap (λ x. mine ++ x) (sym (take-append-drop n way)) ∙ sym (append_assoc mine (take n way) (drop n way)),
-    ) in
-    record {
-      session = λ x at. (s, refl, ap (λ (y : ServerConnection). y.session) (sym (same_Some (side reached s.session) x at)));
-      stays = λ bytes un. inl (more bytes un);
-      nothing = more [];
-    }
+reached_move s reached way n grows = grind (arith, take-append-drop, append_assoc)
 
 -- one that is as it was, beside a client that is as it was, or has another connection or none
 pub other_told : (w u : World) (k : ℕ) (l : Connection) → u.begun ≡ w.begun → side_of u.server k ≡ side_of w.server k
@@ -175,3 +144,118 @@ joined_told w u dump paired begun connections sides own here t = record {
         (subst (λ o. IsConnectionTold u (suc (length w.connections)) o (new_connection dump)) (sym new_side) here))
   ];
 }
+
+-- a side that is another, and those beside it
+pub turned_here : (w u : World) (k : ℕ) (s : ServerConnection) (x : Option ServerConnection) → side_of w.server k ≡ Some s → u.server.sides ≡ with_numbered w.server.sides k x → side_of u.server k ≡ x
+turned_here w u k s x live sides = grind (arith, with_here)
+
+pub turned_beside : (w u : World) (k : ℕ) (x : Option ServerConnection) → u.server.sides ≡ with_numbered w.server.sides k x → (j : ℕ) → j ≢ k → side_of u.server j ≡ side_of w.server j
+turned_beside w u k x sides j other = grind (arith, with_other)
+
+ended_here : (h : ServerState) (k : ℕ) (o : Option ServerConnection) → side_of h k ≡ o → side_of (ended_from h k o) k ≡ None
+ended_here h k o is = grind (arith, with_here)
+
+ended_beside : (h : ServerState) (k j : ℕ) (o : Option ServerConnection) → j ≢ k → side_of (ended_from h k o) j ≡ side_of h j
+ended_beside h k j o other = grind (arith, with_other)
+
+-- the first so many sides are over
+none_live : (h : ServerState) (n j : ℕ) → j ≤ n → side_of (all_ended h n) j ≡ None
+none_live h zero zero within = refl
+none_live h zero (suc j) within = absurd (omega (arith, within))
+none_live h (suc n) j within = elim (eqb_tells j (suc n)) [
+  | inl (equal, same) ↦ ap (side_of (all_ended h (suc n))) same ∙ ended_here (all_ended h n) (suc n) (side_of (all_ended h n) (suc n)) refl
+  | inr (unequal, other) ↦ ended_beside (all_ended h n) (suc n) j (side_of (all_ended h n) (suc n)) other
+      ∙ none_live h n j (omega (arith, within, other))
+]
+
+pub mapped : {X : Type 0} (f : X → X) (o : Option X) (y : X) → option_map f o ≡ Some y → (x : X) × (o ≡ Some x) × (y ≡ f x)
+mapped f o y is = grind arith
+
+-- a stranger's
+pub strangers : (u : World) (k : ℕ) (o : Option ServerConnection) (y : Connection) → y.dump ≡ None → IsConnectionTold u k o y
+strangers u k o y none = record {
+  sent = λ d is. (let clash = sym none ∙ is in absurd cc);
+  own = λ d c is mine there. (let clash = sym none ∙ is in absurd cc);
+}
+
+-- the server's side is another, or what is on the way to it
+connection_moves : (w u : World) (k : ℕ) (o p : Option ServerConnection) (l y : Connection) → u.begun ≡ w.begun → u.own ≡ w.own → u.caller ≡ w.caller → Moves o p l.toward y.toward → y.back ≡ l.back
+    → y.dump ≡ l.dump → IsConnectionTold w k o l → IsConnectionTold u k p y
+connection_moves w u k o p l y begun own caller m back dump h = record {
+  sent = λ d is. subst (λ bs. IsConnectionSent bs p y d) (sym begun) ((grind arith));
+  own = λ d c is mine there. subst (λ bs. IsConnectionToldAt c.at.stage bs p y c d) (sym begun)
+      (told_moves c.at.stage w.begun o p l y c d m back (h.own d c (sym dump ∙ is) (sym own ∙ mine) (sym caller ∙ there)));
+}
+
+over_connection : (w u : World) (k : ℕ) (l : Connection) → u.begun ≡ w.begun → u.own ≡ w.own → u.caller ≡ w.caller → side_of u.server k ≡ None → IsConnectionTold w k (side_of w.server k) l
+    → IsConnectionTold u k (side_of u.server k) (without_server l)
+over_connection w u k l begun own caller over h =
+    subst (λ o. IsConnectionTold u k o (without_server l)) (sym over)
+    (connection_moves w u k (side_of w.server k) None l (without_server l) begun own caller (lost_move (side_of w.server k) l.toward) refl refl h)
+
+-- the connection is cut
+pub cut_told : (w : World) (k : ℕ) → AreTold w → AreTold (moved w (cuts k))
+cut_told w k t =
+    changed_told w _ k (λ l. record l { cut = true }) refl refl (λ j other. refl) (λ j other own. (own, refl))
+    (λ l at h. connection_moves w (moved w (cuts k)) k (side_of w.server k) (side_of w.server k) l (record l { cut = true }) refl refl refl (no_move (side_of w.server k) l.toward) refl refl h) t
+
+-- the server's side is over
+pub ended_told : (w : World) (k : ℕ) → AreTold w → AreTold (moved w (ends k))
+ended_told w k t =
+    changed_told w _ k without_server refl refl (λ j other. ended_beside w.server k j (side_of w.server k) other) (λ j other mine. (mine, refl))
+    (λ l at h. over_connection w (moved w (ends k)) k l refl refl refl (ended_here w.server k (side_of w.server k) refl) h) t
+
+pub restarted_told : (w : World) → AreTidy w → AreTold w → AreTold (moved w restarts)
+restarted_told w tidy t = record {
+  good = t.good;
+  each = λ j y at. (
+      let x = map_at without_server w.connections j y at in
+      let within = numbered_within w.connections j x.0 x.1 in
+      let paired = tidy.paired in
+      subst (λ l. IsConnectionTold (moved w restarts) j (side_of (moved w restarts).server j) l) (sym x.2)
+      (over_connection w (moved w restarts) j x.0 refl refl refl (none_live w.server (length w.server.sides) j (omega (arith, within, paired))) (t.each j x.0 x.1)));
+}
+
+-- the client's side is over, and there is no attempt
+pub left_told : (w u : World) (k : ℕ) → u.begun ≡ w.begun → u.server.sides ≡ w.server.sides → u.connections ≡ changed without_peer w.connections k → u.own ≡ None → AreTold w → AreTold u
+left_told w u k begun sides connections none t = grind (arith, changed_told)
+
+-- bytes reach the server
+pub reached_told : (w : World) (k n : ℕ) (s : ServerConnection) (l : Connection) (reached : RequestHeld) (live : side_of w.server k ≡ Some s) (at : connection_of w k ≡ Some l)
+    (grows : IsPushed s.reached (take n l.toward) reached) → AreTold w → AreTold (moved w (reaches k n s l reached live at grows))
+reached_told w k n s l reached live at grows t =
+    changed_told w u k (λ x. record x { toward = drop n x.toward }) refl refl (turned_beside w u k (Some p) refl) (λ j other mine. (mine, refl))
+    (λ x here h. subst (λ o. IsConnectionTold u k o (record x { toward = drop n x.toward })) (sym (turned_here w u k s (Some p) live refl))
+    (connection_moves w u k (Some s) (Some p) x (record x { toward = drop n x.toward }) refl refl refl
+    (reached_move s reached x.toward n
+    (λ bytes unread. subst (λ (z : Connection). Unread reached (bytes ++ take n z.toward)) (same_Some l x (sym at ∙ here)) (grows.1 bytes unread)))
+    refl refl (subst (λ o. IsConnectionTold w k o x) live h))) t
+  where
+    p : ServerConnection
+    p = side reached s.session
+
+    u : World
+    u = moved w (reaches k n s l reached live at grows)
+
+-- the server carries a request out
+pub served_told : ReplyTexts → OneReading → DroppedWrites → (w : World) (v : Turn w) → AreTold w → AreTold (moved w (serves v))
+served_told x g h w v t =
+    changed_told w u v.k (answered v.request v.reply) refl refl (turned_beside w u v.k (Some s) refl) (λ j other mine. (mine, refl))
+    (λ l at told. subst (λ o. IsConnectionTold u v.k o (answered v.request v.reply l)) (sym (turned_here w u v.k v.s (Some s) v.live refl)) record {
+      sent = λ d dump. (
+          let m = mapped (noted v.request v.reply) l.dump d dump in
+          subst (IsConnectionSent w.begun (Some s) (answered v.request v.reply l)) (sym m.2)
+          (serve_sent g h w.begun v.s l m.0 v.bytes v.rest v.request v.reply v.reached v.session (subst (λ o. IsConnectionSent w.begun o l m.0) v.live (told.sent m.0 m.1)) v.unread v.gives
+          v.left));
+      own = λ d c dump mine there. (
+          let m = mapped (noted v.request v.reply) l.dump d dump in
+          subst (IsConnectionToldAt c.at.stage w.begun (Some s) (answered v.request v.reply l) c) (sym m.2)
+          (serve_told x g h w.begun c.at.stage v.s l c m.0 v.bytes v.rest v.request v.reply v.reached v.trouble w.server.holders w.server.library v.library v.session t.good
+          (subst (λ o. IsConnectionToldAt c.at.stage w.begun o l c m.0) v.live (told.own m.0 c m.1 mine there)) v.unread v.gives v.left v.served.step));
+    }) t
+  where
+    s : ServerConnection
+    s = side v.reached v.session
+
+    u : World
+    u = moved w (serves v)

@@ -1,62 +1,23 @@
 -- What is told of each connection, when a run is begun, an attempt starts, or the client sends.
-use Rattle.std.proofs.Common.{◌≡◌, ◌⊎◌, ℕ, zero, suc, ◌+◌, ◌*◌, ◌≤◌, Bool, true, false, List, [], ◌∷◌, ◌++◌, IsTrue, length, append_assoc, get_or, take, drop, Option, Some, None, refl, sym, ap, subst, ◌∙◌, inl, inr, arith}
-use Rattle.std.proofs.lemmas.Option.{same_Some}
-use Rattle.std.proofs.lemmas.List.{append-nil}
-use Rattle.rmt_wire.specs.declared.limits.TheConstants.{RECORD_LIMIT}
-use Rattle.rmt_wire.specs.Request.{HasSpelling, SpellsRequest, request_text, unsent}
-use Rattle.rmt_wire.specs.RequestReader.{held}
-use Rattle.rmt_wire.specs.ReplyReader.{ReplyHeld, reply_held}
-use Rattle.rmt_server.specs.ServerState.{ServerConnection, side}
-use Rattle.rmt_server.specs.Session.PlainSession.{Idle}
-use Rattle.dump_run.specs.Run.{PlainRun, IsRun}
-use Rattle.dump_run.specs.Label.{label}
-use Rattle.dump_run.specs.Blocks.{cut_blocks}
-use Rattle.dump_run.proofs.Cut.{size_cut}
-use Rattle.dump_client.specs.Script.{request_of, number_of}
-use Rattle.dump_client.specs.Standing.{Standing, standing, checkpoint_of}
-use Rattle.dump_client.specs.Lawful.{IsLawful, StageFits, IsUnfinishedRun, attempt_at}
-use Rattle.dump_client.specs.Client.{HasFedAt}
-use Rattle.dump_run.specs.declared.count.VolumeCount.{VolumeCount}
-use Rattle.dump_client.specs.declared.step.Step.{Step}
-use Rattle.dump_client.specs.declared.step.Step.TheVariants.{Open, Operation, Look, Label, Block, Close}
-use Rattle.dump_client.specs.declared.step.TapeOp.{TapeOp}
-use Rattle.dump_client.specs.declared.step.TapeOp.TheVariants.{Rewind, RewindAgain, Mark, Unload}
-use Rattle.dump_client.specs.declared.stage.Stage.{Stage}
-use Rattle.dump_client.specs.declared.stage.Stage.TheVariants.{Ready, ToSend, Waiting, Asking}
-use Rattle.world_model.specs.World.{World, Connection, AttemptState, Begun, WorldClient, numbered}
-use Rattle.world_model.specs.Changes.{side_of, connection_of, new_connection, sent_on, noted_sent}
-use Rattle.world_model.specs.Rows.{NoRun, is_run_done}
-use Rattle.world_model.specs.Steps.{caller, fresh, client_connected, sent_connection, next_text}
-use Rattle.world_model.specs.Kept.{AreTidy, AreBooked}
-use Rattle.world_model.specs.Owning.{IsOwned, is_in_attempt}
-use Rattle.world_model.specs.Sending.{HasDone, AreUnserved, request_in, IsPending, IsConnectionSettled, IsConnectionSent, IsAttempt, IsItsTurn, IsStepAsked, IsConnectionToldAt, IsGood, AreTold}
-use Rattle.world_model.proofs.Numbers.{pushed_is, numbered_more}
-use Rattle.world_model.proofs.Sent.{raised_one, done_few}
-use Rattle.world_model.proofs.SentWire.{fresh_unread}
-use Rattle.world_model.proofs.SentSteps.{RequestTexts}
-use Rattle.world_model.proofs.ToldMoves.{changed_told, joined_told}
+use Rattle.world_model.proofs.Basics.{◌≡◌, ◌⊎◌, ℕ, suc, ◌+◌, ◌*◌, ◌≤◌, Bool, true, List, [], ◌∷◌, ◌++◌, IsTrue, length, append_assoc, get_or, take, drop, Option, Some, None, refl, sym, ap, subst, ◌∙◌, inl, inr, arith, same_Some, append-nil}
+use Rattle.world_model.proofs.Terms.{RECORD_LIMIT, SpellsRequest, request_text, unsent, held, ReplyHeld, reply_held, ServerConnection, side, Idle, PlainRun, IsRun, label, cut_blocks, size_cut, request_of, Standing, standing, checkpoint_of, IsLawful, StageFits, IsUnfinishedRun, HasFedAt, VolumeCount, Step, Open, TapeOp, Ready, ToSend, Waiting, World, Connection, AttemptState, Begun, WorldClient, numbered, side_of, connection_of, new_connection, sent_on, noted_sent, NoRun, caller, fresh, client_connected, sent_connection, next_text, AreTidy, AreBooked, IsOwned, is_in_attempt, HasDone, AreUnserved, IsPending, IsConnectionSettled, IsConnectionSent, IsAttempt, IsItsTurn, IsStepAsked, IsConnectionToldAt, IsGood, AreTold, attempt_at, request_in}
+use Rattle.dump_client.specs.Script.{number_of}
+use Rattle.world_model.proofs.Ground.{pushed_is, numbered_more, done_few, fresh_unread, RequestTexts, changed_told, joined_told, mapped, Sender}
 use Rattle.world_model.proofs.Moves as move
-use Rattle.world_model.proofs.Moves.{Sender}
-use Rattle.world_model.proofs.ToldEvents.{mapped}
+use Rattle.world_model.proofs.SentWire.{raised_one}
 
 -- a client that has no run under way has no connection of its own
 idle_none : (w : World) → IsOwned w → ((c : WorldClient) → w.caller ≡ Some c → IsTrue (is_in_attempt c.at.stage) → ⊥) → (k : ℕ) → w.own ≡ Some k → ⊥
 idle_none w o idle k own = let c = (o.own k own).1 in idle c.0 c.1 c.2
 
-done_idle : (stage : Stage) → IsTrue (is_run_done stage) → IsTrue (is_in_attempt stage) → ⊥
-done_idle Ready done attempt = cc
-done_idle stage done attempt = cc
-
 -- each block of a payload that is cut has at most that many bytes
 take_most : (n : ℕ) (xs : List ℕ) → length (take n xs) ≤ n
-take_most zero xs = omega arith
-take_most (suc n) [] = omega arith
 take_most (suc n) (x ∷ xs) = let on = take_most n xs in omega (arith, on)
+take_most n xs = grind arith
 
 cut_most : (n size : ℕ) (payload : List ℕ) (i : ℕ) → length (get_or (cut_blocks n size payload) i []) ≤ size
-cut_most zero size payload i = omega arith
-cut_most (suc n) size payload zero = take_most size payload
 cut_most (suc n) size payload (suc i) = cut_most n size (drop size payload) i
+cut_most n size payload i = grind (arith, take_most)
 
 more_sent : (begun more : List Begun) (o : Option ServerConnection) (l : Connection) (d : AttemptState) → IsConnectionSent begun o l d → IsConnectionSent (begun ++ more) o l d
 more_sent begun more o l d (inl settled) = inl settled
@@ -82,28 +43,16 @@ pub started_good : (run : PlainRun) (payload : List ℕ) → IsRun run → lengt
 started_good run payload good size = record {
   run = good;
   blocks = λ n. (
-      let most = cut_most run.blocks run.block_bytes payload n in
-      let limit = good.block_bytes.1 in
-      omega (arith, most, limit));
+      omega (arith, cut_most run.blocks run.block_bytes payload n, good.block_bytes.1));
   whole = size_cut run.blocks run.block_bytes payload size;
 }
 
 pub no_run_idle : (w : World) → NoRun w → IsOwned w → (k : ℕ) → w.own ≡ Some k → ⊥
-no_run_idle w (inl gone) o = idle_none w o (λ c there attempt. (let clash = sym gone ∙ there in absurd cc))
-no_run_idle w (inr (x, is, done)) o =
-    idle_none w o (λ c there attempt. done_idle c.at.stage (subst (λ (z : WorldClient). IsTrue (is_run_done z.at.stage)) (same_Some x c (sym is ∙ there)) done) attempt)
-
--- the operator answered, so there is no attempt
-pub asking_idle : (w : World) (x : WorldClient) → w.caller ≡ Some x → x.at.stage ≡ Asking → IsOwned w → (k : ℕ) → w.own ≡ Some k → ⊥
-asking_idle w x is asks o = idle_none w o (λ c there attempt. (
-    let same = same_Some x c (sym is ∙ there) in
-    let stage : c.at.stage ≡ Asking = ap (λ (z : WorldClient). z.at.stage) (sym same) ∙ asks in
-    let clash : IsTrue (is_in_attempt Asking) = subst (λ s. IsTrue (is_in_attempt s)) stage attempt in cc))
+no_run_idle w given o k known = grind arith
 
 -- the block at which the next volume begins is within the run
 left_within : (run : PlainRun) (counts : List VolumeCount) → IsUnfinishedRun run counts → (checkpoint_of counts).1 ≤ run.blocks
-left_within run counts (inl none) = subst (λ l. (checkpoint_of l).1 ≤ run.blocks) (sym none) (omega arith)
-left_within run counts (inr less) = omega (arith, less)
+left_within run counts given = grind arith
 
 -- an attempt starts
 pub connected_told : (w : World) (c : WorldClient) → AreTidy w → AreBooked w → IsLawful c.at → w.caller ≡ Some c → c.at.stage ≡ Ready → AreTold w → AreTold (client_connected w c)
@@ -113,11 +62,10 @@ connected_told w c tidy booked lawful there ready t =
     record {
       sent = λ d is. subst (IsConnectionSent w.begun (Some (side (held [] 0) Idle)) (new_connection (Some (fresh c)))) (same_Some (fresh c) d is) (inl settled);
       own = λ d x is mine now. (
-          let dump = same_Some (fresh c) d is in
           let client = same_Some (caller c.number (standing c.at.run c.at.counts (ToSend Open)) (reply_held None [])) x now in
           subst (λ (z : WorldClient). IsConnectionToldAt z.at.stage w.begun (Some (side (held [] 0) Idle)) (new_connection (Some (fresh c))) z d) client
           (subst (IsConnectionToldAt (ToSend Open) w.begun (Some (side (held [] 0) Idle)) (new_connection (Some (fresh c)))
-          (caller c.number (standing c.at.run c.at.counts (ToSend Open)) (reply_held None []))) dump
+          (caller c.number (standing c.at.run c.at.counts (ToSend Open)) (reply_held None []))) (same_Some (fresh c) d is)
           (b.0, record { begun_as = b.1; run = b.2; number = refl; volume = refl; first = refl }, record { done = done; settled = settled; back = refl; fed = fed })));
     } t
   where
@@ -138,9 +86,8 @@ connected_told w c tidy booked lawful there ready t =
       blocks = refl;
       within = (
           let left : IsUnfinishedRun c.at.run c.at.counts = subst (StageFits c.at.run c.at.counts) ready lawful.stage in
-          let fits = left_within c.at.run c.at.counts left in
           let run = ap (λ (r : PlainRun). r.blocks) b.2 in
-          omega (arith, fits, run));
+          omega (arith, left_within c.at.run c.at.counts left, run));
       mark = refl;
       stands = λ s at. ap (λ (z : ServerConnection). z.session) (sym (same_Some (side (held [] 0) Idle) s at));
     }
@@ -157,24 +104,11 @@ same_request run payload counts step = refl
 
 -- the number of an operation is one that a request can have
 pub small_number : (op : TapeOp) → number_of op ≤ 2147483647
-small_number Rewind = omega arith
-small_number RewindAgain = omega arith
-small_number (Mark next) = omega arith
-small_number (Unload next) = omega arith
-
-has_spelling : ShortLabels → (s : Standing) (payload : List (List ℕ)) (step : Step) → IsLawful s → ((n : ℕ) → length (get_or payload n []) ≤ RECORD_LIMIT)
-    → HasSpelling (request_of s.run payload (checkpoint_of s.counts).0 (checkpoint_of s.counts).1 step)
-has_spelling g s payload Open lawful few = let device = lawful.run.device in ((device.0.1, device.1), omega arith)
-has_spelling g s payload Label lawful few = g s lawful
-has_spelling g s payload (Block number) lawful few = few number
-has_spelling g s payload Close lawful few = tt
-has_spelling g s payload Look lawful few = omega arith
-has_spelling g s payload (Operation op) lawful few = (small_number op, omega arith)
+small_number op = grind arith
 
 -- no request of the client's leaves bytes to follow its text
 none_to_follow : (run : PlainRun) (payload : List (List ℕ)) (volume first : ℕ) (step : Step) → unsent (request_of run payload volume first step) ≡ 0
-none_to_follow run payload volume first Open = refl
-none_to_follow run payload volume first step = refl
+none_to_follow run payload volume first step = grind arith
 
 pub next_spelled : RequestTexts → ShortLabels → (s : Standing) (payload : List (List ℕ)) (step : Step) → IsLawful s → ((n : ℕ) → length (get_or payload n []) ≤ RECORD_LIMIT)
     → SpellsRequest (request_text (request_of s.run payload (checkpoint_of s.counts).0 (checkpoint_of s.counts).1 step))
@@ -182,15 +116,12 @@ pub next_spelled : RequestTexts → ShortLabels → (s : Standing) (payload : Li
 next_spelled x g s payload step lawful few =
     let request = request_of s.run payload (checkpoint_of s.counts).0 (checkpoint_of s.counts).1 step in
     subst (λ t. SpellsRequest t request) (append-nil (request_text request))
-    (x request (has_spelling g s payload step lawful few) [] (sym (none_to_follow s.run payload (checkpoint_of s.counts).0 (checkpoint_of s.counts).1 step)))
+    (x request ((grind arith)) [] (sym (none_to_follow s.run payload (checkpoint_of s.counts).0 (checkpoint_of s.counts).1 step)))
 
 -- what is sent is unserved, or lost after a cut; a side that is over is cut
 sent_unserved : (o : Option ServerConnection) (cut : Bool) (way text : List ℕ) → (o ≡ None → cut ≡ true) → AreUnserved o way []
     → AreUnserved o (sent_on cut way text) text ⊎ AreUnserved o (sent_on cut way text) []
-sent_unserved o true way text here none = inr none
-sent_unserved None false way text here none = let clash = here refl in absurd cc
-sent_unserved (Some s) false way text here (mine, unread, is) =
-    inl (mine, unread, ap (λ l. l ++ text) is ∙ append_assoc mine way text)
+sent_unserved o cut way text here given = grind (arith, append_assoc)
 
 -- the numbers once it was sent
 noted_done : (run : PlainRun) (o : Option ServerConnection) (d : AttemptState) (step : Step) → HasDone run o d step → HasDone run o (noted_sent d) step

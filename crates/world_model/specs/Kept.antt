@@ -73,97 +73,103 @@ pub record AreBooked (w : World) : Type 0 where
 abbrev pub IsClientLawful : World → Type 0
 IsClientLawful w = (c : WorldClient) → w.caller ≡ Some c → IsLawful c.at
 
--- The invariant of a world: each first world of good drives meets this invariant, and each event
--- preserves it.
+-- The invariant of a world: each first world with good drives satisfies the invariant, and each
+-- event preserves the invariant.
 pub record IsWorldKept (w : World) : Type 0 where
-  -- The client's counts are volumes of its run, in order. The stage that the client has reached
-  -- fits its counts.
+  -- The client's list contains the first volumes of the client's run, in order. The client's stage,
+  -- which says what the client does next, fits this list. For example, if the client is finished,
+  -- the volumes in the list contain all blocks of the run.
   pub lawful : IsClientLawful w
-  -- While an attempt is under way, the client has exactly one connection of its own. Between
-  -- attempts the client has none. On every earlier connection of the client, the client's side has
-  -- ended.
+  -- While an attempt is under way, the client is on exactly one connection. Between attempts, the
+  -- client is on no connection. The client has left all its earlier connections.
   pub owned : IsOwned w
   -- Field `sent`: On each connection of the client, the server has carried out all requests that
-  -- were sent, or all but the last. If the last request is not carried out yet, its whole text is
-  -- in transit or has reached the server, or the text is lost. The session has then carried out all
-  -- earlier steps of the attempt and nothing else, without a device fault.
+  -- the client sent, or all but the last. If the last request is not carried out yet, the request
+  -- is lost, or each of its bytes is in transit or has reached the server. In this case the server
+  -- has carried out exactly the attempt's earlier steps, and no write of these steps failed with a
+  -- device fault.
   --
-  -- Field `good`: Each run that was begun is within the limits of a run (`IsRun`). The payload of
-  -- the run has all blocks of the run, and each block has the size of the run's blocks.
+  -- Field `good`: Each run that was begun is within the limits of a run (`IsRun`). The run's
+  -- payload contains all blocks of the run, and each block has the run's block size.
   --
-  -- Field `own`: The attempt on the client's own connection is for the run and the volume that the
-  -- client works on. The attempt is in one of three states. In the first state, the client is about
-  -- to send its next request, and no bytes are in transit. In the second state, the request of the
-  -- current step was sent and is not carried out yet. In the third state, this request was carried
-  -- out. Its reply is in transit, is partly or wholly read, or is lost. If the reply lets the
-  -- client continue with the next step, the session has carried out all steps before the next step.
+  -- Field `own`: While an attempt is under way, the attempt is for the client's current run and
+  -- current volume. The attempt is in one of three states. In the first state, the client is about
+  -- to send its next request, and no bytes are in transit. In the second state, the client has sent
+  -- the request of the current step, and the server has not carried out this request. In the third
+  -- state, the server has carried out the request of the current step. The reply to this request is
+  -- in transit, is partly or wholly read, or is lost. If the reply lets the client continue, the
+  -- server has carried out all steps before the client's next step.
   pub told : AreTold w
-  -- The history's list of opens has at most one open for each connection of the client. Before the
-  -- server has carried out the first request of a connection, the list has no open of this
-  -- connection. Once the server has accepted the label on a connection, the list has one open of
-  -- this connection.
+  -- For each connection of the client, the history has at most one accepted open for writing.
+  -- Before the server has carried out the first request of a connection, the history has no open of
+  -- this connection. After the server has accepted a label on a connection, the history has exactly
+  -- one open of this connection.
   pub single : AreSingle w
-  -- Once the server has accepted the label of an attempt, the attempt's reel holds exactly what the
-  -- attempt's accepted writes wrote, even after the session ends. The field promises this only
-  -- until a write of the attempt meets a device fault, or another session writes on the reel.
-  -- During this time, if the session has the reel in its drive, and the session's MTOFFL is not
-  -- carried out yet, the session's position is the reel's end.
+  -- After the server has accepted the label of an attempt, this field makes two promises. Both
+  -- promises end when a write of the attempt fails with a device fault, or when another session
+  -- writes on the attempt's reel. First, the attempt's reel holds exactly what the attempt's
+  -- accepted writes wrote, even after the attempt's session ends. Second, while this session has
+  -- the reel in its drive, the session is at the reel's end. The second promise also ends when the
+  -- server carries out the attempt's MTOFFL.
   pub labelled : AreLabelled w
-  -- Each count was made on a connection of the client. The count has the run, the volume and the
-  -- first block of that connection's attempt. The attempt opened the counted reel for writing. The
-  -- server accepted the attempt's label, as many blocks as the count says, and the mark. No device
-  -- fault occurred in the attempt. The server also carried out the attempt's MTOFFL.
+  -- Each count belongs to the attempt on the count's connection. The count has the attempt's run,
+  -- volume number and first block. The attempt opened the counted reel for writing. The server
+  -- accepted the attempt's label, as many blocks as the count says, and the mark. No write of the
+  -- attempt failed with a device fault. The server also carried out the attempt's MTOFFL.
   pub counted : EachCountHasAttempt w
-  -- Each connection has a server's side, which is live or has ended. If either side of a connection
-  -- has ended, the connection is cut. If the server's side has ended, no bytes are in transit to
-  -- the server.
+  -- Each connection has a server's side, which is live or has ended. If the server's side has
+  -- ended, or the peer (the client or a stranger) has left, the connection is cut. If the server's
+  -- side has ended, no bytes are in transit to the server.
   pub tidy : AreTidy w
-  -- The holder of a drive is the connection whose session has the drive open, even if the session
-  -- no longer has a reel in the drive. If no session has a drive open, the drive has no holder. A
-  -- drive has only one holder, so no two sessions have the same drive open.
+  -- The *holder* of a drive is the connection whose session has the drive open. If the session no
+  -- longer has a reel in the drive, the session's connection is still the holder. A drive that no
+  -- session has open has no holder. Each drive has at most one holder, so no two sessions have the
+  -- same drive open.
   pub held : AreHeld w.server
-  -- A slot is the place of a reel on a stack or in the bin. While a session has a drive open and a
-  -- reel in it, the first slot of the drive's stack is empty. All other slots contain their reels.
+  -- A *slot* is the place of a reel on a stack or in the bin. While a session has a reel in its
+  -- drive, the first slot of the drive's stack is empty. Every other slot contains its reel.
   pub laid : AreLaid w.server
-  -- Fields `last`, `begun`, `listed`, `none`: The client's run is the last run that was begun. Each
-  -- volume in the client's list was counted under the number of that run. If the client was
-  -- restarted, the history can have more counts of the run than the client's list has. The number
-  -- of a count's run is never above the number of the last run.
+  -- Fields `last`, `begun`, `listed`, `none`: The client's run is the last run that was begun. For
+  -- each volume in the client's list, the history has a count with the number of this run. After a
+  -- restart of the client, the history can have counts of the run that are not in the client's
+  -- list. No count has a run number above the number of the last run that was begun.
   --
-  -- Field `kept`: The saved run, which a restarted client resumes, is the last run that was begun,
-  -- and was not entered in dumpdates. The saved list has the first volumes of the saved run, in
-  -- order. Each volume in the saved list was counted.
+  -- Field `kept`: The saved run is the run that a restarted client resumes. The saved run is within
+  -- its limits (`IsRun`), is the last run that was begun, and was not entered in dumpdates. The
+  -- saved list of counted volumes contains the first volumes of the saved run, in order. The
+  -- history has a count of each volume in the saved list.
   --
   -- Fields `earned`, `once`, `finished`, `dates`: Each run that was entered in dumpdates was begun,
-  -- and was entered once. When the run was entered, the client's list covered the run, and each
-  -- volume in the list was counted. The client's current run is entered only if the run is
-  -- finished. Dumpdates has exactly the entries of the entered runs, in the order in which the runs
-  -- were entered.
+  -- and was entered once. When a run was entered, the volumes in the client's list contained all
+  -- blocks of the run, in order. The history has a count of each volume in this list. If the
+  -- client's current run was entered, this run is finished. Entering the same runs in an empty
+  -- list, in the same order, results in exactly the entries of dumpdates.
   pub booked : AreBooked w
-  -- No two reels have the same name. For each accepted open in the history, the opened reel still
-  -- exists.
+  -- No two reels have the same name. Each reel of an accepted open in the history still exists.
   pub once : AreNamed w
-  -- For each accepted open in the history, the open's connection exists. If a session has a reel
-  -- open for writing, no other session has opened this reel for writing since.
+  -- The connection of each accepted open in the history exists. If a session has a reel open for
+  -- writing, the last accepted open of this reel for writing is this session's open.
   pub opened : AreOpened w
-  -- Each write on a reel was made by the connection that opened the reel for writing last before
-  -- the write.
+  -- If a connection wrote on a reel, the last accepted open of this reel for writing before the
+  -- write was on the same connection.
   pub writers : AreWritersLast w
-  -- Field `paired`: For each accepted open, the history has the list of counts that the client had
-  -- when the open was accepted.
+  -- Field `paired`: For each accepted open, the history has one list of counts: the client's list
+  -- at the time of the open.
   --
   -- Fields `late`, `stopped`: An attempt begins with three requests: the open, the rewind, and the
   -- look, which reads the label. If a session of the client has written on a reel, the server has
-  -- carried out more than these three requests in this session. Suppose that no foreign session
-  -- reopened a counted reel, and that a later session of the client opened this reel. Then the
-  -- client sent at most these three requests in the later session.
+  -- carried out more than three requests of this session. Suppose that no foreign session reopened
+  -- a counted reel, and that the client opened this reel again in a later session. Then the client
+  -- sent at most three requests in the later session.
   --
-  -- Fields `listed`, `looked`: While an attempt is under way and has not counted its volume, the
-  -- client's list does not change. The history records this list for the attempt's own open, and
-  -- for each later open. Suppose that no foreign session reopened a counted reel, and that the
-  -- attempt under way opened this reel after the count's own session did. Then the client does not
-  -- continue after the look.
+  -- Fields `listed`, `looked`: While an attempt is under way and the client has not counted the
+  -- attempt's volume, the client's list does not change. The history has this list for the
+  -- attempt's open and for each later open. Suppose that no foreign session reopened a counted
+  -- reel, and that the attempt under way opened this reel after the count's own session did. Then
+  -- the attempt goes no further than its look (the read of the label): the client gets no reply to
+  -- the look that lets the attempt continue.
   pub not_reopened : AreNotReopened w
-  -- Each live server's side has a list of bytes that it has not read yet. The list may be empty.
-  -- The list always exists, so statements about unread bytes apply to every live server's side.
+  -- While the server's side of a connection is live, the side has a list of bytes that it has not
+  -- read yet. The list can be empty, but the list always exists. So statements about unread bytes
+  -- apply to every live server's side.
   pub readable : IsReadable w

@@ -24,20 +24,20 @@ ghost use Rattle.world_model.specs.Serving.{ServerTurn, IsNextSent, Meets, Other
 use dump_client::same_run;
 use rmt_wire::{dropped_writes, one_reading, one_reply, one_reply_reading};
 
-/// States that two lists of events, one after the other, lead to the same world as the joined list.
+/// Two lists of events, one after the other, lead to the same world as the joined list.
 ///
 /// Does nothing: its contract is a law of the definitions.
 #[tactic(auto, using(crate::proofs::Runs::run_on))]
 pub fn one_run()
-    // Suppose that one list of events leads from world A to world B, and that another list leads
-    // from world B to world C. Then the joined list leads from world A to world C.
+    // Suppose that one list of events ends in the world in which a second list begins. Then the
+    // joined list leads from the world before the first list to the world after the second list.
     ensures { (first before after : World) (events more : List PlainEvent) →
         Runs first events before → Runs before more after → Runs first (events ++ more) after }
 {}
 
-/// States what is true in each world, whatever events led to it. The first world of good drives
-/// satisfies `IsWorldKept`, and each event preserves it. Each possible event has a world after it
-/// (`steps`). No event adds or removes the name of a reel.
+/// This law says what is true in each world, whatever events led to the world. The first world of
+/// good drives satisfies `IsWorldKept`, and each event preserves it. Each possible event has a
+/// world after it (`steps`). No event adds or removes the name of a reel.
 ///
 /// The headline follows:
 ///
@@ -75,83 +75,91 @@ pub fn one_run()
 ///
 /// Does nothing: its contract is a law of the definitions.
 pub fn kept()
-    // A first world meets `IsWorldKept` if its drives are good (`AreGoodDrives`). Each event
-    // preserves `IsWorldKept`. So every list of events from such a first world leads to a world
-    // that meets `IsWorldKept`. `IsReached` says that some list of events leads from such a first
-    // world to a world. So a world that meets `IsReached` meets `IsWorldKept` too.
+    // Drives are *good* (`AreGoodDrives`) if there are 1 to 64, and if no two drives and no two
+    // reels have the same name. A first world with good drives satisfies the invariant
+    // `IsWorldKept`. Each event preserves `IsWorldKept`. So each world to which events lead from
+    // this first world also satisfies `IsWorldKept`. A world satisfies `IsReached` if some list of
+    // events leads from a first world with good drives to this world. So each world that satisfies
+    // `IsReached` also satisfies `IsWorldKept`.
     ensures first { (drives : List PlainDriveSpec) → AreGoodDrives drives → IsWorldKept (first_world drives) }
     ensures after { (w u : World) (event : PlainEvent) → IsWorldKept w → Happens w event u → IsWorldKept u }
     ensures runs { (drives : List PlainDriveSpec) (events : List PlainEvent) (w : World) → AreGoodDrives drives →
         Runs (first_world drives) events w → IsWorldKept w }
     ensures reached { (w : World) → IsReached w → IsWorldKept w }
-    // If a world meets `IsWorldKept`, each event that is possible in this world leads to a next
-    // world. Other laws are about the world after a possible event. This clause says that the world
-    // after a possible event exists.
+    // If an event is possible in a world that satisfies `IsWorldKept`, the event leads to at least
+    // one next world. The other laws say what is true in a world after an event, but not that there
+    // is a world after the event.
     ensures steps { (w : World) (event : PlainEvent) → IsWorldKept w → Possible w event → (u : World) × Happens w event u }
-    // No event adds or removes the name of a reel.
+    // No event adds or removes a reel name.
     ensures names { (w u : World) (event : PlainEvent) → IsWorldKept w → Happens w event u → SameNames w.server.library u.server.library }
-    // The *headline* is the main result about each world. It consists of three statements:
-    // `counted_reels`, `no_two_holders` and `dumpdates_gained`. Each statement is a clause of this
-    // law. The clause `headline` states all three as one record, `Headline`.
+    // The *headline* is the main result about each world. The headline has three statements:
+    // `counted_reels`, `no_two_holders` and `dumpdates_gained`. Each statement is also a clause of
+    // this law. The clause `headline` states all three as one record, `Headline`.
     ensures headline { (w : World) → IsWorldKept w → Headline w }
-    // The holder of a drive is the connection whose session has the drive open, even if the session
-    // no longer has a reel in the drive. No two sessions have the same drive open.
+    // The *holder* of a drive is the connection whose session has the drive open. If the session no
+    // longer has a reel in the drive, the session's connection is still the holder. No two sessions
+    // have the same drive open.
     ensures holders { (w : World) → IsWorldKept w → AreHeld w.server }
     ensures no_two_holders { (w : World) → IsWorldKept w → NoTwoHolders w }
-    // Suppose that no foreign session reopened a counted reel. Then only the count's own session
-    // has written on the reel since that session opened it.
+    // Suppose that no foreign session reopened a counted reel. Then no other session has written on
+    // the reel since the count's own session opened the reel.
     ensures reels_not_reopened { (w : World) → IsWorldKept w → ReelsNotReopened w }
-    // Suppose that a session opened a reel for writing, and that nobody opened the reel for writing
-    // after that. Then only this session has written on the reel since this session opened it. If
-    // the reel was counted in this session, no foreign session reopened the reel.
+    // Suppose that a session opened a reel for writing, and that the server has accepted no later
+    // open of this reel for writing. Then no other session has written on the reel since the
+    // session opened the reel. If the reel was also counted in this session, no foreign session
+    // reopened the reel.
     ensures unopened { (w : World) (x : Count) → IsUnopenedSince w.opens x.connection x.reel → IsNotReopened w x }
     ensures unwritten { (w : World) (k : ℕ) (reel : List ℕ) → IsWorldKept w → IsUnopenedSince w.opens k reel → IsAlone w k reel }
-    // If the client opens a reel for writing in an attempt, the session of this attempt is not
-    // foreign to the counts in the client's list. So the client's own open does not end the promise
-    // of `counted_reels` for these counts.
+    // Suppose that the client opened a reel for writing in its current attempt, and has not counted
+    // the attempt's volume yet. Then the attempt's session is not foreign to the count of any
+    // volume in the client's list. So this open does not end the promise of `counted_reels` for
+    // these counts.
     ensures own_opens { (w : World) → IsWorldKept w → OwnOpens w }
-    // Suppose that the server accepted the label of an attempt, and that none of the attempt's
-    // writes met a device fault. Suppose also that no other session has written on the attempt's
-    // reel since the attempt opened the reel. Then the reel holds exactly what the attempt's
-    // accepted writes wrote. If the attempt's session has the reel in its drive, and the attempt's
-    // MTOFFL is not carried out yet, the session's position is the reel's end.
+    // An attempt's reel holds exactly what the attempt's accepted writes wrote, if three things are
+    // true. The server accepted the attempt's label. None of the attempt's writes failed with a
+    // device fault. No other session has written on the reel since the attempt opened the reel.
+    // Under the same conditions, the reel is positioned at its end while the attempt's session has
+    // the reel in its drive. This position is promised only until the server carries out the
+    // attempt's MTOFFL.
     ensures labelled_reels { (w : World) → IsWorldKept w → LabelledReels w }
-    // A counted reel still exists. If no foreign session reopened the reel, the reel holds its
-    // volume and nothing else. The volume consists of the label, one record for each counted block,
-    // and one mark.
+    // Each counted reel still exists. If no foreign session reopened a counted reel, the reel holds
+    // exactly the counted volume. The volume consists of the label, one record for each counted
+    // block, and one mark.
     ensures counted_reels { (w : World) → IsWorldKept w → CountedReels w }
-    // If no foreign session reopened a counted reel, the reel holds a list of entries, and each such
-    // list has the sum of the counted volume. This is the sum of the label, one record for each
-    // counted block, and one mark.
+    // If no foreign session reopened a counted reel, the reel's entries have the same sum (a
+    // SHA-256) as the counted volume. The volume consists of the label, one record for each counted
+    // block, and one mark.
     ensures counted_sums { (w : World) → IsWorldKept w → CountedSums w }
-    // The history lists the runs that were entered in dumpdates. Entering these runs in an empty
-    // list, one by one and in the same order, gives dumpdates. No run was entered twice. When a run
-    // was entered, the counts in the client's list covered all blocks of the run, in order. The
-    // history has each of these counts.
+    // The history lists the runs that were entered in dumpdates. If these runs are entered in an
+    // empty list in the history's order, the list then has exactly the entries of dumpdates. No run
+    // was entered twice. When a run was entered, the volumes in the client's list contained all
+    // blocks of the run, in order. The history has a count of each volume in this list.
     ensures dumpdates_gained { (w : World) → IsWorldKept w → DumpdatesGained w }
     // On each connection of the client, the server has carried out as many requests as the client
     // sent, or one fewer.
     ensures sent_requests { (w : World) → IsWorldKept w → SentRequests w }
     // On each connection of the client, the server carries out the client's requests in the order
     // in which the client sent them. The server has carried out all requests that the client sent,
-    // or all but the last. If it has not carried out the last request, this request is the
-    // attempt's next request. `Talks` lists the requests that were sent and the requests that were
-    // carried out.
+    // or all but the last. If the server has not carried out the last request, this request belongs
+    // to the attempt's next step. The type `Talks` has two lists: the requests that the client
+    // sent, and the requests that the server carried out.
     ensures requests { (drives : List PlainDriveSpec) (events : List PlainEvent) (w : World) (k : ℕ) (sent carried : List PlainRequest) →
         AreGoodDrives drives → Talks k (first_world drives) events w sent carried → IsBeginning w k sent carried }
-    // For each list of events, two lists of requests meet `Talks`: one lists the requests that were
-    // sent, and one lists the requests that were carried out.
+    // For each list of events and each connection, there are two lists of requests that satisfy
+    // `Talks`. The first list contains the requests that the client sent on the connection. The
+    // second list contains the requests that the server carried out on the connection.
     ensures talks { (first w : World) (events : List PlainEvent) (k : ℕ) → Runs first events w →
         (sent : List PlainRequest) × (carried : List PlainRequest) × Talks k first events w sent carried }
-    // A latched reel belongs to one session. The reel is first on the stack of the drive that this
-    // session holds.
+    // A reel is *latched* while a session has the reel in its drive. No two sessions have the same
+    // reel latched. A latched reel is the first reel on the stack of the drive, and the session's
+    // connection is the drive's holder.
     ensures latched_reels { (w : World) → IsWorldKept w → LatchedReels w }
-    // Each volume in the client's list was counted under the number of the client's run. A run that
-    // has not begun has no counts.
+    // For each volume in the client's list, the history has a count with the number of the client's
+    // run. The history has no count of a run that has not begun.
     ensures clients_counts { (w : World) → IsWorldKept w → ClientsCounts w }
-    // Only an event that delivers bytes to the client can add counts to the history. If such an
-    // event adds counts, it adds the same volumes to the client's list. This is also true if the
-    // client was restarted with a saved list.
+    // The history gets new counts only when bytes reach the client. The client's list then gets
+    // exactly the volumes of the new counts. This is also true of a client that was restarted with
+    // a saved list.
     ensures counts_grow { (w u : World) (event : PlainEvent) → Happens w event u → CountsGrow w event u }
 {
     same_run();
@@ -161,9 +169,9 @@ pub fn kept()
     one_reply_reading();
 }
 
-/// States what happens when the server carries out one request, in a world that meets
-/// `IsWorldKept`. The server either carries out a request, or finds a fault and ends the session
-/// (`carries`).
+/// This law says what happens when the server carries out one request, in a world that satisfies
+/// the invariant `IsWorldKept`. The server either carries out a request, or finds a fault and ends
+/// the session (`carries`).
 ///
 /// On one of the client's connections, it is the one request that was sent and not carried out. A
 /// request of any session, stale or not, meets one of these:
@@ -178,39 +186,44 @@ pub fn kept()
 ///
 /// Does nothing: its contract is a law of the definitions.
 pub fn one_request()
-    // In each turn, the server carries out one request, or ends its side of the connection.
+    // When the server serves a connection (the event `Serve`), the server carries out one request
+    // or ends its side of the connection.
     ensures carries { (w u : World) (k : ℕ) (trouble : Trouble) → Happens w (Serve k trouble) u →
         ServerTurn w k trouble u ⊎ (u ≡ ended_at (with_no_failure w) k) }
-    // On a connection of the client, at most one request was sent but not yet carried out. On this
-    // connection, the server can carry out only that request.
+    // Suppose that the server carries out a request on a connection of the client. Then the client
+    // sent this request, and the request belongs to the attempt's next step. The server had already
+    // carried out all other requests that the client sent on this connection.
     ensures next_request { (w u : World) (k : ℕ) (t : Trouble) (c : ServerTurn w k t u) (d : AttemptState) →
         IsWorldKept w → HasDump w k d → IsNextSent w d c.request }
-    // A request of any session, even of a session whose client is gone, has one of three outcomes:
-    // `refusal`, `own` or `free`. The type `Meets` lists these outcomes.
+    // Each request of each session has one of three outcomes: `refusal`, `own` or `free`. This is
+    // also true of a session whose client is gone. The type `Meets` defines these outcomes.
     //
-    // If the outcome is `refusal`, the server refuses the request (`IsRefused`). Drives, stacks,
-    // bin, reels, holders and the session stay as before. An open is an exception: even if it is
-    // refused, it first closes what the session had open. Every error reply to an open is a
-    // refusal, whatever its cause: a bad mode, no such drive, a drive of another session, no reel,
-    // or a failed device. A request that is not an open is refused only if the request fails a
-    // check. The server checks three things: the session has a drive open; the reel is not in the
-    // bin; and the access, the count and the operation are right.
+    // The outcome `refusal` means that the server refuses the request (`IsRefused`). A refused open
+    // first closes what the session had open. Apart from this close, a refused request changes
+    // nothing: drives, stacks, bin, reels, holders and the session stay as before. Every error
+    // reply to an open is a refusal. The cause of the error can be a bad mode, an unknown drive, a
+    // drive that another session has open, a missing reel, or a failed device. A request that is
+    // not an open is refused only if the request fails a check. The server checks that the session
+    // has a drive open, and that the session's reel is not in the bin. The server also checks the
+    // access mode, the request's count and the operation.
     //
-    // If the outcome is `own`, the request is not an open and passes all checks. The session is
-    // still the holder of the drive that it has open, and has no other drive open. The request can
-    // change only this drive's stack and the end of the bin. If the reel or its move to the bin
-    // fails, the outcome is still `own`, because the position or the reel may have changed before
-    // the error reply.
+    // The outcome `own` means that the request is not an open, and passes all checks. The session's
+    // connection is the holder of the drive that the session has open. After the request, the
+    // session has no other drive open. The request can change only the stack of this drive, and can
+    // add reels at the end of the bin. The outcome is also `own` if the reel returns an error, or
+    // if the reel's move to the bin fails. In these two cases the reel or its position can have
+    // changed before the error reply.
     //
-    // If the outcome is `free`, the request is an open. The open first closes what the session had
-    // open, and then opens a drive without a holder. After the close, the open changes only the
-    // stack of the drive that it opens.
+    // The outcome `free` means that the request is an open that succeeds. The open first closes
+    // what the session had open. The open then opens a drive that has no holder. After the close,
+    // the open can change only the stack of this drive, and can add reels at the end of the bin.
     ensures stale_requests { (w u : World) (k : ℕ) (trouble : Trouble) (c : ServerTurn w k trouble u) → IsWorldKept w →
         Meets w k c.s.session c.request c.reply u c.session }
     // A request changes no drive that another session has open.
     ensures others_stay { (w u : World) (k : ℕ) (trouble : Trouble) (c : ServerTurn w k trouble u) → IsWorldKept w → OthersStay w k u }
-    // If the server carries out an MTOFFL of the client's session without an error, the reel is
-    // then in the bin with its whole volume. This is true whether or not the reply arrives.
+    // Suppose that the server carries out an attempt's MTOFFL, which moves the reel to the bin,
+    // without an error. Then the attempt's reel is in the bin and holds the attempt's whole volume.
+    // The reel is in the bin even if the reply never reaches the client.
     ensures whole_at_the_move { (w u : World) (k : ℕ) (t : Trouble) (c : ServerTurn w k t u) (d : AttemptState) →
         IsWorldKept w → HasDump w k d → IsMoveDone c.request c.reply → IsWholeInBin w k d u }
 {

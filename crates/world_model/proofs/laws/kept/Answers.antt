@@ -1,9 +1,9 @@
 use Rattle.world_model.proofs.Staying.{first_kept, kept_after, runs_kept, kept_names, headline, no_two_holders, reels_labelled, reels_counted, not_reopened_reels, dumpdates_gained, sent_requests, latched_reels, clients_counts}
-use Rattle.world_model.proofs.Sums.{sums_of}
-use Rattle.world_model.proofs.Counting.{counts_grow}
+use Rattle.world_model.proofs.Counted.{sums_of}
+use Rattle.world_model.proofs.Lawfully.{counts_grow}
 use Rattle.world_model.proofs.Steppable.{steps}
 use Rattle.world_model.proofs.Talked.{requests, talks}
-use Rattle.world_model.proofs.OwnOpens.{unopened, unwritten, own_opens}
+use Rattle.world_model.proofs.NotReopenedAlone.{unopened, unwritten, own_opens}
 use Rattle.world_model.specs.First.{first_world}
 use Rattle.world_model.proofs.laws.kept.Goals as goal
 

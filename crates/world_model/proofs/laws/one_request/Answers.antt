@@ -4,7 +4,7 @@ use Rattle.world_model.proofs.Held.{held_after}
 use Rattle.world_model.specs.Events.PlainEvent.{Serve}
 use Rattle.world_model.proofs.Moves.{carries, carries_turn}
 use Rattle.world_model.proofs.RequestMeets.{carries_happens, next_request, stale_requests}
-use Rattle.world_model.proofs.RequestMoves.{whole_at_the_move}
+use Rattle.world_model.proofs.RequestMeets.{whole_at_the_move}
 use Rattle.world_model.proofs.laws.one_request.Goals as goal
 
 pub returns-clause-carries : goal.returns-clause-carries
