@@ -1,43 +1,21 @@
 -- Why no name of a new world's drives and reels is taken.
-use Rattle.std.proofs.Common.{◌≡◌, ℕ, zero, suc, ◌+◌, ◌<◌, ◌≤◌, Bool, true, false, not, ◌&&◌, ◌||◌, MatchBool, List, [], ◌∷◌, ◌++◌, length, drop, map, get_or, Some, None, Result, Ok, Err, refl, sym, ap, subst, ◌∙◌, append_assoc, drop-cons, arith}
+use Rattle.tape_world.proofs.Standard.{common_steps, ◌≡◌, ℕ, zero, suc, ◌+◌, ◌<◌, ◌≤◌, Bool, true, false, not, ◌&&◌, MatchBool, List, [], ◌∷◌, ◌++◌, length, drop, map, get_or, Some, None, refl, sym, ap, subst, ◌∙◌, append_assoc, drop-cons, arith, flat_map, list_any, bytes_eq, append-nil, length-map, map-append, list_any-append, sum_by-append, sum_by-cons, bytes_eq-Decides}
+use Rattle.tape_world.proofs.Layers.{TroubledTape, ReelSlot, slot, Drive, drive_with, LibraryOf, library, drive_at, with_drive_at, slots_in, names_in, times, EachReelOnce, IsDriveNamed, ListLibrary, blank_reel, with_drive, IsDriveAdded, IsReelAdded, are_distinct, DriveFault, bit, named, times_named, sum_by_with_drive, any_count, names_from, AreGoodDrives, DriveSpec, plain_drive_spec, reels_of, blank_slots, laid_drive, laid_library, with_laid, with_slots}
+use Rattle.std.proofs.Common.{Result, Ok, Err}
 use Rattle.std.proofs.Math.Numerals.{suc-eq-add-one}
-use Rattle.std.specs.List.{flat_map, list_any, sum_by}
-use Rattle.std.specs.Str.{bytes_eq}
-use Rattle.std.proofs.lemmas.List.{append-nil, length-map, map-append, get_or-map}
-use Rattle.std.proofs.lemmas.List.Concat.{flat_map-cons}
-use Rattle.std.proofs.lemmas.List.Folds.{list_any-append}
-use Rattle.std.proofs.lemmas.List.Sums.{sum_by-append, sum_by-cons}
-use Rattle.std.proofs.lemmas.Slice.Eq.{bytes_eq-Decides}
-use Rattle.tape.specs.Trouble.{TroubledTape}
-use Rattle.drives.specs.TapeLibrary.{ReelSlot, slot, Drive, drive_with, LibraryOf, library, drive_at, with_drive_at, slots_in, names_in, times, EachReelOnce, IsDriveNamed}
-use Rattle.drives.specs.ListLibrary.{ListLibrary, blank_reel, with_drive, IsDriveAdded, IsReelAdded}
-use Rattle.drives.specs.Arranging.{are_distinct}
-use Rattle.drives.specs.declared.fault.DriveFault.{DriveFault}
+use Rattle.std.proofs.lemmas.List.{get_or-map}
 use Rattle.drives.specs.declared.fault.DriveFault.TheVariants.{NoSuchDrive, Busy, NoReel, Device, OutOfMemory, NameTaken}
-use Rattle.drives.proofs.Shops.{bit, named, times_named, sum_by_slots, sum_by_with_drive, any_count}
-use Rattle.drives.proofs.Arranging.{names_from}
-use Rattle.world_model.specs.First.{AreGoodDrives}
-use Rattle.tape_world.specs.declared.drive_spec.DriveSpec.{DriveSpec}
-use Rattle.tape_world.specs.Making.{plain_drive_spec, reels_of, blank_slots, laid_drive, laid_library, with_laid, with_slots}
 use Rattle.tape_world.proofs.Apart.{all_reels, good_parts}
-use Rattle.tape_world.proofs.Made.{laid_after, laid_on}
+use Rattle.tape_world.proofs.Made.{laid_after, laid_on, slot_names, stack_names}
 
 both : (a b : Bool) → (a && b) ≡ true → (a ≡ true) × (b ≡ true)
-both true b h = (refl, h)
-both false b h = absurd cc
+both a b h = grind (arith, common_steps)
 
 turned : (b : Bool) → not b ≡ true → b ≡ false
-turned true h = absurd cc
-turned false h = refl
-
-or_true : (a b : Bool) → b ≡ true → (a || b) ≡ true
-or_true true b h = refl
-or_true false b h = h
+turned b h = grind (arith, common_steps)
 
 any_there : (xs ys : List (List ℕ)) (n : List ℕ) → list_any (bytes_eq n) (xs ++ n ∷ ys) ≡ true
-any_there xs ys n =
-    list_any-append (bytes_eq n) xs (n ∷ ys)
-    ∙ or_true (list_any (bytes_eq n) xs) (list_any (bytes_eq n) (n ∷ ys)) (ap (λ b. b || list_any (bytes_eq n) ys) ((bytes_eq-Decides n n).1 refl))
+any_there xs ys n = grind (arith, common_steps, list_any-append, bytes_eq-Decides)
 
 -- of names that differ one is no other
 distinct_apart : (xs ys : List (List ℕ)) (n : List ℕ) (k : ℕ) → are_distinct (xs ++ n ∷ ys) ≡ true → k < length xs → get_or xs k [] ≡ n → ⊥
@@ -51,10 +29,10 @@ distinct_apart (x ∷ xs) ys n (suc k) distinct l is =
     distinct_apart xs ys n k first.1 (omega (arith, l)) is
 
 none_counted : (b : Bool) (n : ℕ) → MatchBool b (0 < n) (n ≡ 0) → b ≡ false → n ≡ 0
-none_counted true n h e = absurd cc
-none_counted false n h e = h
+none_counted b n h e = grind (arith, common_steps)
 
-once_step : (name x : List ℕ) (xs : List (List ℕ)) (b : Bool) → bytes_eq name x ≡ b → list_any (bytes_eq x) xs ≡ false → times name xs ≤ 1 → times name (x ∷ xs) ≤ 1
+once_step : (name x : List ℕ) (xs : List (List ℕ)) (b : Bool) → bytes_eq name x ≡ b → list_any (bytes_eq x) xs ≡ false → times name xs ≤ 1
+    → times name (x ∷ xs) ≤ 1
 once_step name x xs true e apart less =
     let same : name ≡ x = (bytes_eq-Decides name x).0 e in
     let none : times x xs ≡ 0 = none_counted (list_any (bytes_eq x) xs) (times x xs) (any_count (bytes_eq x) xs) apart in
@@ -62,10 +40,7 @@ once_step name x xs true e apart less =
     let here : bit (bytes_eq name x) ≡ 1 = ap bit e in
     let other : times name xs ≡ times x xs = ap (λ n. times n xs) same in
     omega (arith, none, all, here, other)
-once_step name x xs false e apart less =
-    let all = sum_by-cons (λ n. bit (bytes_eq name n)) x xs in
-    let here : bit (bytes_eq name x) ≡ 0 = ap bit e in
-    omega (arith, all, here, less)
+once_step name x xs false e apart less = grind (arith, common_steps, bytes_eq-Decides, none_counted, any_count, sum_by-cons, bit)
 
 -- names that differ stand once
 distinct_once : (names : List (List ℕ)) → are_distinct names ≡ true → (name : List ℕ) → times name names ≤ 1
@@ -74,22 +49,11 @@ distinct_once (x ∷ xs) distinct name =
     let first = both (not (list_any (bytes_eq x) xs)) (are_distinct xs) distinct in
     once_step name x xs (bytes_eq name x) refl (turned (list_any (bytes_eq x) xs) first.0) (distinct_once xs first.1 name)
 
-names_blank : (capacity : ℕ) (names : List (List ℕ)) → map (λ x. x.name) (blank_slots capacity names) ≡ names
-names_blank capacity [] = refl
-names_blank capacity (name ∷ names) = ap (λ ns. name ∷ ns) (names_blank capacity names)
-
-stacks_blank : (drives : List DriveSpec) → map (λ x. x.name) (flat_map (λ r. r.stack) (map laid_drive drives)) ≡ all_reels drives
-stacks_blank [] = refl
-stacks_blank (d ∷ drives) =
-    ap (map (λ x. x.name)) (flat_map-cons (λ r. r.stack) (laid_drive d) (map laid_drive drives))
-    ∙ map-append (λ x. x.name) (blank_slots d.capacity (reels_of d)) (flat_map (λ r. r.stack) (map laid_drive drives))
-    ∙ ap (λ ns. ns ++ map (λ x. x.name) (flat_map (λ r. r.stack) (map laid_drive drives))) (names_blank d.capacity (reels_of d))
-    ∙ ap (λ ns. reels_of d ++ ns) (stacks_blank drives) ∙ sym (flat_map-cons reels_of d drives)
-
 -- no name stands twice among the reels of good drives
 pub good_once : (drives : List DriveSpec) → AreGoodDrives (map plain_drive_spec drives) → EachReelOnce (laid_library drives)
 good_once drives good name =
-    let is : names_in (laid_library drives) ≡ all_reels drives = ap (map (λ x. x.name)) (append-nil (flat_map (λ r. r.stack) (map laid_drive drives))) ∙ stacks_blank drives in
+    let is : names_in (laid_library drives) ≡ all_reels drives = ap (map (λ x. x.name)) (append-nil (flat_map (λ r. r.stack) (map laid_drive drives)))
+    ∙ stack_names laid_drive reels_of (λ d. slot_names (Some (blank_reel d.capacity)) (reels_of d)) drives in
     subst (λ ns. times name ns ≤ 1) (sym is) (distinct_once (all_reels drives) (good_parts drives good).3 name)
 
 pub good_names : (drives : List DriveSpec) → AreGoodDrives (map plain_drive_spec drives) → are_distinct (map (λ d. d.name.now) drives) ≡ true
@@ -104,7 +68,8 @@ names_laid (d ∷ drives) = ap (λ ns. d.name.now ∷ ns) (names_laid drives)
 own_name : {X : Type 0} (x : ReelSlot X) → named x.name x ≡ 1
 own_name x = ap bit ((bytes_eq-Decides x.name x.name).1 refl)
 
-name_free : (s : LibraryOf TroubledTape) (d : ℕ) (x : ReelSlot TroubledTape) (rest : List (ReelSlot TroubledTape)) → d < length s.drives → EachReelOnce (with_slots s d (x ∷ rest))
+name_free : (s : LibraryOf TroubledTape) (d : ℕ) (x : ReelSlot TroubledTape) (rest : List (ReelSlot TroubledTape)) → d < length s.drives
+    → EachReelOnce (with_slots s d (x ∷ rest))
     → 0 < times x.name (names_in s) → ⊥
 name_free s d x rest l once taken =
     let r = drive_with (drive_at s d).name ((drive_at s d).stack ++ x ∷ rest) in
@@ -136,7 +101,8 @@ next_once f first now d capacity names i x m same once =
     subst (λ ns. EachReelOnce (with_slots now d (blank_slots capacity ns))) (names_from f names i x m)
     (subst (λ (s : LibraryOf TroubledTape). EachReelOnce s) (sym same) once)
 
-pub next_fault : {A U : Type 0} (f : A → List ℕ) (first : LibraryOf TroubledTape) (now new : ListLibrary) (d capacity : ℕ) (names : List A) (i : ℕ) (x : A) (fault : DriveFault) (r : Result U DriveFault)
+pub next_fault : {A U : Type 0} (f : A → List ℕ) (first : LibraryOf TroubledTape) (now new : ListLibrary) (d capacity : ℕ) (names : List A) (i : ℕ) (x : A)
+    (fault : DriveFault) (r : Result U DriveFault)
     → r ≡ Err fault → IsReelAdded now d (f (get_or names i x)) capacity r new → d < length now.library.drives → i < length names
     → with_slots now.library d (blank_slots capacity (map f (drop i names))) ≡ with_slots first d (blank_slots capacity (map f names))
     → EachReelOnce (with_slots first d (blank_slots capacity (map f names))) → fault ≡ OutOfMemory
@@ -154,14 +120,9 @@ reels_once old made d number added once =
     ∙ ap (λ n. with_slots (with_drive old.library d.name.now) n (blank_slots d.capacity (reels_of d))) added.1 ∙ laid_on old.library d in
     subst (λ (s : LibraryOf TroubledTape). EachReelOnce s) (sym is) once
 
-fewer : (name : List ℕ) (all_drives more : List (Drive TroubledTape)) (bin : List (ReelSlot TroubledTape)) → times name (names_in (library all_drives bin)) ≤ times name (names_in (library (all_drives ++ more) bin))
-fewer name all_drives more bin =
-    let a = times_named name (slots_in (library all_drives bin)) in
-    let b = times_named name (slots_in (library (all_drives ++ more) bin)) in
-    let c = sum_by_slots (named name) (library all_drives bin) in
-    let e = sum_by_slots (named name) (library (all_drives ++ more) bin) in
-    let g = sum_by-append (λ r. sum_by (named name) r.stack) all_drives more in
-    omega (arith, a, b, c, e, g)
+fewer : (name : List ℕ) (all_drives more : List (Drive TroubledTape)) (bin : List (ReelSlot TroubledTape))
+    → times name (names_in (library all_drives bin)) ≤ times name (names_in (library (all_drives ++ more) bin))
+fewer name all_drives more bin = grind (arith, common_steps)
 
 pub next_drive : (drives : List DriveSpec) (i : ℕ) (d : DriveSpec) → i < length drives → drop i drives ≡ get_or drives i d ∷ drop (i + 1) drives
 next_drive drives i d l = drop-cons drives i d l ∙ ap (λ m. get_or drives i d ∷ drop m drives) (suc-eq-add-one i)
@@ -184,7 +145,8 @@ module _ (now : LibraryOf TroubledTape) (drives : List DriveSpec) (i : ℕ) (x :
 
   names_are : map (λ r. r.name) now.drives ++ x.name.now ∷ map (λ r. r.name) rest ≡ map (λ d. d.name.now) drives
   names_are =
-      sym (map-append (λ r. r.name) now.drives (laid_drive x ∷ rest)) ∙ ap (λ (s : LibraryOf TroubledTape). map (λ r. r.name) s.drives) all_of ∙ names_laid drives
+      sym (map-append (λ r. r.name) now.drives (laid_drive x ∷ rest)) ∙ ap (λ (s : LibraryOf TroubledTape). map (λ r. r.name) s.drives) all_of
+      ∙ names_laid drives
 
   pub drive_free : are_distinct (map (λ d. d.name.now) drives) ≡ true → IsDriveNamed x.name.now now None
   drive_free distinct k l is =

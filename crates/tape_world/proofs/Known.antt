@@ -1,15 +1,14 @@
 -- What leaves the names of all reels among those in memory.
+use Rattle.tape_world.proofs.Layers.{TapeLibrary, World, IsLibraryKnown}
 use Rattle.std.proofs.Common.{◌≡◌, ℕ, ◌<◌, List, sym, subst}
-use Rattle.drives.specs.TapeLibrary.{TapeLibrary}
-use Rattle.world_model.specs.World.{World}
 use Rattle.world_model.specs.Naming.{SameNames}
-use Rattle.tape_world.specs.Serving.{IsLibraryKnown}
 
 pub known_same : (names : List (List ℕ)) (s new : TapeLibrary) → new ≡ s → IsLibraryKnown names s → IsLibraryKnown names new
 known_same names s new is known = subst (λ (v : TapeLibrary). IsLibraryKnown names v) (sym is) known
 
 -- no event brings a reel
-pub known_after : (names : List (List ℕ)) (w u : World) (new : TapeLibrary) → SameNames w.server.library u.server.library → new ≡ u.server.library → IsLibraryKnown names w.server.library
+pub known_after : (names : List (List ℕ)) (w u : World) (new : TapeLibrary) → SameNames w.server.library u.server.library → new ≡ u.server.library
+    → IsLibraryKnown names w.server.library
     → IsLibraryKnown names new
 known_after names w u new same is known =
-    known_same names u.server.library new is (λ name has. known name (subst (λ n. 0 < n) (same name) has))
+    known_same names u.server.library new is record { each = λ name has. known.each name (subst (λ n. 0 < n) (same name) has) }

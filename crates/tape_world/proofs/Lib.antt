@@ -1,8 +1,9 @@
+pub mod Standard
+pub mod Layers
 pub mod Server
+pub mod Numbered
 pub mod Reached
 pub mod Clients
-pub mod Refused
-pub mod Absent
 pub mod Starting
 pub mod Ending
 pub mod Talking
@@ -16,7 +17,6 @@ pub mod RunningOn
 pub mod RunningInOrder
 pub mod Told
 pub mod Serving
-pub mod Wrote
 pub mod Known
 pub mod ServingRow
 pub mod Free

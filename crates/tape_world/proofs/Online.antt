@@ -1,32 +1,21 @@
 -- Reels that live sides have online.
-use Rattle.std.proofs.Common.{◌≡◌, ℕ, zero, suc, ◌+◌, ◌<◌, List, [], ◌∷◌, length, take, option_map, Option, Some, None, refl, sym, ap, ◌∙◌, add-one, arith}
-use Rattle.std.specs.Prelude.{slice_index_or}
-use Rattle.std.specs.Option.{option_or}
-use Rattle.std.proofs.lemmas.Option.{slice_get_within}
-use Rattle.world_model.specs.Standing.{AreHeld}
-use Rattle.tape.specs.Tape.{Tape}
-use Rattle.drives.specs.TapeLibrary.{TapeLibrary}
-use Rattle.rmt_server.specs.Session.{PlainSession}
-use Rattle.rmt_server.specs.TroubledServe.{drive_in}
-use Rattle.rmt_server.specs.ServerState.{ServerState, ServerConnection}
-use Rattle.tape_host.specs.Servers.{side_at}
-use Rattle.world_model.specs.Changes.{side_of}
-use Rattle.tape_world.specs.Entries.{AreOpenThere, tape_online, first_tape_online}
+use Rattle.tape_world.proofs.Standard.{common_steps, ◌≡◌, ℕ, zero, suc, ◌+◌, ◌<◌, List, [], ◌∷◌, length, take, option_map, Option, Some, None, refl, sym, ap, ◌∙◌, add-one, arith, slice_index_or, option_or, slice_get_within}
+use Rattle.tape_world.proofs.Layers.{AreHeld, Tape, TapeLibrary, PlainSession, drive_in, ServerState, ServerConnection, side_at, side_of, AreOpenThere, tape_online, first_tape_online}
 use Rattle.tape_world.proofs.Server.{side_found}
 
-there_by : (h : ServerState) (k d : ℕ) (o : Option ServerConnection) (s : PlainSession) → AreOpenThere h → side_of h k ≡ o → option_map (λ (x : ServerConnection). x.session) o ≡ Some s
+there_by : (h : ServerState) (k d : ℕ) (o : Option ServerConnection) (s : PlainSession) → AreOpenThere h → side_of h k ≡ o
+    → option_map (λ (x : ServerConnection). x.session) o ≡ Some s
     → drive_in s ≡ Some d → d < length h.library.drives
-there_by h k d None s there at told is = absurd cc
-there_by h k d (Some x) s there at told is = let same : x.session ≡ s = cc in there k d x at (ap drive_in same ∙ is)
+there_by h k d o s there at told is = grind (arith, common_steps)
 
 -- the drive of a session that is told of a connection
-pub drive_there : (h : ServerState) (k d : ℕ) (s : PlainSession) → AreOpenThere h → option_map (λ (x : ServerConnection). x.session) (side_at h.sides k) ≡ Some s
+pub drive_there : (h : ServerState) (k d : ℕ) (s : PlainSession) → AreOpenThere h
+    → option_map (λ (x : ServerConnection). x.session) (side_at h.sides k) ≡ Some s
     → drive_in s ≡ Some d → d < length h.library.drives
 drive_there h k d s there told is = there_by h k d (side_at h.sides k) s there (sym (side_found h k)) told is
 
 or_none : {T : Type 0} (a b : Option T) → option_or a b ≡ None → (a ≡ None) × (b ≡ None)
-or_none None b is = (refl, is)
-or_none (Some x) b is = absurd cc
+or_none a b is = grind (arith, common_steps)
 
 -- the connection of a place
 pub side_here : (sides : List (Option ServerConnection)) (i : ℕ) → side_at sides (i + 1) ≡ slice_index_or sides i None
@@ -41,10 +30,10 @@ first_here name s (x ∷ sides) (suc i) t none some =
     let both = or_none (tape_online name s x) (first_tape_online name s (take i sides)) none in
     ap (λ o. option_or o (first_tape_online name s sides)) both.0 ∙ first_here name s sides i t both.1 some
 
-pub first_found : (name : List ℕ) (s : TapeLibrary) (sides : List (Option ServerConnection)) (i : ℕ) (t : Tape) (o : Option Tape) → first_tape_online name s (take i sides) ≡ None
+pub first_found : (name : List ℕ) (s : TapeLibrary) (sides : List (Option ServerConnection)) (i : ℕ) (t : Tape) (o : Option Tape)
+    → first_tape_online name s (take i sides) ≡ None
     → o ≡ tape_online name s (side_at sides (i + 1)) → o ≡ Some t → first_tape_online name s sides ≡ Some t
-first_found name s sides i t o none is some =
-    first_here name s sides i t none (sym (ap (tape_online name s) (side_here sides i)) ∙ sym is ∙ some)
+first_found name s sides i t o none is some = grind (arith, common_steps, first_here, side_here)
 
 none_here : (name : List ℕ) (s : TapeLibrary) (sides : List (Option ServerConnection)) (i : ℕ) → first_tape_online name s (take i sides) ≡ None
     → tape_online name s (slice_index_or sides i None) ≡ None → first_tape_online name s (take (suc i) sides) ≡ None
@@ -55,11 +44,10 @@ none_here name s (x ∷ sides) (suc i) none here =
     ap (λ o. option_or o (first_tape_online name s (take (suc i) sides))) both.0 ∙ none_here name s sides i both.1 here
 
 -- one connection more that has none
-pub none_more : (name : List ℕ) (s : TapeLibrary) (sides : List (Option ServerConnection)) (i : ℕ) (o : Option Tape) → first_tape_online name s (take i sides) ≡ None
+pub none_more : (name : List ℕ) (s : TapeLibrary) (sides : List (Option ServerConnection)) (i : ℕ) (o : Option Tape)
+    → first_tape_online name s (take i sides) ≡ None
     → o ≡ tape_online name s (side_at sides (i + 1)) → o ≡ None → first_tape_online name s (take (i + 1) sides) ≡ None
-none_more name s sides i o none is here =
-    ap (λ n. first_tape_online name s (take n sides)) (add-one i)
-    ∙ none_here name s sides i none (sym (ap (tape_online name s) (side_here sides i)) ∙ sym is ∙ here)
+none_more name s sides i o none is here = grind (arith, common_steps, add-one, none_here, side_here)
 
 -- each drive that a live side has open is there, where holders are those that have them open
 pub held_there : (h : ServerState) → AreHeld h → AreOpenThere h

@@ -1,14 +1,6 @@
 -- Bytes that reach the server.
-use Rattle.std.proofs.Common.{◌≡◌, ℕ, zero, suc, ◌+◌, ◌-◌, ◌≤◌, min, List, ◌++◌, length, take, Option, Some, None, refl, sym, ap, subst, ◌∙◌, arith}
-use Rattle.std.proofs.lemmas.List.{length-take, take_all}
-use Rattle.std.proofs.lemmas.Option.{same_Some}
-use Rattle.rmt_wire.specs.RequestReader.{RequestHeld, Unread, taken_of}
-use Rattle.rmt_wire.specs.declared.limits.TheConstants.{READER_LIMIT}
-use Rattle.rmt_server.specs.ServerState.{ServerState, server, ServerConnection, side}
-use Rattle.tape_host.specs.Servers.{Hosted, side_at, with_side_at, HasRoom, IsPiecePushed}
-use Rattle.world_model.specs.World.{with_numbered}
-use Rattle.world_model.specs.Changes.{side_of}
-use Rattle.world_model.specs.Rows.{HasRoomFor}
+use Rattle.tape_world.proofs.Standard.{common_steps, ◌≡◌, ℕ, ◌+◌, ◌-◌, ◌≤◌, min, List, ◌++◌, length, take, Option, Some, None, refl, ap, ◌∙◌, arith, length-take, take_all, same_Some}
+use Rattle.tape_world.proofs.Layers.{RequestHeld, Unread, READER_LIMIT, ServerState, server, ServerConnection, side, Hosted, side_at, with_side_at, HasRoom, IsPiecePushed, with_numbered, side_of, HasRoomFor}
 use Rattle.tape_world.proofs.Server.{side_found}
 
 -- what came of so many bytes that were pushed to the side of connection k
@@ -21,32 +13,23 @@ pub record Reaches (h : ServerState) (k n : ℕ) (way : List ℕ) (new : ServerS
   pub server_is : new ≡ server h.library h.holders (with_numbered h.sides k (Some (side reached side_is.session)))
 
 pub put_side : (sides : List (Option ServerConnection)) (k : ℕ) (x : Option ServerConnection) → with_side_at sides k x ≡ with_numbered sides k x
-put_side sides zero x = refl
-put_side sides (suc i) x = refl
+put_side sides k x = cc
 
-whole : (n taken m pushed : ℕ) (way : List ℕ) → n ≤ length way → m + taken ≡ READER_LIMIT → n ≤ m → pushed ≡ min (length (take n way)) (READER_LIMIT - taken) → pushed ≡ n
+whole : (n taken m pushed : ℕ) (way : List ℕ) → n ≤ length way → m + taken ≡ READER_LIMIT → n ≤ m → pushed ≡ min (length (take n way)) (READER_LIMIT - taken)
+    → pushed ≡ n
 whole n taken m pushed way fits room within is = omega (arith, fits, room, within, is, length-take n way)
 
 again : (n pushed : ℕ) (way : List ℕ) → pushed ≡ n → take pushed (take n way) ≡ take n way
 again n pushed way is = ap (λ p. take p (take n way)) is ∙ take_all n (take n way) (omega (arith, length-take n way))
 
-reaches_at : (old : Hosted) (k n : ℕ) (way : List ℕ) (room pushed : ℕ) (r : Option ℕ) (new : Hosted) (o : Option ServerConnection) → side_at old.server.sides k ≡ o → HasRoom o r
+reaches_at : (old : Hosted) (k n : ℕ) (way : List ℕ) (room pushed : ℕ) (r : Option ℕ) (new : Hosted) (o : Option ServerConnection)
+    → side_at old.server.sides k ≡ o → HasRoom o r
     → r ≡ Some room → n ≤ length way → n ≤ room → IsPiecePushed old k (take n way) o pushed new → Reaches old.server k n way new.server
 reaches_at old k n way room pushed r new None at has is fits within push = absurd cc
-reaches_at old k n way room pushed r new (Some s) at has is fits within push =
-    let same : has.0 ≡ room = same_Some has.0 room (sym has.1 ∙ is) in
-    record {
-      side_is = s;
-      reached = push.0;
-      live = sym (side_found old.server k) ∙ at;
-      room = λ bytes unread. (let left = has.2 bytes unread in omega (arith, left, same, within));
-      unread = λ bytes unread. (
-          let took = push.1 bytes unread in
-          let all = whole n (taken_of bytes) has.0 pushed way fits (has.2 bytes unread) (omega (arith, same, within)) took.0 in
-          subst (λ l. Unread push.0 (bytes ++ l)) (again n pushed way all) took.1);
-      server_is = ap (λ h. h.server) push.2 ∙ ap (server old.server.library old.server.holders) (put_side old.server.sides k (Some (side push.0 s.session)));
-    }
+reaches_at old k n way room pushed r new (Some s) at has is fits within push = grind (arith, common_steps, same_Some, side_found, whole, again, put_side)
 
 pub reaches : (old : Hosted) (k n : ℕ) (way : List ℕ) (room pushed : ℕ) (r : Option ℕ) (new : Hosted) → HasRoom (side_at old.server.sides k) r
-    → r ≡ Some room → n ≤ length way → n ≤ room → IsPiecePushed old k (take n way) (side_at old.server.sides k) pushed new → Reaches old.server k n way new.server
-reaches old k n way room pushed r new has is fits within push = reaches_at old k n way room pushed r new (side_at old.server.sides k) refl has is fits within push
+    → r ≡ Some room → n ≤ length way → n ≤ room → IsPiecePushed old k (take n way) (side_at old.server.sides k) pushed new
+    → Reaches old.server k n way new.server
+reaches old k n way room pushed r new has is fits within push =
+    reaches_at old k n way room pushed r new (side_at old.server.sides k) refl has is fits within push

@@ -1,19 +1,9 @@
 -- Events, one after the other.
-use Rattle.std.proofs.Common.{◌≡◌, ℕ, ◌+◌, ◌<◌, ◌≤◌, List, [], ◌∷◌, ◌++◌, length, map, take, option_map, Some, sym, ap, subst, ◌∙◌, arith}
-use Rattle.std.specs.Prelude.{slice_get, slice_index_or, Result, Ok, Err}
-use Rattle.std.proofs.lemmas.List.{take_more, take_all, length-map}
-use Rattle.std.proofs.lemmas.Option.{same_Some, slice_get-map, slice_get-get_or}
-use Rattle.world_model.specs.World.{World}
-use Rattle.world_model.specs.Events.{PlainEvent}
-use Rattle.world_model.specs.First.{IsReached}
-use Rattle.world_model.specs.Rows.{Possible}
-use Rattle.world_model.specs.Steps.{Runs, one_more}
+use Rattle.tape_world.proofs.Standard.{common_steps, ◌≡◌, ℕ, ◌+◌, ◌<◌, List, [], ◌∷◌, ◌++◌, length, map, take, Some, sym, ap, subst, ◌∙◌, arith, slice_get, slice_index_or, Result, Ok, Err, take_more, length-map, same_Some, slice_get-map, slice_get-get_or}
+use Rattle.tape_world.proofs.Layers.{World, PlainEvent, IsReached, Runs, one_more, EventStop, IsEvent, plain_event, fault_place, fault_at, IsStopped, IsEventRefused}
 use Rattle.tape_world.specs.declared.event.Event.{Event}
-use Rattle.tape_world.specs.declared.stop.EventStop.{EventStop}
-use Rattle.tape_world.specs.declared.stop.EventStop.TheVariants as stops
 use Rattle.tape_world.specs.declared.fault.WorldFault.{WorldFault}
-use Rattle.tape_world.specs.Holding.{IsEvent}
-use Rattle.tape_world.specs.Running.{plain_event, fault_place, fault_at, IsStopped, IsEventRefused}
+use Rattle.tape_world.specs.declared.stop.EventStop.TheVariants as stops
 
 -- a world that is reached stays so
 pub reached_on : (w u : World) (event : PlainEvent) (result : Result Unit EventStop) → IsReached w → IsEvent w event result u → IsReached u
@@ -24,8 +14,7 @@ reached_on w u event (Err stops.OutOfMemory) reached same = subst IsReached (sym
 -- the event of a place
 pub event_at : (events : List Event) (i : ℕ) (event d : Event) → i < length events → event ≡ slice_index_or events i d
     → slice_get (map plain_event events) i ≡ Some (plain_event event)
-event_at events i event d inside is =
-    slice_get-map plain_event events i ∙ ap (option_map plain_event) (slice_get-get_or events i d inside ∙ ap Some (sym is))
+event_at events i event d inside is = grind (arith, common_steps, slice_get-map, slice_get-get_or)
 
 pub inside_map : (events : List Event) (i : ℕ) → i < length events → i < length (map plain_event events)
 inside_map events i inside = omega (arith, inside, length-map events plain_event)
@@ -42,27 +31,16 @@ pub goes_on : (w u v : World) (events : List PlainEvent) (i : ℕ) (event : Plai
 goes_on w u v events i event result x inside is run ok made =
     subst (λ l. Runs w l v) (one_longer events i event inside is) (one_more event run (subst (λ r. IsEvent u event r v) ok made))
 
--- all events were made
-pub all_made : (w u : World) (events : List Event) (i : ℕ) → length events ≤ i → Runs w (take i (map plain_event events)) u → Runs w (map plain_event events) u
-all_made w u events i all run = subst (λ l. Runs w l u) (take_all i (map plain_event events) (omega (arith, all, length-map events plain_event))) run
-
-stopped_by : (w u v : World) (events : List PlainEvent) (i : ℕ) (event : PlainEvent) (stop : EventStop) → i < length events → Runs w (take i events) u
-    → IsEvent u event (Err stop) v → IsStopped w events (fault_place (fault_at stop i)) v
-stopped_by w u v events i event stops.NotPossible inside run same = record { inside = inside; made = subst (Runs w (take i events)) (sym same.0) run }
-stopped_by w u v events i event stops.OutOfMemory inside run same = record { inside = inside; made = subst (Runs w (take i events)) (sym same) run }
-
-pub stopped : (w u v : World) (events : List PlainEvent) (i : ℕ) (event : PlainEvent) (result : Result Unit EventStop) (stop : EventStop) (fault : WorldFault) → i < length events
+pub stopped : (w u v : World) (events : List PlainEvent) (i : ℕ) (event : PlainEvent) (result : Result Unit EventStop) (stop : EventStop) (fault : WorldFault)
+    → i < length events
     → Runs w (take i events) u → result ≡ Err stop → IsEvent u event result v → fault ≡ fault_at stop i → IsStopped w events (fault_place fault) v
-stopped w u v events i event result stop fault inside run err made is =
-    subst (λ f. IsStopped w events (fault_place f) v) (sym is) (stopped_by w u v events i event stop inside run (subst (λ r. IsEvent u event r v) err made))
+stopped w u v events i event result stop fault inside run err made is = grind (arith, common_steps)
 
 refused_by : (u v : World) (events : List PlainEvent) (i : ℕ) (event : PlainEvent) (stop : EventStop) → slice_get events i ≡ Some event
     → IsEvent u event (Err stop) v → IsEventRefused events v (fault_at stop i)
-refused_by u v events i event stops.NotPossible at made = λ other is possible.
-    made.1 (subst (λ e. Possible u e) (same_Some other event (sym is ∙ at)) (subst (λ x. Possible x other) made.0 possible))
+refused_by u v events i event stops.NotPossible at made = grind (arith, common_steps)
 refused_by u v events i event stops.OutOfMemory at made = tt
 
 pub refused : (u v : World) (events : List PlainEvent) (i : ℕ) (event : PlainEvent) (result : Result Unit EventStop) (stop : EventStop) (fault : WorldFault)
     → slice_get events i ≡ Some event → result ≡ Err stop → IsEvent u event result v → fault ≡ fault_at stop i → IsEventRefused events v fault
-refused u v events i event result stop fault at err made is =
-    subst (IsEventRefused events v) (sym is) (refused_by u v events i event stop at (subst (λ r. IsEvent u event r v) err made))
+refused u v events i event result stop fault at err made is = grind (arith, common_steps, refused_by)

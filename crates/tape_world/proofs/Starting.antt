@@ -1,29 +1,11 @@
 -- What a run that is begun, and an attempt that starts, leave of a world.
-use Rattle.std.proofs.Common.{◌≡◌, true, false, List, [], ◌∷◌, ◌++◌, length, option_map, Option, Some, None, refl, sym, ap, subst, ◌∙◌, ◌+◌, ℕ, suc, arith}
+use Rattle.tape_world.proofs.Standard.{common_steps, ◌≡◌, false, List, [], ◌∷◌, ◌++◌, length, Option, Some, None, refl, sym, ap, subst, ◌∙◌, ◌+◌, ℕ, suc, arith, Result, Ok, slice_get, same_Some, Err}
+use Rattle.tape_world.proofs.Layers.{PlainRun, cut_blocks, listed, Standing, standing, checkpoint_of, StartedAt, HasFedAt, Open, Stage, Ready, ToSend, AttemptState, Begun, numbered, fresh, RealBegun, RealCaller, seen_begun, seen_caller, IsBegunWith, IsSameRun, IsReady, Starts, IsSourced, EventStop}
 use Rattle.std.specs.Result.{is_err}
-use Rattle.std.specs.Prelude.{Result, Ok, Err, slice_get}
-use Rattle.std.proofs.lemmas.Option.{same_Some}
-use Rattle.dump_run.specs.Run.{PlainRun}
-use Rattle.dump_run.specs.Blocks.{cut_blocks, listed}
-use Rattle.dump_client.specs.Standing.{Standing, standing, state_of, checkpoint_of, StartedAt}
-use Rattle.dump_client.specs.Client.{HasFedAt}
-use Rattle.dump_client.specs.declared.step.Step.TheVariants.{Open}
-use Rattle.dump_client.specs.declared.stage.Stage.{Stage}
-use Rattle.dump_client.specs.declared.stage.Stage.TheVariants.{Ready, ToSend, Waiting, Asking, Finished, Abandoned}
-use Rattle.dump_client.specs.declared.stage.State.TheVariants as told
 use Rattle.dump_client.specs.declared.fault.StartFault.{StartFault}
-use Rattle.dump_client.specs.declared.fault.StartFault.TheVariants as refused
 use Rattle.rmt_wire.specs.ReplyReader.{ReplyHeld, ReplyUnread, reply_held}
 use Rattle.world_connections.specs.Attempt.{new_dumping}
-use Rattle.tape_world.specs.declared.stop.EventStop.TheVariants.{OutOfMemory}
-use Rattle.world_model.specs.World.{World, AttemptState, Begun, numbered}
-use Rattle.world_model.specs.Rows.{StandsIn}
-use Rattle.world_model.specs.Steps.{caller, fresh}
-use Rattle.tape_world.specs.declared.caller.Begun.{Begun as RealBegun}
-use Rattle.tape_world.specs.declared.caller.WorldClient.{WorldClient as RealCaller}
-use Rattle.tape_world.specs.Seen.{seen_begun, seen_caller}
-use Rattle.tape_world.specs.Calling.{IsBegunWith, IsSameRun, IsReady, Starts}
-use Rattle.tape_world.specs.Holding.{IsSourced}
+use Rattle.tape_world.proofs.Clients.{sourced_same}
 
 -- the last of a list
 get_last : {X : Type 0} (xs : List X) (x : X) → slice_get (xs ++ x ∷ []) (length xs) ≡ Some x
@@ -36,7 +18,8 @@ numbered_last xs x n is = (let next : n ≡ suc (length xs) = omega (arith, is) 
 abbrev pub plain_begun : PlainRun → List (List ℕ) → Begun
 plain_begun run payload = record { run = run; payload = payload }
 
-pub begun_is : (run : PlainRun) (payload : List ℕ) (b : RealBegun) → IsBegunWith run payload b → seen_begun b ≡ plain_begun run (cut_blocks run.blocks run.block_bytes payload)
+pub begun_is : (run : PlainRun) (payload : List ℕ) (b : RealBegun) → IsBegunWith run payload b
+    → seen_begun b ≡ plain_begun run (cut_blocks run.blocks run.block_bytes payload)
 begun_is run payload b is = ap (λ r. plain_begun r b.payload.blocks) is.run ∙ ap (plain_begun run) is.payload
 
 -- the payload of the new client is that of its run
@@ -50,14 +33,6 @@ begun_sourced begun xs b c run payload is number parts given d at = (
   ap (λ (y : RealCaller). y.client.source) (sym (same_Some c d at)) ∙ given ∙ ap (λ blocks. listed blocks false 0) (sym parts.payload),
 )
 
-pub told_ready : (stage : Stage) → state_of stage ≡ told.Ready → stage ≡ Ready
-told_ready Ready is = refl
-told_ready (ToSend step) is = absurd cc
-told_ready (Waiting step) is = absurd cc
-told_ready Asking is = absurd cc
-told_ready Finished is = absurd cc
-told_ready Abandoned is = absurd cc
-
 -- a reader that waits for nothing has nothing unread
 nothing_held : (h : ReplyHeld) → ReplyUnread h None [] → h ≡ reply_held None []
 nothing_held h u = ap (λ x. reply_held x h.kept) u.waits ∙ ap (reply_held None) u.keeps
@@ -67,15 +42,7 @@ ready_fed stage reader is = subst (λ s. HasFedAt s reader []) (sym is) refl
 
 started_at : (stage : Stage) (old new : Standing) (room : ℕ) (r : Result Unit StartFault) → stage ≡ Ready → StartedAt stage old room r new → is_err r ≡ false
     → new ≡ standing old.run old.counts (ToSend Open)
-started_at stage old new room (Ok x) is started fine = subst (λ s. StartedAt s old room (Ok x) new) is started
-started_at stage old new room (Err fault) is started fine = absurd cc
-
-refused_at : (stage : Stage) (old new : Standing) (room : ℕ) (r : Result Unit StartFault) → stage ≡ Ready → StartedAt stage old room r new → is_err r ≡ true
-    → new ≡ old
-refused_at stage old new room (Ok x) is started bad = absurd cc
-refused_at stage old new room (Err refused.OutOfMemory) is started bad = (subst (λ s. StartedAt s old room (Err refused.OutOfMemory) new) is started).1
-refused_at stage old new room (Err refused.WrongState) is started bad =
-    absurd (subst (λ s. StartedAt s old room (Err refused.WrongState) new) is started)
+started_at stage old new room r is started fine = grind (arith, common_steps, started)
 
 ready_stage : (o : Option RealCaller) (c : RealCaller) → o ≡ Some c → IsReady o → c.client.at.stage ≡ Ready
 ready_stage o c is (x, at, ready) = ap (λ (y : RealCaller). y.client.at.stage) (same_Some c x (sym is ∙ at)) ∙ ready
@@ -91,13 +58,6 @@ starts o c d r dump is ready same started fine fed new =
     = subst (λ (s : Standing). HasFedAt s.stage d.client.reader []) at (fed [] (ready_fed c.client.at.stage c.client.reader stage)) in
     subst (λ x. Starts x (Ok dump) (Some d)) (sym is) (d, refl, same, at, nothing_held d.client.reader nothing.0, new)
 
-pub refuses : (o : Option RealCaller) (c d : RealCaller) (r : Result Unit StartFault) → o ≡ Some c → IsReady o → IsSameRun c d
-    → StartedAt c.client.at.stage c.client.at c.client.room r d.client.at → is_err r ≡ true → d.client.reader ≡ c.client.reader
-    → Starts o (Err OutOfMemory) (Some d)
-refuses o c d r is ready same started bad reader =
-    let at = refused_at c.client.at.stage c.client.at d.client.at c.client.room r (ready_stage o c is ready) started bad in
-    subst (λ x. Starts x (Err OutOfMemory) (Some d)) (sym is) (d, refl, same, at, reader, refl)
-
 -- a client that started an attempt
 pub record IsStarted (o : Option RealCaller) (dump : AttemptState) (new : Option RealCaller) : Type 0 where
   pub before : RealCaller
@@ -110,16 +70,9 @@ pub record IsStarted (o : Option RealCaller) (dump : AttemptState) (new : Option
   pub fresh : dump ≡ fresh (seen_caller before)
 
 pub started : (o new : Option RealCaller) (dump : AttemptState) → Starts o (Ok dump) new → IsStarted o dump new
-started None new dump starts = absurd starts
-started (Some c) new dump (d, is, same, at, reader, new-is) = record { before = c; after = d; was = refl; is = is; same = same; at = at; reader = reader; fresh = new-is }
+started o new dump starts = grind (arith, common_steps, starts)
 
-pub started_caller : (o new : Option RealCaller) (dump : AttemptState) (i : IsStarted o dump new)
-    → option_map seen_caller new
-    ≡ Some (caller i.before.number (standing i.before.client.at.run i.before.client.at.counts (ToSend Open)) (reply_held None []))
-started_caller o new dump i =
-    ap (option_map seen_caller) i.is ∙ ap (λ n. Some (caller n i.after.client.at i.after.client.reader)) i.same.number
-    ∙ ap (λ at. Some (caller i.before.number at i.after.client.reader)) i.at
-    ∙ ap (λ r. Some (caller i.before.number (standing i.before.client.at.run i.before.client.at.counts (ToSend Open)) r)) i.reader
-
-pub stands_ready : (w : World) → StandsIn w (λ stage. state_of stage ≡ told.Ready) → StandsIn w (λ stage. stage ≡ Ready)
-stands_ready w (x, is, ready) = (x, is, told_ready x.at.stage ready)
+-- a client that started no attempt reads the payload of its run as before
+pub unstarted_sourced : (begun : List RealBegun) (o new : Option RealCaller) (stop : EventStop) → Starts o (Err stop) new → IsSourced begun o
+    → IsSourced begun new
+unstarted_sourced begun o new stop starts s = grind (arith, common_steps, sourced_same)

@@ -1,28 +1,10 @@
 -- What stands on a reel is what is told of it.
-use Rattle.std.proofs.Common.{◌≡◌, ◌⊎◌, ℕ, zero, suc, ◌<◌, ◌≤◌, Bool, true, false, cond, if◌then◌else◌, List, [], ◌∷◌, ◌++◌, flat_map, Option, Some, None, refl, sym, ap, subst, ◌∙◌, inl, inr, arith}
-use Rattle.std.specs.Prelude.{slice_get, slice_index_or, option_and_then, option_map}
-use Rattle.std.specs.Option.{option_or}
-use Rattle.std.specs.List.{sum_by, find}
-use Rattle.std.specs.Str.{bytes_eq}
-use Rattle.std.proofs.lemmas.List.Sums.{sum_by-cons}
-use Rattle.std.proofs.lemmas.Option.{same_Some}
-use Rattle.std.proofs.lemmas.Slice.Eq.{bytes_eq-Decides}
-use Rattle.tape.specs.Tape.{PlainEntry, Tape, entries_of}
-use Rattle.drives.specs.TapeLibrary.{KeptReel, ReelSlot, Drive, drive_with, TapeLibrary, drive_at, slots_in, EachReelOnce}
-use Rattle.drives.specs.Arranging.{reel_named}
-use Rattle.drives.proofs.Shops.{bit, named, times_named}
-use Rattle.rmt_server.specs.ServerState.{ServerState, ServerConnection}
-use Rattle.rmt_server.specs.Session.{PlainSession}
-use Rattle.rmt_server.specs.Session.PlainSession.{Idle, Offline, Online}
-use Rattle.world_model.specs.World.{World, Begun}
-use Rattle.world_model.specs.Changes.{side_of, first_name}
-use Rattle.world_model.specs.Standing.{IsFirstAway, online_drive_in, AreHeld, ReelLiesIn, ReelLiesOn, HasInDrive, ReelHolds}
-use Rattle.world_model.specs.Kept.{AreLaid, IsWorldKept}
-use Rattle.world_model.specs.Headline.{CountedReels}
-use Rattle.world_model.specs.Written.{whole_volume}
+use Rattle.tape_world.proofs.Standard.{common_steps, ◌≡◌, ◌⊎◌, ℕ, zero, suc, ◌<◌, ◌≤◌, Bool, cond, if◌then◌else◌, List, [], ◌∷◌, ◌++◌, Option, Some, None, refl, sym, ap, ◌∙◌, inl, inr, arith, slice_get, slice_index_or, option_and_then, option_or, sum_by, find, bytes_eq, sum_by-cons, same_Some, bytes_eq-Decides}
+use Rattle.tape_world.proofs.Layers.{PlainEntry, Tape, entries_of, KeptReel, ReelSlot, Drive, drive_with, TapeLibrary, drive_at, slots_in, EachReelOnce, reel_named, bit, named, times_named, ServerState, ServerConnection, PlainSession, World, side_of, first_name, IsFirstAway, online_drive_in, AreHeld, ReelLiesIn, ReelLiesOn, HasInDrive, ReelHolds, AreLaid, IsWorldKept, CountedReels, named_tape_in, tape_online, first_tape_online, entries_on}
+use Rattle.std.proofs.Common.{flat_map}
+use Rattle.std.specs.Prelude.{option_map}
 use Rattle.world_model.proofs.Held.{side_there}
 use Rattle.world_model.proofs.LabelledNames.{stands_one}
-use Rattle.tape_world.specs.Entries.{named_tape_in, tape_online, first_tape_online, entries_on}
 use Rattle.tape_world.specs.Volumes.{TellsVolumes}
 
 -- one of these has that name, and lies there so, or is away
@@ -47,28 +29,18 @@ has_stack (r ∷ drives) (suc d) name o has = has_behind r.stack (flat_map (λ x
 
 has_times : (xs : List (ReelSlot KeptReel)) (name : List ℕ) (o : Option KeptReel) → HasSlot xs name o → 0 < sum_by (named name) xs
 has_times [] name o has = absurd has
-has_times (x ∷ xs) name o (inl here) =
-    let one : named name x ≡ 1 = ap bit ((bytes_eq-Decides name x.name).1 (sym here.0)) in
-    let all = sum_by-cons (named name) x xs in
-    omega (arith, one, all)
+has_times (x ∷ xs) name o (inl here) = grind (arith, common_steps, named, bit, bytes_eq-Decides, sum_by-cons)
 has_times (x ∷ xs) name o (inr rest) =
     let some = has_times xs name o rest in
     let all = sum_by-cons (named name) x xs in
     omega (arith, some, all)
 
 -- where no name stands twice it is what lies under that name
-first_named : (xs : List (ReelSlot KeptReel)) (x : ReelSlot KeptReel) (name : List ℕ) (o : Option KeptReel) (b : Bool) → bytes_eq name x.name ≡ b → sum_by (named name) (x ∷ xs) ≤ 1
+first_named : (xs : List (ReelSlot KeptReel)) (x : ReelSlot KeptReel) (name : List ℕ) (o : Option KeptReel) (b : Bool) → bytes_eq name x.name ≡ b
+    → sum_by (named name) (x ∷ xs) ≤ 1
     → (sum_by (named name) xs ≤ 1 → HasSlot xs name o → reel_named name xs ≡ o) → ((x.name ≡ name) × (x.reel ≡ o)) ⊎ HasSlot xs name o
     → option_and_then (λ (y : ReelSlot KeptReel). y.reel) (cond b (Some x) (find (λ y. bytes_eq name y.name) xs)) ≡ o
-first_named xs x name o true test few rest (inl here) = here.1
-first_named xs x name o true test few rest (inr has) =
-    let one : named name x ≡ 1 = ap bit test in
-    let some = has_times xs name o has in
-    let all = sum_by-cons (named name) x xs in
-    absurd (omega (arith, one, some, all, few))
-first_named xs x name o false test few rest (inl here) =
-    let clash : false ≡ true = sym test ∙ (bytes_eq-Decides name x.name).1 (sym here.0) in absurd cc
-first_named xs x name o false test few rest (inr has) = let all = sum_by-cons (named name) x xs in rest (omega (arith, all, few)) has
+first_named xs x name o b test few rest y = grind (arith, common_steps, named, bit, has_times, sum_by-cons, bytes_eq-Decides)
 
 is_named : (xs : List (ReelSlot KeptReel)) (name : List ℕ) (o : Option KeptReel) → sum_by (named name) xs ≤ 1 → HasSlot xs name o → reel_named name xs ≡ o
 is_named [] name o few has = absurd has
@@ -81,21 +53,18 @@ library_named s name o once has =
     is_named (slots_in s) name o (omega (arith, few, all)) has
 
 -- what lies there
-lies_has : (xs : List (ReelSlot KeptReel)) (name : List ℕ) (entries : List PlainEntry) → ReelLiesIn xs name entries → (r : KeptReel) × HasSlot xs name (Some r) × (r.entries ≡ entries)
+lies_has : (xs : List (ReelSlot KeptReel)) (name : List ℕ) (entries : List PlainEntry) → ReelLiesIn xs name entries
+    → (r : KeptReel) × HasSlot xs name (Some r) × (r.entries ≡ entries)
 lies_has [] name entries lies = absurd lies
 lies_has (x ∷ xs) name entries (inl here) = (here.reel, inl (here.named, here.there), here.holds)
 lies_has (x ∷ xs) name entries (inr rest) = let on = lies_has xs name entries rest in (on.0, inr on.1, on.2)
 
-on_has : (s : TapeLibrary) (name : List ℕ) (entries : List PlainEntry) → ReelLiesOn s name entries → (r : KeptReel) × HasSlot (slots_in s) name (Some r) × (r.entries ≡ entries)
-on_has s name entries (inl (d, lies)) =
-    let on = lies_has (drive_at s d).stack name entries lies in
-    (on.0, has_before (flat_map (λ r. r.stack) s.drives) s.bin name (Some on.0) (has_stack s.drives d name (Some on.0) on.1), on.2)
-on_has s name entries (inr lies) =
-    let on = lies_has s.bin name entries lies in (on.0, has_behind (flat_map (λ r. r.stack) s.drives) s.bin name (Some on.0) on.1, on.2)
+on_has : (s : TapeLibrary) (name : List ℕ) (entries : List PlainEntry) → ReelLiesOn s name entries
+    → (r : KeptReel) × HasSlot (slots_in s) name (Some r) × (r.entries ≡ entries)
+on_has s name entries r = grind (arith, common_steps, lies_has, has_before, has_stack, has_behind)
 
 away_has : (xs : List (ReelSlot KeptReel)) (name : List ℕ) → IsFirstAway xs → first_name xs ≡ name → HasSlot xs name None
-away_has [] name away is = absurd away
-away_has (x ∷ xs) name away is = inl (is, away.0)
+away_has xs name away is = grind (arith, common_steps)
 
 -- the side of a place
 place_side : (xs : List (Option ServerConnection)) (i : ℕ) (s : ServerConnection) → slice_index_or xs i None ≡ Some s → slice_get xs i ≡ Some (Some s)
@@ -109,7 +78,8 @@ side_place (x ∷ xs) zero s is = same_Some x (Some s) is
 side_place (x ∷ xs) (suc i) s is = side_place xs i s is
 
 -- where all tapes of that name have these entries
-first_told : (name : List ℕ) (s : TapeLibrary) (sides : List (Option ServerConnection)) (x : Option ServerConnection) (o : Option Tape) (e : List PlainEntry) (j : ℕ) (t : Tape) → tape_online name s x ≡ o
+first_told : (name : List ℕ) (s : TapeLibrary) (sides : List (Option ServerConnection)) (x : Option ServerConnection) (o : Option Tape) (e : List PlainEntry)
+    (j : ℕ) (t : Tape) → tape_online name s x ≡ o
     → ((i : ℕ) (r : Tape) → tape_online name s (slice_index_or (x ∷ sides) i None) ≡ Some r → entries_of r ≡ e)
     → ((i : ℕ) → tape_online name s (slice_index_or sides i None) ≡ Some t → option_map entries_of (first_tape_online name s sides) ≡ Some e)
     → tape_online name s (slice_index_or (x ∷ sides) j None) ≡ Some t → option_map entries_of (option_or o (first_tape_online name s sides)) ≡ Some e
@@ -118,38 +88,34 @@ first_told name s sides x None e zero t is all rest has = let clash = sym is ∙
 first_told name s sides x None e (suc j) t is all rest has = rest j has
 
 told_online : (name : List ℕ) (s : TapeLibrary) (sides : List (Option ServerConnection)) (e : List PlainEntry) (j : ℕ) (t : Tape)
-    → ((i : ℕ) (r : Tape) → tape_online name s (slice_index_or sides i None) ≡ Some r → entries_of r ≡ e) → tape_online name s (slice_index_or sides j None) ≡ Some t
+    → ((i : ℕ) (r : Tape) → tape_online name s (slice_index_or sides i None) ≡ Some r → entries_of r ≡ e)
+    → tape_online name s (slice_index_or sides j None) ≡ Some t
     → option_map entries_of (first_tape_online name s sides) ≡ Some e
 told_online name s [] e j t all has = absurd cc
 told_online name s (x ∷ sides) e j t all has =
     first_told name s sides x (tape_online name s x) e j t refl all (λ i at. told_online name s sides e i t (λ m r on. all (suc m) r on) at) has
 
--- a tape of that name is in a drive
-named_in : (b : Bool) (reel t : Tape) → (if b then Some reel else None) ≡ Some t → (b ≡ true) × (reel ≡ t)
-named_in true reel t is = (refl, same_Some reel t is)
-named_in false reel t is = absurd cc
+in_drive : (name : List ℕ) (s : TapeLibrary) (session : PlainSession) (t : Tape) → named_tape_in name s session ≡ Some t
+    → HasInDrive s session name (entries_of t)
+in_drive name s session t is = grind (arith, common_steps, bytes_eq-Decides)
 
-in_drive : (name : List ℕ) (s : TapeLibrary) (session : PlainSession) (t : Tape) → named_tape_in name s session ≡ Some t → HasInDrive s session name (entries_of t)
-in_drive name s Idle t is = absurd cc
-in_drive name s (Offline drive access) t is = absurd cc
-in_drive name s (Online drive access reel) t is =
-    let its = named_in (bytes_eq name (first_name (drive_at s drive).stack)) reel.tape t is in
-    (drive, access, reel, refl, sym ((bytes_eq-Decides name (first_name (drive_at s drive).stack)).0 its.0), ap entries_of its.1)
-
-online_stands : (h : ServerState) (name : List ℕ) (i : ℕ) (t : Tape) (o : Option ServerConnection) → slice_index_or h.sides i None ≡ o → tape_online name h.library o ≡ Some t
+online_stands : (h : ServerState) (name : List ℕ) (i : ℕ) (t : Tape) (o : Option ServerConnection) → slice_index_or h.sides i None ≡ o
+    → tape_online name h.library o ≡ Some t
     → ReelHolds h name (entries_of t)
 online_stands h name i t None at is = absurd cc
 online_stands h name i t (Some s) at is =
     inr (suc i, s, ap (option_and_then (λ x. x)) (place_side h.sides i s at), in_drive name h.library s.session t is)
 
-has_tape : (name : List ℕ) (s : TapeLibrary) (session : PlainSession) (entries : List PlainEntry) → HasInDrive s session name entries → (t : Tape) × (named_tape_in name s session ≡ Some t)
+has_tape : (name : List ℕ) (s : TapeLibrary) (session : PlainSession) (entries : List PlainEntry) → HasInDrive s session name entries
+    → (t : Tape) × (named_tape_in name s session ≡ Some t)
 has_tape name s session entries (drive, access, reel, online, named, holds) = (
   reel.tape,
   ap (named_tape_in name s) online
       ∙ ap (λ b. if b then Some reel.tape else None) ((bytes_eq-Decides name (first_name (drive_at s drive).stack)).1 (sym named)),
 )
 
-online_told : (h : ServerState) (k : ℕ) (s : ServerConnection) (name : List ℕ) (entries : List PlainEntry) → AreHeld h → AreLaid h → EachReelOnce h.library → side_of h k ≡ Some s
+online_told : (h : ServerState) (k : ℕ) (s : ServerConnection) (name : List ℕ) (entries : List PlainEntry) → AreHeld h → AreLaid h → EachReelOnce h.library
+    → side_of h k ≡ Some s
     → HasInDrive h.library s.session name entries → option_map entries_of (first_tape_online name h.library h.sides) ≡ Some entries
 online_told h zero s name entries a l once live has = let at = side_there h zero s live in absurd cc
 online_told h (suc j) s name entries a l once live has =
@@ -157,24 +123,27 @@ online_told h (suc j) s name entries a l once live has =
     let t = has_tape name h.library s.session entries has in
     told_online name h.library h.sides entries j t.0
     (λ i r on.
-    stands_one h (suc j) s has.0 has.1 has.2 name (entries_of r) live has.3 has.4 a l once (online_stands h name i r (slice_index_or h.sides i None) refl on) ∙ has.5)
+    stands_one h (suc j) s has.0 has.1 has.2 name (entries_of r) live has.3 has.4 a l once (online_stands h name i r (slice_index_or h.sides i None) refl on)
+    ∙ has.5)
     (ap (tape_online name h.library) there ∙ t.1)
 
 -- what stands on a reel is told
-pub stands_told : (h : ServerState) (name : List ℕ) (entries : List PlainEntry) → AreHeld h → AreLaid h → EachReelOnce h.library → ReelHolds h name entries → entries_on h name ≡ Some entries
+pub stands_told : (h : ServerState) (name : List ℕ) (entries : List PlainEntry) → AreHeld h → AreLaid h → EachReelOnce h.library → ReelHolds h name entries
+    → entries_on h name ≡ Some entries
 stands_told h name entries a l once (inl lies) =
     let on = on_has h.library name entries lies in
-    ap (λ o. option_or (option_map (λ (r : KeptReel). r.entries) o) (option_map entries_of (first_tape_online name h.library h.sides))) (library_named h.library name (Some on.0) once on.1)
+    ap (λ o. option_or (option_map (λ (r : KeptReel). r.entries) o) (option_map entries_of (first_tape_online name h.library h.sides)))
+    (library_named h.library name (Some on.0) once on.1)
     ∙ ap Some on.2
 stands_told h name entries a l once (inr (k, s, live, has)) =
     let away = away_has (drive_at h.library has.0).stack name (l.latched has.0 (k, s, live, ap online_drive_in has.3)) has.4 in
     let slot = has_before (flat_map (λ r. r.stack) h.library.drives) h.library.bin name None (has_stack h.library.drives has.0 name None away) in
-    ap (λ o. option_or (option_map (λ (r : KeptReel). r.entries) o) (option_map entries_of (first_tape_online name h.library h.sides))) (library_named h.library name None once slot)
+    ap (λ o. option_or (option_map (λ (r : KeptReel). r.entries) o) (option_map entries_of (first_tape_online name h.library h.sides)))
+    (library_named h.library name None once slot)
     ∙ online_told h k s name entries a l once live has
 
 pub volumes_told : (w : World) → IsWorldKept w → CountedReels w → TellsVolumes w
 volumes_told w kept counted x b among begun last =
     let on = counted x among in
     let same : on.begun ≡ b = same_Some on.begun b (sym on.begun_as ∙ begun) in
-    stands_told w.server x.reel (whole_volume b.run b.payload x.volume x.first x.count) kept.held kept.laid kept.once.once
-    (subst (λ (c : Begun). ReelHolds w.server x.reel (whole_volume c.run c.payload x.volume x.first x.count)) same (on.whole last).0)
+    grind (arith, common_steps, same_Some, stands_told)

@@ -1,5 +1,5 @@
 -- The effect of calls on the client, if there is one. No public contract needs it.
-use Rattle.std.specs.Prelude.{◌≡◌, ◌≤◌, ℕ, List, [], Option, Some, None, Result, Ok, Err}
+use Rattle.std.specs.Prelude.{◌≡◌, ℕ, List, [], Option, Some, None, Result, Ok, Err}
 use Rattle.dump_run.specs.Run.{PlainRun}
 use Rattle.dump_run.specs.Blocks.{cut_blocks}
 use Rattle.dump_client.specs.Standing.{Standing, standing, checkpoint_of, AnsweredAt, CutAt}
@@ -30,11 +30,6 @@ pub record IsSameRun (c d : WorldClient) : Type 0 where
 abbrev pub over_own : Option ℕ → List Connection → List Connection
 over_own None connections = connections
 over_own (Some k) connections = changed without_peer connections k
-
--- the number, if there is one, is from 1 to `n`
-abbrev pub IsPlaced : Option ℕ → ℕ → Type 0
-IsPlaced None n = Unit {0}
-IsPlaced (Some k) n = (1 ≤ k) × (k ≤ n)
 
 -- the client, if there is one, takes the operator's answer
 abbrev pub ClientAnswers : Option WorldClient → Answer → Option WorldClient → Type 0

@@ -6,12 +6,11 @@ use Rattle.dump_client.specs.Client.{HasFedAt, unanswered}
 use Rattle.dump_run.specs.declared.count.VolumeCount.{VolumeCount}
 use Rattle.dump_client.specs.declared.stage.Progress.{Progress}
 use Rattle.dump_client.specs.declared.stage.Progress.TheVariants.{Failed, Ended}
-use Rattle.world_model.specs.World.{Connection}
+use Rattle.world_model.specs.World.{Connection, Count}
 use Rattle.world_model.specs.Changes.{without_peer}
 use Rattle.world_connections.specs.Connection.{deliver_back}
 use Rattle.tape_world.specs.Holding.{is_in_attempt}
 use Rattle.tape_world.specs.Calling.{IsSameRun, failure_of}
-use Rattle.tape_world.specs.declared.history.Count.{Count}
 use Rattle.tape_world.specs.declared.caller.WorldClient.{WorldClient}
 use Rattle.tape_world.specs.declared.world_state.hearing.PieceHeard.{PieceHeard}
 
@@ -52,7 +51,7 @@ pub record HasHeard (o : Option WorldClient) (piece : List ℕ) (heard : PieceHe
   pub over : heard.is_over ≡ is_over progress
   pub failure : heard.failure ≡ failure_of after.client.at progress
 
--- the count `c` of the client, as the history has it: `reel` is the index of the reel's name
-abbrev pub history_count : ℕ → ℕ → ℕ → VolumeCount → Count
+-- the count `c` of the client, with its run, its reel and its connection
+abbrev pub history_count : ℕ → List ℕ → ℕ → VolumeCount → Count
 history_count run reel connection c =
     record { run = run; volume = c.volume; first = c.first; count = c.count; reel = reel; connection = connection }

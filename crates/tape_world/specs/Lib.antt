@@ -1,5 +1,6 @@
--- In reading order: Making, Running, Telling, Entries, Volumes; Seen, Parts, Holding, Linking,
+-- In reading order: Making, Running, Telling, Entries, Volumes; Connections, Seen, Parts, Holding, Linking,
 -- Calling, Talking, Hearing, Saving, Serving.
+pub mod Connections
 pub mod Seen
 pub mod Holding
 pub mod Calling

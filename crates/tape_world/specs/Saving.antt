@@ -1,16 +1,14 @@
 -- The run that is saved outside the client, and the client that resumes it. A count is the record
 -- of a volume that was written whole: its number, its first block and its number of blocks. No
 -- public contract needs it.
-use Rattle.std.specs.Prelude.{◌≡◌, ◌≢◌, ◌==◌, ℕ, false, List, Option, Some, None}
-use Rattle.std.specs.List.{list_any}
+use Rattle.std.specs.Prelude.{◌≡◌, ◌≢◌, ℕ, false, List, Contains, Option, Some, None}
 use Rattle.dump_run.specs.Blocks.{listed}
 use Rattle.dump_run.specs.Checkpoint.{checkpoint_text}
 use Rattle.dump_client.specs.Standing.{IsOver}
 use Rattle.dump_client.specs.declared.stage.Answer.{Answer}
 use Rattle.dump_client.specs.declared.stage.Answer.TheVariants.{Retry, Abandon}
 use Rattle.dump_client.specs.declared.stage.Stage.TheVariants.{Finished, Abandoned}
-use Rattle.world_model.specs.World.{numbered}
-use Rattle.tape_world.specs.declared.history.Entered.{Entered}
+use Rattle.world_model.specs.World.{Entered, numbered}
 use Rattle.tape_world.specs.declared.caller.Begun.{Begun}
 use Rattle.tape_world.specs.declared.caller.WorldClient.{WorldClient}
 use Rattle.tape_world.specs.declared.caller.KeptRun.{KeptRun}
@@ -26,15 +24,13 @@ pub record IsKeptOf (c : WorldClient) (k : KeptRun) : Type 0 where
   pub counts : k.counts.items ≡ c.client.at.counts
   pub text : k.text.items ≡ checkpoint_text c.client.at.run c.client.at.counts
 
--- `e` has the run of this client, and its counts
-pub record IsEntryOf (c : WorldClient) (e : Entered) : Type 0 where
-  pub run : e.run ≡ c.number
-  pub counts : e.counts.items ≡ c.client.at.counts
+-- the run with this number was entered
+abbrev pub IsEnteredIn : List Entered → ℕ → Type 0
+IsEnteredIn entered number = (e : Entered) × Contains entered e × (e.run ≡ number)
 
 -- the run is not abandoned, and not both finished and entered
 abbrev pub MayKeep : List Entered → WorldClient → Type 0
-MayKeep entered c =
-    (c.client.at.stage ≢ Abandoned) × (c.client.at.stage ≡ Finished → list_any (λ e. e.run == c.number) entered ≡ false)
+MayKeep entered c = (c.client.at.stage ≢ Abandoned) × (c.client.at.stage ≡ Finished → IsEnteredIn entered c.number → ⊥)
 
 -- The client resumes the saved run with its counts, and is finished if they cover the run. It reads
 -- the payload of the run, without an injected fault.

@@ -1,14 +1,13 @@
 -- The parts of a world in memory, as plain data. Plain data are the values that contracts use for
 -- what the code has in memory. A count is the record of a volume that the client wrote whole to a
 -- reel. No public contract needs it.
-use Rattle.std.specs.Prelude.{ℕ, List, [], map, get_or, option_map, Option, Vec}
+use Rattle.std.specs.Prelude.{◌≡◌, ℕ, Bool, nat_lt, List, [], map, get_or, option_map, Option, Vec, vec_len, vec_capacity}
 use Rattle.std.specs.Global.{Global}
 use Rattle.dumpdates.specs.Entry.{DatesEntry}
 use Rattle.rmt_server.specs.ServerState.{ServerState}
 use Rattle.dump_run.specs.declared.count.VolumeCount.{VolumeCount}
-use Rattle.world_connections.specs.Connection.{plain_connection}
+use Rattle.dump_client.specs.declared.fault.AttemptFault.{AttemptFault}
 use Rattle.world_model.specs.World.{Connection, Begun, WorldClient, Count, Opening, Writing, Entered, Kept, World}
-use Rattle.world_connections.specs.declared.connection.Connection.{Connection as RealConnection}
 use Rattle.tape_world.specs.declared.caller.Begun.{Begun as RealBegun}
 use Rattle.tape_world.specs.declared.caller.WorldClient.{WorldClient as RealCaller}
 use Rattle.tape_world.specs.declared.caller.KeptRun.{KeptRun}
@@ -16,7 +15,6 @@ use Rattle.tape_world.specs.declared.history.Count.{Count as RealCount}
 use Rattle.tape_world.specs.declared.history.Opening.{Opening as RealOpening}
 use Rattle.tape_world.specs.declared.history.Writing.{Writing as RealWriting}
 use Rattle.tape_world.specs.declared.history.Entered.{Entered as RealEntered}
-use Rattle.tape_world.specs.declared.history.History.{History}
 
 -- a run that was begun, as plain data
 abbrev pub seen_begun : RealBegun → Begun
@@ -63,24 +61,47 @@ seen_entered e = record { run = e.run; listed = e.counts.items }
 abbrev pub seen_kept : KeptRun → Kept
 seen_kept k = record { run = k.run; listed = k.counts.items }
 
--- the names of all reels
-abbrev pub book_names : History → List (List ℕ)
-book_names b = map (λ name. name.items) b.names.items
+-- whether there is room for one more member of the list
+abbrev pub has_room : {X : Type 0} → Vec X Global → Bool
+has_room xs = nat_lt (vec_len xs) (vec_capacity xs)
+
+-- which lists of a history have room for one more member
+pub record Rooms : Type 0 where
+  pub counts : Bool
+  pub opens : Bool
+  pub lists : Bool
+  pub writings : Bool
+  pub entered : Bool
+
+-- a history, as plain data, with the names of all reels
+pub record HistoryHeld : Type 0 where
+  pub names : List (List ℕ)
+  pub counts : List Count
+  pub opens : List Opening
+  pub lists : List (List VolumeCount)
+  pub writings : List Writing
+  pub entered : List Entered
+  pub rooms : Rooms
+
+-- nothing was added to the history
+abbrev pub IsSameHistory : HistoryHeld → HistoryHeld → Type 0
+IsSameHistory old new = new ≡ record old { rooms = new.rooms }
 
 -- the world that these parts are, as plain data
-abbrev pub world_of : ServerState → List RealConnection → List RealBegun → Option RealCaller → Option ℕ → Option KeptRun → History → List DatesEntry → World
-world_of h connections begun caller own kept history dates = record {
+abbrev pub world_of : ServerState → List Connection → List RealBegun → Option RealCaller → Option ℕ → Option KeptRun → HistoryHeld → Option (ℕ × AttemptFault)
+    → List DatesEntry → World
+world_of h connections begun caller own kept history failure dates = record {
   server = h;
-  connections = map plain_connection connections;
+  connections = connections;
   begun = map seen_begun begun;
   caller = option_map seen_caller caller;
   own = own;
-  counts = map (seen_count (book_names history)) history.counts.items;
-  opens = map (seen_opening (book_names history)) history.opens.items;
-  lists = seen_lists history.lists.items;
-  writings = map (seen_writing (book_names history)) history.writings.items;
-  entered = map seen_entered history.entered.items;
+  counts = history.counts;
+  opens = history.opens;
+  lists = history.lists;
+  writings = history.writings;
+  entered = history.entered;
   kept = option_map seen_kept kept;
-  failure = history.failure;
+  failure = failure;
   dates = dates;
 }

@@ -1,8 +1,7 @@
 -- The effect of a turn of the server on a connection, and the reel that it opened for writing or
 -- wrote on. No public contract needs it.
-use Rattle.std.specs.Prelude.{◌≡◌, ℕ, zero, suc, ◌<◌, ◌==◌, Bool, true, false, not, ◌||◌, if◌then◌else◌, List, ◌++◌, length, Contains, option_map, Option, Some, None, vec_len, vec_capacity}
+use Rattle.std.specs.Prelude.{◌≡◌, ℕ, ◌<◌, ◌==◌, Bool, true, false, not, ◌||◌, if◌then◌else◌, List, ◌++◌, length, Contains, option_map, Option, Some, None}
 use Rattle.std.specs.Option.{option_to_list}
-use Rattle.rmt_wire.specs.Counted.{raised}
 use Rattle.rmt_wire.specs.Request.{PlainRequest}
 use Rattle.rmt_wire.specs.Reply.{PlainReply}
 use Rattle.rmt_wire.specs.declared.errno.TheConstants.{EBADF, EACCES}
@@ -22,11 +21,10 @@ use Rattle.tape_host.specs.declared.turn.Turn.{Turn}
 use Rattle.tape_host.specs.declared.turn.Turn.TheVariants as turns
 use Rattle.tape_host.specs.Servers.{Hosted, hosted, side_at, ended}
 use Rattle.tape_host.specs.Turns.{carried_of, Carries, GivesNothing, GivesFault}
-use Rattle.world_model.specs.World.{Connection, AttemptState}
+use Rattle.world_model.specs.World.{Connection}
 use Rattle.world_model.specs.Standing.{HasReel}
-use Rattle.world_model.specs.Changes.{accepted, noted_error, answered, opening, without_server, first_name, writing}
-use Rattle.tape_world.specs.declared.history.History.{History}
-use Rattle.tape_world.specs.Seen.{seen_openings, seen_lists, seen_writings}
+use Rattle.world_model.specs.Changes.{answered, opening, without_server, first_name, writing}
+use Rattle.tape_world.specs.Seen.{HistoryHeld, Rooms}
 
 -- The effect of a turn of connection `k`: on the server, and on the connection, which `becomes`
 -- describes.
@@ -93,35 +91,21 @@ written_in h k (turns.Carried c) = name_written_by c h k
 written_in h k turn = None
 
 -- the name of each reel of the library is among `names`
-abbrev pub IsLibraryKnown : List (List ℕ) → TapeLibrary → Type 0
-IsLibraryKnown names s = (name : List ℕ) → HasReel s name → Contains names name
+pub record IsLibraryKnown (names : List (List ℕ)) (s : TapeLibrary) : Type 0 where
+  pub each : (name : List ℕ) → HasReel s name → Contains names name
 
 -- the history has room for everything that a turn may add
-pub record HasRoom (b : History) : Type 0 where
-  pub opens : vec_len b.opens < vec_capacity b.opens
-  pub lists : vec_len b.lists < vec_capacity b.lists
-  pub writings : vec_len b.writings < vec_capacity b.writings
-
--- nothing was added to the history
-pub record IsSameHistory (old new : History) : Type 0 where
-  pub names : new.names ≡ old.names
-  pub counts : new.counts ≡ old.counts
-  pub opens : new.opens.items ≡ old.opens.items
-  pub lists : new.lists.items ≡ old.lists.items
-  pub writings : new.writings.items ≡ old.writings.items
-  pub entered : new.entered ≡ old.entered
-  pub failure : new.failure ≡ old.failure
+pub record HasRoom (rooms : Rooms) : Type 0 where
+  pub opens : rooms.opens ≡ true
+  pub lists : rooms.lists ≡ true
+  pub writings : rooms.writings ≡ true
 
 -- The turn of connection `k` was noted, when the client had this list. If it opened a reel for
 -- writing, the opening and the list were added, and if it wrote on a reel, the writing was.
-pub record IsNoted (old : History) (list : List VolumeCount) (h : ServerState) (k : ℕ) (turn : Turn) (new : History) : Type 0 where
+pub record IsNoted (old : HistoryHeld) (list : List VolumeCount) (h : ServerState) (k : ℕ) (turn : Turn) (new : HistoryHeld) : Type 0 where
   pub names : new.names ≡ old.names
   pub counts : new.counts ≡ old.counts
-  pub opens : seen_openings old.names.items new.opens.items
-      ≡ seen_openings old.names.items old.opens.items ++ option_to_list (option_map (opening k) (opened_in h k turn))
-  pub lists : seen_lists new.lists.items ≡ seen_lists old.lists.items ++ option_to_list (option_map (λ reel. list) (opened_in h k turn))
-  pub writings : seen_writings old.names.items new.writings.items
-      ≡ seen_writings old.names.items old.writings.items
-      ++ option_to_list (option_map (writing k (length old.opens.items)) (written_in h k turn))
+  pub opens : new.opens ≡ old.opens ++ option_to_list (option_map (opening k) (opened_in h k turn))
+  pub lists : new.lists ≡ old.lists ++ option_to_list (option_map (λ reel. list) (opened_in h k turn))
+  pub writings : new.writings ≡ old.writings ++ option_to_list (option_map (writing k (length old.opens)) (written_in h k turn))
   pub entered : new.entered ≡ old.entered
-  pub failure : new.failure ≡ old.failure

@@ -50,16 +50,16 @@ impl<'a> Counts<'a> {
         self.counts.len()
     }
 
-    /// Whether there are no counted volumes.
+    /// Returns whether the list of counted volumes is empty.
     pub fn is_empty(&self) -> bool
-        // Returns whether there are no counted volumes.
+        // Returns true if and only if there are no counted volumes.
         ensures { (result ≡ true) ↔ (self.now ≡ []) }
     {
         self.counts.is_empty()
     }
 
-    /// Returns the counted volume with index `i`, counted from 0, or None if there is no such
-    /// volume.
+    /// Returns the counted volume at index `i`, or None if `i` is past the last volume. The first
+    /// volume has index 0.
     pub fn get(&self, i: usize) -> Option<CountedVolume<'a>>
         // Returns the counted volume at the given index.
         ensures { option_map plain_count result ≡ slice_get self.now i }

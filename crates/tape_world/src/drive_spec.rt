@@ -19,11 +19,13 @@ pub struct DriveSpec<'a> {
     pub reels: &'a [&'a [u8]],
 }
 
-/// Whether a world can have these drives. There must be 1 to `drives::DRIVE_LIMIT`, no two with the
-/// same name. No two of all their reels can have the same name.
+/// Returns whether a world can be made with the given drives. There must be 1 to
+/// `drives::DRIVE_LIMIT`, no two with the same name. No two of all their reels can have the same
+/// name.
+#[tactic(auto, using(std::proofs::lemmas::Grind::common_steps, crate::proofs::Apart::are_good, crate::proofs::Apart::names_alike))]
 pub fn good_drives(drives: &[DriveSpec<'_>]) -> bool
-    // Returns whether a world can have these drives. There must be 1 to 64 drives, no two with the
-    // same name, and no two reels with the same name.
+    // Returns true if and only if a world can be made with the given drives. There must be 1 to 64
+    // drives. No two drives can have the same name, and no two reels can have the same name.
     ensures { (result ≡ true) ↔ AreGoodDrives (map plain_drive_spec drives.now) }
 {
     if drives.is_empty() || DRIVE_LIMIT < drives.len() {
@@ -33,6 +35,7 @@ pub fn good_drives(drives: &[DriveSpec<'_>]) -> bool
 }
 
 /// Whether no two drives have the same name.
+#[tactic(auto, using(drives::proofs::Arranging::differ_yet))]
 fn names_differ(drives: &[DriveSpec<'_>]) -> bool
     ensures { result ≡ are_distinct (map (λ d. d.name.now) drives.now) }
 {
@@ -67,6 +70,7 @@ fn any_named(drives: &[DriveSpec<'_>], name: &[u8]) -> bool
 }
 
 /// Whether no two reels of all the drives have the same name.
+#[tactic(auto, using(crate::proofs::Apart::reels_no, crate::proofs::Apart::reels_yet))]
 fn reels_differ(drives: &[DriveSpec<'_>]) -> bool
     ensures { result ≡ are_distinct (flat_map reels_of drives.now) }
 {
@@ -89,6 +93,7 @@ fn is_reel_again(drives: &[DriveSpec<'_>]) -> bool
 }
 
 /// Whether no two of the names are the same.
+#[tactic(auto, using(drives::proofs::Arranging::differ_yet))]
 fn all_differ(names: &[&[u8]]) -> bool
     ensures { result ≡ are_distinct (map (λ n. n.now) names.now) }
 {

@@ -1,8 +1,12 @@
 //! The history of a world: what is recorded of everything that happened.
 //!
 //! A count is the record of a volume that the client wrote whole to a reel.
+ghost use Rattle.std.specs.Prelude.{◌≡◌, ◌∷◌, ◌++◌, [], true, IfOk};
+ghost use Rattle.tape_world.specs.Seen.{IsSameHistory, seen_entered};
 
-use dump_client::{AttemptFault, VolumeCount};
+use dump_client::VolumeCount;
+use std::alloc::AllocError;
+use std::marker::Model;
 
 /// A volume that was counted, of the run with this number, written on this connection. `reel` is
 /// the index of the reel's name among all names.
@@ -42,7 +46,8 @@ pub(crate) struct Entered {
     pub(crate) counts: Vec<VolumeCount>,
 }
 
-/// The record of everything that happened, in order of time.
+/// The record of everything that happened, in order of time. Contracts see it as plain data, with
+/// the name of each reel in place of the name's index.
 #[derive(Drop)]
 pub(crate) struct History {
     /// The names of all reels.
@@ -54,6 +59,53 @@ pub(crate) struct History {
     pub(crate) lists: Vec<Vec<VolumeCount>>,
     pub(crate) writings: Vec<Writing>,
     pub(crate) entered: Vec<Entered>,
-    /// The volume and the cause, if the last event made an attempt fail.
-    pub(crate) failure: Option<(u32, AttemptFault)>,
+}
+
+impl Model for History {
+    ghost use Rattle.std.specs.Prelude.{map};
+    ghost use Rattle.tape_world.specs.Seen.{HistoryHeld, has_room, seen_count, seen_entered, seen_lists, seen_openings, seen_writings};
+
+    ghost Value = { HistoryHeld };
+
+    ghost view = { λ b. record {
+      names = map (λ n. n.items) b.names.items;
+      counts = map (seen_count (map (λ n. n.items) b.names.items)) b.counts.items;
+      opens = seen_openings b.names.items b.opens.items;
+      lists = seen_lists b.lists.items;
+      writings = seen_writings b.names.items b.writings.items;
+      entered = map seen_entered b.entered.items;
+      rooms = record {
+        counts = has_room b.counts;
+        opens = has_room b.opens;
+        lists = has_room b.lists;
+        writings = has_room b.writings;
+        entered = has_room b.entered;
+      };
+    } };
+}
+
+impl History {
+    /// Reserves room for one more count. Fails only if an allocation fails.
+    pub(crate) fn reserve_count(&mut self) -> Result<(), AllocError>
+        ensures room { IfOk result (λ done. self.new.rooms.counts ≡ true) }
+        ensures same { IsSameHistory self.old self.new }
+    {
+        self.counts.reserve(1)
+    }
+
+    /// Reserves room for one more run that is entered. Fails only if an allocation fails.
+    pub(crate) fn reserve_entered(&mut self) -> Result<(), AllocError>
+        ensures room { IfOk result (λ done. self.new.rooms.entered ≡ true) }
+        ensures same { IsSameHistory self.old self.new }
+    {
+        self.entered.reserve(1)
+    }
+
+    /// Adds a run that was entered. There must be room for it.
+    pub(crate) fn add_entered(&mut self, entered: Entered)
+        requires { self.old.rooms.entered ≡ true }
+        ensures { self.new ≡ record self.old { entered = self.old.entered ++ seen_entered entered ∷ []; rooms = self.new.rooms } }
+    {
+        self.entered.push_reserved(entered);
+    }
 }

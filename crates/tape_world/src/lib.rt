@@ -1,4 +1,5 @@
-//! A dump client, a tape server, strangers and an operator, and the events that happen to them.
+//! Runs a dump client and a tape server in memory, together with strangers, an operator, and the
+//! events that happen to them.
 //!
 //! `World` has a client and a server, drives with reels in memory, and all connections that were
 //! ever made, with the bytes in transit. `run` makes a list of events happen, each a variant of
@@ -7,25 +8,27 @@
 //!
 //! # Contracts
 //!
-//! `WorldState` contains a server, a client, and the bytes in transit between them. The *real*
-//! server is a `Host` of `tape_host`, and the *real* client is a `Client` of `dump_client`.
-//! `WorldState` has one method for each of the seventeen events. The contract of each method is the
-//! clause `IsEvent`, which allows two outcomes. In the first outcome, the event is possible and
-//! happens, and `world_model` defines the new world. In the second outcome, the world stays as it
-//! was, because the event is not possible or because an allocation failed.
+//! `WorldState` contains a server, a client, and the bytes in transit between them. The server is a
+//! `Host` of the crate `tape_host`, and the client is a `Client` of the crate `dump_client`.
+//! `WorldState` has one method for each of the seventeen kinds of events. The contract of each
+//! method is the clause `IsEvent`, which allows two outcomes. In the first outcome, the event is
+//! possible, and the method changes the world as the crate `world_model` defines. In the second
+//! outcome, the world stays as it was, because the event is not possible or because an allocation
+//! failed.
 //!
-//! `WorldState` also has an invariant with three parts. First, the client's source has the payload
-//! of the client's run, and this source has no injected fault. Second, if a run is saved, the world
-//! also has the checkpoint text of the saved run with the saved list of counts. Third, the name of
-//! each reel is one of the names that were given at the start. Some methods also require a world
-//! that meets `IsWorldKept`. `World::make` calls these methods, and it is proved that the world
-//! meets `IsWorldKept` before each call. `WorldState` is private to the crate. But `run` calls a
-//! method of `WorldState` for each event, so docs/PROMISES.md lists these methods. The section
-//! `world_model` explains *count*, *the count's own session*, *the client's list*, *foreign* and
-//! *reopens*.
+//! `WorldState` also has an invariant with three parts. First, the client reads the payload of its
+//! run from a source that has no injected fault. Second, if a run is saved outside the client,
+//! `WorldState` also contains the run's checkpoint text, with the saved list of counts. Third, each
+//! reel has one of the names that were given at the start. Some methods also require that the world
+//! satisfies `IsWorldKept`, the invariant of the crate `world_model`. `World::make` calls these
+//! methods, and it is proved that the world satisfies `IsWorldKept` before each call. `WorldState`
+//! is private to the crate. This page lists the methods of `WorldState` because `run` calls one of
+//! them for each event. The section `world_model` explains *count*, *the count's own session*, *the
+//! client's list*, *foreign* and *reopens*.
 #![tactic(auto)]
 
 mod caller;
+mod connections;
 mod counts;
 mod drive_spec;
 mod event;

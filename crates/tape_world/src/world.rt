@@ -44,21 +44,21 @@ impl Model for World {
 }
 
 impl World {
-    /// Makes a world in which nothing has happened yet, with these drives and blank reels, and
-    /// without connections or a client. `good_drives` must be true of the drives.
+    /// Makes a world with the given drives and blank reels, in which nothing has happened yet. The
+    /// world has no connections and no client. `good_drives` must be true of the drives.
     ///
     /// Fails only if an allocation fails.
     pub fn new(alloc: Global, drives: &[DriveSpec<'_>]) -> Result<World, AllocError>
         requires { AreGoodDrives (map plain_drive_spec drives.now) }
-        // Returns a world with the given drives and nothing else. All reels are empty. The call
-        // fails only if an allocation fails.
+        // Returns a world with the given drives and nothing else. All reels of the drives are
+        // empty. The call fails only if an allocation fails.
         ensures { IfOk result (λ w. w ≡ first_world (map plain_drive_spec drives.now)) }
     {
         let world_state = WorldState::new(alloc, drives)?;
         Ok(World { world_state })
     }
 
-    /// States what is true in each world, whatever happened in it. The headline is:
+    /// States what is true in each world, whatever events happened in the world. The headline is:
     ///
     /// - Each reel that was counted and not reopened holds exactly its volume's records and one
     ///   file mark. `entry` returns just these for such a reel.
@@ -93,55 +93,64 @@ impl World {
     ///
     /// Does nothing: its contract is what holds of the world.
     pub fn kept(&self)
-        // The *headline* is the main result about each world. It consists of three statements:
-        // `counted_reels`, `no_two_holders` and `dumpdates_gained`. Each statement is a clause of
-        // this call. The clause `headline` states all three as one record, `Headline`.
+        // The *headline* is the main result about each world. The headline has three statements:
+        // `counted_reels`, `no_two_holders` and `dumpdates_gained`. Each statement is also a clause
+        // of this call. The clause `headline` states all three as one record, `Headline`.
         ensures headline { Headline self.now }
-        // Some list of events led to this world from a first world with drives that `good_drives`
-        // accepts. So each law about lists of events applies to this world.
+        // Some list of events led from a *first world*, in which nothing had happened, to this
+        // world. `good_drives` accepts the drives of the first world. So each law about lists of
+        // events applies to this world.
         ensures reached { IsReached self.now }
-        // Each world meets `IsWorldKept`. The other clauses of this law are proved from
-        // `IsWorldKept`.
+        // Each world satisfies the invariant `IsWorldKept` of the crate `world_model`. The clauses
+        // about drives, reels, counts, requests and dumpdates are proved from `IsWorldKept`.
         ensures kept { IsWorldKept self.now }
-        // The holder of a drive is the connection whose session has the drive open, even if the
-        // session no longer has a reel in the drive. No two sessions have the same drive open.
+        // The *holder* of a drive is the connection whose session has the drive open. If the
+        // session no longer has a reel in the drive, the session's connection is still the holder.
+        // No two sessions have the same drive open.
         ensures holders { AreHeld self.now.server }
         ensures no_two_holders { NoTwoHolders self.now }
-        // If no foreign session reopened a counted reel, the reel holds its volume and nothing
-        // else.
+        // If no foreign session reopened a counted reel, the reel holds exactly the counted volume.
+        // A session *reopens* a counted reel if it opens the reel for writing after the count's own
+        // session did. A session of a stranger or of another run is *foreign* to a count. Any other
+        // session is foreign if, when it opened the reel, the client's list had no volume with the
+        // count's volume number and first block.
         ensures counted_reels { CountedReels self.now }
-        // If no foreign session reopened a counted reel, the reel holds a list of entries, and each
-        // such list has the sum of the counted volume. The sum of a list of entries is the SHA-256
-        // of the record file that has these entries and nothing else.
+        // If no foreign session reopened a counted reel, the reel's entries have the same sum as
+        // the counted volume. The sum of a list of entries is the SHA-256 of the record file that
+        // has these entries and nothing else.
         ensures counted_sums { CountedSums self.now }
-        // If no foreign session reopened a counted reel, `World::entry` returns the entries of the
-        // counted volume.
+        // If no foreign session reopened a counted reel, `World::entry` returns exactly the counted
+        // volume's entries for this reel.
         ensures volumes_told { TellsVolumes self.now }
-        // The history lists the runs that were entered in dumpdates. Entering these runs in an
-        // empty list, one by one and in the same order, gives dumpdates. No run was entered twice.
-        // When a run was entered, the counts in the client's list covered all blocks of the run, in
-        // order. The history has each of these counts.
+        // The world's history lists the runs that were entered in dumpdates. Entering these runs in
+        // an empty list, in the same order, results in exactly the entries of dumpdates. No run was
+        // entered twice. The *client's list* is the list of counted volumes that the client holds.
+        // When a run was entered, the volumes in this list contained all blocks of the run, in
+        // order. The history has a count of each volume in this list.
         ensures dumpdates_gained { DumpdatesGained self.now }
         // On each connection of the client, the server has carried out as many requests as the
         // client sent, or one fewer.
         ensures sent_requests { SentRequests self.now }
-        // Suppose that no foreign session reopened a counted reel. Then only the count's own
-        // session has written on the reel since that session opened it.
+        // If no foreign session reopened a counted reel, only the count's own session has written
+        // on this reel since that session opened the reel.
         ensures reels_not_reopened { ReelsNotReopened self.now }
-        // If the client opens a reel for writing in an attempt, the session of this attempt is not
-        // foreign to the counts in the client's list.
+        // Suppose that the client opened a reel for writing in its current attempt, and has not
+        // counted the attempt's volume yet. Then the attempt's session is not foreign (see
+        // `counted_reels`) to the count of any volume in the client's list.
         ensures own_opens { OwnOpens self.now }
-        // A latched reel belongs to one session. The reel is first on the stack of the drive that
-        // this session holds.
+        // A reel is *latched* while a session has the reel in its drive. No two sessions have the
+        // same reel latched. A latched reel is the first reel on the stack of this drive, and the
+        // session's connection is the drive's holder.
         ensures latched_reels { LatchedReels self.now }
-        // Once the server has accepted the label of an attempt, the attempt's reel holds exactly
-        // what the attempt's accepted writes wrote. The clause promises this only until a write of
-        // the attempt meets a device fault, or another session writes on the reel. During this
-        // time, if the session has the reel in its drive, and the session's MTOFFL is not carried
-        // out yet, the session's position is the reel's end.
+        // This clause makes two promises about an attempt whose label the server has accepted. Both
+        // promises end when a write of the attempt fails with a device fault, or when another
+        // session writes on the attempt's reel. First, the attempt's reel holds exactly what the
+        // attempt's accepted writes wrote. Second, while the attempt's session has the reel in its
+        // drive, the reel is positioned at its end. The second promise also ends when the server
+        // carries out the attempt's MTOFFL.
         ensures labelled_reels { LabelledReels self.now }
-        // Each volume in the client's list was counted under the number of the client's run. A run
-        // that has not begun has no counts.
+        // For each volume in the client's list, the history has a count with the number of the
+        // client's run. The history has no count of a run that has not begun.
         ensures clients_counts { ClientsCounts self.now }
     {
         let _ = &self.world_state;
@@ -149,6 +158,7 @@ impl World {
     }
 
     /// Makes one event happen. If it fails, nothing has changed.
+    #[tactic(auto, using(crate::proofs::RunningOn::reached_on))]
     pub(crate) fn make(&mut self, event: &Event<'_>) -> Result<(), EventStop>
         ensures { IsEvent self.old (plain_event event.now) result self.new }
     {

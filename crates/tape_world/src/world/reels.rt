@@ -54,16 +54,17 @@ fn find_online<'a>(host: &'a Host, count: usize, name: &[u8]) -> Option<&'a Trou
 }
 
 impl World {
-    /// Returns the length of entry `i`, counted from 0, on the reel with the given name, and copies
-    /// the entry's bytes into `into`. The length of a record is its number of bytes, at least 1,
-    /// and the length of a mark is 0. Returns none past the last entry, and if there is no such
-    /// reel.
+    /// Returns the length of entry `i` of the reel with the given name, and copies the entry's
+    /// bytes into `into`. The first entry has index 0. The length of a record is its number of
+    /// bytes, at least 1, and the length of a mark is 0. Returns none past the last entry, and if
+    /// there is no such reel.
     ///
     /// Copies the first bytes of the record, as many as fit, to the front of `into`, and changes no
     /// more of it.
+    #[tactic(auto, using(crate::proofs::Online::held_there))]
     pub fn entry(&self, reel: &[u8], i: usize, into: &mut [u8]) -> Option<usize>
-        // Returns the length of an entry, and copies as many bytes of the entry as fit into the
-        // caller's buffer. The reel can be on a stack, in the bin, or open in a drive.
+        // Returns the length of the entry (a record or a file mark), and copies as many bytes of
+        // the entry as fit into `into`. The reel can be on a stack, in the bin, or open in a drive.
         ensures told { result ≡ entry_length (entry_on self.now reel.now i) }
         ensures copied { into.new ≡ with_front (entry_bytes (entry_on self.now reel.now i)) into.old }
     {

@@ -15,23 +15,24 @@ use drives::{ListStacks, ListedReel, LocalHolds};
 use dump_client::{AttemptFault, Client, ListBlocks};
 use dumpdates::Dates;
 use rmt_server::Session;
-use world_connections::find;
 
 impl World {
-    /// Returns all volumes that were counted, in order.
+    /// Returns all volumes that were counted, in the order in which they were counted.
     pub fn counts(&self) -> Counts<'_>
         // Returns the counted volumes.
         ensures { result ≡ self.now.counts }
     {
+        let history = &self.world_state.history;
         Counts {
-            names: &self.world_state.history.names,
-            counts: &self.world_state.history.counts,
+            names: &history.names,
+            counts: &history.counts,
         }
     }
 
     /// Returns the entries of dumpdates.
     pub fn dates(&self) -> &Dates
-        // Returns the entries of dumpdates. The types allow only this body, so there is no edit.
+        // Returns the entries of dumpdates. The types allow no other body, so no wrong body is
+        // tried.
         ensures { result.now ≡ self.now.dates }
     {
         &self.world_state.dates
@@ -43,13 +44,13 @@ impl World {
         // cause. Otherwise the call returns `None`.
         ensures { result ≡ self.now.failure }
     {
-        self.world_state.history.failure
+        self.world_state.failure
     }
 
-    /// Returns the number of the connection of the client's attempt, if an attempt is under way.
+    /// Returns the connection number of the client's attempt, if an attempt is under way.
     pub fn own(&self) -> Option<usize>
-        // Returns the number of the connection of the client's attempt, or `None` if no attempt is
-        // under way.
+        // Returns the connection number of the client's attempt, or `None` if no attempt is under
+        // way.
         ensures { result ≡ self.now.own }
     {
         self.world_state.own
@@ -57,7 +58,8 @@ impl World {
 
     /// Returns the client, if there is a client.
     pub fn client(&self) -> Option<&Client<ListBlocks>>
-        // Returns the real client. The client's source has the payload of its run.
+        // Returns the client, if there is one. The client's source contains the payload of the
+        // client's run.
         ensures told { option_map client_told (option_copied result) ≡ option_map caller_told self.now.caller }
         ensures payload { IfSome (option_copied result) (λ client. IsPayloadOf self.now client.source) }
     {
@@ -66,10 +68,13 @@ impl World {
         Some(&caller.client)
     }
 
-    /// Returns the session of a connection, if the server's side of the connection is live. The
-    /// number of its seat is that of the connection.
+    /// Returns the session of the given connection, if the server's side of the connection is live.
+    /// The number of its seat is that of the connection.
+    #[tactic(auto, using(crate::proofs::Server::side_found))]
     pub fn session(&self, connection: usize) -> Option<&Session<LocalHolds, ListStacks>>
-        // Returns the real session of a connection whose server's side is live.
+        // If the server's side of the connection is live, the call returns the session of this
+        // connection. The session's seat, which holds drives for the session, has the same number
+        // as the connection.
         ensures seen { option_map (λ s. session_seen s.opened) (option_copied result)
             ≡ option_map (λ s. s.session) (side_of self.now.server connection) }
         ensures number { IfSome (option_copied result) (λ s. s.seat.number ≡ connection) }
@@ -77,16 +82,17 @@ impl World {
         self.world_state.host.session(connection)
     }
 
-    /// Returns how many bytes in transit can reach the server now, and how many can reach the peer
-    /// (the client or a stranger). The server's reader can have room for fewer than are in transit.
-    /// Returns none if there is no such connection.
+    /// Returns how many bytes in transit on the given connection the server can receive now, and
+    /// how many the peer (the client or a stranger) can receive. The server's reader can have room
+    /// for fewer than are in transit. Returns none if there is no such connection.
     pub fn on_way(&self, connection: usize) -> Option<(usize, usize)>
-        // Returns how many bytes in transit can reach the server's side of a connection now, and
-        // how many can reach the peer.
+        // Returns two numbers for the given connection. The first says how many of the bytes in
+        // transit to the server can arrive now. The second says how many of the bytes in transit to
+        // the peer can arrive now.
         ensures { IsOnWay self.now connection result }
     {
         self.kept();
-        let conn = find(&self.world_state.connections, connection)?;
+        let conn = self.world_state.connections.find(connection)?;
         let room = self.world_state.host.room(connection).unwrap_or(0);
         let toward = conn.toward.bytes().len().min(room);
         if !conn.other {
@@ -95,11 +101,11 @@ impl World {
         Some((toward, conn.back.bytes().len()))
     }
 
-    /// Returns the reels on the stack of the first drive with this name, in order. The first is
-    /// latched, or is the next to be. Returns none if there is no such drive.
+    /// Returns the reels on the stack of the first drive with the given name, in order. The first
+    /// is latched, or is the next to be. Returns none if there is no such drive.
     pub fn stack(&self, drive: &[u8]) -> Option<&[ListedReel]>
-        // Returns the stack of the first drive with the given name, or `None` if there is no such
-        // drive.
+        // Returns the stack of the first drive with the given name, or `None` if no drive has this
+        // name.
         ensures { IsStackOf drive.now self.now.server.library (option_map (map rest_slot) (option_copied result)) }
     {
         let drive = self.world_state.host.drive(drive)?;

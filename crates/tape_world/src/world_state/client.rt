@@ -18,7 +18,7 @@ use crate::caller::{Begun, WorldClient};
 use crate::stop::EventStop;
 use dump_client::{Answer, AttemptFault, Client, ListBlocks, Progress, Run, State};
 use std::alloc::{AllocError, Global};
-use world_connections::{AttemptState, Connection, find};
+use world_connections::{AttemptState, Connection};
 
 /// Copies the payload, as blocks of the run. Fails if an allocation fails.
 fn blocks_of(alloc: Global, run: &Run, payload: &[u8]) -> Result<ListBlocks, AllocError>
@@ -104,6 +104,7 @@ pub(super) fn change_caller(caller: &mut Option<WorldClient>, new: Option<WorldC
 /// Starts an attempt of the client, which must be ready, and returns the attempt.
 ///
 /// Fails if an allocation fails. Nothing has changed then.
+#[tactic(auto, using(crate::proofs::Starting::starts))]
 fn start_attempt(caller: &mut Option<WorldClient>) -> Result<AttemptState, EventStop>
     requires { IsReady caller.old }
     ensures { Starts caller.old result caller.new }
@@ -162,13 +163,13 @@ impl WorldState {
         }
     }
 
-    /// Begins a run with this payload, and makes a client for it.
+    /// Begins a run with the given payload, and makes a client for the run.
     ///
     /// Not possible while the client's run is neither finished nor abandoned, or if the payload
     /// does not have the bytes of the run's blocks.
     pub(crate) fn start_run(&mut self, run: &Run, payload: &[u8]) -> Result<(), EventStop>
-        // Begins a run and makes a client for it. Runs are numbered 1, 2, 3 and so on. The saved
-        // run is dropped.
+        // Begins a run, and makes a client for this run. Runs are numbered 1, 2, 3 and so on. If an
+        // earlier run was saved, the saved run is dropped.
         ensures { IsEvent self.old (StartRun run.now payload.now) result self.new }
     {
         let bytes = run.blocks() as usize * run.block_bytes();
@@ -182,12 +183,13 @@ impl WorldState {
         };
         change_caller(&mut self.caller, Some(caller));
         change_kept(&mut self.kept, None);
-        self.history.failure = None;
+        self.failure = None;
         Ok(())
     }
 
     /// Starts an attempt of the client, on a new connection. Not possible unless the client is
     /// ready.
+    #[tactic(auto, using(crate::proofs::Starting::unstarted_sourced, crate::proofs::Starting::started, crate::proofs::Clients::sourced_same))]
     pub(crate) fn connect(&mut self) -> Result<(), EventStop>
         // Starts an attempt of the client, and makes a new connection for this attempt.
         ensures { IsEvent self.old Connect result self.new }
@@ -195,22 +197,22 @@ impl WorldState {
         if !self.is_client_in(State::Ready) {
             return Err(EventStop::NotPossible);
         }
-        self.connections.reserve(1)?;
+        self.connections.reserve()?;
         self.host.prepare()?;
         let dumping = start_attempt(&mut self.caller)?;
         self.host.admit();
         self.connections
-            .push_reserved(Connection::new(self.alloc, Some(dumping)));
+            .add(Connection::new(self.alloc, Some(dumping)));
         self.own = Some(self.connections.len());
-        self.history.failure = None;
+        self.failure = None;
         Ok(())
     }
 
     /// Gives the operator's answer to the client. Not possible unless the client asks, as it does
     /// after an attempt failed.
     pub(crate) fn respond(&mut self, answer: Answer) -> Result<(), EventStop>
-        // Gives the client the operator's answer after a failed attempt. If the answer is to
-        // abandon the run, the saved run is dropped.
+        // Gives the client the operator's answer after a failed attempt. If the operator abandons
+        // the run, the saved run is dropped.
         ensures { IsEvent self.old (Respond answer) result self.new }
     {
         if !self.is_client_in(State::Asking) {
@@ -218,32 +220,33 @@ impl WorldState {
         }
         give_answer(&mut self.caller, answer);
         drop_kept(&mut self.kept, answer);
-        self.history.failure = None;
+        self.failure = None;
         Ok(())
     }
 
-    /// Lets the peer (the client or a stranger) notice the end of the connection, and leave the
+    /// Lets the peer (the client or a stranger) notice that the connection has ended, and leave the
     /// connection. Not possible unless the connection was cut and the peer is still there.
     pub(crate) fn end_at_client(&mut self, connection: usize) -> Result<(), EventStop>
         requires { IsWorldKept self.old }
-        // The peer notices the end of a connection. If the peer is the client, the world records
-        // how the client's attempt ended.
+        // The peer notices that the given connection has ended, and leaves the connection. If the
+        // peer is the client, the client's attempt ends. If the attempt fails, the world records
+        // the failure.
         ensures { IsEvent self.old (EndAtClient connection) result self.new }
     {
-        let Some(conn) = find(&self.connections, connection) else {
+        let Some(conn) = self.connections.find(connection) else {
             return Err(EventStop::NotPossible);
         };
         if !conn.other || !conn.cut {
             return Err(EventStop::NotPossible);
         }
         let is_strangers = conn.dump.is_none();
-        world_connections::end_there(&mut self.connections, connection);
+        self.connections.end_there(connection);
         if is_strangers {
-            self.history.failure = None;
+            self.failure = None;
             return Ok(());
         }
         self.own = None;
-        self.history.failure = end_attempt(&mut self.caller);
+        self.failure = end_attempt(&mut self.caller);
         Ok(())
     }
 }

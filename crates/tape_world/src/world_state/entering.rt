@@ -2,31 +2,39 @@
 //!
 //! A count is the record of a volume that was written whole: its number, its first block and its
 //! number of blocks.
-ghost use Rattle.std.specs.Prelude.{◌≡◌, ◌==◌, IfOk};
+ghost use Rattle.std.specs.Prelude.{◌≡◌, ◌==◌, ◌↔◌, true, IfOk};
 ghost use Rattle.std.specs.List.{list_any};
 ghost use Rattle.world_model.specs.Events.PlainEvent.{Enter};
 ghost use Rattle.tape_world.specs.Holding.{IsEvent};
-ghost use Rattle.tape_world.specs.Saving.{IsEntryOf};
+ghost use Rattle.tape_world.specs.Seen.{seen_entered};
+ghost use Rattle.tape_world.specs.Saving.{IsEnteredIn};
 
 use super::WorldState;
 use super::saving::change_kept;
 use crate::caller::WorldClient;
-use crate::history::Entered;
+use crate::history::{Entered, History};
 use crate::stop::EventStop;
 use std::alloc::{AllocError, Global};
 
-/// Whether the run with this number was entered.
-pub(super) fn has_entered(entered: &[Entered], run: usize) -> bool
+/// Whether the run with this number is among these.
+fn has_run(entered: &[Entered], run: usize) -> bool
     ensures { result ≡ list_any (λ e. e.run == run) entered.now }
 {
     entered.iter().any(|e| e.run == run)
+}
+
+/// Whether the run with this number was entered.
+pub(super) fn has_entered(history: &History, run: usize) -> bool
+    ensures { (result ≡ true) ↔ IsEnteredIn history.now.entered run }
+{
+    has_run(&history.entered, run)
 }
 
 /// Returns the run of this client, with its counts.
 ///
 /// Fails only if an allocation fails.
 fn entered_of(alloc: Global, caller: &WorldClient) -> Result<Entered, AllocError>
-    ensures { IfOk result (IsEntryOf caller.now) }
+    ensures { IfOk result (λ e. seen_entered e ≡ record { run = caller.now.number; listed = caller.now.client.at.counts }) }
 {
     Ok(Entered {
         run: caller.number,
@@ -39,7 +47,7 @@ impl WorldState {
     /// is finished and was not entered yet.
     pub(crate) fn enter(&mut self) -> Result<(), EventStop>
         // Enters the client's run in dumpdates, if the run is finished and was not entered before.
-        // The history lists the entered run with the client's list of counts. The saved run is
+        // The history then lists the run, with the client's list of counts. The saved run is
         // dropped.
         ensures { IsEvent self.old Enter result self.new }
     {
@@ -49,17 +57,17 @@ impl WorldState {
         let Some(entry) = caller.client.finished() else {
             return Err(EventStop::NotPossible);
         };
-        if has_entered(&self.history.entered, caller.number) {
+        if has_entered(&self.history, caller.number) {
             return Err(EventStop::NotPossible);
         }
         let entered = entered_of(self.alloc, caller)?;
-        self.history.entered.reserve(1)?;
+        self.history.reserve_entered()?;
         if self.dates.enter(entry).is_err() {
             return Err(EventStop::OutOfMemory);
         }
-        self.history.entered.push_reserved(entered);
+        self.history.add_entered(entered);
         change_kept(&mut self.kept, None);
-        self.history.failure = None;
+        self.failure = None;
         Ok(())
     }
 }

@@ -1,23 +1,22 @@
 //! The event in which bytes reach the client or a stranger.
 //!
 //! A count is the record of a volume that the client wrote whole to a reel.
-ghost use Rattle.std.specs.Prelude.{◌≡◌, ◌==◌, ◌<◌, ◌≤◌, ◌++◌, length, map, option_to_list, slice_get};
-ghost use Rattle.std.specs.Vec.{vec_capacity, vec_len};
+ghost use Rattle.std.specs.Prelude.{◌≡◌, ◌≤◌, ◌++◌, ℕ, List, true, length, map, option_to_list, slice_get};
 ghost use Rattle.world_model.specs.Changes.{changed, reel_opened_by};
 ghost use Rattle.world_model.specs.Events.PlainEvent.{ToClient};
 ghost use Rattle.world_model.specs.Kept.{IsWorldKept};
 ghost use Rattle.tape_world.specs.Calling.{failure_of};
 ghost use Rattle.tape_world.specs.Hearing.{HasHeard, IsAttempting, history_count, heard_on, is_over, own_after};
 ghost use Rattle.tape_world.specs.Holding.{IsEvent};
-ghost use Rattle.tape_world.specs.Seen.{name_at, book_names, seen_opening};
-ghost use Rattle.world_connections.specs.Connection.{plain_connection};
+ghost use Rattle.tape_world.specs.Seen.{name_at, seen_opening};
+ghost use Rattle.tape_world.specs.Connections.{IsThere};
 
 use super::WorldState;
 use crate::caller::WorldClient;
+use crate::connections::Connections;
 use crate::history::{Count, History, Opening};
 use crate::stop::EventStop;
 use dump_client::{AttemptFault, Client, ListBlocks, Progress, State, VolumeCount};
-use world_connections::{Connection, find};
 
 /// The outcome of bytes that the client heard.
 #[derive(Clone, Copy)]
@@ -81,57 +80,68 @@ fn hear(caller: &mut Option<WorldClient>, piece: &[u8]) -> PieceHeard
     }
 }
 
-/// Returns the index of the name of the reel that the connection opened first, or the number of
-/// names if it opened none.
-fn reel_of(history: &History, connection: usize) -> usize
-    ensures { name_at (book_names history.now) result
-        ≡ reel_opened_by connection (map (seen_opening (book_names history.now)) history.now.opens.items) }
+/// Returns the index of the reel's name in the first opening of the connection, or `none` if there
+/// is no such opening.
+fn reel_in(opens: &[Opening], connection: usize, none: usize) -> usize
+    ensures { (names : List (List ℕ)) → length names ≤ none → name_at names result ≡ reel_opened_by connection (map (seen_opening names) opens.now) }
 {
-    for opening in &history.opens {
+    for opening in opens {
         if opening.connection == connection {
             return opening.reel;
         }
     }
-    history.names.len()
+    none
 }
 
-/// Appends to the history's `counts` the volume that the client has counted, if it has. `reel` is
-/// the index of its reel's name in the history.
-fn keep(counts: &mut Vec<Count>, heard: &PieceHeard, reel: usize, connection: usize)
-    requires { vec_len counts.old < vec_capacity counts.old }
-    ensures { counts.new.items ≡ counts.old.items ++ map (history_count heard.now.run reel connection) (option_to_list heard.now.count) }
+/// Returns the index of the name of the reel that the connection opened first, or the number of
+/// names if it opened none.
+fn reel_of(history: &History, connection: usize) -> usize
+    ensures { name_at history.now.names result ≡ reel_opened_by connection history.now.opens }
 {
-    if let Some(volume) = heard.count {
-        counts.push_reserved(Count {
-            run: heard.run,
-            volume: volume.volume,
-            first: volume.first,
-            count: volume.count,
-            reel,
-            connection,
-        });
+    reel_in(&history.opens, connection, history.names.len())
+}
+
+impl History {
+    /// Appends the volume that the client has counted, if it has. `reel` is the index of its reel's
+    /// name. There must be room for one more count.
+    fn keep(&mut self, heard: &PieceHeard, reel: usize, connection: usize)
+        requires { self.old.rooms.counts ≡ true }
+        ensures { self.new ≡ record self.old {
+          counts = self.old.counts ++ map (history_count heard.now.run (name_at self.old.names reel) connection) (option_to_list heard.now.count);
+          rooms = self.new.rooms;
+        } }
+    {
+        if let Some(volume) = heard.count {
+            self.counts.push_reserved(Count {
+                run: heard.run,
+                volume: volume.volume,
+                first: volume.first,
+                count: volume.count,
+                reel,
+                connection,
+            });
+        }
     }
 }
 
 /// Removes the `count` bytes that arrived on the client's connection. If the attempt is over, the
 /// client leaves the connection.
 fn deliver_or_leave(
-    connections: &mut [Connection],
+    connections: &mut Connections,
     own: &mut Option<usize>,
     connection: usize,
     count: usize,
     is_over: bool,
 )
-    requires first { 1 ≤ connection }
-    requires last { connection ≤ length connections.old }
-    ensures connections { map plain_connection connections.new ≡ changed (heard_on is_over count) (map plain_connection connections.old) connection }
+    requires { IsThere connections.old.list connection }
+    ensures connections { connections.new.list ≡ changed (heard_on is_over count) connections.old.list connection }
     ensures own { own.new ≡ own_after is_over own.old }
 {
     if !is_over {
-        world_connections::deliver_back(connections, connection, count);
+        connections.deliver_back(connection, count);
         return;
     }
-    world_connections::end_there(connections, connection);
+    connections.end_there(connection);
     *own = None;
 }
 
@@ -140,17 +150,19 @@ impl WorldState {
     /// peer has left, `count` is 0, or fewer bytes are in transit.
     pub(crate) fn to_client(&mut self, connection: usize, count: usize) -> Result<(), EventStop>
         requires { IsWorldKept self.old }
-        // Delivers bytes to the peer of a connection. The client reads the bytes. A stranger drops
-        // them.
+        // Delivers the first `count` bytes in transit to the peer of the given connection. If the
+        // peer is the client, the client reads the bytes. If the peer is a stranger, the stranger
+        // drops the bytes.
         //
-        // If the client counts a volume, a count is added to the history. This count names the run,
-        // the client's connection, and the reel that this connection opened.
-        //
-        // If these bytes make the attempt fail or finish, the client leaves the attempt's
+        // If the delivered bytes make the client count a volume, the history gets a count. The
+        // count names the run, the client's connection, and the reel that was opened on this
         // connection.
+        //
+        // If the delivered bytes end the client's attempt, with or without a failure, the client
+        // leaves the attempt's connection.
         ensures { IsEvent self.old (ToClient connection count) result self.new }
     {
-        let Some(conn) = find(&self.connections, connection) else {
+        let Some(conn) = self.connections.find(connection) else {
             return Err(EventStop::NotPossible);
         };
         let way = conn.back.bytes();
@@ -158,14 +170,14 @@ impl WorldState {
             return Err(EventStop::NotPossible);
         }
         if conn.dump.is_none() {
-            world_connections::deliver_back(&mut self.connections, connection, count);
-            self.history.failure = None;
+            self.connections.deliver_back(connection, count);
+            self.failure = None;
             return Ok(());
         }
-        self.history.counts.reserve(1)?;
+        self.history.reserve_count()?;
         let reel = reel_of(&self.history, connection);
         let heard = hear(&mut self.caller, &way[..count]);
-        keep(&mut self.history.counts, &heard, reel, connection);
+        self.history.keep(&heard, reel, connection);
         deliver_or_leave(
             &mut self.connections,
             &mut self.own,
@@ -173,7 +185,7 @@ impl WorldState {
             count,
             heard.is_over,
         );
-        self.history.failure = heard.failure;
+        self.failure = heard.failure;
         Ok(())
     }
 }

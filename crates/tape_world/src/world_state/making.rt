@@ -5,9 +5,9 @@ ghost use Rattle.drives.specs.TapeLibrary.{EachReelOnce, IsDriveNamed};
 ghost use Rattle.drives.specs.ListLibrary.{IsLibrary, library_of, StacksCanFail};
 ghost use Rattle.world_model.specs.First.{AreGoodDrives, first_world};
 ghost use Rattle.tape_world.specs.Making.{plain_drive_spec, reels_of, blank_slots, laid_library, with_laid, with_slots};
-ghost use Rattle.tape_world.specs.Seen.{book_names};
 
 use super::WorldState;
+use crate::connections::Connections;
 use crate::drive_spec::DriveSpec;
 use crate::history::History;
 use drives::{DriveFault, ListStacks};
@@ -97,13 +97,12 @@ fn push_names(alloc: Global, names: &mut Vec<Vec<u8>>, more: &[&[u8]]) -> Result
 /// Makes a history that has the names of all reels of these drives, and nothing else. Fails if an
 /// allocation fails.
 fn history_of(alloc: Global, drives: &[DriveSpec<'_>]) -> Result<History, AllocError>
-    ensures names { IfOk result (λ b. book_names b ≡ flat_map reels_of drives.now) }
-    ensures counts { IfOk result (λ b. b.counts.items ≡ []) }
-    ensures opens { IfOk result (λ b. b.opens.items ≡ []) }
-    ensures lists { IfOk result (λ b. b.lists.items ≡ []) }
-    ensures writings { IfOk result (λ b. b.writings.items ≡ []) }
-    ensures entered { IfOk result (λ b. b.entered.items ≡ []) }
-    ensures failure { IfOk result (λ b. b.failure ≡ None) }
+    ensures names { IfOk result (λ b. b.names ≡ flat_map reels_of drives.now) }
+    ensures counts { IfOk result (λ b. b.counts ≡ []) }
+    ensures opens { IfOk result (λ b. b.opens ≡ []) }
+    ensures lists { IfOk result (λ b. b.lists ≡ []) }
+    ensures writings { IfOk result (λ b. b.writings ≡ []) }
+    ensures entered { IfOk result (λ b. b.entered ≡ []) }
 {
     Ok(History {
         names: names_of(alloc, drives)?,
@@ -112,7 +111,6 @@ fn history_of(alloc: Global, drives: &[DriveSpec<'_>]) -> Result<History, AllocE
         lists: Vec::new(alloc),
         writings: Vec::new(alloc),
         entered: Vec::new(alloc),
-        failure: None,
     })
 }
 
@@ -143,12 +141,13 @@ impl WorldState {
         Ok(WorldState {
             alloc,
             host,
-            connections: Vec::new(alloc),
+            connections: Connections::new(alloc),
             begun: Vec::new(alloc),
             caller: None,
             own: None,
             kept: None,
             history,
+            failure: None,
             dates: Dates::new(alloc),
         })
     }

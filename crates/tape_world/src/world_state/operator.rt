@@ -9,13 +9,13 @@ use crate::stop::EventStop;
 use world_model::kept;
 
 impl WorldState {
-    /// Puts these reels on the stack of a drive. Not possible if there is no such drive, or it has
-    /// a holder. Each name must be that of a reel in the bin or on the stack, and none may occur
-    /// twice.
+    /// Puts the given reels on the stack of the given drive. Not possible if there is no such
+    /// drive, or it has a holder. Each name must be that of a reel in the bin or on the stack, and
+    /// none may occur twice.
     pub(crate) fn arrange(&mut self, drive: &[u8], reels: &[&[u8]]) -> Result<(), EventStop>
         requires { IsWorldKept self.old }
-        // The operator chooses the reels on the stack of a drive, and their order. This is possible
-        // only while no session has the drive open.
+        // The operator chooses the reels on the stack of the given drive, and their order. The
+        // event is possible only while no session has the drive open.
         ensures { IsEvent self.old (Arrange drive.now (map (λ n. n.now) reels.now)) result self.new }
     {
         let Some(place) = self.host.drive(drive) else {
@@ -31,7 +31,7 @@ impl WorldState {
         if self.host.arrange(place, reels).is_err() {
             return Err(EventStop::OutOfMemory);
         }
-        self.history.failure = None;
+        self.failure = None;
         Ok(())
     }
 }

@@ -3,25 +3,25 @@
 //!
 //! A count is the record of a volume that was written whole: its number, its first block and its
 //! number of blocks.
-ghost use Rattle.std.specs.Prelude.{◌≡◌, ◌↔◌, true, IfOk, length, map};
+ghost use Rattle.std.specs.Prelude.{◌≡◌, ◌↔◌, ℕ, true, Some, IfOk};
 ghost use Rattle.dump_run.specs.Checkpoint.{checkpoint_text};
 ghost use Rattle.world_model.specs.Events.PlainEvent.{ClientRestart, Save};
 ghost use Rattle.world_model.specs.Kept.{IsWorldKept};
-ghost use Rattle.tape_world.specs.Calling.{IsPlaced, over_own};
+ghost use Rattle.tape_world.specs.Calling.{over_own};
+ghost use Rattle.tape_world.specs.Connections.{IsThere};
 ghost use Rattle.tape_world.specs.Holding.{IsBacked, IsEvent};
 ghost use Rattle.tape_world.specs.Saving.{ResumesRunWith, IsKeptOf, MayKeep, kept_then};
-ghost use Rattle.world_connections.specs.Connection.{plain_connection};
 
 use super::WorldState;
 use super::client::change_caller;
 use super::entering::has_entered;
 use crate::caller::{Begun, KeptRun, WorldClient};
-use crate::history::Entered;
+use crate::connections::Connections;
+use crate::history::History;
 use crate::stop::EventStop;
 use dump_client::{Answer, Client, State};
 use dump_run::one_checkpoint;
 use std::alloc::{AllocError, Global};
-use world_connections::Connection;
 
 /// Replaces the saved run by this one, or by none.
 pub(super) fn change_kept(kept: &mut Option<KeptRun>, new: Option<KeptRun>)
@@ -57,12 +57,12 @@ fn kept_of(alloc: Global, caller: &WorldClient) -> Result<KeptRun, AllocError>
 
 /// Whether the run of this client can be saved: it is not abandoned, and not both finished and
 /// entered.
-fn may_keep(caller: &WorldClient, entered: &[Entered]) -> bool
-    ensures { (result ≡ true) ↔ MayKeep entered.now caller.now }
+fn may_keep(caller: &WorldClient, history: &History) -> bool
+    ensures { (result ≡ true) ↔ MayKeep history.now.entered caller.now }
 {
     match caller.client.state() {
         State::Abandoned => false,
-        State::Finished => !has_entered(entered, caller.number),
+        State::Finished => !has_entered(history, caller.number),
         _ => true,
     }
 }
@@ -95,45 +95,45 @@ fn resume_run(
 }
 
 /// Removes the client from its own connection, if it has one.
-fn end_own(connections: &mut [Connection], own: Option<usize>)
-    requires { IsPlaced own (length connections.old) }
-    ensures { map plain_connection connections.new ≡ over_own own (map plain_connection connections.old) }
+fn end_own(connections: &mut Connections, own: Option<usize>)
+    requires { (k : ℕ) → own ≡ Some k → IsThere connections.old.list k }
+    ensures { connections.new.list ≡ over_own own connections.old.list }
 {
     if let Some(own) = own {
-        world_connections::end_there(connections, own);
+        connections.end_there(own);
     }
 }
 
 impl WorldState {
-    /// Saves the client's run and its list of counts outside the client. Not possible if there is
-    /// no client, or its run is abandoned, or both finished and entered.
+    /// Saves the client's run and the client's list of counts outside the client. Not possible if
+    /// there is no client, or its run is abandoned, or both finished and entered.
     pub(crate) fn save(&mut self) -> Result<(), EventStop>
         requires { IsWorldKept self.old }
-        // Saves the client's run and its list of counts, so that both outlive a restart of the
-        // client. The call saves neither an abandoned run nor a finished run that was entered in
-        // dumpdates.
+        // Saves the client's run and the client's list of counts, so that both outlive a restart of
+        // the client. The call does not save an abandoned run. The call does not save a finished
+        // run that was entered in dumpdates.
         ensures { IsEvent self.old Save result self.new }
     {
         let Some(caller) = &self.caller else {
             return Err(EventStop::NotPossible);
         };
-        if !may_keep(caller, &self.history.entered) {
+        if !may_keep(caller, &self.history) {
             return Err(EventStop::NotPossible);
         }
         let kept = kept_of(self.alloc, caller)?;
         change_kept(&mut self.kept, Some(kept));
-        self.history.failure = None;
+        self.failure = None;
         Ok(())
     }
 
-    /// Restarts the client: a new client resumes the saved run, or there is no client if no run is
-    /// saved. The old client leaves its own connection, if it has one. Not possible if there is no
-    /// client.
+    /// Restarts the client: if a run is saved, a new client resumes this run, and otherwise there
+    /// is no client. The old client leaves its own connection, if it has one. Not possible if there
+    /// is no client.
     pub(crate) fn client_restart(&mut self) -> Result<(), EventStop>
         requires { IsWorldKept self.old }
-        // If a run is saved, a new client resumes from the checkpoint text of the saved run, with
-        // the saved list. If no run is saved, there is no client after the restart. The old client
-        // leaves its own connection, if it has one.
+        // If a run is saved, a new client resumes the run from the saved checkpoint text, with the
+        // saved list of counts. If no run is saved, there is no client after the restart. The old
+        // client leaves its own connection, if it has one.
         ensures { IsEvent self.old ClientRestart result self.new }
     {
         if self.caller.is_none() {
@@ -143,7 +143,7 @@ impl WorldState {
         end_own(&mut self.connections, self.own);
         self.own = None;
         change_caller(&mut self.caller, caller);
-        self.history.failure = None;
+        self.failure = None;
         Ok(())
     }
 }

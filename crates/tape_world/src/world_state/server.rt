@@ -5,7 +5,6 @@ ghost use Rattle.tape_world.specs.Holding.{IsEvent};
 
 use super::WorldState;
 use crate::stop::EventStop;
-use world_connections::find;
 use world_model::kept;
 
 impl WorldState {
@@ -20,7 +19,7 @@ impl WorldState {
         let Some(room) = self.host.room(connection) else {
             return Err(EventStop::NotPossible);
         };
-        let Some(conn) = find(&self.connections, connection) else {
+        let Some(conn) = self.connections.find(connection) else {
             return Err(EventStop::NotPossible);
         };
         let way = conn.toward.bytes();
@@ -28,20 +27,20 @@ impl WorldState {
             return Err(EventStop::NotPossible);
         }
         self.host.push(connection, &way[..count]);
-        world_connections::arrive(&mut self.connections, connection, count);
-        self.history.failure = None;
+        self.connections.arrive(connection, count);
+        self.failure = None;
         Ok(())
     }
 
-    /// Lets the server notice the end of the connection, and end the server's side of the
+    /// Lets the server notice that the connection has ended, and end the server's side of the
     /// connection. Not possible unless the connection was cut and the server's side is live.
     pub(crate) fn end_at_server(&mut self, connection: usize) -> Result<(), EventStop>
         requires { IsWorldKept self.old }
-        // The server notices the end of a connection, and ends the server's side. The bytes in
-        // transit to the server are lost.
+        // The server notices that the given connection has ended, and ends the server's side of the
+        // connection. The bytes in transit to the server are lost.
         ensures { IsEvent self.old (EndAtServer connection) result self.new }
     {
-        let Some(conn) = find(&self.connections, connection) else {
+        let Some(conn) = self.connections.find(connection) else {
             return Err(EventStop::NotPossible);
         };
         if !conn.cut || self.host.room(connection).is_none() {
@@ -49,8 +48,8 @@ impl WorldState {
         }
         kept();
         self.host.end(connection);
-        world_connections::end_here(&mut self.connections, connection);
-        self.history.failure = None;
+        self.connections.end_here(connection);
+        self.failure = None;
         Ok(())
     }
 
@@ -62,8 +61,8 @@ impl WorldState {
     {
         kept();
         self.host.restart();
-        world_connections::end_all_here(&mut self.connections);
-        self.history.failure = None;
+        self.connections.end_all_here();
+        self.failure = None;
         Ok(())
     }
 }

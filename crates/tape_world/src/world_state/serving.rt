@@ -10,13 +10,15 @@ ghost use Rattle.tape_host.specs.Servers.{side_at};
 ghost use Rattle.world_model.specs.Changes.{changed, first_name, list_in, opening, writing};
 ghost use Rattle.world_model.specs.Events.PlainEvent.{Serve};
 ghost use Rattle.world_model.specs.Kept.{IsWorldKept};
+ghost use Rattle.tape_world.specs.Connections.{IsThere};
 ghost use Rattle.tape_world.specs.Holding.{IsEvent};
-ghost use Rattle.tape_world.specs.Seen.{book_names, seen_caller, seen_lists, seen_openings, seen_writings};
+ghost use Rattle.tape_world.specs.Seen.{IsSameHistory, seen_caller, seen_lists, seen_openings, seen_writings};
 ghost use Rattle.world_connections.specs.Connection.{plain_connection};
-ghost use Rattle.tape_world.specs.Serving.{HasRoom, IsNoted, IsOnlineIn, IsSameHistory, TurnServes, is_write, name_online_at, opened_in, written_in};
+ghost use Rattle.tape_world.specs.Serving.{HasRoom, IsNoted, IsOnlineIn, TurnServes, is_write, name_online_at, opened_in, written_in};
 
 use super::WorldState;
 use crate::caller::WorldClient;
+use crate::connections::Connections;
 use crate::history::{History, Opening, Writing};
 use crate::stop::EventStop;
 use drives::ListedReel;
@@ -26,7 +28,7 @@ use rmt_wire::errno::{EACCES, EBADF};
 use std::alloc::{AllocError, Global};
 use tape::Trouble;
 use tape_host::{Answered, Carried, Host, RequestKind, Turn};
-use world_connections::{Connection, find};
+use world_connections::Connection;
 use world_model::kept;
 
 /// Takes one turn of the server's side of a connection, and notes it on the connection.
@@ -53,17 +55,21 @@ fn take_turn(
 /// on the connection. Fails if an allocation fails; nothing has changed then.
 fn take_turn_at(
     host: &mut Host,
-    connections: &mut [Connection],
+    connections: &mut Connections,
     connection: usize,
     trouble: Trouble,
 ) -> Result<Turn, AllocError>
-    requires first { 1 ≤ connection }
-    requires last { connection ≤ length connections.old }
+    requires { IsThere connections.old.list connection }
     ensures taken { IfOk result (λ turn. TurnServes trouble host.old connection turn host.new
-        (λ f. map plain_connection connections.new ≡ changed f (map plain_connection connections.old) connection)) }
-    ensures refused { OnErr result ((map plain_connection connections.new ≡ map plain_connection connections.old) × (host.new ≡ host.old)) }
+        (λ f. connections.new.list ≡ changed f connections.old.list connection)) }
+    ensures refused { OnErr result ((connections.new.list ≡ connections.old.list) × (host.new ≡ host.old)) }
 {
-    take_turn(host, &mut connections[connection - 1], connection, trouble)
+    take_turn(
+        host,
+        &mut connections.items[connection - 1],
+        connection,
+        trouble,
+    )
 }
 
 /// Returns the name of the first reel of a stack, or the empty name if it has none.
@@ -227,7 +233,7 @@ impl History {
     ///
     /// Fails only if an allocation fails.
     fn reserve_notes(&mut self) -> Result<(), AllocError>
-        ensures room { IfOk result (λ done. HasRoom self.new) }
+        ensures room { IfOk result (λ done. HasRoom self.new.rooms) }
         ensures same { IsSameHistory self.old self.new }
     {
         self.opens.reserve(1)?;
@@ -238,10 +244,10 @@ impl History {
     /// Notes what a turn of a connection opened for writing, with the client's counts, and what it
     /// wrote on.
     fn note_turn(&mut self, list: Vec<VolumeCount>, host: &Host, connection: usize, turn: Turn)
-        requires room { HasRoom self.old }
+        requires room { HasRoom self.old.rooms }
         requires there { IsOnlineIn host.now.server connection }
-        requires opened { (name : List ℕ) → opened_in host.now.server connection turn ≡ Some name → Contains (book_names self.old) name }
-        requires written { (name : List ℕ) → written_in host.now.server connection turn ≡ Some name → Contains (book_names self.old) name }
+        requires opened { (name : List ℕ) → opened_in host.now.server connection turn ≡ Some name → Contains self.old.names name }
+        requires written { (name : List ℕ) → written_in host.now.server connection turn ≡ Some name → Contains self.old.names name }
         ensures { IsNoted self.old list.items host.now.server connection turn self.new }
     {
         let after = self.opens.len();
@@ -259,32 +265,31 @@ impl History {
 }
 
 impl WorldState {
-    /// Carries out one request that reached the server, or ends the server's side if the bytes are
-    /// not a request. `trouble` says whether and how the request's device call fails. Not possible
-    /// if there is no such connection, its server's side is not live, or no whole request has
-    /// reached it.
+    /// Carries out one request that reached the server, or ends the server's side if the bytes that
+    /// arrived are not a request. `trouble` says whether and how the request's device call fails.
+    /// Not possible if there is no such connection, its server's side is not live, or no whole
+    /// request has reached it.
     pub(crate) fn serve(&mut self, connection: usize, trouble: Trouble) -> Result<(), EventStop>
         requires { IsWorldKept self.old }
-        // The server carries out one request that has reached it. If the request makes a call of a
-        // device, the event says whether this call fails, and how. If the bytes that reached the
-        // server are not a request, the server's side ends.
+        // The server carries out one request that has reached the server. If the request makes a
+        // device call, the event says whether this call fails, and how. If the bytes that reached
+        // the server are not a request, the server's side ends.
         //
-        // The bytes that are already in transit to the peer stay in transit. The reply is appended
-        // to these bytes.
+        // The bytes that are already in transit to the peer stay in transit. The server appends the
+        // reply to these bytes, unless the connection was cut.
         //
-        // If the request was a write of an attempt, the world records the outcome of this write. If
-        // the request was an open for writing and was accepted, the history lists the open and the
+        // If an attempt's request is to write a record or marks, the world records the outcome of
+        // this write. If the server accepts an open for writing, the history lists the open and the
         // reel that was opened.
         //
-        // For each open for writing, the history also has a list of counts: the list that the
-        // client had when the server carried out the open. If there was no client, the list is
-        // empty.
+        // For each accepted open for writing, the history also has a list of counts: the client's
+        // list at the time of the open. If there was no client, this list of counts is empty.
         //
-        // If the request writes a record or marks, and the session has a reel open for writing, the
-        // history lists the write, its connection and its reel.
+        // If the request is to write a record or marks, and the session has a reel open for
+        // writing, the history lists the write, with the write's connection and reel.
         ensures { IsEvent self.old (Serve connection trouble) result self.new }
     {
-        if find(&self.connections, connection).is_none() {
+        if self.connections.find(connection).is_none() {
             return Err(EventStop::NotPossible);
         }
         kept();
@@ -295,7 +300,7 @@ impl WorldState {
             return Err(EventStop::NotPossible);
         }
         self.history.note_turn(list, &self.host, connection, turn);
-        self.history.failure = None;
+        self.failure = None;
         Ok(())
     }
 }

@@ -5,12 +5,14 @@ ghost use Rattle.rmt_wire.specs.declared.limits.TheConstants.{READER_LIMIT};
 ghost use Rattle.world_model.specs.Changes.{changed};
 ghost use Rattle.world_model.specs.Events.PlainEvent.{Send};
 ghost use Rattle.world_model.specs.Kept.{IsWorldKept};
+ghost use Rattle.tape_world.specs.Connections.{IsThere};
 ghost use Rattle.tape_world.specs.Holding.{IsEvent};
 ghost use Rattle.world_connections.specs.Connection.{plain_connection};
 ghost use Rattle.tape_world.specs.Talking.{Asks, IsToSend, talked};
 
 use super::WorldState;
 use crate::caller::WorldClient;
+use crate::connections::Connections;
 use crate::stop::EventStop;
 use dump_client::{AttemptFault, State};
 use rmt_wire::READER_LIMIT;
@@ -76,21 +78,21 @@ fn send_on(
 /// which must exist. If `fails` is true, the read of a block fails. If the attempt fails, it
 /// returns the volume and the cause, and the client leaves the connection. Fails if an allocation
 /// fails; nothing has changed then.
+#[tactic(auto, using(crate::proofs::Numbered::put_there, crate::proofs::Numbered::put_back))]
 fn send_own(
     alloc: Global,
-    connections: &mut [Connection],
+    connections: &mut Connections,
     own: usize,
     caller: &mut Option<WorldClient>,
     fails: bool,
 ) -> Result<Option<(u32, AttemptFault)>, AllocError>
-    requires first { 1 ≤ own }
-    requires last { own ≤ length connections.old }
+    requires there { IsThere connections.old.list own }
     requires sends { IsToSend caller.old }
     ensures sent { IfOk result (λ failure. (text : List ℕ) × Asks caller.old fails text failure caller.new
-        × (map plain_connection connections.new ≡ changed (talked text failure) (map plain_connection connections.old) own)) }
-    ensures refused { OnErr result ((map plain_connection connections.new ≡ map plain_connection connections.old) × (caller.new ≡ caller.old)) }
+        × (connections.new.list ≡ changed (talked text failure) connections.old.list own)) }
+    ensures refused { OnErr result ((connections.new.list ≡ connections.old.list) × (caller.new ≡ caller.old)) }
 {
-    send_on(alloc, &mut connections[own - 1], caller, fails)
+    send_on(alloc, &mut connections.items[own - 1], caller, fails)
 }
 
 impl WorldState {
@@ -120,7 +122,7 @@ impl WorldState {
         if failure.is_some() {
             self.own = None;
         }
-        self.history.failure = failure;
+        self.failure = failure;
         Ok(())
     }
 }

@@ -1,8 +1,8 @@
-use Rattle.std.proofs.Common.{◌≡◌, drop}
-use Rattle.std.specs.List.{list_any}
-use Rattle.std.specs.Str.{bytes_eq}
+use Rattle.tape_world.proofs.Standard.{◌≡◌, drop, list_any, bytes_eq}
 use Rattle.tape_world.proofs.drive_spec.any_has.Given as goal
 
 -- no drive before this one has the reel
 abbrev pub invariant-loop-drive : goal.invariant-loop-drive
-invariant-loop-drive l = list_any (λ d. list_any (λ n. bytes_eq l.name n.now) d.reels.now) (drop l.drive-index l.drives) ≡ list_any (λ d. list_any (λ n. bytes_eq l.name n.now) d.reels.now) l.drives
+invariant-loop-drive l =
+    list_any (λ d. list_any (λ n. bytes_eq l.name n.now) d.reels.now) (drop l.drive-index l.drives) ≡ list_any
+    (λ d. list_any (λ n. bytes_eq l.name n.now) d.reels.now) l.drives

@@ -1,6 +1,4 @@
-use Rattle.std.proofs.Common.{◌≡◌, drop}
-use Rattle.std.specs.List.{list_any}
-use Rattle.std.specs.Str.{bytes_eq}
+use Rattle.tape_world.proofs.Standard.{◌≡◌, drop, list_any, bytes_eq}
 use Rattle.tape_world.proofs.drive_spec.any_named.Given as goal
 
 -- no drive before this one has the name

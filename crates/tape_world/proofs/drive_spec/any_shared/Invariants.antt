@@ -1,5 +1,4 @@
-use Rattle.std.proofs.Common.{◌≡◌, drop}
-use Rattle.std.specs.List.{list_any}
+use Rattle.tape_world.proofs.Standard.{◌≡◌, drop, list_any}
 use Rattle.tape_world.specs.Making.{names_again}
 use Rattle.tape_world.proofs.drive_spec.any_shared.Given as goal
 

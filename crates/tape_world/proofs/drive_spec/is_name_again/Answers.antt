@@ -1,8 +1,5 @@
-use Rattle.drives.proofs.Arranging.{repeated_is, none_repeated}
+use Rattle.drives.proofs.Arranging.{repeated_is}
 use Rattle.tape_world.proofs.drive_spec.is_name_again.Goals as goal
-
-pub returns-in_default : goal.returns-in_default
-returns-in_default c = none_repeated (λ d. d.name.now) c.args.drives.now c.in_default.ensures.cases
 
 pub returns : goal.returns
 returns c = repeated_is (λ d. d.name.now) c.args.drives.now _ _ c.any_named.result c.in-Some.ensures.cases.0 c.any_named.ensures

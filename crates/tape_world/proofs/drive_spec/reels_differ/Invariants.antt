@@ -1,7 +1,5 @@
-use Rattle.std.proofs.Common.{◌≡◌, drop}
-use Rattle.std.specs.List.{flat_map}
-use Rattle.drives.specs.Arranging.{are_distinct}
-use Rattle.tape_world.specs.Making.{reels_of}
+use Rattle.tape_world.proofs.Standard.{◌≡◌, drop, flat_map}
+use Rattle.tape_world.proofs.Layers.{are_distinct, reels_of}
 use Rattle.tape_world.proofs.drive_spec.reels_differ.Given as goal
 
 -- the reels of the drives before the place differ from all others

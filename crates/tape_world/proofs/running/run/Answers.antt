@@ -1,17 +1,11 @@
+use Rattle.tape_world.proofs.Layers.{none, plain_event}
 use Rattle.std.proofs.Common.{map}
-use Rattle.world_model.specs.Steps.{none}
-use Rattle.tape_world.specs.Running.{plain_event}
-use Rattle.tape_world.proofs.RunningOn.{event_at, inside_map, goes_on, all_made, stopped, refused}
-use Rattle.tape_world.proofs.RunningInOrder.{all_in_order, some_in_order}
+use Rattle.tape_world.proofs.RunningOn.{event_at, inside_map, goes_on, stopped, refused}
+use Rattle.tape_world.proofs.RunningInOrder.{some_in_order}
 use Rattle.tape_world.proofs.running.run.Goals as goal
 
 pub loop-i-init : goal.loop-i-init
 loop-i-init c = none
-
-pub returns-in-Err-clause-stopped : goal.returns-in-Err-clause-stopped
-returns-in-Err-clause-stopped c =
-    stopped c.args.world.now c.loop-i.world c.make.new.self (map plain_event c.args.events.now) c.loop-i.i (plain_event c.index-events-i.result) c.make.result
-    c.in-Err.stop c.fault_of.result (inside_map c.args.events.now c.loop-i.i c.loop-i-test.true) c.loop-i.invariant c.in-Err.is c.make.ensures c.fault_of.ensures
 
 pub returns-in-Err-clause-impossible : goal.returns-in-Err-clause-impossible
 returns-in-Err-clause-impossible c =
@@ -25,16 +19,9 @@ loop-i-preserved c =
     c.in_default.field-0 (inside_map c.args.events.now c.loop-i.i c.loop-i-test.true)
     (event_at c.args.events.now c.loop-i.i _ c.index-events-i.result c.loop-i-test.true c.index-events-i.is) c.loop-i.invariant c.in_default.is c.make.ensures
 
-pub returns-clause-made : goal.returns-clause-made
-returns-clause-made c = all_made c.args.world.now c.loop-i.world c.args.events.now c.loop-i.i c.loop-i-test.false c.loop-i.invariant
-
 pub returns-in-Err-clause-in_order : goal.returns-in-Err-clause-in_order
 returns-in-Err-clause-in_order c =
     some_in_order c.faultless.ensures.runs c.args.world.now c.make.new.self (map plain_event c.args.events.now) _
     (stopped c.args.world.now c.loop-i.world c.make.new.self (map plain_event c.args.events.now) c.loop-i.i (plain_event c.index-events-i.result) c.make.result
-    c.in-Err.stop c.fault_of.result (inside_map c.args.events.now c.loop-i.i c.loop-i-test.true) c.loop-i.invariant c.in-Err.is c.make.ensures c.fault_of.ensures).made
-
-pub returns-clause-in_order : goal.returns-clause-in_order
-returns-clause-in_order c =
-    all_in_order c.faultless.ensures.runs c.args.world.now c.loop-i.world (map plain_event c.args.events.now)
-    (all_made c.args.world.now c.loop-i.world c.args.events.now c.loop-i.i c.loop-i-test.false c.loop-i.invariant)
+    c.in-Err.stop c.fault_of.result (inside_map c.args.events.now c.loop-i.i c.loop-i-test.true) c.loop-i.invariant c.in-Err.is c.make.ensures
+    c.fault_of.ensures).made

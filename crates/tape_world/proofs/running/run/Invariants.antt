@@ -1,6 +1,5 @@
+use Rattle.tape_world.proofs.Layers.{Runs, plain_event}
 use Rattle.std.proofs.Common.{map, take}
-use Rattle.world_model.specs.Steps.{Runs}
-use Rattle.tape_world.specs.Running.{plain_event}
 use Rattle.tape_world.proofs.running.run.Given as goal
 
 abbrev pub invariant-loop-i : goal.invariant-loop-i

@@ -1,7 +1,5 @@
+use Rattle.tape_world.proofs.Layers.{IsReached, none, plain_drive_spec}
 use Rattle.std.proofs.Common.{[], sym, subst, map}
-use Rattle.world_model.specs.First.{IsReached}
-use Rattle.world_model.specs.Steps.{none}
-use Rattle.tape_world.specs.Making.{plain_drive_spec}
 use Rattle.tape_world.proofs.world.World.new.Goals as goal
 
 pub invariant_of-result : goal.invariant_of-result

@@ -1,13 +1,5 @@
-use Rattle.std.proofs.Common.{rules, ◌≡◌, Option, Some, length, refl, sym, subst, ap, ◌∙◌}
-use Rattle.std.specs.Option.{option_copied}
-use Rattle.tape_host.specs.Servers.{HasRoom}
-use Rattle.rmt_server.specs.ServerState.{ServerConnection}
-use Rattle.world_model.specs.World.{World}
-use Rattle.world_model.specs.First.{IsReadable}
-use Rattle.world_connections.specs.Connection.{plain_connection}
-use Rattle.tape_world.specs.Telling.{IsOnWay}
-use Rattle.tape_world.specs.contracts.world_state.WorldState.{the_view}
-use Rattle.world_connections.proofs.Linked.{connection_is}
+use Rattle.tape_world.proofs.Layers.{HasRoom, ServerConnection, World, IsReadable, plain_connection, IsOnWay, the_view}
+use Rattle.std.proofs.Common.{Option, Some, length, sym, subst, ap, ◌∙◌}
 use Rattle.tape_world.proofs.Server.{side_found}
 use Rattle.tape_world.proofs.Told.{can_arrive, can_come, cannot_come}
 use Rattle.tape_world.proofs.world.World.on_way.Goals as goal
@@ -16,13 +8,13 @@ pub returns-then-not-conn : goal.returns-then-not-conn
 returns-then-not-conn c =
     let w = the_view c.self-inside.inside.0.0 in
     let l = plain_connection c.in_ok-conn.conn.now in
-    let is : option_copied c.find.result ≡ Some c.in_ok-conn.conn.now = search rules in
-    let at = connection_is w c.self-inside.inside.0.0.connections.items c.deref.result.now c.args.connection (option_copied c.find.result) c.in_ok-conn.conn.now refl c.deref.ensures.value c.find.ensures is in
+    let at = c.in_ok-conn.ensures in
     let room = subst (λ (o : Option ServerConnection). HasRoom o c.room.result) (side_found w.server c.args.connection) c.room.ensures in
     subst (λ (v : World). IsOnWay v c.args.connection (Some (c.min-toward.result, 0))) (ap (λ i. i.world_state) c.self-inside.view_is ∙ c.self.view_is) (
       l,
       at,
-      can_arrive w c.args.connection l c.room.result c.unwrap_or-room.result c.min-toward.result c.bytes.result.now (subst IsReadable (sym (ap (λ i. i.world_state) c.self-inside.view_is ∙ c.self.view_is)) c.kept.ensures.kept.readable) at room
+      can_arrive w c.args.connection l c.room.result c.unwrap_or-room.result c.min-toward.result c.bytes.result.now
+          (subst IsReadable (sym (ap (λ i. i.world_state) c.self-inside.view_is ∙ c.self.view_is)) c.kept.ensures.kept.readable) at room
           c.unwrap_or-room.ensures c.bytes.ensures c.min-toward.ensures,
       cannot_come w c.args.connection l at c.if-not-conn.true,
     )
@@ -31,13 +23,14 @@ pub returns : goal.returns
 returns c =
     let w = the_view c.self-inside.inside.0.0 in
     let l = plain_connection c.in_ok-conn.conn.now in
-    let is : option_copied c.find.result ≡ Some c.in_ok-conn.conn.now = search rules in
-    let at = connection_is w c.self-inside.inside.0.0.connections.items c.deref.result.now c.args.connection (option_copied c.find.result) c.in_ok-conn.conn.now refl c.deref.ensures.value c.find.ensures is in
+    let at = c.in_ok-conn.ensures in
     let room = subst (λ (o : Option ServerConnection). HasRoom o c.room.result) (side_found w.server c.args.connection) c.room.ensures in
-    subst (λ (v : World). IsOnWay v c.args.connection (Some (c.min-toward.result, length c.bytes-2.result.now))) (ap (λ i. i.world_state) c.self-inside.view_is ∙ c.self.view_is) (
+    subst (λ (v : World). IsOnWay v c.args.connection (Some (c.min-toward.result, length c.bytes-2.result.now)))
+    (ap (λ i. i.world_state) c.self-inside.view_is ∙ c.self.view_is) (
       l,
       at,
-      can_arrive w c.args.connection l c.room.result c.unwrap_or-room.result c.min-toward.result c.bytes.result.now (subst IsReadable (sym (ap (λ i. i.world_state) c.self-inside.view_is ∙ c.self.view_is)) c.kept.ensures.kept.readable) at room
+      can_arrive w c.args.connection l c.room.result c.unwrap_or-room.result c.min-toward.result c.bytes.result.now
+          (subst IsReadable (sym (ap (λ i. i.world_state) c.self-inside.view_is ∙ c.self.view_is)) c.kept.ensures.kept.readable) at room
           c.unwrap_or-room.ensures c.bytes.ensures c.min-toward.ensures,
       can_come w c.args.connection l c.bytes-2.result.now at c.if-not-conn.false c.bytes-2.ensures,
     )

@@ -9,4 +9,5 @@ pub stack-requires : goal.stack-requires
 stack-requires c =
     let online : IsOnline c.in_ok-session.session.now.opened c.in_ok-drive.drive c.in_ok-drive.reel.now = search rules in
     let seen = c.in_ok-session.ensures.seen in
-    drive_there c.args.host.now.server c.args.connection c.in_ok-drive.drive (session_seen c.in_ok-session.session.now.opened) c.requires (sym seen) (ap (λ o. drive_in (session_seen o)) online.1)
+    drive_there c.args.host.now.server c.args.connection c.in_ok-drive.drive (session_seen c.in_ok-session.session.now.opened) c.requires (sym seen)
+    (ap (λ o. drive_in (session_seen o)) online.1)

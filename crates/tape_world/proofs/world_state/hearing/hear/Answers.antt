@@ -1,5 +1,4 @@
-use Rattle.std.proofs.Common.{◌≡◌, ◌∙◌, refl, ap, length}
-use Rattle.std.specs.Prelude.{slice_get}
+use Rattle.tape_world.proofs.Standard.{◌≡◌, ◌∙◌, refl, ap, length, slice_get}
 use Rattle.tape_world.proofs.Hearing.{counted_new, fed_moves, inside}
 use Rattle.tape_world.proofs.world_state.hearing.hear.Goals as goal
 

@@ -1,3 +1,4 @@
+use Rattle.tape_world.proofs.Standard.{common_steps, arith}
 use Rattle.tape_world.proofs.Made.{drive_laid}
 use Rattle.tape_world.proofs.Free.{reels_once}
 use Rattle.tape_world.proofs.world_state.making.add_drive.Goals as goal
@@ -7,6 +8,4 @@ add_reels-requires-clause-once c =
     reels_once c.args.stacks.now c.add_drive.new.self c.args.drive.now c.in-Ok.number c.in-Ok.ensures.added c.requires.once
 
 pub returns-clause-added : goal.returns-clause-added
-returns-clause-added c =
-    drive_laid c.args.stacks.now c.add_drive.new.self c.add_reels.new.stacks.library c.args.drive.now c.in-Ok.number c.add_reels.result c.in-Ok.ensures.added
-    c.add_reels.ensures.added
+returns-clause-added c = grind (arith, common_steps, drive_laid)

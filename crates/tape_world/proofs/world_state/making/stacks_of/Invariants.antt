@@ -1,6 +1,5 @@
+use Rattle.tape_world.proofs.Layers.{IsLibrary, library_of, StacksCanFail, laid_library}
 use Rattle.std.proofs.Common.{◌≡◌, drop}
-use Rattle.drives.specs.ListLibrary.{IsLibrary, library_of, StacksCanFail}
-use Rattle.tape_world.specs.Making.{laid_library}
 use Rattle.tape_world.proofs.Made.{laid_after}
 use Rattle.tape_world.proofs.world_state.making.stacks_of.Given as goal
 

@@ -1,10 +1,5 @@
-use Rattle.std.proofs.Common.{◌≡◌, false, Some, refl, sym, ap, subst, ◌∙◌}
-use Rattle.dump_run.specs.Blocks.{ListedBlocks, listed}
-use Rattle.dump_run.specs.Checkpoint.{SpellsCheckpoint}
-use Rattle.dump_client.specs.Standing.{IsOver}
-use Rattle.tape_world.specs.declared.caller.Begun.{Begun}
-use Rattle.tape_world.specs.Holding.{IsBacked}
-use Rattle.tape_world.specs.Saving.{ResumesRunWith}
+use Rattle.tape_world.proofs.Standard.{common_steps, arith, ◌≡◌, sym, subst}
+use Rattle.tape_world.proofs.Layers.{SpellsCheckpoint, IsBacked}
 use Rattle.tape_world.proofs.Saving.{at_index, back_payload}
 use Rattle.tape_world.proofs.world_state.saving.resume_run.Goals as goal
 
@@ -13,8 +8,7 @@ same_blocks : (c : goal.After-deref) → c.trouble.new.self.blocks ≡ (c.requir
 same_blocks c =
     let its = c.requires.text c.in-Some.kept c.in-Some.is in
     let same = at_index c.args.begun.now c.in-Some.kept.run its.0 c.index-begun-kept.result its.1 c.index-begun-kept.is in
-    ap (λ (s : ListedBlocks). s.blocks) c.trouble.ensures ∙ ap (λ (s : ListedBlocks). s.blocks) c.in_ok-source.ensures
-    ∙ ap (λ (b : Begun). b.payload.blocks) (sym same)
+    grind (arith, common_steps, at_index)
 
 pub resume-requires : goal.resume-requires
 resume-requires c run counts payload spells told =
@@ -32,17 +26,4 @@ returns-in-Ok c =
     let same = c.in-Ok.ensures.resumes its.0.run k.counts.items kept in
     let index = at_index c.args.begun.now k.run its.0 c.index-begun-kept.result its.1 c.index-begun-kept.is in
     let at = c.in-Ok.client.at in
-    subst (λ o. ResumesRunWith c.args.begun.now o (Some record { number = k.run; client = c.in-Ok.client })) (sym c.in-Some.is) (
-      record { number = k.run; client = c.in-Ok.client },
-      refl,
-      record {
-        number = refl;
-        run = its.0;
-        begun_as = its.1;
-        over = subst (λ r. IsOver r k.counts.items at) same.0 (subst (λ cs. IsOver at.run cs at) same.1 c.in-Ok.ensures.over);
-        failures = c.in_ok-source.source.failures;
-        source = c.in-Ok.ensures.given ∙ c.trouble.ensures
-            ∙ ap (λ blocks. listed blocks false c.in_ok-source.source.failures)
-            (ap (λ (s : ListedBlocks). s.blocks) c.in_ok-source.ensures ∙ ap (λ (b : Begun). b.payload.blocks) (sym index));
-      },
-    )
+    grind (arith, common_steps, at_index)

@@ -1,10 +1,11 @@
-use Rattle.std.proofs.Common.{sym, ap, ◌∙◌}
-use Rattle.std.specs.Option.{option_copied}
-use Rattle.tape_world.proofs.Wrote.{writing_noted}
+use Rattle.tape_world.proofs.Standard.{refl, sym, ap, ◌∙◌, map, option_copied}
+use Rattle.tape_world.proofs.Layers.{writing, seen_writing}
+use Rattle.tape_world.proofs.Serving.{noted_more}
 use Rattle.tape_world.proofs.world_state.serving.note_writing.Goals as goal
 
 pub returns : goal.returns
 returns c =
-    let wrote = sym c.name_written.ensures ∙ ap option_copied c.in-Some.is in
-    writing_noted c.args.names.now c.args.writings.now.items c.push_reserved.new.self.items c.args.connection c.place_of-reel.result c.args.after
-    c.in-Some.name.now _ wrote (c.requires.known c.in-Some.name.now wrote) c.place_of-reel.ensures c.push_reserved.ensures.items
+    let named = sym c.name_written.ensures ∙ ap option_copied c.in-Some.is in
+    noted_more c.args.names.now (seen_writing (map (λ n. n.items) c.args.names.now)) (writing c.args.connection c.args.after)
+    (λ place. record { connection = c.args.connection; reel = place; after = c.args.after }) _ _ c.place_of-reel.result c.in-Some.name.now _ (λ i. refl) named
+    (c.requires.known _ named) c.place_of-reel.ensures c.push_reserved.ensures.items

@@ -1,8 +1,7 @@
-use Rattle.std.proofs.Common.{◌≡◌, ◌+◌, drop}
-use Rattle.std.specs.List.{position_or_len}
-use Rattle.std.specs.Str.{bytes_eq}
+use Rattle.tape_world.proofs.Standard.{◌≡◌, ◌+◌, drop, position_or_len, bytes_eq}
 use Rattle.tape_world.proofs.world_state.serving.place_of.Given as goal
 
 -- the name is none of those before this place
 abbrev pub invariant-loop-place : goal.invariant-loop-place
-invariant-loop-place l = l.place + position_or_len (λ n. bytes_eq l.name n.items) (drop l.place l.names) ≡ position_or_len (λ n. bytes_eq l.name n.items) l.names
+invariant-loop-place l =
+    l.place + position_or_len (λ n. bytes_eq l.name n.items) (drop l.place l.names) ≡ position_or_len (λ n. bytes_eq l.name n.items) l.names
