@@ -34,7 +34,7 @@ EDIT = re.compile(r"^\|[^|]*\| `(\w+/\w+)` \|", re.M)
 LINES = re.compile(r"(?:file|old|new|# breaks|# limit):|$")
 LONGEST = 100
 NO_CONTRACT = "It has no contract of its own."
-NO_OTHER = "The types allow only this body, so there is no edit."
+NO_OTHER = "The types allow no other body, so no wrong body is tried."
 # How many edits `rt ci` tries at most.
 MOST_ALONE = 25
 UNCONTROLLED = "Edits without a control"
@@ -42,28 +42,31 @@ LIMITS = "Edits that are refused at a limit"
 HEAD = """\
 # Promises
 
-What each public call promises, clause by clause, and the wrong bodies that the prover refuses. Do not edit this page: `python3 tests/promises.py
---write` makes it from the sources.
+This page says what each public function promises, clause by clause, and lists wrong bodies that the prover refuses. Do not edit this page:
+`python3 tests/promises.py --write` makes it from the sources.
 
-- A name in bold is a call, a law, a trait, a type and a trait that it implements, or a record of `specs/`. The first sentence of its documentation
-  follows.
-- Below the name is what the contract promises, with the names of the clauses. If a contract has only one clause, the clause has no name. If a call has no
-  contract, only its safety is proved. Some private calls are listed too, because an edit breaks one of their clauses.
-- `refused` lists edits of the code that break the promise. The edit `crate/name` is the file `name.edit` in `crates/crate/must-fail/` or in
-  `crates/crate/further/`. `make test` tries all of these edits. `name.control.md` beside an edit has a right body for the same place. The prover
-  accepts that body. So it is the promise that makes the prover refuse the edit.
+- A *call* is a function. A *law* is a function that does nothing: its contract states a fact that is proved. A name in bold is the name of a call, a law,
+  a trait, or a record of `specs/`. Two names joined by *as* are a type and a trait that the type implements. The first sentence of the documentation
+  follows the name.
+- Below the name are the promises of the contract. Each promise follows the names of its clauses. If a contract has only one clause, the clause has no
+  name. If a call has no contract, only its safety is proved. Some private calls are listed too, because an edit breaks one of their clauses.
+- `refused` lists *edits*. An edit replaces code by wrong code that breaks the promise, and the prover refuses the wrong code. The edit `crate/name` is the
+  file `name.edit` in `crates/crate/must-fail/` or in `crates/crate/further/`. `make test` tries all edits. The file `name.control.md` beside an edit is
+  the *control* of the edit: right code for the same place, which the prover accepts. The control shows that the prover refuses the edit because its
+  code is wrong, and not because the text was changed.
 
-The content of a stream, a reel, a source or another thing is *known* if a contract gives this content. The contents of the system's streams, files,
-folders and sockets are not known. [TRUSTED.md](TRUSTED.md#to-what-the-promises-apply) says what is promised of these contents, what is proved of every
-function, and what is trusted. [TESTED.md](TESTED.md) says what is only tested, and which wrong bodies meet every clause.
+The content of a stream, a reel, a source of blocks or a similar thing is *known* if a contract says what the content is. The contents of the system's
+streams, files, folders and sockets are not known. [TRUSTED.md](TRUSTED.md#to-what-the-promises-apply) says what is promised of unknown contents, what is
+proved of every function, and what is trusted. [TESTED.md](TESTED.md) says what is only tested, and which wrong bodies meet every clause.
 """
 ABOUT_LIMITS = """\
-The prover refuses these edits because it reaches a limit of a tactic before it has tried everything. So the refusal alone does not show that the
-edit breaks a promise. For each edit, the list names the clauses that the prover could not prove for the wrong body. The
-control of each edit is proved by the same tactics.
+The prover searches for a proof by *tactics*, and each tactic has a limit. For the edits in this list, a tactic reached its limit before it had tried
+everything. So the refusal alone does not show that the edit breaks a promise. For each edit, the list names the clauses that the prover could not prove for
+the wrong code. With the same tactics, the prover proves the control of the edit.
 """
 ABOUT_UNCONTROLLED = """\
-An edit in this list has no right body beside it that is proved, so it may be refused only because its text changed.
+An edit in this list has no control: right code for the same place, which the prover accepts. So the prover may refuse the edit only because the code
+has changed, and not because a promise is broken.
 """
 
 
@@ -229,7 +232,7 @@ def page() -> str:
     for crate in shown:
         out += [f"## `{crate}`", about(crate), "\n".join(line for it in entries(crate).values() for line in lines_of(it))]
     if LIMITS in last:
-        out += [f"## {LIMITS}", wrapped(joined(ABOUT_LIMITS)), "\n".join(wrapped(f"- `{name}`: {words}") for name, words in limits())]
+        out += [f"## {LIMITS}", wrapped(joined(ABOUT_LIMITS)), "\n".join(wrapped(f"- `{name}`: for this wrong code, the prover could not prove {words}") for name, words in limits())]
     if UNCONTROLLED in last:
         out += [f"## {UNCONTROLLED}", wrapped(joined(ABOUT_UNCONTROLLED)), "\n".join(uncontrolled())]
     return linked("\n\n".join(out) + "\n")

@@ -164,7 +164,7 @@ def check_page(room: Path) -> None:
     status, said = ran(room, "--write")
     page = (room / "docs" / "PROMISES.md").read_text()
     check("a page is made", status == 0 and PAGE in page, said, page)
-    check("an edit at a limit is listed", "\n- `words/never_long`: the clause `value`.\n" in page, page)
+    check("an edit at a limit is listed", "\n- `words/never_long`: for this wrong code, the prover could not prove the clause `value`.\n" in page, page)
     check("no other list follows", "Edits without a control" not in page and page.endswith(".\n"), page[-200:])
     check("what was made is as it is", ran(room) == (0, "promises: 5 calls and laws with 7 texts and 3 edits are as the crates have them\n"), ran(room))
 
@@ -196,7 +196,7 @@ def check_faults(room: Path) -> None:
     for name in EDITS:
         (room / "crates" / "words" / "further" / f"{name}.edit").unlink()
     check("a call without an edit", "is_long of words has no edit" in ran(room)[1], ran(room)[1])
-    marked = with_change(room, "crates/words/src/word.rt", "The limit stays.", "The limit stays. The types allow only this body, so there is no edit.")
+    marked = with_change(room, "crates/words/src/word.rt", "The limit stays.", "The limit stays. The types allow no other body, so no wrong body is tried.")
     check("a call of whose type no other body is", "is_long of words has no edit" not in marked, marked)
 
 

@@ -11,18 +11,18 @@ const UNIX: &str = "unix:";
 /// The greatest length in bytes of the path of a Unix socket (unix(7)).
 pub const PATH_LIMIT: usize = 107;
 
-/// Whether a text is an address: a host, a colon and a port, or `unix:` and the path of a Unix
-/// socket.
+/// Returns whether a text is an address: a host, a colon and a port, or `unix:` and the path of a
+/// Unix socket.
 ///
 /// A host has at least one byte. If it contains a colon, as an IPv6 address does, it must be in
 /// brackets. A port is a number of 16 bits, written in digits only. The path begins with `/` and
 /// has at most `PATH_LIMIT` bytes.
 pub fn is_address(text: &str) -> bool
-    // Returns true exactly if the text is an address of one of two kinds. The first kind is a host,
-    // a colon and a port. The port is a number of 16 bits, written in digits only. The host is not
-    // empty. If the host contains a colon, the host is in brackets. No clause says more about the
-    // host. The second kind is `unix:` and a path. The path begins with `/` and has at most 107
-    // bytes.
+    // `is_address` returns true if and only if the text is an address of one of two kinds. An
+    // address of the first kind is a host, a colon and a port. The port is a number of 16 bits,
+    // written in digits only. The host is not empty. If the host contains a colon, the host is in
+    // brackets. No clause says more about the host. An address of the second kind is `unix:` and a
+    // path. The path begins with `/` and has at most 107 bytes.
     ensures { IsTrue result ↔ IsAddress text.now }
 {
     match path_of(text) {
@@ -36,8 +36,8 @@ pub fn is_address(text: &str) -> bool
 ///
 /// Any other text after `unix:` is no path: `unix:4711` is the host `unix` with a port.
 pub fn path_of(text: &str) -> Option<&str>
-    // Returns what follows `unix:`, if the text begins with `unix:/`. Returns `None` if the text
-    // begins with anything else.
+    // If the text begins with `unix:/`, `path_of` returns what follows `unix:`. For any other text
+    // `path_of` returns `None`.
     ensures { MatchOption result (¬ (IsPath text.now)) (λ path. IsPathOf text.now path.now) }
 {
     let path = text.strip_prefix(UNIX)?;
@@ -48,12 +48,11 @@ pub fn path_of(text: &str) -> Option<&str>
     }
 }
 
-/// The law that no text is an address of both kinds: a host with a port, and the path of a Unix
-/// socket.
+/// No text is both a host with a port and the path of a Unix socket.
 ///
 /// It does nothing: its contract is a law of the definitions.
 pub fn one_kind()
-    // A text that is a host, a colon and a port does not begin with `unix:/`.
+    // If a text is a host, a colon and a port, the text does not begin with `unix:/`.
     ensures { (text : List ℕ) → HasPort text → ¬ (IsPath text) }
 {}
 

@@ -1,5 +1,5 @@
-//! The address of a server: a host, a colon and a port, as in `localhost:4711` or `[::1]:4711`, or
-//! the path of a Unix socket, as in `unix:/run/rmtd/socket`.
+//! The address of a server: a host with a port, or the path of a Unix socket. Examples are
+//! `localhost:4711`, `[::1]:4711` and `unix:/run/rmtd/socket`.
 #![tactic(auto)]
 
 mod address;

@@ -59,32 +59,32 @@ abbrev pub ReelCanFail : {R : Type 0} → ReelPromise R → Option R → Type 0
 ReelCanFail r None = ⊥
 ReelCanFail r (Some reel) = r.can_fail reel
 
--- what every call of stacks promises
+-- what each call of `latch`, `unlatch` or `offline` promises
 pub record IsStacksCall {S R : Type 0} (s : StacksKind S R) (r : ReelPromise R) (old : S) (call : StacksCall R) (new : S) : Type 0 where
-  -- If the contents of the stacks and of the reel are known, `LibraryStep` says how the call
-  -- changes the library.
+  -- If the contents of the stacks are known, `LibraryStep` says how the call changes the library.
+  -- If the caller passed a reel, the reel's contents must be known too.
   pub step : LibraryStep s r old call new
-  -- Even if the contents are unknown, the call fails only with a fault that a call of this kind can
-  -- return.
+  -- Even if the contents are unknown, a latch fails only with `NoReel`, `Device` or `OutOfMemory`.
+  -- A move fails only with `Device`, `OutOfMemory` or `NameTaken`.
   pub can : CanStacksAnswer call
-  -- If the call latched a reel of a drive, that drive has a latched reel afterwards. A reel that
-  -- was latched before stays latched, unless the call laid it back or moved it.
+  -- After a latch that succeeded, the drive has a latched reel. A drive that had a latched reel
+  -- before the call still has one, unless the call laid this reel back or moved this reel.
   pub latched : (d : ℕ) → drive_latched call ≡ Some d → HasLatched s.holds new d
   pub elsewhere : (d : ℕ) → drive_left call ≢ Some d → HasLatched s.holds old d → HasLatched s.holds new d
   -- The call returns `Device` only if the device failed during the call.
   pub device : fault_of call ≡ Some Device → HasRisen (s.failures old) (s.failures new)
   -- If the device failed during the call, the call returns `Device`.
   pub failed : (s.failures new ≡ s.failures old) ⊎ (fault_of call ≡ Some Device)
-  -- Suppose that no device could fail before the call. Then the call does not return `Device`, and
-  -- takes no reel whose device can fail. After the call a device can fail only if the call was
-  -- given a reel whose device can fail.
+  -- If no device could fail before the call, the call does not return `Device`, and latches no reel
+  -- whose device can fail. After such a call, a device can fail only if the caller passed a reel
+  -- whose device can fail.
   pub able : fault_of call ≡ Some Device → s.can_fail old
   pub quiet : s.can_fail new → s.can_fail old ⊎ ReelCanFail r (reel_brought call)
   pub quiet_reel : ReelCanFail r (reel_taken call) → s.can_fail old
   -- The count of failures does not fall, and the number of drives does not change.
   pub counted : s.failures old ≤ s.failures new
   pub same_drives : s.drives new ≡ s.drives old
-  -- The call also keeps the further promises that this kind of stacks makes.
+  -- The call also keeps the further promises of the type that implements `Stacks` (`makes`).
   pub made : s.makes old new call
 
 -- one call of stacks, which is a move with this result

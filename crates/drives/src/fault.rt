@@ -32,7 +32,7 @@ pub enum DriveFault {
 }
 
 impl From<AllocError> for DriveFault {
-    // from_gives: A failed allocation becomes `OutOfMemory`.
+    // from_gives: `from` turns a failed allocation into `OutOfMemory`.
 
     ghost use Rattle.std.specs.Prelude.{◌≡◌};
     ghost use Rattle.drives.specs.declared.fault.DriveFault.TheVariants.{OutOfMemory};

@@ -9,14 +9,15 @@
 //! A drive has a stack of reels, and all drives of a server share one bin. Each session has a
 //! *seat*, which has a number. The *hold record* (a `Holds`) has a number for each drive: the
 //! number of the seat that holds the drive, or 0 if no seat does. The seat that holds a drive is
-//! the drive's *holder*. A seat makes one *step* when it takes a drive, gives a drive back, or
-//! looks at a drive's holder. To open a drive, a session takes the drive for its seat and *latches*
-//! (takes into the drive) the first reel of the drive's stack. To close the drive, the session lays
-//! the reel back on the stack and gives the drive back (`give`). To take the reel offline, the
-//! session moves the reel to the bin. `Stacks` is the trait of *the stacks*: all drives of a server
-//! with their stacks of reels, and the bin. The *library* of the stacks describes the drives, the
-//! reels and the bin as plain data. In the library each reel is *at rest*: the reel has entries and
-//! a capacity, but no position and no trouble (an injected fault).
+//! the drive's *holder*. A drive without a holder is *free*. A seat makes one *step* when it takes
+//! a drive, gives a drive back, or looks at a drive's holder. To open a drive, a session takes the
+//! drive for its seat and *latches* (takes into the drive) the first reel of the drive's stack. To
+//! close the drive, the session lays the reel back on the stack and gives the drive back (`give`).
+//! To take the reel offline, the session moves the reel to the bin (a *move*, the call `offline`).
+//! *The stacks* are all drives of a server with their stacks of reels, and the bin. `Stacks` is the
+//! trait of the stacks. The *library* of the stacks describes the drives, the reels and the bin as
+//! plain data. In the library each reel is *at rest*: the reel has entries and a capacity, but no
+//! position and no trouble (an injected fault).
 #![tactic(auto)]
 
 mod fault;

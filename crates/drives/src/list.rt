@@ -63,8 +63,8 @@ impl ListStacks {
         }
     }
 
-    /// Adds a drive with this name and an empty stack, and returns its number. Drives are numbered
-    /// from 0.
+    /// Adds a drive with the given name and an empty stack, and returns the drive's number. Drives
+    /// are numbered from 0.
     ///
     /// Fails with `NameTaken` if a drive has that name, and with `OutOfMemory`. Nothing is changed
     /// then.
@@ -84,16 +84,16 @@ impl ListStacks {
         self.put_drive(name)
     }
 
-    /// Adds an empty reel at the end of the stack of a drive, and reserves room for it in the bin.
-    /// `drive` is a number that `add_drive` returned, and `capacity` is in bytes.
+    /// Adds an empty reel at the end of a drive's stack, and reserves room for this reel in the
+    /// bin. `drive` is a number that `add_drive` returned, and `capacity` is in bytes.
     ///
     /// Fails with `NameTaken` if a reel on a stack, in a drive or in the bin has that name, and
     /// with `OutOfMemory`. Nothing is changed then.
     pub fn add_reel(&mut self, drive: usize, name: &[u8], capacity: u64) -> Result<(), DriveFault>
         requires { drive < length self.old.library.drives }
-        // The new reel is empty, has the given capacity and no trouble, and is last on its stack.
-        // `add_reel` fails only if an older reel (latched, on a stack or in the bin) has the same
-        // name, or if an allocation fails. If `add_reel` fails, nothing changes.
+        // The new reel is last on its stack. The new reel is empty, has the given capacity, and has
+        // no trouble. `add_reel` fails only if an older reel (latched, on a stack or in the bin)
+        // has the same name, or if an allocation fails. If `add_reel` fails, nothing changes.
         ensures added { IsReelAdded self.old drive name.now capacity result self.new }
         // Each reel name still occurs only once. If no device could fail before `add_reel`, none
         // can fail after it.
@@ -106,12 +106,13 @@ impl ListStacks {
         self.put_reel(drive, name, capacity)
     }
 
-    /// Returns the reels of the drive's stack in order. The first one is latched, or would be
-    /// latched next. `drive` is a number that `add_drive` returned.
+    /// Returns the reels of the given drive's stack, in order. The first one is latched, or would
+    /// be latched next. `drive` is a number that `add_drive` returned.
     pub fn stack(&self, drive: usize) -> &[ListedReel]
         requires { drive < length self.now.library.drives }
-        // `stack` returns one item for each reel of the drive's stack, in the same order as in the
-        // stacks' library. The item of a latched reel has only the reel's name.
+        // `stack` returns a `ListedReel` for each reel of the drive's stack. The stacks' library
+        // has these reels in the same order. The `ListedReel` of a latched reel contains only the
+        // reel's name.
         ensures lying { result.now ≡ (drive_at self.now.library drive).stack }
         ensures told { map rest_slot result.now ≡ (drive_at (library_of self.now) drive).stack }
     {
@@ -121,19 +122,20 @@ impl ListStacks {
 
     /// Returns the reels in the bin, in the order in which they were moved there.
     pub fn bin(&self) -> &[ListedReel]
-        // `bin` returns the reels of the bin, in the same order as in the stacks' library.
+        // `bin` returns the reels in the bin. The stacks' library has these reels in the same
+        // order.
         ensures lying { result.now ≡ self.now.library.bin }
         ensures told { map rest_slot result.now ≡ (library_of self.now).bin }
     {
         &self.bin
     }
 
-    /// Returns the reel with that name, on a stack or in the bin. Returns `None` if no reel has the
-    /// name or the reel is latched.
+    /// Returns the reel with the given name, on a stack or in the bin. Returns `None` if no reel
+    /// has the name or the reel is latched.
     pub fn reel(&self, name: &[u8]) -> Option<&TroubledReel>
-        // `reel` returns the reel with the given name, on a stack or in the bin. While the reel is
-        // latched, `reel` returns `None`. The stacks' library has the same reel, at rest, under the
-        // same name.
+        // `reel` returns the reel with the given name, on a stack or in the bin. `reel` returns
+        // `None` if no reel has this name, or while the reel is latched. The stacks' library has
+        // the same reel under the same name, at rest (without position and trouble).
         ensures found { option_copied result ≡ reel_named name.now (slots_in self.now.library) }
         ensures told { option_map at_rest (option_copied result) ≡ reel_named name.now (slots_in (library_of self.now)) }
     {
@@ -143,46 +145,49 @@ impl ListStacks {
         }
     }
 
-    /// Whether `arrange` may be called with these names. No reel of the drive may be latched, and
-    /// the names must be distinct. Each must be the name of a reel on the drive's stack or in the
-    /// bin. `drive` is a number that `add_drive` returned.
+    /// Returns whether `arrange` can be called with the given names. No reel of the drive may be
+    /// latched, and the names must be distinct. Each must be the name of a reel on the drive's
+    /// stack or in the bin. `drive` is a number that `add_drive` returned.
     pub fn can_arrange(&self, drive: usize, names: &[&[u8]]) -> bool
         requires { drive < length self.now.library.drives }
         // `can_arrange` returns true if and only if three conditions hold. The names are distinct.
-        // Each name is that of a reel on the drive's stack or in the bin. No reel of the drive is
-        // latched. A check of these three conditions in the stacks' library gives the same result.
+        // Each name belongs to a reel on the drive's stack or in the bin. No reel of the drive is
+        // latched. The three conditions hold for the stacks if and only if they hold for the
+        // stacks' library.
         ensures may { result ≡ may_arrange self.now.library drive (map (λ n. n.now) names.now) }
         ensures told { result ≡ may_arrange (library_of self.now) drive (map (λ n. n.now) names.now) }
     {
         self.can_put_stack(drive, names)
     }
 
-    /// Rearranges the drive's stack, as an operator does. The stack then has the reels with these
-    /// names, in that order. Reels named from the bin leave it. The stack's other reels go to the
-    /// end of the bin, in their order. No reel itself changes. Call it only if `can_arrange`
+    /// Rearranges the given drive's stack, as an operator does. The stack then has the reels with
+    /// these names, in that order. Reels named from the bin leave it. The stack's other reels go to
+    /// the end of the bin, in their order. No reel itself changes. Call it only if `can_arrange`
     /// returns true.
     ///
     /// Fails with `OutOfMemory`. Nothing is changed then.
     pub fn arrange(&mut self, drive: usize, names: &[&[u8]]) -> Result<(), DriveFault>
         requires drive { drive < length self.old.library.drives }
         requires may { IsTrue (may_arrange self.old.library drive (map (λ n. n.now) names.now)) }
-        // After `arrange` the drive's stack has the named reels, in the given order. Reels of the
-        // bin that were not named stay in the bin. Reels of the old stack that were not named are
-        // now last in the bin. The reels themselves do not change. If an allocation failed, nothing
-        // changed.
+        // After a successful `arrange` the drive's stack has the named reels, in the given order.
+        // Reels of the bin that were not named stay in the bin. Reels of the old stack that were
+        // not named are now at the end of the bin. The reels themselves do not change. If an
+        // allocation fails, nothing changes.
         ensures arranged { IsArranged self.old drive (map (λ n. n.now) names.now) result self.new }
-        // `arrange` rearranges the stacks' library in the same way.
+        // `arrange` rearranges the stacks' library (the plain data that describes the stacks) in
+        // the same way.
         ensures told_order { MatchResult result
             (λ _. library_of self.new ≡ arranged (library_of self.old) drive (map (λ n. n.now) names.now))
             (λ _. library_of self.new ≡ library_of self.old) }
-        // After `arrange` the names on the drive's stack are the given names, in the given order.
+        // If `arrange` succeeds, the reels on the drive's stack have the given names, in the given
+        // order.
         ensures order { IfOk result (λ _. names_of (drive_at self.new.library drive).stack ≡ map (λ n. n.now) names.now) }
         // After `arrange` each reel name still occurs exactly once.
         ensures told { IsLibrary self.new (library_of self.new) }
         ensures names { (name : List ℕ) → times name (names_in self.new.library) ≡ times name (names_in self.old.library) }
         // Reels that are latched in other drives stay latched. If no device could fail before
-        // `arrange`, none can fail after it. The trouble, the count of failures and the number of
-        // drives do not change.
+        // `arrange`, none can fail after it. The trouble of the stacks, the count of failures and
+        // the number of drives do not change.
         ensures elsewhere { (d : ℕ) → d ≢ drive → HasLatched IsLibrary self.old d → HasLatched IsLibrary self.new d }
         ensures quiet { StacksCanFail self.new → StacksCanFail self.old }
         ensures same_trouble { self.new.trouble ≡ self.old.trouble }
@@ -195,7 +200,8 @@ impl ListStacks {
     /// Sets whether the next latch or move to the bin fails with `Device`. A latch that finds no
     /// reel, and an `unlatch`, do not call the device and leave the setting.
     pub fn trouble(&mut self, on: bool)
-        // `trouble` sets or clears the trouble of the stacks. Nothing else changes.
+        // `trouble` sets or clears the trouble (the injected fault) of the stacks. Nothing else
+        // changes.
         ensures { self.new ≡ record self.old { trouble = on } }
     {
         self.trouble = on;
@@ -355,24 +361,24 @@ impl ListStacks {
 }
 
 impl Stacks for ListStacks {
-    // drive, below, named, found: `drive` returns the first drive with the given name.
+    // drive, below, named, found: `drive` returns the number of the first drive with the given
+    // name, or `None` if no drive has this name.
     //
-    // latch, made: A latch takes the first reel of the stack and rewinds this reel
+    // latch, made: A latch takes the first reel of the drive's stack and rewinds this reel
     // (`IsReelLatched`). The reel keeps its trouble and its count of failures. If the first reel is
-    // latched already, the latch takes no reel. A latch never fails with `OutOfMemory`.
+    // latched already, the latch fails with `NoReel`. A latch never fails with `OutOfMemory`.
     //
-    // unlatch, made: A reel that is laid back is first on its stack again, unchanged
+    // unlatch, made: `unlatch` lays the reel back, unchanged, as the first reel of its stack
     // (`IsReelLaidBack`).
     //
-    // offline, made: A reel that is moved leaves its stack and becomes the last reel in the bin
+    // offline, made: A move takes the reel off its stack and puts the reel at the end of the bin
     // (`IsReelMoved`). A move never fails with `OutOfMemory`.
     //
-    // made: A move fails if and only if the trouble of the stacks was set. A latch that finds a
-    // reel also fails if and only if this trouble was set. Such a failed move or latch is counted
-    // as a failure, moves no reel, and clears the trouble. A latch that finds no reel leaves the
-    // trouble set.
+    // made: A move, or a latch that finds a reel, fails if and only if the trouble of the stacks is
+    // set. If the trouble makes a call fail, the stacks count a failure, clear the trouble, and
+    // move no reel. A latch that finds no reel does not clear the trouble.
     //
-    // back: If a move fails, it returns the reel.
+    // back: A failed move returns the reel.
     //
     // failures: `failures` returns the count of device failures.
 

@@ -50,7 +50,7 @@ impl ListedReel {
         &self.name
     }
 
-    /// Returns the reel, or `None` while it is latched.
+    /// Returns the reel, or `None` while the reel is latched.
     pub fn reel(&self) -> Option<&TroubledReel>
         // `reel` returns a reference to the reel. While the reel is latched, `reel` returns `None`.
         ensures { MatchOption result (self.now.reel ≡ None) (λ reel. self.now.reel ≡ Some reel.now) }

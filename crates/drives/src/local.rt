@@ -53,12 +53,13 @@ impl Model for LocalHolds {
 }
 
 impl LocalHolds {
-    /// Returns the hold record of new drives that no seat holds. `drives` is the number of drives,
+    /// Returns a new hold record, in which every drive is free. `drives` is the number of drives,
     /// from 1 to `DRIVE_LIMIT`. Fails only if an allocation fails.
     pub fn new(alloc: Global, drives: usize) -> Result<LocalHolds, AllocError>
         requires some { 1 ≤ drives }
         requires few { drives ≤ DRIVE_LIMIT }
-        // In the new hold record every drive is free. No number has been assigned to a seat.
+        // In the new hold record every drive is free. The record has not assigned a seat number
+        // yet.
         ensures { IfOk result (λ all. all ≡ holders (replicate drives 0) 0) }
     {
         let numbers = Vec::from_elem(alloc, 0u64, drives)?;
@@ -69,10 +70,10 @@ impl LocalHolds {
     /// once `u64::MAX` was assigned. It allocates nothing.
     pub fn seat(&mut self) -> Option<LocalSeat>
         // `seat` returns a seat with the next number, beginning with 1. `seat` returns `None` if
-        // and only if the greatest `u64` has been assigned.
+        // and only if the greatest `u64` was already assigned to a seat.
         ensures next { IsSeatGiven self.old result self.new }
-        // The new seat belongs to this hold record and holds no drive. The other seats still belong
-        // to the record.
+        // The new seat belongs to this hold record and holds no drive. Older seats still belong to
+        // the record.
         ensures own { IfSome result (λ seat. IsSeatOf self.new seat) }
         ensures idle { IfSome result (λ seat. HoldsJust seat None) }
         ensures others { (v : View) → IsSeatOf self.old v → IsSeatOf self.new v }
@@ -90,12 +91,12 @@ impl LocalHolds {
         Some(LocalSeat { view })
     }
 
-    /// Returns the number of the seat that holds the drive, or 0 if no seat does. The drive must
-    /// exist. It does not count as a step of a seat.
+    /// Returns the number of the seat that holds the given drive, or 0 if no seat does. The drive
+    /// must exist. It does not count as a step of a seat.
     pub fn number_at(&self, drive: usize) -> u64
         requires { drive < length self.now.numbers }
-        // `number_at` returns the number of the drive's holder, or 0 if there is no holder. No seat
-        // makes a step.
+        // `number_at` returns the number of the drive's holder, or 0 if the drive is free. No seat
+        // makes a step during the call.
         ensures { IsHeldBy self.now drive result }
     {
         let numbers = &self.numbers;
@@ -104,13 +105,14 @@ impl LocalHolds {
 }
 
 impl Holds for LocalHolds {
-    // take: If the drive is free, a take makes the seat the drive's holder. If the drive is held, a
-    // take finds the holder's number. A take assigns no number to a seat.
+    // take: If the drive is free, a take makes the given seat the drive's holder. If the drive is
+    // not free, a take finds the holder's number. A take assigns no seat number.
     //
-    // give: A give frees the drive, in one step. A give assigns no number to a seat.
+    // give: A give is one step of the given seat, and frees the drive. A give assigns no seat
+    // number.
     //
-    // holder: `holder` is one step of the seat, and returns the number of the drive's holder, or 0
-    // if there is no holder.
+    // holder: A call of `holder` is one step of the given seat. `holder` returns the number of the
+    // drive's holder, or 0 if the drive is free.
 
     ghost use Rattle.std.specs.Prelude.{length};
     ghost use Rattle.drives.specs.Local.{IsSeatOf, IsHeldBy};

@@ -12,15 +12,15 @@ ghost use Rattle.drives.specs.Stacking.{HasLatched, IsStacksCall, IsMoveCall};
 use crate::DriveFault;
 use tape::Reel;
 
-/// Drives, each with a stack of reels, and one bin.
+/// A `Stacks` has drives, each with a stack of reels, and one bin.
 ///
 /// An implementation may leave its contents unspecified, as std's readers may with their bytes.
 /// Clauses about a `TapeLibrary` apply only if the contents are specified.
 pub trait Stacks {
-    // single, sized: If the library of the stacks is known, only one library is possible. The
-    // library and the stacks have the same number of drives.
+    // single, sized: At any moment the stacks have at most one known library. This library has as
+    // many drives as the stacks.
     //
-    // once: If the library of the stacks is known, each reel name occurs only once in the library.
+    // once: In a known library of the stacks no two reels have the same name.
     //
     // can_fail: For stacks in memory, a device can fail only if a trouble is set for the stacks or
     // for a reel that is not latched.
@@ -44,16 +44,16 @@ pub trait Stacks {
     /// What this implementation promises for a call, beyond what all implementations promise.
     ghost makes: { Self → Self → StacksCall Self.Reel → Type 0 };
 
-    /// Returns the number of the first drive with that name. It allocates nothing.
+    /// Returns the number of the first drive with the given name. It allocates nothing.
     fn drive(&self, name: &[u8]) -> Option<usize>
         // If `drive` returns a number, a drive with that number exists.
         ensures below { IfSome result (λ d. d < drives self.now) }
         // If the stacks' library is known, `drive` returns the number of the first drive with the
-        // given name. In this case `drive` returns `None` only if no drive has the name.
+        // given name. If no drive has this name, `drive` returns `None`.
         ensures named { (s : TapeLibrary) → holds self.now s → IsDriveNamed name.now s result };
 
-    /// Latches (mounts) the first reel of the drive's stack and returns this reel, at its
-    /// beginning. Drives are numbered from 0.
+    /// Latches (mounts) the first reel of the given drive's stack and returns this reel, positioned
+    /// at its beginning. Drives are numbered from 0.
     ///
     /// Until `unlatch` or `offline` gets the reel back, it keeps its place in the stack and cannot
     /// be latched again.
@@ -63,35 +63,39 @@ pub trait Stacks {
     /// fails. No reel is moved then.
     fn latch(&mut self, drive: usize) -> Result<Self::Reel, DriveFault>
         requires { drive < drives self.old }
-        // `latch` keeps the promises that every call of stacks keeps (`IsStacksCall`).
+        // `latch` keeps the promises that `latch`, `unlatch` and `offline` have in common
+        // (`IsStacksCall`).
         ensures { IsStacksCall (stacks_kind holds drives failures can_fail makes) Self.Reel.Reel self.old (Latch drive result) self.new };
 
-    /// Lays `reel`, the drive's latched reel, back on its stack. It allocates nothing, counts no
-    /// failure and never fails. Stacks in folders sync the file here.
+    /// Lays `reel`, the given drive's latched reel, back on the drive's stack. It allocates
+    /// nothing, counts no failure and never fails. Stacks in folders sync the file here.
     fn unlatch(&mut self, drive: usize, reel: Self::Reel)
         requires drive { drive < drives self.old }
         requires latched { HasLatched holds self.old drive }
-        // `unlatch` keeps the promises that every call of stacks keeps (`IsStacksCall`).
+        // `unlatch` keeps the promises that `latch`, `unlatch` and `offline` have in common
+        // (`IsStacksCall`).
         ensures { IsStacksCall (stacks_kind holds drives failures can_fail makes) Self.Reel.Reel self.old (LayBack drive reel) self.new };
 
-    /// Moves `reel`, the drive's latched reel, to the end of the bin.
+    /// Moves `reel`, the given drive's latched reel, to the end of the bin.
     ///
     /// Fails with `Device`, with `OutOfMemory`, and with `NameTaken` if the bin has a reel with
     /// that name. The error contains the reel, and no reel has moved.
     fn offline(&mut self, drive: usize, reel: Self::Reel) -> Result<(), (Self::Reel, DriveFault)>
         requires drive { drive < drives self.old }
         requires latched { HasLatched holds self.old drive }
-        // `offline` keeps the promises that every call of stacks keeps (`IsStacksCall`). If
-        // `offline` fails, it returns the reel.
+        // `offline` keeps the promises that `latch`, `unlatch` and `offline` have in common
+        // (`IsStacksCall`). If `offline` fails, it returns the reel.
         ensures call { IsMoveCall (stacks_kind holds drives failures can_fail makes) Self.Reel.Reel self.old drive reel result self.new }
         ensures back { IfErr result (λ refused. refused.0 ≡ reel) };
 
-    /// Returns how many times the device has failed. The count stops at the greatest `u64`.
+    /// Returns how many times the device that stores the reels has failed. The count stops at the
+    /// greatest `u64`.
     fn failures(&self) -> u64
         // `failures` returns the count of device failures.
         ensures { result ≡ failures self.now };
 
-    /// Adds a line to the log of these stacks, if they keep one. Its contract promises nothing.
+    /// Adds a line to the log of the stacks, if the stacks keep a log. Its contract promises
+    /// nothing.
     fn note(&self, _line: &str) {}
 
     /// The contents are at most one library.

@@ -32,37 +32,38 @@ pub trait Blocks {
     /// the source and the bytes of `into`.
     ghost reads: { Self → ℕ → List ℕ → Result Unit SourceFailed → Self → List ℕ → Type 0 };
 
-    /// Tells the source that an attempt begins to write volume `volume`, whose first record is
-    /// `label`. Volume numbers start at 1. The volume's first block is `first`, counted from 0. A
-    /// source may show this, or hash the label and the blocks that it then reads. The default does
-    /// nothing. What contracts see of the source does not change.
+    /// Tells the source that an attempt to write volume `volume` begins. The volume's first record
+    /// is `label`. Volume numbers start at 1. The volume's first block is `first`, counted from 0.
+    /// A source may show this, or hash the label and the blocks that it then reads. The default
+    /// does nothing. What contracts see of the source does not change.
     fn begin_volume(&mut self, label: &[u8; LABEL_BYTES], volume: u32, first: u32)
-        // Tells the source which volume begins. What contracts see of the source does not change. No
-        // clause says that the label is that of the volume.
+        // Tells the source which volume begins. What contracts see of the source does not change.
+        // No clause says that `label` is the label of volume `volume`.
         ensures { self.new ≡ self.old }
     {
         let _ = (label[0], volume, first);
     }
 
-    /// Reads block `block`, counted from 0, into `into`, whose length must be the block's length.
+    /// Reads block `block` (counted from 0) into `into`, which must be as long as the block.
     ///
     /// Returns `SourceFailed` if the read fails. The blocks are unchanged then, but `into` may have
     /// changed.
     fn read(&mut self, block: u32, into: &mut [u8]) -> Result<(), SourceFailed>
         requires { (blocks : List (List ℕ)) → holds self.old blocks → HasBlock blocks block (length into.old) }
-        // A read leaves the blocks of the source as they were.
+        // A read does not change the source's blocks.
         ensures same_blocks { (blocks : List (List ℕ)) → holds self.old blocks ↔ holds self.new blocks }
-        // If the source's contract gives the blocks, a read that succeeds returns the block with
-        // the given number.
+        // If the blocks of the source are known, a successful read puts the block with the given
+        // number into `into`.
         ensures given { (blocks : List (List ℕ)) → holds self.old blocks → GivesBlock result blocks block into.new }
-        // Each failed read adds 1 to the number that `failures` returns. A read that succeeds does
-        // not change this number. A read fails only if the source can fail. If a source cannot fail
-        // before a read, the source cannot fail after the read.
+        // Each failed read adds 1 to the number that `failures` returns, up to the greatest `u64`.
+        // A successful read does not change this number. `can_fail` says whether a source's next
+        // read can fail. A read fails only if `can_fail` holds. If `can_fail` does not hold before
+        // a read, it does not hold after the read.
         ensures counted { failures self.new ≡ counted_after result (failures self.old) }
         ensures able { IsErr result → can_fail self.old }
         ensures quiet { can_fail self.new → can_fail self.old }
-        // Each type that implements `Blocks` can promise more about its reads, with its own
-        // definition of `reads`.
+        // A type that implements `Blocks` can promise more about its reads. The type defines these
+        // further promises as `reads`.
         ensures read { reads self.old block into.old result self.new into.new };
 
     /// Returns the number of reads that have failed. It stays at the greatest `u64`.

@@ -55,9 +55,9 @@ impl Checkpoint {
         // these counts.
         ensures spelled { IfOk result (λ c. SpellsCheckpoint bytes.now c.run c.counts) }
         // If a line is bad, the call returns the number of the first bad line. A line is bad if its
-        // form is wrong or a value exceeds a limit. A missing line is bad too. If no line is bad,
-        // but the counts are not in order, the call returns the line number of the first count that
-        // breaks the order. The only other error is `OutOfMemory`.
+        // form is wrong, or if a value is outside its limits. A missing line is bad too. If all
+        // lines are good, but the counts are not in order, the call returns the line number of the
+        // first count that breaks the order. The only other error is `OutOfMemory`.
         ensures refused { IfErr result (HasResumeFault bytes.now) }
     {
         let (run, rest) = read_head(bytes)?;
@@ -71,7 +71,8 @@ impl Checkpoint {
 
     /// Returns the run.
     pub fn run(&self) -> &Run
-        // Returns the run of the checkpoint. The types allow only this body, so there is no edit.
+        // Returns the run of the checkpoint. The types allow no other body, so no wrong body is
+        // tried.
         ensures { result.now ≡ self.now.run }
     {
         &self.run
@@ -100,13 +101,13 @@ impl Checkpoint {
 }
 
 impl Run {
-    /// Returns the run of a checkpoint's text, without the counts.
+    /// Reads the text of a checkpoint, and returns only the run.
     ///
     /// It reads the counts too and frees them. Its errors are those of `Checkpoint::read`, under
     /// the same conditions.
     pub fn spelled(alloc: Global, bytes: &[u8]) -> Result<Run, ResumeFault>
-        // Returns the run of a checkpoint's text. The call also checks that the counts in the text
-        // are in order.
+        // Returns the run that the text of a checkpoint contains. The call also checks that the
+        // counts in the text are in order.
         ensures spelled { IfOk result (λ run. (counts : List VolumeCount) × SpellsCheckpoint bytes.now run counts) }
         // If a line is bad or the counts are not in order, the call returns the same line number as
         // `Checkpoint::read`. The only other error is `OutOfMemory`.

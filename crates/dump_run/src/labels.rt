@@ -24,7 +24,7 @@ fn lines_of(run: &Run, volume: u32, first: u32) -> TextLines
     lines
 }
 
-/// Returns the label of the run's volume `volume`, whose first block is `first`: six lines, then
+/// Returns the label of the run's volume `volume`, which begins at block `first`: six lines, then
 /// zero bytes.
 ///
 /// `volume` is counted from 1 and `first` from 0. It allocates nothing.

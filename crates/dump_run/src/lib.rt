@@ -1,5 +1,5 @@
-//! The contents of a dump to a remote tape (dump(8)): a run, the label that begins each of its
-//! volumes, and its blocks.
+//! The contents of a dump to a remote tape (dump(8)): a run, the label at the beginning of each
+//! volume, and the blocks.
 //!
 //! `Run` holds the parameters of a dump: the file system, the drive and the number of blocks.
 //! `label` returns the first record of a volume, and `VolumeLabel::read` reads one. `Blocks` is the
@@ -9,10 +9,10 @@
 //! # Contracts
 //!
 //! A *run* is one dump of a file system. A *source* has the blocks that a run dumps. The type of a
-//! source implements `Blocks`. A *count* records one counted volume: the volume's number, its first
-//! block and its number of blocks. Counts that are *in order* have the volume numbers 1, 2, 3 and
-//! so on, and each volume begins where the volume before ended. A *checkpoint* is a run with its
-//! counts. A checkpoint can be written as a text.
+//! source implements `Blocks`. A *count* records a volume that was written whole: the volume's
+//! number, its first block and its number of blocks. Counts are *in order* if their volumes have
+//! the numbers 1, 2, 3 and so on, and if each volume begins where the volume before it ended. A
+//! *checkpoint* is a run with its counts. A checkpoint can be written as a text.
 #![tactic(auto)]
 
 mod blocks;

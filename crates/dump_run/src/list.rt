@@ -39,7 +39,7 @@ impl ListBlocks {
     pub fn new(payload: Vec<u8>, block_bytes: usize, blocks: u32) -> ListBlocks
         requires { length payload.items ≡ blocks * block_bytes }
         // Returns a source in memory that has the given payload, cut into blocks of the given size.
-        // No fault is injected, and no read has failed yet.
+        // Reads of the source do not fail, and no read has failed yet.
         ensures listed { result ≡ listed (cut_blocks blocks block_bytes payload.items) false 0 }
         ensures blocks { length result.blocks ≡ blocks }
         ensures sizes { (n : ℕ) → n < blocks → length (get_or result.blocks n []) ≡ block_bytes }
@@ -53,9 +53,9 @@ impl ListBlocks {
         }
     }
 
-    /// Sets whether reads of the source fail from now until the next call of `trouble`.
+    /// Sets whether reads of the source fail, until the next call of `trouble`.
     pub fn trouble(&mut self, fails: bool)
-        // Sets whether reads of the source fail from now on. Nothing else changes.
+        // Sets whether reads of the source fail from now on. The call changes nothing else.
         ensures { self.new ≡ listed self.old.blocks fails self.old.failures }
     {
         self.troubled = fails;
@@ -73,8 +73,8 @@ impl ListBlocks {
 }
 
 impl Clone for ListBlocks {
-    // Returns a copy with the same blocks and the same number of failures. If a fault is injected,
-    // the copy has this fault too. The call fails only if an allocation fails.
+    // Returns a copy with the same blocks and the same number of failures. If reads of the source
+    // fail, reads of the copy fail too. The call fails only if an allocation fails.
 
     /// Returns a copy with the same payload, the same injected fault and the same number of
     /// failures.
@@ -94,11 +94,11 @@ impl Clone for ListBlocks {
 }
 
 impl Blocks for ListBlocks {
-    // read: A read fails if and only if a fault is injected. A failed read changes only the number
-    // of failures.
+    // read: A read fails if and only if the source is set to fail reads (`ListBlocks::trouble`). A
+    // failed read changes only the number of failures.
     //
-    // same_blocks, failures: The blocks stay as they are. `failures` returns how many reads have
-    // failed.
+    // same_blocks, failures: A read does not change the blocks. `failures` returns how many reads
+    // have failed.
 
     ghost holds = { AreBlocksOf };
 

@@ -110,8 +110,9 @@ impl Run {
         block_bytes: u64,
         blocks: u64,
     ) -> Result<Run, RunFault>
-        // If all given values are within their limits, returns a run with these values. Otherwise
-        // the call returns the fault for the first broken limit, in the order of `RunFault`.
+        // If all given values are within their limits, the call returns a run with these values.
+        // Otherwise the call returns the fault for the first broken limit, in the order of the
+        // variants of `RunFault`.
         ensures run { IsRunOf (plain_run device.now fs.now level date since block_bytes blocks) result }
         ensures limits { IfOk result IsRun }
     {
@@ -140,11 +141,11 @@ impl Run {
         }
     }
 
-    /// Whether both runs are of the same dump: they have the same device, name, level, block size
-    /// and number of blocks. The dates may differ.
+    /// Returns whether two runs are of the same dump: they have the same device, name, level, block
+    /// size and number of blocks. The dates may differ.
     pub fn is_same_dump(&self, other: &Run) -> bool
         // Returns whether two runs have the same device, name, level, block size and number of
-        // blocks. Their dates may differ.
+        // blocks. Their dates can differ.
         ensures { IsTrue result ↔ AreOfOneDump self.now other.now }
     {
         self.device() == other.device()
@@ -175,26 +176,26 @@ impl Run {
 
     /// Returns the level, 0 to 9.
     pub fn level(&self) -> u8
-        // Returns the level of the run, 9 at most.
+        // Returns the level of the run, at most 9.
         ensures told { result ≡ self.now.level }
         ensures limit { self.now.level ≤ 9 }
     {
         self.id.level()
     }
 
-    /// Returns the date of this dump, in seconds since 1970 began, UTC.
+    /// Returns the date of this dump, in seconds since the beginning of 1970 (UTC).
     pub fn date(&self) -> u64
-        // Returns the date of the run, 253402300799 at most.
+        // Returns the date of the run, at most 253402300799.
         ensures told { result ≡ self.now.date }
         ensures limit { self.now.date ≤ last_second }
     {
         self.id.date()
     }
 
-    /// Returns the date of the earlier dump that this dump builds on: seconds since 1970 began,
-    /// UTC, or 0 if there is no earlier dump.
+    /// Returns the date of the earlier dump that this dump builds on: seconds since the beginning
+    /// of 1970 (UTC), or 0 if there is no earlier dump.
     pub fn since(&self) -> u64
-        // Returns the date of the earlier dump that the run builds on, 253402300799 at most.
+        // Returns the date of the earlier dump that the run builds on, at most 253402300799.
         ensures told { result ≡ self.now.since }
         ensures limit { self.now.since ≤ last_second }
     {
@@ -212,7 +213,7 @@ impl Run {
 
     /// Returns the number of blocks, up to `BLOCKS_LIMIT`.
     pub fn blocks(&self) -> u32
-        // Returns the number of blocks of the run, 2147483647 at most.
+        // Returns the number of blocks of the run, at most 2147483647.
         ensures told { result ≡ self.now.blocks }
         ensures limit { self.now.blocks ≤ BLOCKS_LIMIT }
     {

@@ -44,7 +44,7 @@ impl VolumeLabel {
     /// block 0 to `BLOCKS_LIMIT`.
     pub fn read(bytes: &[u8]) -> Option<VolumeLabel>
         // Returns the label that a record contains, or `None` if the record is not a label. The
-        // label's values are within the limits of a run, and the number of its volume is 1 or more.
+        // label's values are within the limits of a run, and the volume's number is at least 1.
         ensures { ReadsLabel bytes.now result }
     {
         if bytes.len() != LABEL_BYTES {
@@ -57,7 +57,7 @@ impl VolumeLabel {
         Some(label)
     }
 
-    /// Makes a label of these parts. Returns None if a part breaks its limit.
+    /// Makes a label with the given values. Returns None if a part breaks its limit.
     ///
     /// The name is 1 to 255 bytes of printable ASCII without a space, the level 0 to 9, and each
     /// date 0 to `dumpdates::LAST_SECOND`. The volume is 1 to `BLOCKS_LIMIT`, and its first block 0
@@ -70,9 +70,9 @@ impl VolumeLabel {
         volume: u32,
         first: u32,
     ) -> Option<VolumeLabel>
-        // Returns the label with the given parts.
+        // If the call returns a label, the label has the given values.
         ensures made { IfSome result (λ l. l ≡ plain_label name.now level date since volume first) }
-        // Returns a label exactly if each part is within its limit.
+        // The call returns a label if and only if each value is within its limits.
         ensures limits { IsSome result ↔ IsLabel (plain_label name.now level date since volume first) }
     {
         let (level, volume, first) = (u64::from(level), u64::from(volume), u64::from(first));
@@ -98,8 +98,8 @@ impl VolumeLabel {
         }
     }
 
-    /// Whether both labels are of the same dump: they have the same name, level and dates. The
-    /// volumes may differ.
+    /// Returns whether two labels are of the same dump: they have the same name, level and dates.
+    /// The volumes may differ.
     pub fn is_same_dump(&self, other: &VolumeLabel) -> bool
         // Returns whether two labels have the same name, level and dates.
         ensures { IsTrue result ↔ AreLabelsOfOneDump self.now other.now }
@@ -119,34 +119,33 @@ impl VolumeLabel {
 
     /// Returns the level, 0 to 9.
     pub fn level(&self) -> u8
-        // Returns the level in the label, 9 at most.
+        // Returns the level in the label, at most 9.
         ensures told { result ≡ self.now.level }
         ensures limit { self.now.level ≤ 9 }
     {
         self.id.level()
     }
 
-    /// Returns the date of the dump, in seconds since 1970 began, UTC.
+    /// Returns the date of the dump, in seconds since the beginning of 1970 (UTC).
     pub fn date(&self) -> u64
-        // Returns the date of the dump in the label, 253402300799 at most.
+        // Returns the date that the label has for the dump, at most 253402300799.
         ensures told { result ≡ self.now.date }
         ensures limit { self.now.date ≤ last_second }
     {
         self.id.date()
     }
 
-    /// Returns the date of the earlier dump that this dump builds on: seconds since 1970 began,
-    /// UTC, or 0 if there is no earlier dump.
+    /// Returns the date of the earlier dump that this dump builds on: seconds since the beginning
+    /// of 1970 (UTC), or 0 if there is no earlier dump.
     pub fn since(&self) -> u64
-        // Returns the label's date of the earlier dump that the dump builds on, 253402300799 at
-        // most.
+        // Returns the date that the label has for the earlier dump, at most 253402300799.
         ensures told { result ≡ self.now.since }
         ensures limit { self.now.since ≤ last_second }
     {
         self.id.since()
     }
 
-    /// Returns the number of the volume, counted from 1, at most `BLOCKS_LIMIT`.
+    /// Returns the number of the volume: 1 to `BLOCKS_LIMIT`.
     pub fn volume(&self) -> u32
         // Returns the number of the volume: 1 to 2147483647.
         ensures told { result ≡ self.now.volume }
@@ -155,9 +154,9 @@ impl VolumeLabel {
         self.volume
     }
 
-    /// Returns the first block of the volume, counted from 0, at most `BLOCKS_LIMIT`.
+    /// Returns the number of the volume's first block: 0 to `BLOCKS_LIMIT`.
     pub fn first(&self) -> u32
-        // Returns the number of the volume's first block, 2147483647 at most.
+        // Returns the number of the volume's first block: 0 to 2147483647.
         ensures told { result ≡ self.now.first }
         ensures limit { self.now.first ≤ blocks_limit }
     {

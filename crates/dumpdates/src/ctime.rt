@@ -20,9 +20,8 @@ pub const DATE_TEXT_BYTES: usize = 24;
 /// nothing.
 pub fn date_text(date: u64) -> Option<ArrayString<DATE_TEXT_BYTES>>
     // Returns the text of a date, as ctime(3) prints it, without the line feed. Each date up to
-    // `LAST_SECOND` (253402300799) has a text. For a later date the call returns `None`. The dates
-    // in the lines of the file are written in the same way. Tests: `dates_as_texts` in
-    // `dump_tests`.
+    // `LAST_SECOND` (253402300799) has a text. For a later date the call returns `None`. The lines
+    // of a dumpdates file contain dates in the same form. Tests: `dates_as_texts` in `dump_tests`.
     ensures given { IsSome result ↔ (date ≤ last_second) }
     ensures text { IfSome result (λ text. text.bytes ≡ spec.ctime_text date) }
 {

@@ -47,7 +47,7 @@ impl Dates {
         }
     }
 
-    /// Reads the entries of a file (dump(8)). Each line that is not blank has one entry.
+    /// Reads the entries of a dumpdates file (dump(8)). Each line that is not blank has one entry.
     ///
     /// Each line ends with a line feed, but the last one need not. A line with only spaces and
     /// tabs, or nothing, is blank. Any other line has seven words with spaces or tabs between them,
@@ -66,9 +66,9 @@ impl Dates {
         // `OutOfMemory`.
         ensures only { (entries : List DatesEntry) → SpellsDates bytes.now entries →
             MatchResult result (λ dates. dates ≡ entries) (λ fault. fault ≡ OutOfMemory) }
-        // If a line is bad, the call returns the number and the kind of the first bad line. There
-        // are two kinds of bad lines. A `BadLine` does not have the form of an entry. A `BadDate`
-        // has this form, but its date is invalid.
+        // If a line is bad, the call returns the number of the first bad line, as `BadLine` or
+        // `BadDate`. `BadLine` means that the line does not have the form of an entry. `BadDate`
+        // means that the line has this form, but an invalid date.
         //
         // If an allocation fails, the call returns `OutOfMemory`. The call allocates only when it
         // reaches a line with an entry.
@@ -88,14 +88,14 @@ impl Dates {
         }
     }
 
-    /// Returns the text of the file (dump(8)), with a line for each entry. A line is the name, a
-    /// space, the level, a space, the date as ctime(3) prints it, in UTC, and a line feed. A name
-    /// of less than 32 bytes is padded with spaces to 32.
+    /// Returns the text of a dumpdates file (dump(8)), with a line for each entry. A line is the
+    /// name, a space, the level, a space, the date as ctime(3) prints it, in UTC, and a line feed.
+    /// A name of less than 32 bytes is padded with spaces to 32.
     ///
     /// Fails with `OutOfMemory` if an allocation fails. Without entries it allocates nothing.
     pub fn text(&self) -> Result<Vec<u8>, DatesFault>
-        // Returns the text of a file with the entries of the list. Reading this text returns the
-        // same list.
+        // Returns the text of a dumpdates file with the entries of the list. Reading this text
+        // returns the same list, or `OutOfMemory`.
         ensures written { IfOk result (λ text. text.items ≡ written self.now) }
         ensures spelled { IfOk result (λ text. SpellsDates text.items self.now) }
         // The call fails only if an allocation fails. For an empty list the call never fails.
@@ -107,8 +107,8 @@ impl Dates {
         Ok(out)
     }
 
-    /// Returns how many entries there are. Each name has 1 to 255 bytes of printable ASCII without
-    /// a space. Each level is from 0 to 9, and each date from 0 to `LAST_SECOND`.
+    /// Returns the number of entries. Each name has 1 to 255 bytes of printable ASCII without a
+    /// space. Each level is from 0 to 9, and each date from 0 to `LAST_SECOND`.
     pub fn len(&self) -> usize
         // Returns the number of entries.
         ensures value { result ≡ length self.now }
@@ -128,12 +128,12 @@ impl Dates {
         Some(self.entries.get(at)?.entry())
     }
 
-    /// Returns the base date of a dump (dump(8)), in seconds since 1970 began, UTC. It is the date
-    /// of the latest dump of the name at any level below the given one. It is 0 if no lower level
-    /// was dumped, and at most `LAST_SECOND`.
+    /// Returns the base date of a dump (dump(8)), in seconds since the beginning of 1970 (UTC). It
+    /// is the date of the latest dump of the name at any level below the given one. It is 0 if no
+    /// lower level was dumped, and at most `LAST_SECOND`.
     pub fn base(&self, name: &str, level: u8) -> u64
-        // Returns the date of the latest dump of the given name at a level below the given level.
-        // If there is no such dump, the call returns 0.
+        // Returns the latest date in the list for the given name and any level below the given
+        // level. If the list has no entry with this name and a lower level, the call returns 0.
         ensures value { result ≡ spec.base_of self.now name.now level }
         // The returned date is at most `LAST_SECOND` (253402300799).
         ensures bound { result ≤ last_second }
@@ -155,9 +155,10 @@ impl Dates {
     /// Fails with `OutOfMemory` if a new entry is to be appended and an allocation for it fails.
     /// Then the list is unchanged.
     pub fn enter(&mut self, entry: Entry<'_>) -> Result<(), DatesFault>
-        // Suppose that the list has entries with the dump's name and level. Then the new entry
-        // replaces the first of them, and the call removes the others. If the list has no such
-        // entry, the call appends the new entry. All entries with other names or levels stay.
+        // If the list has entries with the dump's name and level, the new entry replaces the first
+        // of these entries. The call removes all other entries with this name and level. If the
+        // list has no entry with this name and level, the call appends the new entry. All entries
+        // with other names or levels stay.
         ensures entered { OnOk result (self.new ≡ spec.entered self.old (plain_entry entry.entry)) }
         // The call fails only if an allocation fails. If the list has an entry with the dump's name
         // and level, the call never fails.

@@ -31,12 +31,12 @@ impl<'a> Entry<'a> {
     ghost use Rattle.dumpdates.specs.Entry.{IsEntry};
     ghost use Rattle.dumpdates.specs.Stored.{plain_entry};
 
-    /// Returns the entry with this name, level and date. Returns None if `is_name` rejects the
+    /// Returns an entry with the given name, level and date. Returns None if `is_name` rejects the
     /// name, the level is above 9, or the date is above `LAST_SECOND`.
     pub fn new(name: &'a str, level: u8, date: u64) -> Option<Entry<'a>>
-        // Returns an entry with the given name, level and date, if all three are within their
-        // limits, and otherwise `None`. The name has 1 to 255 bytes of printable ASCII without a
-        // space. The level is 0 to 9. The date is 0 to 253402300799.
+        // If the name, the level and the date are within their limits, the call returns an entry
+        // with these values. Otherwise the call returns `None`. A name has 1 to 255 bytes of
+        // printable ASCII without a space. A level is 0 to 9, and a date is 0 to 253402300799.
         ensures given { IsSome result ↔ IsEntry (record { name = name.now; level = level; date = date }) }
         ensures value { IfSome result (λ e. plain_entry e ≡ record { name = name.now; level = level; date = date }) }
     {
@@ -47,11 +47,11 @@ impl<'a> Entry<'a> {
     }
 }
 
-/// Returns whether the bytes are a name of a file system. A name has 1 to 255 bytes of printable
-/// ASCII without a space. Such bytes are UTF-8.
+/// Returns whether the bytes can be the name of a file system. A name has 1 to 255 bytes of
+/// printable ASCII without a space. Such bytes are UTF-8.
 #[tactic(auto, using(crate::proofs::Shapes::name_is_text))]
 pub fn is_name(name: &[u8]) -> bool
-    // Returns whether the bytes are a name of a file system: 1 to 255 bytes of printable ASCII
+    // Returns whether the bytes can be the name of a file system: 1 to 255 bytes of printable ASCII
     // without a space. The bytes of a name are valid UTF-8.
     ensures name { IsTrue result ↔ IsName name.now }
     ensures text { IsName name.now → IsUtf8 name.now }
@@ -59,10 +59,11 @@ pub fn is_name(name: &[u8]) -> bool
     !name.is_empty() && name.len() <= NAME_LIMIT && name.iter().all(|b| b.is_ascii_graphic())
 }
 
-/// Returns the bytes as a name of a file system. Returns None if `is_name` rejects them.
+/// Returns the bytes as a `&str`, if they can be the name of a file system. Returns None if
+/// `is_name` rejects them.
 pub fn as_name(bytes: &[u8]) -> Option<&str>
-    // If the given bytes are a name of a file system, `as_name` returns them as a text. Otherwise
-    // `as_name` returns `None`. Tests: `bytes_as_names` in `dump_tests`.
+    // If the bytes can be the name of a file system (see `is_name`), the call returns the bytes as
+    // a `&str`. Otherwise the call returns `None`. Tests: `bytes_as_names` in `dump_tests`.
     ensures given { IsSome result ↔ IsName bytes.now }
     ensures value { IfSome result (λ name. name.now ≡ bytes.now) }
 {

@@ -6,8 +6,9 @@
 //!
 //! # Contracts
 //!
-//! Suppose that each line of a text is blank or has an entry. Then the text *spells* the list of
-//! these entries, in the order of the lines.
+//! An *entry* records a dump: the name of the file system, the level and the date. A text *spells*
+//! a list of entries if each line of the text is blank or contains one entry, and the list has
+//! these entries in the order of the lines.
 #![tactic(auto)]
 
 mod ctime;

@@ -19,9 +19,9 @@ pub enum Stopped {
 }
 
 impl From<AllocError> for Stopped {
-    // from_gives: Turns a failed allocation into `OutOfMemory`, even if the allocation failed at
-    // the start of an attempt. If an attempt could not start because of the client's state, the
-    // result is `NotUnderWay`.
+    // from_gives: `AllocError` and `StartFault::OutOfMemory` become `Stopped::OutOfMemory`.
+    // `StartFault::WrongState` becomes `Stopped::NotUnderWay`, which means that the client's state
+    // allows no attempt.
 
     ghost use Rattle.std.specs.Prelude.{◌≡◌};
     ghost use Rattle.example_client.specs.declared.volumes.Stopped.TheVariants.{OutOfMemory};
@@ -86,10 +86,11 @@ pub fn dump<B: Blocks + Drop, S: Server>(
     client: &mut Client<B>,
     server: &mut S,
 ) -> Result<(), Stopped>
-    // If the call returns `Ok`, the client's run is finished: the counted volumes follow one
-    // another from the first block on, and contain all blocks. No clause says what the server kept,
-    // or when the call returns an error. A body that always returns an error meets the contract,
-    // but the tests in `dump_tests` reject it.
+    // If the call returns `Ok`, the client's run is finished, and the counted volumes together
+    // contain all blocks of the run. The first counted volume then begins with the run's first
+    // block. Each later counted volume then begins where the previous counted volume ends. No
+    // clause says what the server kept, or when the call returns an error. The contract allows a
+    // body that always returns an error. The tests in `dump_tests` reject such a body.
     ensures { OnOk result (IsWhole client.new.at) }
 {
     let mut request = Vec::new(alloc);

@@ -17,8 +17,8 @@ pub enum Stop {
 }
 
 impl From<StreamFault> for Stop {
-    // from_gives: Turns a fault of the requests into `Requests` with that fault, and a fault of the
-    // replies into `Replies` with that fault.
+    // from_gives: A `StreamFault` becomes `Stop::Requests` with the same fault. An `OutputFault`
+    // becomes `Stop::Replies` with the same fault.
 
     ghost use Rattle.std.specs.Prelude.{◌≡◌};
     ghost use Rattle.example_server.specs.declared.stream.Stop.TheVariants.{Requests};
@@ -53,15 +53,15 @@ pub fn serve<R: Read, W: Write>(
     output: &mut Counted<W>,
 ) -> Result<(), Stop>
     requires { Unread requests.old [] }
-    // The bytes that the call read are a sequence of requests, perhaps with a rest after them. The
-    // call wrote exactly the replies to these requests, in order. If the output failed, only a
-    // beginning of the replies was written. The call returns `Ok` if the stream ends without a
-    // rest. The call returns `Truncated` if the stream ends inside a request, and `Broken` if the
-    // rest is not a request.
+    // The call reads whole requests, and then a *rest*: the bytes after the last whole request,
+    // perhaps none. The call writes exactly the replies to these requests, in order. If a write
+    // fails, the call has written only a beginning of these replies. `Ok` means that the stream
+    // ended and the rest is empty. The fault `Truncated` means that the stream ended inside a
+    // request. The fault `Broken` means that the rest is not a request.
     ensures served { IsServed result (R.remaining input.old.inner) (R.remaining input.new.inner) requests.new
         (W.contents output.old.inner) (W.contents output.new.inner) }
-    // The stream of requests failed exactly if the call returns `Input`. The stream of replies
-    // failed exactly if it returns `Replies`.
+    // A read of the requests failed if and only if the call returns the fault `Input`. A write of
+    // the replies failed if and only if the call returns `Stop::Replies`.
     ensures failures { Fails result input.old.failures input.new.failures output.old.failures output.new.failures }
 {
     while let Some(request) = requests.read_next(input)? {

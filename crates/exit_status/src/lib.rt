@@ -1,4 +1,4 @@
-//! The ways in which a program ends, and the exit status for each.
+//! The ways in which a program can end, and the exit status for each way.
 #![tactic(auto)]
 
 mod status;

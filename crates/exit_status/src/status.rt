@@ -17,8 +17,8 @@ impl ExitStatus {
     /// Returns the number that the program exits with. The numbers are those of dump(8): 0 for
     /// `Success`, 1 for `StartupError` and 3 for `Abnormal`.
     pub fn code(self) -> u8
-        // `code` returns 0 for `Success`, 1 for `StartupError` and 3 for `Abnormal`, as dump(8)
-        // does.
+        // `code` returns 0 for `Success`, 1 for `StartupError` and 3 for `Abnormal`. These are the
+        // exit statuses of dump(8).
         ensures { result ≡ status_code self }
     {
         match self {

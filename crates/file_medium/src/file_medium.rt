@@ -58,7 +58,7 @@ impl Model for FileMedium {
 }
 
 impl FileMedium {
-    /// Makes a medium of this file. Makes no call of the system.
+    /// Makes a medium of the given file. Makes no call of the system.
     ///
     /// A file to which bytes are appended must be open to append (`OpenOptions::append`): bytes are
     /// written at its end.
@@ -80,14 +80,14 @@ impl FileMedium {
         }
     }
 
-    /// Makes a read-only medium of this file. Makes no call of the system.
+    /// Makes a read-only medium of the given file. Makes no call of the system.
     ///
     /// An append fails, and so does a cut that would shorten the file. The file is unchanged then,
     /// and the reason is `PermissionDenied`.
     pub fn read_only(file: File) -> FileMedium
-        // The new medium has counted no failure and no cut to length 0. `is_written` of the new
-        // medium returns false. A test shows that a write to the medium fails without a system
-        // call. Tests: `tests/moves.py`.
+        // The new medium has counted no failure and no cut to length 0. The new medium's
+        // `is_written` returns false. A test shows that a write to the medium fails without a
+        // system call. Tests: `tests/moves.py`.
         ensures count { result.failures ≡ 0 }
         ensures begun { result.truncations ≡ 0 }
         ensures unwritten { result.written ≡ false }
@@ -106,15 +106,17 @@ impl FileMedium {
     /// Returns how many cuts to length 0 succeeded, including cuts of an empty file. The count
     /// stops at the greatest `u64`.
     pub fn truncations(&self) -> u64
-        // `truncations` returns how often the file was cut to length 0.
+        // `truncations` returns how many cuts to length 0 succeeded.
         ensures { result ≡ self.now.truncations }
     {
         self.truncations
     }
 
-    /// Returns whether an append or a cut was called. A call that failed counts too.
+    /// Returns whether an append to the medium or a cut of the medium was tried. A call that failed
+    /// counts too.
     pub fn is_written(&self) -> bool
-        // `is_written` returns whether an append or a cut was called, including calls that failed.
+        // `is_written` returns true if and only if an append to the medium or a cut of the medium
+        // was tried. An append or a cut that failed counts too.
         ensures { result ≡ self.now.written }
     {
         self.is_written
@@ -129,10 +131,12 @@ impl FileMedium {
         self.file.sync_all()
     }
 
-    /// Returns the error of the last call that failed. Returns `None` if no call has failed.
+    /// Returns the error of the last `Medium` call that failed. Returns `None` if no call has
+    /// failed.
     pub fn last_error(&self) -> Option<io::Error>
-        // `last_error` returns an error if and only if a call has failed. A test shows that this is
-        // the error of the last call that failed. Tests: `tests/log.py`.
+        // `last_error` returns an error if and only if a `Medium` call has failed. A test shows
+        // that `last_error` returns the error of the last `Medium` call that failed. Tests:
+        // `tests/log.py`.
         ensures { result ≡ None ↔ self.now.failures ≡ 0 }
     {
         match &self.failed {
@@ -241,17 +245,18 @@ impl FileMedium {
 }
 
 impl Medium for FileMedium {
-    // The bytes of a file are not known.
+    // No contract says which bytes a file contains.
     //
-    // call, same: Each call keeps the promises that the trait `Medium` makes for this call.
+    // call, same: Each call keeps the promises that the trait `Medium` makes for the call.
     //
-    // failed, failures: Each failed call is counted as a failure. No other call is counted.
+    // failed, failures: Each failed call counts as one failure, up to the greatest `u64`. No other
+    // call counts as a failure.
     //
-    // begun, same: Each successful cut to length 0 is counted as a truncation, up to the greatest
+    // begun, same: Each successful cut to length 0 counts as one truncation, up to the greatest
     // `u64`. No other call counts as a truncation.
     //
     // same, failed, begun: Each append or cut marks the medium as written to, even if the append or
-    // cut failed. No other call marks the medium.
+    // the cut fails. No other call marks the medium.
 
     ghost holds = { λ _ _. ⊥ };
 

@@ -5,7 +5,7 @@ use crate::table::HoldTable;
 use drives::{Holds, Taken};
 
 /// A shared reference to a table. Each thread has its own. Each call is one atomic step and does
-/// not wait. The contracts do not say who holds a drive, because other threads may make steps at
+/// not wait. The contracts do not say who holds a drive, because other threads can make steps at
 /// any time.
 #[derive(Clone, Copy, Drop)]
 pub struct TableHand<'a> {
@@ -16,18 +16,19 @@ pub struct TableHand<'a> {
 impl<'a> Holds for TableHand<'a> {
     // A `TableHand` is a shared reference to a table, and implements the trait `Holds` of the crate
     // `drives`. The contracts of a `TableHand` do not say who holds a drive, because other threads
-    // may make steps at any time. After each call the seat still belongs to the table, and the
-    // `TableHand` still refers to the table.
+    // can make steps at any time. After each call the given seat still belongs to the table, and
+    // the `TableHand` still refers to the same table.
     //
-    // take, step, answer, known, own, same, rule: `take` calls the table's `take`. The hold rule is
-    // true before and after the step. The number found in the drive's word is at most 32.
+    // take, step, answer, known, own, same, rule: `take` calls the table's `take`, which makes one
+    // step. The hold rule (a drive's word is 0 or the number of the drive's only holder) is true
+    // before and after the step. The number that the step finds in the drive's word is at most 32.
     //
-    // give, step, own, same, rule: `give` calls the table's `give`. The hold rule is true before
-    // and after the step.
+    // give, step, own, same, rule: `give` calls the table's `give`, which makes one step. The hold
+    // rule is true before and after the step.
     //
-    // holder, step, known, mine, own, rule: `holder` calls the table's `holder`. The hold rule is
-    // true before and after the step. `holder` returns the seat's own number if and only if the
-    // seat holds the drive.
+    // holder, step, known, mine, own, rule: `holder` calls the table's `holder`, which makes one
+    // step. The hold rule is true before and after the step. `holder` returns the given seat's
+    // number if and only if the given seat holds the drive.
 
     ghost use Rattle.std.specs.Prelude.{◌≡◌, ◌<◌, ◌≤◌, ◌↔◌, ◌==◌, cond, IsTrue};
     ghost use Rattle.drives.specs.Holding.{has, taken, given, looked, found_by, TakeAnswers};

@@ -12,19 +12,20 @@
 //!
 //! - The numbers of the seats are distinct and from 1 to 32.
 //! - A drive's word is 0 while no seat holds the drive.
-//! - A drive's word is n while the seat with number n, and no other seat, holds the drive.
+//! - A drive's word is n while the seat with number n is the only seat that holds the drive.
 //!
 //! Each call of `take`, `give` or `holder` gets a shared reference to the table, a seat, and a
-//! drive. No call of the table waits. A call can take a lock only if it gets the Rattle kit's
-//! handle for waiting. No call gets this handle, so code that locks the table does not compile.
-//! docs/THREADS.md says what a table without locks means for a server.
+//! drive. No call of the table waits. A call can take a lock only if the call gets the Rattle kit's
+//! handle for waiting. No call of the table gets this handle, so code that locks the table does not
+//! compile. docs/THREADS.md says what a table without locks means for a server.
 //!
 //! Each of `take`, `give` and `holder` gets only one seat. So the clause `rule` of these calls
-//! cannot name the table's words or the other seats. The clause only says: with some words and some
-//! other seats, the hold rule is true before and after the step. A wrong body could invent words
-//! and seats, and so meet this clause. But `apart` and `close` get several seats of one table at
-//! once, so their clauses are about the table itself. If a body of `take`, `give` or `holder`
-//! invented words, the clauses of `apart` and `close` would be false.
+//! cannot name the table's words or the table's other seats. The clause only says that some words
+//! and some other seats exist for which the hold rule is true before and after the step. A wrong
+//! body could satisfy the clause `rule` with words and seats that the table does not have. But one
+//! call of `apart` or `close` gets several seats of one table, so the clauses of these calls are
+//! about the table's own words and seats. If `take`, `give` or `holder` had such a wrong body, the
+//! clauses of `apart` and `close` would be false.
 #![tactic(auto)]
 
 mod hand;

@@ -48,8 +48,9 @@ impl HoldTable {
     pub fn new(alloc: Global, drives: usize) -> Result<(HoldTable, Vec<HoldSeat>), AllocError>
         requires some { 1 ≤ drives }
         requires few { drives ≤ DRIVE_LIMIT }
-        // The new table has the given number of drives, which no seat holds. `new` also returns the
-        // table's 32 seats, in the order of their numbers. `new` fails only if an allocation fails.
+        // The new table has the given number of drives, and no seat holds a drive. `new` also
+        // returns the table's 32 seats, in the order of their numbers. `new` fails only if an
+        // allocation fails.
         ensures drives { IfOk result (λ made. made.0.words ≡ drives) }
         ensures seats { IfOk result (λ made. made.1.items ≡ dealt made.0 SEAT_LIMIT) }
         ensures count { IfOk result (λ made. length made.1.items ≡ SEAT_LIMIT) }
@@ -108,9 +109,10 @@ impl HoldTable {
     pub fn take(&self, seat: &mut HoldSeat, drive: usize) -> Taken
         requires seat { IsSeatAt self.now seat.old }
         requires drive { drive < self.now.words }
-        // A take is one step. If the drive's word is 0, the word becomes the seat's number.
-        // Otherwise `take` returns the number in the word, which is at most 32. The hold rule is
-        // true before and after the step.
+        // A take is one step. If the drive's word is 0, the word becomes the given seat's number.
+        // Otherwise `take` returns the number in the word, which is at most 32. The hold rule (a
+        // drive's word is 0 or the number of the drive's only holder) is true before and after the
+        // step.
         ensures step { seat.new ≡ next seat.old (taken seat.old.view drive (found_by result)) }
         ensures answer { TakeAnswers result seat.old.view seat.new.view drive }
         ensures known { found_by result ≤ SEAT_LIMIT }
@@ -125,15 +127,15 @@ impl HoldTable {
         }
     }
 
-    /// Gives back drive `drive`, which the seat must hold. Drives are counted from 0. This is one
-    /// atomic step, which sets the drive's word to 0. The seat must be one of this table. It does
-    /// not wait.
+    /// Gives back drive `drive`, which the given seat must hold. Drives are counted from 0. This is
+    /// one atomic step, which sets the drive's word to 0. The seat must be one of this table. It
+    /// does not wait.
     pub fn give(&self, seat: &mut HoldSeat, drive: usize)
         requires seat { IsSeatAt self.now seat.old }
         requires drive { drive < self.now.words }
         requires held { IsTrue (has seat.old.view drive) }
-        // A give is one step. The drive's word becomes 0, and the seat no longer holds the drive.
-        // The hold rule is true before and after the step.
+        // A give is one step. The drive's word becomes 0, and the given seat no longer holds the
+        // drive. The hold rule is true before and after the step.
         ensures step { seat.new ≡ next seat.old (given seat.old.view drive) }
         ensures rule { IsRuledStep drive seat.old.view seat.old.made seat.old.view.number 0 seat.new.view }
     {
@@ -146,12 +148,12 @@ impl HoldTable {
     pub fn holder(&self, seat: &mut HoldSeat, drive: usize) -> u64
         requires seat { IsSeatAt self.now seat.old }
         requires drive { drive < self.now.words }
-        // `holder` is one step that reads the drive's word. `holder` returns the number of the
-        // drive's holder, at most 32, or 0 if there is no holder. The hold rule is true before and
-        // after the step.
+        // `holder` makes one step, which reads the drive's word. `holder` returns the number of the
+        // drive's holder (at most 32), or 0 if no seat holds the drive. The hold rule is true
+        // before and after the step.
         ensures step { seat.new ≡ next seat.old (looked seat.old.view drive result) }
         ensures known { result ≤ SEAT_LIMIT }
-        // `holder` returns the seat's own number if and only if the seat holds the drive.
+        // `holder` returns the given seat's number if and only if the given seat holds the drive.
         ensures mine { result ≡ seat.old.view.number ↔ IsTrue (has seat.old.view drive) }
         // The hold rule is true before and after the step.
         ensures rule { IsRuledStep drive seat.old.view seat.old.made result result seat.new.view }

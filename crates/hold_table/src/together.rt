@@ -17,7 +17,7 @@ use std::alloc::Global;
 
 impl HoldTable {
     /// Shows that two seats of this table have different numbers and hold no drive in common. This
-    /// is true whatever other threads do meanwhile.
+    /// is true whatever other threads do.
     ///
     /// Returns both seats unchanged, with the number of the seat that holds drive `drive`, or 0 if
     /// none does. Drives are counted from 0. The number is that of one of the two if and only if
@@ -36,18 +36,17 @@ impl HoldTable {
         // `apart` returns both seats unchanged.
         ensures same { (result.0 ≡ one) × (result.1 ≡ other) }
         // The two seats have different numbers, and hold no drive in common. These two facts are
-        // true of any two seats of a table, whatever other threads do meanwhile.
+        // true of any two seats of a table, whatever other threads do.
         ensures numbers { one.view.number ≢ other.view.number }
         ensures drives { (d : ℕ) → IsTrue (has one.view d) → IsTrue (has other.view d) → ⊥ }
-        // `apart` returns the number in the word of the given drive. The number is at most 32. Each
-        // of the two seats has this number if and only if the seat holds the drive.
+        // `apart` returns the number in the given drive's word. This number is at most 32. For each
+        // of the two seats, the returned number is the seat's number if and only if the seat holds
+        // the drive.
         ensures known { result.2 ≤ SEAT_LIMIT }
         ensures holder { (result.2 ≡ one.view.number ↔ IsTrue (has one.view drive))
             × (result.2 ≡ other.view.number ↔ IsTrue (has other.view drive)) }
-        // Let A be one of the two seats, and B the other seat. Suppose that the last step of A
-        // found the number of B. Then B holds the drive of that step, or B has made at least two
-        // steps. In both cases B has made a step. Therefore the first take at a table never returns
-        // `Busy`.
+        // Suppose that the last step of one of the two seats found the other seat's number in a
+        // drive's word. Then the other seat holds this drive, or has made at least two steps.
         ensures found { FoundHolder one.view other.view other.made × FoundHolder other.view one.view one.made }
     {
         let HoldSeat {
@@ -98,10 +97,10 @@ impl HoldTable {
     /// words agree with what they know. Allocates nothing.
     pub fn close(self, seats: Vec<HoldSeat>) -> [u64; DRIVE_LIMIT]
         requires seats { All (λ s. IsSeatAt self s) seats.items }
-        // `close` ends the table and returns the words of its drives. The seats that are passed to
-        // `close` have distinct numbers. A drive's word is at most 32. The word is the number of a
-        // passed seat if and only if that seat holds the drive. If all 32 seats are passed and no
-        // seat holds the drive, the drive's word is 0.
+        // `close` ends the table and returns the words of its drives. `close` shows that the passed
+        // seats have distinct numbers. A drive's word is at most 32. For each passed seat, a
+        // drive's word is the seat's number if and only if the seat holds this drive. If all 32
+        // seats are passed, the word of a drive that no seat holds is 0.
         ensures { IsClosing result seats.items }
     {
         let company = self.gathered(seats);

@@ -12,7 +12,8 @@ use std::fmt::{self, Display, Formatter, Write};
 pub struct PlainLines<'a>(pub &'a str);
 
 impl Display for PlainLines<'_> {
-    // output: Each character of the text is printed as `plain_line_char` returns it.
+    // output: A `PlainLines` wraps a text. For each character of this text, the `PlainLines` prints
+    // the character that `plain_line_char` returns.
 
     ghost output = { λ p. Some (plain_lines p.0.now) };
 

@@ -14,16 +14,16 @@ pub struct PlainBytes<'a>(pub &'a [u8]);
 
 /// Wraps the bytes of a text from outside the program, so that the text can be printed safely.
 pub fn plain(text: &str) -> PlainBytes<'_>
-    // `plain` returns a value that holds the bytes of the given text.
+    // `plain` returns a `PlainBytes` that holds the bytes of the given text.
     ensures { result.0.now ≡ text.now }
 {
     PlainBytes(text.as_bytes())
 }
 
 impl Display for PlainBytes<'_> {
-    // output: `utf8_chunks` divides the bytes into valid UTF-8 and sequences that are not UTF-8.
-    // Each character of valid UTF-8 is printed as `plain_char` returns it. Each sequence that is
-    // not UTF-8 is printed as one `?`.
+    // output: `utf8_chunks` divides the bytes that a `PlainBytes` holds into valid UTF-8 and
+    // invalid sequences. For each character of valid UTF-8, the `PlainBytes` prints the character
+    // that `plain_char` returns. For each invalid sequence, the `PlainBytes` prints one `?`.
 
     ghost output = { λ p. Some (printable p.0.now) };
 

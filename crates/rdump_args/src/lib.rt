@@ -1,5 +1,4 @@
-//! Parses the arguments of `rdump` with clap (`rdump_args`), and makes the error for a value that
-//! exceeds a limit (`dump_error`).
+//! Parses the arguments of `rdump` with clap, and makes the error for a value that exceeds a limit.
 #![tactic(auto)]
 
 mod argument;

@@ -55,25 +55,28 @@ pub enum RdumpLine<'a> {
 /// Fails if the arguments are bad, if they ask for help or the version, or if an allocation fails.
 /// The error's kind says which, and its text is for the user.
 pub fn rdump_args<'a, S: AsStr>(alloc: Global, arguments: &'a [S]) -> Result<RdumpLine<'a>, Error>
-    // The arguments of `dump`, `read` and `mt` contain an address. If `ls` lists a drive, its
-    // arguments contain an address too. `is_address` of the crate `address` returns true for each
-    // of these addresses.
+    // All these promises are about the arguments that `rdump_args` returns. The arguments of the
+    // commands `dump`, `read` and `mt` contain an address. The arguments of an `ls` that lists a
+    // drive contain an address too. Each of these addresses is valid: `is_address` of the crate
+    // `address` returns true for the address.
     //
-    // For `mt`, the operation is one of the eight operations of mtio, and the protocol allows its
-    // count. For `mt`, for `read`, and for an `ls` that lists a drive, the device is a valid device
-    // of a run.
+    // For `mt`, the operation is one of the eight operations in `rmt_wire::mtio`, and the count is
+    // at most 2147483647. For `mt`, for `read`, and for an `ls` that lists a drive, the device has
+    // 1 to 255 bytes and no line feed.
     //
-    // For `read`, the length is at most 9223372036854775807. `--all` implies `--place`: each block
-    // is written at the offset that it has in the dump.
+    // For `read`, the length, if given, is at most 9223372036854775807. If the returned arguments
+    // contain `--all`, they also contain `--place`: each block is written at the block's offset in
+    // the dump.
     //
-    // For `ls`, the arguments name either at least one path and no drive, or a drive and no path.
-    // If the arguments contain a number of blocks, the number is at most 2147483647, and the
-    // arguments name a dumpdates file.
+    // For `ls`, the arguments name either one or more paths, or a drive, but not both. If the
+    // arguments contain a number of blocks, the arguments name a dumpdates file too. The number of
+    // blocks is at most 2147483647.
     //
-    // For `dump`, the level, the block size and the date are at most 9223372036854775807.
+    // For `dump`, the level, the block size and the date, if given, are at most
+    // 9223372036854775807.
     //
-    // For `dates`, if the arguments contain a name and a level, an entry of dumpdates can have this
-    // name and level.
+    // If the arguments of `dates` contain a name and a level, both are valid in an entry of
+    // dumpdates.
     ensures { IfOk result IsRdumpLine }
 {
     match rdump_command(alloc) {
@@ -115,12 +118,12 @@ fn name_in<'a>(matches: &ArgMatches<'a>) -> &'a str {
     }
 }
 
-/// Returns the error for a parsed value of `rdump dump` that exceeds a limit. The error shows this
-/// text and the usage of the command.
+/// Returns the error for an argument of `rdump dump` whose value exceeds a limit. The error shows
+/// this text and the usage of the command.
 ///
 /// The error's kind is `ValueValidation`. Fails if an allocation fails.
 pub fn dump_error(alloc: Global, text: &str) -> Result<Error, AllocError>
-    // Returns an error of the kind `ValueValidation`. Tests check the text of the error.
+    // The returned error has the kind `ValueValidation`. Tests check the text of the error.
     ensures { IfOk result (λ error. kind_of error ≡ ValueValidation) }
 {
     error_of(alloc, "dump", ErrorKind::ValueValidation, text)

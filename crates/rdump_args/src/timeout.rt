@@ -11,11 +11,11 @@ use std::time::Duration;
 const BAD_TIMEOUT: &str =
     "invalid value for '--timeout <SECONDS>': a number is 0 to 9223372036854775807 in digits";
 
-/// Returns the limit in this text, which is a number of seconds. None is no limit: there is no
+/// Returns the time limit that a text states as a number of seconds. None is no limit: there is no
 /// text, or the number is 0. Fails if the text is not a number.
 pub(crate) fn timeout_of(text: Option<&str>) -> Result<Option<Duration>, ArgumentFault>
-    // If there is a text, the limit is that number of seconds, and None if the number is 0. If
-    // there is no text, the limit is None.
+    // If there is a text, the limit is the number of seconds in the text. If this number is 0, or
+    // if there is no text, the limit is None.
     ensures { IfOk result (λ limit. MatchOption text.entry (limit ≡ None) (λ given. IsLimit (digits_value 10 given.now) limit)) }
 {
     let Some(text) = text else {

@@ -1,5 +1,5 @@
-//! The commands of `rdump`: they dump a payload, read volumes back, list reels, do one operation on
-//! a drive, or query a dumpdates file. Each returns the exit status, and prints what failed.
+//! The commands of `rdump` dump a payload, read volumes back, list reels, do one operation on a
+//! drive, or query a dumpdates file. Each returns the exit status, and prints what failed.
 //!
 //! `rdump` is the whole program, and `run_arguments` does the same for given arguments. Each
 //! command is a function of its own: `run_mt` and `run_dates` of this crate, `run_dump` of

@@ -17,9 +17,9 @@ use std::convert::AsStr;
 use std::env;
 use std::io::{self, Write};
 
-/// Does what the arguments of the process ask for, and returns the exit status of `rdump`.
-/// `terminal` is standard error, if that is a terminal: it shows the progress of a dump, a
-/// read or a list.
+/// Runs the command that the arguments of the process name, and returns the exit status of `rdump`.
+/// `terminal` is standard error, if that is a terminal: it shows the progress of a dump, a read or
+/// a list.
 ///
 /// The status is `Success` if everything was done. It is `StartupError` if the command could not
 /// begin, because the arguments are wrong or a file cannot be read, for example. It is `Abnormal`
@@ -46,8 +46,8 @@ fn arguments<R: ClientSystem>(rt: &R) -> io::Result<Vec<String>> {
     Ok(arguments)
 }
 
-/// Does what these arguments ask for, and returns the exit status, as `rdump` does. The first
-/// argument is the name of the program.
+/// Runs the command that these arguments name, and returns the exit status, as `rdump` does. The
+/// first argument is the name of the program.
 pub fn run_arguments<R: ClientSystem, S: AsStr, T: Write + Copy + Drop>(
     rt: &R,
     arguments: &[S],
@@ -66,7 +66,7 @@ pub fn run_arguments<R: ClientSystem, S: AsStr, T: Write + Copy + Drop>(
 /// Prints why the arguments do not name a command, and returns the exit status. Help and the
 /// version are printed on standard output.
 fn refuse<R: ClientSystem>(rt: &R, error: clap::Error) -> ExitStatus
-    // If the arguments do not name a command, the status is `Success` or `StartupError`.
+    // The status is `Success` or `StartupError`.
     ensures { IsHelpStatus result }
 {
     if error.kind() == ErrorKind::OutOfMemory {

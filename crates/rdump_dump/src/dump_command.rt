@@ -118,7 +118,7 @@ fn since_of<R: ClientSystem>(
     }
 }
 
-/// Returns the base date of the dump, taken from the bytes of the dumpdates file, `file`. If that
+/// Returns the base date of the dump, taken from the dumpdates file with the bytes `file`. If that
 /// file is at fault or could not be replaced, prints why and returns the exit status.
 fn since_in<R: ClientSystem>(
     rt: &R,
@@ -126,7 +126,7 @@ fn since_in<R: ClientSystem>(
     start: &mut DumpStart,
     file: &[u8],
 ) -> Result<u64, ExitStatus>
-    // If the dumpdates file is bad, the status is `StartupError`.
+    // If the call fails, it returns the status `StartupError`.
     ensures { IfErr result (λ status. status ≡ StartupError) }
 {
     let level = u8::try_from(line.level).unwrap_or(u8::MAX);

@@ -23,11 +23,11 @@ use rmt_wire::Counted;
 use std::io::{self, Write};
 use volume_sum::Summed;
 
-/// Makes a client write its run to the server that `line` names, as `rdump dump` does, and prints
-/// the lines of the dump on standard output. `terminal` is standard error, if that is a terminal.
-/// The line of progress on it is cleared before each printed line, and the possible answers are
-/// shown there after each question. Standard error reports why attempts failed. If `line` asks for
-/// `protect`, it must have the date of the dump.
+/// Makes the client write the client's run to a server, as `rdump dump` does, and prints the dump's
+/// lines on standard output. The arguments `line` name the server. `terminal` is standard error, if
+/// that is a terminal. The line of progress on it is cleared before each printed line, and the
+/// possible answers are shown there after each question. Standard error reports why attempts
+/// failed. If `line` asks for `protect`, it must have the date of the dump.
 ///
 /// If `line` names a sums file, it gets a line for each counted volume.
 ///
@@ -39,7 +39,8 @@ pub fn run_client<R: ClientSystem, B: Blocks, T: Write + Copy + Drop>(
     client: &mut Client<Summed<B>>,
     terminal: Option<T>,
 ) -> ExitStatus
-    // The status is `Success` or `Abnormal`. If it is `Success`, the client's run is finished.
+    // The status is `Success` or `Abnormal`. If the status is `Success`, the client's run is
+    // finished.
     ensures { IsDumpStatus client.new.at result }
 {
     run_kept(rt, line, client, CheckpointFile::none(), terminal).status

@@ -1,8 +1,8 @@
-//! The command `rdump dump`: dumps a payload to a server, with the files that the dump needs.
+//! The command `rdump dump` dumps a payload to a server, and uses the files that the dump needs.
 //!
 //! `run_dump` is the whole command: it checks the payload, the dumpdates file, the sums file, the
-//! clock, the limits of a run and the checkpoint file, in this order, and then has a client dump. `run_client`
-//! is a dump from its client on.
+//! clock, the limits of a run and the checkpoint file, in this order, and then has a client dump.
+//! `run_client` is a dump from its client on.
 #![tactic(auto)]
 
 mod asking;

@@ -11,8 +11,8 @@ use sum_lines::{SumLine, SumsFault};
 use volume_sum::Summed;
 
 /// The sums file of a dump, if it keeps one: it gets a line for each counted volume. If a line
-/// cannot be entered, it is printed whole on standard error, and the dump goes on. On a terminal the
-/// line of progress is cleared first.
+/// cannot be entered, it is printed whole on standard error, and the dump goes on. On a terminal
+/// the line of progress is cleared first.
 #[derive(Drop)]
 pub(crate) struct SumsFile<'a, R: ClientSystem, T> {
     rt: &'a R,

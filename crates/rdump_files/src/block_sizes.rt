@@ -27,7 +27,7 @@ impl BlockSizes {
     /// Counts a block of `bytes` bytes.
     pub fn add(&mut self, bytes: usize)
         // Counts one more block with the given number of bytes. The call updates the sizes of the
-        // shortest and the longest block, and the number of bytes of all blocks.
+        // shortest and the longest block, and the total number of bytes.
         ensures { self.new ≡ sizes_after self.old bytes }
     {
         self.shortest = if self.count == 0 {

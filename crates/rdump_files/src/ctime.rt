@@ -10,10 +10,10 @@ use std::alloc::Global;
 /// Returns none if the date is above `LAST_SECOND` of `dumpdates`, the last second of the year
 /// 9999, or if an allocation fails.
 pub fn date_text(alloc: Global, date: u64) -> Option<String>
-    // Returns the text of a date, as ctime(3) prints it, without the line feed. The clauses about
-    // lines of dumpdates use the same definition of a date's text. The call can return none. Tests
-    // show that it returns none only if the date is above `LAST_SECOND`, or if an allocation
-    // failed. Tests: `a_date_as_text` in `programs_tests`.
+    // Returns the text that ctime(3) prints for the date, without the line feed. The contracts of
+    // `dumpdates` define the text of each date in a dumpdates file in the same way. The call can
+    // also return none. Tests show that the call returns none only if the year is above 9999 or an
+    // allocation failed. Tests: `a_date_as_text` in `programs_tests`.
     ensures { IfSome result (λ text. string_bytes text ≡ ctime_text date) }
 {
     let text = dumpdates::date_text(date)?;

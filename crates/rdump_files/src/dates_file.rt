@@ -17,7 +17,8 @@ use std::io::Write;
 /// Room for a line with a number, in bytes.
 const LINE_ROOM: usize = 64;
 
-/// Prints on `out` the output of `rdump dates` for a dumpdates file (dump(8)) with these bytes.
+/// Prints the output of `rdump dates` on `out`, for the dumpdates file (see dump(8)) with the bytes
+/// `file`.
 ///
 /// Without `asked`, it prints the text of the file again, each entry as `Dates::text` writes it.
 /// For a name and a level in `asked`, it prints the base date of that dump, as a decimal number and
@@ -37,16 +38,19 @@ pub fn dates<W: Write>(
     asked: Option<(&str, u8)>,
     out: &mut Counted<W>,
 ) -> ExitStatus
-    // Suppose that the file is the text of a list of entries. Then the call prints this text or, if
-    // the arguments ask for a base date, the base date. The status is `Success`.
+    // If each line of the file is an entry or blank, the call prints the entries, and the status is
+    // `Success`. If the arguments ask for the base date of a dump, the call prints this date
+    // instead of the entries. The base date of a dump is the date of the latest dump with the same
+    // name and a lower level.
     //
-    // For any other file, the call prints the number of the first bad line, and whether the line or
-    // its date is bad. If an allocation fails, the call prints this failure instead. An allocation
-    // can fail only after the call has found an entry in the file. After a bad line or a failed
-    // allocation, the status is `StartupError`.
+    // If the file has a bad line, the call prints the number of the first bad line and either `bad
+    // line` or `bad date`. If an allocation fails, the call prints only `out of memory`. An
+    // allocation can fail only after the call has found an entry in the file. After a bad line or a
+    // failed allocation, the status is `StartupError`.
     //
-    // If a write fails, only a beginning of the text is printed. The failure is counted, unless the
-    // count has its greatest value already. The status is `StartupError`.
+    // If a write fails, the call has printed only a beginning of one of the texts above, and
+    // returns the status `StartupError`. The output has the type `Counted`, which counts failed
+    // writes. After the failed write, this count has increased, or has its greatest value.
     ensures { IsDates W.contents file.now (plain_asked asked.entry) out.old out.new result }
 {
     let dates = match Dates::read(alloc, file) {
@@ -59,8 +63,9 @@ pub fn dates<W: Write>(
     }
 }
 
-/// Returns the base date of a dump of this name and level, in seconds since 1970, UTC. `file` is
-/// the bytes of a dumpdates file.
+/// Returns the base date of a dump with this name and level: the date of the latest dump with this
+/// name and a lower level. The date is in seconds since 1970, UTC. It is 0 if there is no such
+/// dump. `file` is the bytes of a dumpdates file.
 ///
 /// If these are not a dumpdates file, or an allocation fails, prints the fault as `dates` does and
 /// returns it.
@@ -71,9 +76,9 @@ pub fn base_date<W: Write>(
     level: u8,
     out: &mut Counted<W>,
 ) -> Result<u64, DatesFault>
-    // Returns the base date from the entries of the file, and prints nothing. If the file is bad or
-    // an allocation fails, the call prints this fault and returns it. If a write fails, only a
-    // beginning of the fault's text is printed.
+    // If the call succeeds, it prints nothing, and returns the base date, computed from the file's
+    // entries. If the file is bad or an allocation fails, the call prints and returns the fault. If
+    // a write fails, only a beginning of the fault's text is printed.
     ensures { IsBaseDate W.contents file.now (asked_dump name.now level) out.old out.new result }
 {
     match Dates::read(alloc, file) {

@@ -25,8 +25,8 @@ pub enum UpdateFault {
     Unwritten,
 }
 
-/// Enters a dump in a dumpdates file: reads the file, and replaces it with a text that has the new
-/// entry. A file that does not exist is treated as empty.
+/// Enters a dump in a dumpdates file: reads the file, and replaces the file's text with a text that
+/// contains the new entry. A file that does not exist is treated as empty.
 ///
 /// Returns `Unread` if the read fails, `Unwritten` if the replacement fails, and `Dates` if the
 /// file is not a dumpdates file or an allocation fails. With `Unread` and `Dates` it does not try
@@ -36,10 +36,10 @@ pub fn update<F: WholeFile>(
     file: &mut F,
     entry: Entry<'_>,
 ) -> Result<(), UpdateFault>
-    // Enters the new dump among the entries of the file, and replaces the file with the text of the
-    // resulting entries. A file that does not exist counts as empty. If the file cannot be read or
-    // is bad, or if an allocation fails, the call leaves the file alone. If the dump was not
-    // entered, the call returns why.
+    // Enters the new dump in the list of the file's entries, and replaces the file with the text of
+    // the new list. A file that does not exist counts as empty. The call does not change the file
+    // if the file cannot be read, if the file is bad, or if an allocation fails. If the dump was
+    // not entered, the call returns the reason.
     ensures { IsUpdated (whole_file F.gives F.takes) (plain_entry entry.entry) file.old file.new result }
 {
     let Ok(bytes) = file.read(alloc) else {

@@ -129,17 +129,17 @@ pub struct DumpFiles {
 }
 
 impl DumpFiles {
-    /// Makes the list of a dump's files, with the payload as its only file. The payload is open and
-    /// has this metadata. Fails only if an allocation fails.
+    /// Makes a list of a dump's files, which at first contains only the payload. The payload is
+    /// open and has this metadata. Fails only if an allocation fails.
     pub fn new(alloc: Global, payload: &Metadata) -> io::Result<DumpFiles> {
         let mut known = Vec::new(alloc);
         known.push((DumpFile::Payload, FileId::of(payload)))?;
         Ok(DumpFiles { known })
     }
 
-    /// Adds the dumpdates file at this path. If the file is to be updated, also adds the new file
-    /// that is to replace it. Returns the first of the two that is the same as a file added before,
-    /// with that file. Returns none if all are different.
+    /// Adds the dumpdates file at this path to the list. If the file is to be updated, also adds
+    /// the new file that is to replace it. Returns the first of the two that is the same as a file
+    /// added before, with that file. Returns none if all are different.
     ///
     /// Fails if the system does not identify a file, or if an allocation fails.
     pub fn add_dates<R: Files<File = File>>(
@@ -158,8 +158,8 @@ impl DumpFiles {
         self.add(DumpFile::NewDates, new)
     }
 
-    /// Adds the checkpoint file at this path, and the new file that is to replace it. The result is
-    /// like that of `add_dates`.
+    /// Adds the checkpoint file at this path to the list, and also the new file that will replace
+    /// the checkpoint file. The result is like that of `add_dates`.
     pub fn add_checkpoint<R: Files<File = File>>(
         &mut self,
         rt: &R,
@@ -175,8 +175,8 @@ impl DumpFiles {
         self.add(DumpFile::NewCheckpoint, new)
     }
 
-    /// Adds the sums file at this path, and the new file that is to replace it. The result is like
-    /// that of `add_dates`.
+    /// Adds the sums file at this path to the list, and also the new file that will replace the
+    /// sums file. The result is like that of `add_dates`.
     pub fn add_sums<R: Files<File = File>>(
         &mut self,
         rt: &R,

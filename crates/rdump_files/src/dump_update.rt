@@ -21,9 +21,9 @@ pub struct DumpEnd {
     pub fault: Option<UpdateFault>,
 }
 
-/// Makes a client write its run to a tape server, as `dump` does, and enters a complete dump in a
-/// dumpdates file. It enters the dump only once `dump complete` is printed. If the dump cannot be
-/// entered, it prints `dumpdates not updated`.
+/// Makes the client write the client's run to a tape server, and enters the dump in a dumpdates
+/// file if the dump is complete. It dumps as `dump` does, and enters the dump only once `dump
+/// complete` is printed. If the dump cannot be entered, it prints `dumpdates not updated`.
 ///
 /// Returns the exit status, and why a complete dump was not entered. The status is `Success` if the
 /// run is finished, everything was printed and the run is entered, and `Abnormal` otherwise. The
@@ -36,19 +36,18 @@ pub fn dump_and_update<B: Blocks, P: Peer, R: Read, W: Write, F: WholeFile>(
     out: &mut Counted<W>,
     file: &mut F,
 ) -> DumpEnd
-    // During the dump, the call exchanges with the peer what `dump` of `rdump_net` promises. After
-    // the dump, the call exchanges nothing with the peer.
+    // During the dump, the call sends and receives as the contract of `dump` in `rdump_net`
+    // promises. After the dump, the call sends and receives nothing.
     ensures talks { TalksOver B.holds FromAny P.tells client.old client.new peer.old peer.new }
-    // The call prints what `dump` prints. If the dump is complete but could not be entered, the
-    // call prints one more line.
+    // The call prints the same lines as `dump`. If the dump is complete but could not be entered,
+    // the call then prints one more line.
     //
-    // The call leaves the dumpdates file alone until the run is finished and `dump complete` is
-    // printed.
+    // The dumpdates file is unchanged until the run is finished and `dump complete` is printed.
     //
-    // The status is 0 exactly if `update` entered the dump.
+    // The status is `Success` if and only if `update` entered the dump.
     //
-    // If `update` was called and failed, the call returns the cause that `update` returned. In all
-    // other cases the call returns no cause.
+    // If `update` fails, the call returns the fault that `update` returned. If `update` succeeds or
+    // is not called, the call returns no fault.
     ensures entered { IsDumpEntered W.contents (whole_file F.gives F.takes) client.old.at.counts client.new.at
         (sinks out.old file.old) (sinks out.new file.new) result }
 {
@@ -70,10 +69,10 @@ pub fn enter_dump<B: Blocks, W: Write, F: WholeFile>(
     out: &mut Counted<W>,
     file: &mut F,
 ) -> DumpEnd
-    // If the client's run is finished, the call uses `update` to enter the run. The status is
-    // `Success` if `update` entered the run, and `Abnormal` if not. If `update` did not enter the
-    // run, the call prints one line and returns the cause. If the run is not finished, the status
-    // is `Abnormal`, and the call leaves the file alone.
+    // If the client's run is finished, the call enters the run in the file with `update`. If
+    // `update` succeeds, the status is `Success`. If `update` fails, the status is `Abnormal`, and
+    // the call prints one line and returns the fault that `update` returned. If the run is not
+    // finished, the status is `Abnormal`, and the call changes neither the file nor the output.
     ensures { IsEntered W.contents (whole_file F.gives F.takes) client.now.at (sinks out.old file.old) (sinks out.new file.new) result }
 {
     let Some(entry) = client.finished() else {

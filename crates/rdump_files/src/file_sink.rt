@@ -55,7 +55,7 @@ impl<F: RestoredFile> FileSink<F> {
     /// Makes a sink that writes to this file: each block at its place if `places` is true, and
     /// otherwise one block after the other. It makes no call of the file.
     pub fn new(file: F, places: bool) -> FileSink<F>
-        // The new sink has the given file, unchanged, and has received no volume.
+        // The new sink contains the given file, unchanged. The sink has not yet received a volume.
         ensures { result ≡ new_sink file places }
     {
         FileSink {
@@ -72,40 +72,41 @@ impl<F: RestoredFile> FileSink<F> {
 
     /// Returns the file.
     pub fn file(&self) -> &F
-        // Returns the sink's file. The types allow only this body, so there is no edit.
+        // Returns the sink's file. The types allow no other body, so no wrong body is tried.
         ensures { result.now ≡ self.now.file }
     {
         &self.file
     }
 
-    /// Returns the file, so that the caller can change it. The sink does not see what the caller
-    /// writes to it.
+    /// Returns the sink's file, which the caller can then change. The sink does not see what the
+    /// caller writes to it.
     pub fn file_mut(&mut self) -> &mut F
-        // Returns the sink's file. The types allow only this body, so there is no edit.
+        // Returns the sink's file. The types allow no other body, so no wrong body is tried.
         ensures value { result.now ≡ self.old.file }
-        // Once the caller has given the file back, the sink has the file as the caller left it.
-        // Nothing else of the sink changes.
+        // When the borrow ends, the sink contains the file as the caller left it. Nothing else in
+        // the sink changes.
         ensures* writes_back { sem 𝓛 (lends_file F.row self.entry result) }
     {
         &mut self.file
     }
 
-    /// Returns the file as it is, and drops the sink. It makes no call of the file.
+    /// Returns the sink's file, unchanged, and drops the sink. It makes no call of the file.
     pub fn into_file(self) -> F
     where
         F: Drop,
-        // Returns the sink's file unchanged. The types allow only this body, so there is no edit.
+        // Returns the sink's file unchanged. The types allow no other body, so no wrong body is
+        // tried.
         ensures { result ≡ self.file }
     {
         let FileSink { file, .. } = self;
         file
     }
 
-    /// Takes the fault that made the sink stop, if the sink has stopped since the last call of
+    /// Returns the fault that made the sink stop, if the sink has stopped since the last call of
     /// `take_fault`.
     pub fn take_fault(&mut self) -> Option<SinkFault>
-        // Returns the fault that the sink keeps, if any. After the call the sink keeps no fault,
-        // and nothing else has changed.
+        // Returns the fault that the sink holds, if any. After the call the sink holds no fault.
+        // Nothing else in the sink changes.
         ensures fault { result ≡ self.old.fault }
         ensures taken { self.new ≡ record self.old { fault = None } }
     {
@@ -114,21 +115,23 @@ impl<F: RestoredFile> FileSink<F> {
 
     /// Returns how many blocks of the current volume were written, and how many bytes they have.
     pub fn sizes(&self) -> BlockSizes
-        // Returns the number and the sizes of the current volume's blocks. Each label resets both.
+        // Returns the number and the sizes of the blocks that the sink has accepted of the current
+        // volume. The first record of a volume resets the number and the sizes.
         ensures { result ≡ self.now.sizes }
     {
         self.sizes
     }
 
-    /// Returns how many bytes each block has, if the sink has written a block at its place.
+    /// Returns the number of bytes of each block, if the sink has written a block at its place.
     pub fn block_bytes(&self) -> Option<usize>
-        // Returns the length of the blocks, if the sink has written a block at its place.
+        // Returns the length of each block, or none if the sink has not yet written a block at its
+        // place.
         ensures { result ≡ self.now.block }
     {
         self.block
     }
 
-    /// Whether the sink has accepted a label or a block.
+    /// Returns whether the sink has accepted a label or a block.
     pub fn has_begun(&self) -> bool
         // Returns whether the sink has accepted a label or a block.
         ensures { result ≡ self.now.begun }
@@ -140,10 +143,10 @@ impl<F: RestoredFile> FileSink<F> {
     /// places, `label` accepts only a record that is found to be a `Volume`. Without places, the
     /// result is never `OtherDump`.
     pub fn look(&self, record: &[u8]) -> Found
-        // If the record is a label of the dump that is restored, the call returns `Volume` with
-        // this label. As long as the sink has accepted no label, every label counts as a label of
-        // this dump. For a label of another dump, the call returns `OtherDump` with the label. For
-        // a record that is not a label, the call returns `Foreign`.
+        // If the record is not a label, the call returns `Foreign`. If the record is a label of the
+        // dump that is restored, the call returns `Volume` with the label. If the record is a label
+        // of another dump, the call returns `OtherDump` with the label. Until the sink has accepted
+        // a label, the call returns `Volume` for every label.
         ensures { IsFound self.now.dump «record».now result }
     {
         let Some(label) = VolumeLabel::read(record) else {
@@ -166,18 +169,18 @@ impl<F: RestoredFile> FileSink<F> {
         }
     }
 
-    /// Cuts the file to `length` bytes, if a length is given and the file has more. Then waits
+    /// Cuts the file to `length` bytes, if a length is given and the file is longer. Then waits
     /// until the file is on the disk.
     ///
     /// Fails with the system's error. The file may have been cut then.
     pub fn finish(&mut self, length: Option<u64>) -> io::Result<()>
-        // If a length is given, the file keeps its first `length` bytes, or all its bytes if it has
-        // fewer. If no length is given, the file keeps all its bytes. If the call fails, the file
-        // either has its old bytes or has been cut.
+        // If a length is given, the file keeps only its first `length` bytes. A shorter file is
+        // unchanged. If no length is given, the file is unchanged. If the call fails, the file is
+        // either unchanged or cut.
         ensures cut { Steps F.holds self.old.file self.new.file (IsCutIf length (is_ok result)) }
         // If the call succeeds, the file's bytes are on the disk.
         ensures synced { IsOk result → IsSynced (restored_kind F.holds F.kept) self.new.file }
-        // Nothing else of the sink changes.
+        // The call changes nothing in the sink except the file.
         ensures same { self.new ≡ record self.old { file = self.new.file } }
     {
         if let Some(length) = length {

@@ -9,8 +9,8 @@ use std::os::unix::fs::FileTypeExt;
 use std::rt::Files;
 use std::time::{Clock, SystemTime, UNIX_EPOCH};
 
-/// Reads an open file from its current position to its end. Returns none if it is a regular file,
-/// and the bytes read or its length afterwards differ from its length before.
+/// Reads an open file from the current position to the end of the file. Returns none if it is a
+/// regular file, and the bytes read or its length afterwards differ from its length before.
 ///
 /// Fails with the system's error if the file or its length cannot be read, or with `OutOfMemory` if
 /// an allocation fails.
@@ -84,8 +84,8 @@ pub fn read_or_empty<R: Files<File = File>>(
     Ok(or_empty(alloc, bytes))
 }
 
-/// Returns the clock's seconds since 1970, UTC. Returns none if the clock is before 1970 or cannot
-/// be read.
+/// Returns the time of the clock, in seconds since 1970, UTC. Returns none if the clock is before
+/// 1970 or cannot be read.
 pub fn seconds_now<R: Clock>(rt: &R) -> Option<u64> {
     let now = SystemTime::now(rt).ok()?;
     Some(now.duration_since(UNIX_EPOCH).ok()?.as_secs())

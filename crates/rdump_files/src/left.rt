@@ -50,17 +50,17 @@ const LEAST_RUN: &[u8] = b"rdump 1\ndevice d\nfs f\nlevel 0\ndate 0\nsince 0\nbl
 /// More bytes than the eight lines of a run can have.
 const RUN_ROOM: usize = 1024;
 
-/// Whether an interrupted run can have left these bytes in place of a whole dumpdates file. The
-/// bytes may be empty, or whole lines as `Dates::text` writes them, and perhaps a beginning of one
-/// more.
+/// Returns whether these bytes can be a dumpdates file that an interrupted `rdump` left unfinished.
+/// The bytes may be empty, or whole lines as `Dates::text` writes them, and perhaps a beginning of
+/// one more.
 ///
 /// Fails only if an allocation fails.
 pub fn is_left_dates(alloc: Global, bytes: &[u8]) -> Result<bool, AllocError>
-    // If the call returns true, the bytes are the text of some entries, followed by a rest. The
-    // rest can be empty. The rest consists of spaces and printable ASCII, without a line feed.
-    // Tests show that the rest has the form of the beginning of a line. Tests also show that the
-    // call returns true for each beginning of a text that a run writes. Tests:
-    // `what_is_left_of_dumpdates` in `programs_tests`; `tests/new_files.py`.
+    // If the call returns true, the bytes are the text of zero or more entries, followed by a
+    // remainder that can be empty. The remainder contains only spaces and printable ASCII
+    // characters, and no line feed. Tests show that the remainder looks like the beginning of a
+    // line. Tests also show that the call returns true for every beginning of a dumpdates text that
+    // `rdump` writes. Tests: `what_is_left_of_dumpdates` in `programs_tests`; `tests/new_files.py`.
     ensures { IfOk result (λ is_left. IsTrue is_left → IsLeftDates bytes.now) }
 {
     let (lines, rest) = bytes.split_at(lines_len(bytes));
@@ -70,13 +70,13 @@ pub fn is_left_dates(alloc: Global, bytes: &[u8]) -> Result<bool, AllocError>
     are_written(alloc, lines)
 }
 
-/// Whether an interrupted run can have left these bytes in place of a whole checkpoint. The bytes
-/// may be empty, or a beginning of a text of `push_checkpoint`, cut off anywhere.
+/// Returns whether these bytes can be a checkpoint that an interrupted `rdump` left unfinished. The
+/// bytes may be empty, or a beginning of a text of `push_checkpoint`, cut off anywhere.
 ///
 /// Fails only if an allocation fails.
 pub fn is_left_checkpoint(alloc: Global, bytes: &[u8]) -> Result<bool, AllocError>
     // If the call returns true, the bytes are a beginning of the text of a checkpoint. Tests show
-    // that the call returns true for each beginning of a checkpoint's text. Tests:
+    // that the call returns true for every beginning of a checkpoint's text. Tests:
     // `what_is_left_of_a_checkpoint` in `programs_tests`; `tests/new_files.py`.
     ensures { IfOk result (λ is_left. IsTrue is_left → BeginsCheckpoint bytes.now) }
 {

@@ -1,4 +1,4 @@
-//! The files that a dump reads and writes, and the line that shows its progress.
+//! The files that a dump reads and writes, and the terminal line that shows the dump's progress.
 //!
 //! `dumper` makes the client of a dump from its arguments and a payload. `resume_dump` makes one
 //! that continues from a checkpoint. Both read blocks through `Shown`, which reports each block to
@@ -18,13 +18,17 @@
 //!
 //! # Contracts
 //!
-//! A *sink* receives a volume that is read, as in `rdump_net`: a label, and then blocks. The sink
-//! *accepts* each of them, or it stops the read. `FileSink` is a sink that writes to a file. *With
-//! places*, the sink writes each block at its *place*: the offset that the block has in the dump.
-//! *Without places*, the sink appends each block to the file.
+//! A *sink* receives a volume that is read from a reel (see `rdump_net`): first the label, and then
+//! the blocks. The sink *accepts* the label and each block, or it stops the read. At the end of the
+//! volume, the sink is asked to *complete* the volume: to confirm that the sink has kept the
+//! volume. `FileSink` is a sink that writes to a file. A sink *with places* writes each block at
+//! its *place*: the offset that the block has in the dump. A sink *without places* appends each
+//! block to the file.
 //!
-//! A `ReplacedFile` is a file of the system. To replace the file, `ReplacedFile` writes a *new
-//! file* beside the old one, and renames the new file.
+//! A `ReplacedFile` is a file in the file system. To replace the file, `ReplacedFile` writes a *new
+//! file* in the same folder, and then renames the new file to the name of the old file. The
+//! sections `dump_run` and `dump_client` explain the words *run*, *source*, *count*, *checkpoint*
+//! and *stage*.
 #![tactic(auto)]
 
 mod block_sizes;

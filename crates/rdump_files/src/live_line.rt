@@ -48,7 +48,7 @@ pub struct LiveLine<'a, R: Clock, W: Write> {
 }
 
 impl<'a, R: Clock, W: Write> LiveLine<'a, R, W> {
-    /// Makes a line at this terminal, with nothing shown yet.
+    /// Makes a progress line for this terminal, and shows nothing yet.
     pub fn new(clock: &'a R, terminal: W) -> Self {
         LiveLine {
             clock,
@@ -59,18 +59,19 @@ impl<'a, R: Clock, W: Write> LiveLine<'a, R, W> {
         }
     }
 
-    /// Restarts the measurement of the rate at the next call of `due`.
+    /// Resets the rate: the measurement starts again at the next call of `due`.
     pub fn begin(&mut self) {
         self.began = None;
         self.bytes = 0;
     }
 
-    /// Adds `bytes` bytes to the measurement of the rate.
+    /// Adds `bytes` to the number of bytes from which the rate is computed.
     pub fn add(&mut self, bytes: usize) {
         self.bytes = self.bytes.saturating_add(bytes as u64);
     }
 
-    /// Returns the rate since the first call of `due` after `begin`, if it is time for an update.
+    /// Returns the rate, if it is time to update the line. The rate is measured since the first
+    /// call of `due` after the last call of `begin`.
     pub fn due(&mut self) -> Option<Rate> {
         let now = Instant::now(self.clock).ok()?;
         let began = self.began.unwrap_or(now);
@@ -82,7 +83,7 @@ impl<'a, R: Clock, W: Write> LiveLine<'a, R, W> {
         Some(self.rate(began, now))
     }
 
-    /// Shows a text in place of the previous text.
+    /// Shows a text on the line in place of the previous text.
     pub fn print(&mut self, text: &LiveText) {
         let mut line = ArrayString::<136>::new();
         line.push_str("\r");
@@ -91,7 +92,7 @@ impl<'a, R: Clock, W: Write> LiveLine<'a, R, W> {
         let _ = self.terminal.write_all(line.as_bytes());
     }
 
-    /// Clears the line, if it was shown.
+    /// Clears the line on the terminal, if the line was shown.
     pub fn clear(&mut self) {
         if self.shown.take().is_some() {
             let _ = self.terminal.write_all(CLEAR);

@@ -22,7 +22,8 @@ pub enum DumperFault {
 }
 
 impl From<RunFault> for DumperFault {
-    // Turns an exceeded limit into a fault of the run, and a failed allocation into `OutOfMemory`.
+    // Converts a `RunFault` into `DumperFault::Run`, and an `AllocError` into
+    // `DumperFault::OutOfMemory`.
 
     ghost use Rattle.std.specs.Prelude.{◌≡◌};
     ghost use Rattle.rdump_files.specs.declared.payload.DumperFault.TheVariants as faults;
@@ -62,12 +63,13 @@ pub fn dumper<M: Medium + Drop, G: Gauge + Drop>(
     gauge: G,
 ) -> Result<Client<Summed<Shown<PayloadFile<M>, G>>>, DumperFault>
     requires { payload.size ≡ line.now.block }
-    // Returns a client that is ready and has counted no volume. The client has the run that the
-    // arguments describe, with as many blocks as the payload has.
+    // Returns a client in the stage `Ready`, in which an attempt can start. The client has not yet
+    // counted a volume as written. The client has the run that the arguments describe. The run has
+    // as many blocks as the payload.
     ensures at { IfOk result (λ c. c.at ≡ standing (line_run line.now date since payload.len) [] stages.Ready) }
-    // The client's source is the payload.
+    // The client takes its blocks from the payload.
     ensures source { IfOk result (λ c. c.source ≡ payload) }
-    // If the call fails, it returns the first limit that is exceeded, or `OutOfMemory`.
+    // If the call fails, the error is the first limit that the run violates, or `OutOfMemory`.
     ensures refused { IfErr result (IsRefusedRun (line_run line.now date since payload.len)) }
 {
     match run_of(line, date, since, &payload) {
@@ -86,8 +88,8 @@ pub fn run_of<M: Medium + Drop>(
     since: u64,
     payload: &PayloadFile<M>,
 ) -> Result<Run, RunFault>
-    // Returns the run that the arguments describe, with as many blocks as the payload has. If a
-    // value breaks a limit, the call returns the first broken limit.
+    // Returns the run that the arguments describe, with as many blocks as the payload has. If the
+    // run violates a limit, the call returns the first violated limit as the error.
     ensures { IsRunOf (line_run line.now date since payload.now.len) result }
 {
     let device = line.device.as_bytes();
@@ -95,9 +97,9 @@ pub fn run_of<M: Medium + Drop>(
     Run::new(device, line.fs, line.level, date, since, line.block, blocks)
 }
 
-/// Makes the client for a given run, as `dumper` does for the run that the arguments describe. The
-/// client dumps the payload of the run, and has counted no volume. Its source sums each volume if
-/// `is_summed` is true.
+/// Makes the client for the given run. `dumper` does the same for the run that the arguments
+/// describe. The client dumps the payload of the run, and has counted no volume. Its source sums
+/// each volume if `is_summed` is true.
 ///
 /// Fails if an allocation fails.
 pub fn dumper_of<M: Medium + Drop, G: Gauge + Drop>(
@@ -108,9 +110,10 @@ pub fn dumper_of<M: Medium + Drop, G: Gauge + Drop>(
     is_summed: bool,
 ) -> Result<Client<Summed<Shown<PayloadFile<M>, G>>>, AllocError>
     requires { IsRunsPayload run payload }
-    // Returns a client that is ready, has counted no volume, and has the given run.
+    // Returns a client in the stage `Ready`, in which an attempt can start. The client has the
+    // given run, and has not yet counted a volume as written.
     ensures at { IfOk result (λ c. c.at ≡ standing run [] stages.Ready) }
-    // The client's source is the payload.
+    // The client takes its blocks from the payload.
     ensures source { IfOk result (λ c. c.source ≡ payload) }
 {
     gauge.begin(run.blocks());

@@ -31,18 +31,18 @@ impl<M: Medium> Model for PayloadFile<M> {
 }
 
 impl<M: Medium + Drop> PayloadFile<M> {
-    /// Opens the payload in this medium, and divides it into blocks of `block_bytes` bytes. It
-    /// reads the length of the medium, and makes no other call of it. If `block_bytes` is 0, the
-    /// payload has no blocks.
+    /// Opens the payload on this medium, and divides the payload into blocks of `block_bytes`
+    /// bytes. It reads the length of the medium, and makes no other call of it. If `block_bytes` is
+    /// 0, the payload has no blocks.
     ///
     /// Returns `MediumFailed` if the medium fails.
     pub fn open(mut medium: M, block_bytes: u64) -> Result<PayloadFile<M>, MediumFailed>
-        // Opens a payload, and asks the medium once for its length. The payload's blocks have the
-        // given size, and no read has failed yet. If the medium fails, the call returns an error
-        // and no payload.
+        // Asks the medium for the medium's length exactly once. The opened payload has blocks of
+        // the given size, and has counted no failed read. If the medium fails, the call returns an
+        // error.
         ensures opened { IsOpened (medium_kind M.holds M.failures M.can_fail M.spare) medium block_bytes result }
-        // If the medium's contract gives the bytes of the medium, the payload's blocks consist of
-        // these bytes. The last block is padded with zero bytes.
+        // If the medium's contract says which bytes the medium contains, the payload's blocks
+        // contain these bytes in order. The last block is padded with zero bytes.
         ensures told { (bytes : List ℕ) → M.holds medium bytes →
             IfOk result (λ p. HasPayloadBlocks M.holds p (payload_blocks block_bytes bytes)) }
     {
@@ -67,18 +67,20 @@ impl<M: Medium> PayloadFile<M> {
 }
 
 impl<M: Medium> Blocks for PayloadFile<M> {
-    // read, given: A read of a block makes one call of the medium, at the position where the block
-    // begins (`IsPayloadRead`). The read asks for the bytes of the payload from this position on,
-    // but for no more than the size of the block. The result is these bytes, padded with zero
-    // bytes. The clause holds even if the medium's contract does not give the medium's bytes.
+    // read, given: `read` reads the medium once, at the offset where the block begins. `read` asks
+    // the medium for a whole block, or for fewer bytes if the payload ends earlier. If `read`
+    // succeeds, the block contains the bytes that the medium returned, padded with zero bytes.
+    // These promises hold even if the medium's contract does not say which bytes the medium
+    // contains.
     //
-    // read, able, quiet: A read fails exactly if the medium fails, or returns fewer bytes than the
-    // read asks for. Suppose that the medium cannot fail, and that its contract gives its bytes.
-    // Suppose also that the medium has as many bytes as when the payload was opened. Then no read
-    // fails.
+    // read, able, quiet: `read` fails if and only if the medium fails or returns fewer bytes than
+    // `read` asks for. `read` does not fail if three premises hold. First premise: the medium
+    // cannot fail. Second premise: the medium's contract says which bytes the medium contains.
+    // Third premise: the medium is as long as when the payload was opened.
     //
-    // counted, failures: `failures` returns the number of failed reads. Each failed read adds 1 to
-    // this number, and no other read changes it.
+    // counted, failures: `failures` returns how many calls of `read` have failed. Each failed call
+    // adds 1 to this number, up to the greatest `u64`. A successful call does not change the
+    // number.
 
     ghost use Rattle.std.proofs.Common.{sym, ap, ◌∙◌};
 

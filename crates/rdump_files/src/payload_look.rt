@@ -7,8 +7,8 @@ use std::os::unix::fs::{FileTypeExt, MetadataExt};
 use std::rt::Files;
 use std::time::SystemTime;
 
-/// Opens the file of a payload, and returns it with its metadata. Opening a pipe or a terminal may
-/// wait for its other end.
+/// Opens the file of a payload, and returns the file and its metadata. Opening a pipe or a terminal
+/// may wait for its other end.
 ///
 /// Fails with the system's error. Fails with `InvalidInput` if a regular file or a block device was
 /// exchanged for another file before it was opened.
@@ -47,8 +47,8 @@ pub struct PayloadLook {
 }
 
 impl PayloadLook {
-    /// Records the length and the modification time of an open payload from its metadata. Returns
-    /// none if it is not a regular file.
+    /// Records the length and the modification time of an open payload. Takes both from the
+    /// metadata `found`. Returns none if the payload is not a regular file.
     ///
     /// Fails if the system cannot duplicate the file handle.
     pub fn new(file: &File, found: &Metadata) -> io::Result<Option<PayloadLook>> {
@@ -62,14 +62,14 @@ impl PayloadLook {
         }))
     }
 
-    /// Returns the time of the last write to the payload before its dump began. Returns none if
+    /// Returns the time of the last write to the payload before the dump began. Returns none if
     /// that was before 1970.
     pub fn modified(&self) -> Option<SystemTime> {
         self.modified
     }
 
-    /// Returns the change of the payload since the dump began: a new length or, if the length is
-    /// the same, a new modification time. Returns none if the length and the modification time are
+    /// Returns what changed in the payload since the dump began: the length or, if the length is
+    /// the same, the modification time. Returns none if the length and the modification time are
     /// the same.
     ///
     /// Fails if the system does not report them.

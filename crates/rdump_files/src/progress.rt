@@ -12,8 +12,8 @@ pub trait Gauge {
     /// Reports to the gauge that the dump has `blocks` blocks.
     fn begin(&mut self, blocks: u32);
 
-    /// Reports to the gauge that an attempt begins volume `volume`, counted from 1. The first block
-    /// of the volume is `first`, counted from 0.
+    /// Reports to the gauge that an attempt to write volume `volume` begins. Volumes are counted
+    /// from 1. The first block of the volume is `first`, counted from 0.
     fn begin_volume(&mut self, volume: u32, first: u32);
 
     /// Reports to the gauge that block `block` is read next. Blocks are counted from 0, and this
@@ -61,8 +61,9 @@ impl<B, G> Model for Shown<B, G> {
 }
 
 impl<B: Blocks, G: Gauge> Blocks for Shown<B, G> {
-    // begin_volume, read, failures: `Shown` wraps a source and shows the reads on a terminal.
-    // `Shown` promises everything that the wrapped source promises. No clause says what is shown.
+    // begin_volume, read, failures: `Shown` wraps a source of blocks, and reports each read to a
+    // `Gauge`. `Shown` promises everything that the wrapped source promises. No clause says what
+    // `Shown` reports.
 
     ghost holds = { B.holds };
 
@@ -101,7 +102,7 @@ pub struct ProgressLine<'a, R: Clock, W: Write> {
 }
 
 impl<'a, R: Clock, W: Write> ProgressLine<'a, R, W> {
-    /// Makes a progress line at this terminal, with nothing shown yet.
+    /// Makes a progress line for this terminal, and shows nothing yet.
     pub fn new(clock: &'a R, terminal: W) -> Self {
         ProgressLine {
             line: LiveLine::new(clock, terminal),
@@ -143,8 +144,8 @@ pub struct Clearing<W, T> {
 }
 
 impl<W: Write, T: Write> Write for Clearing<W, T> {
-    // write, flush: `Clearing` wraps a writer and clears a terminal before each line. `Clearing`
-    // promises what the wrapped writer promises.
+    // write, flush: `Clearing` wraps a writer and clears the progress line of a terminal before
+    // each write. `Clearing` promises everything that the wrapped writer promises.
 
     ghost contents = { λ c. W.contents c.lines };
 

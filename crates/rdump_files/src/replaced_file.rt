@@ -24,9 +24,9 @@ use std::time::{Clock, SystemTime};
 /// there: dumpdates, sum lines or a checkpoint. Any other file with that name stays, and the
 /// replacement then fails.
 ///
-/// A file made by `new` is dumpdates, and one made by `of_sums` is a sums file. Reading either first
-/// creates the new file and locks it, until the text is in place or this is dropped. The read and
-/// the replacement are thus one step among any number of runs.
+/// A file made by `new` is dumpdates, and one made by `of_sums` is a sums file. Reading either
+/// first creates the new file and locks it, until the text is in place or this is dropped. The read
+/// and the replacement are thus one step among any number of runs.
 ///
 /// A file made by `held` is a checkpoint, which belongs to one run. The file in place is locked
 /// from the read on, and each new file is locked before it gets the name. A checkpoint that another
@@ -43,20 +43,20 @@ pub struct ReplacedFile<'a, R: Files<File = File> + Clock> {
 }
 
 impl<'a, R: Files<File = File> + Clock> ReplacedFile<'a, R> {
-    /// Makes a `ReplacedFile` for the dumpdates file at this path, which need not exist. The file
-    /// is locked from a read until it is replaced.
+    /// Makes a `ReplacedFile` for the dumpdates file at this path. The file need not exist. It is
+    /// locked from a read until it is replaced.
     pub fn new(rt: &'a R, alloc: Global, path: &'a str) -> Self {
         ReplacedFile::with_form(rt, alloc, path, Form::Dates)
     }
 
-    /// Makes a `ReplacedFile` for the sums file at this path, which need not exist. The file is
-    /// locked from a read until it is replaced.
+    /// Makes a `ReplacedFile` for the sums file at this path. The file need not exist. It is locked
+    /// from a read until it is replaced.
     pub fn of_sums(rt: &'a R, alloc: Global, path: &'a str) -> Self {
         ReplacedFile::with_form(rt, alloc, path, Form::Sums)
     }
 
-    /// Makes a `ReplacedFile` for the checkpoint file at this path, which need not exist. The file
-    /// is locked from the read on, for as long as this value lives. Each file put in place has the
+    /// Makes a `ReplacedFile` for the checkpoint file at this path. The file need not exist. It is
+    /// locked from the read on, for as long as this value lives. Each file put in place has the
     /// mode 0600.
     pub fn held(rt: &'a R, alloc: Global, path: &'a str) -> Self {
         ReplacedFile::with_form(rt, alloc, path, Form::Checkpoint)
@@ -80,8 +80,9 @@ impl<'a, R: Files<File = File> + Clock> ReplacedFile<'a, R> {
         self.failure.as_ref()
     }
 
-    /// Returns why the new file cannot be created now, or none if the call found no reason. It
-    /// removes the file that it creates, and leaves a file that already has the name.
+    /// Tries to create the new file, and returns the error if the file cannot be created now.
+    /// Otherwise removes the created file again, and returns none. Leaves a file that already has
+    /// the name.
     pub fn find_fault(&self) -> Option<io::Error> {
         match NewFile::try_make(self.rt, self.alloc, self.path, self.form) {
             Ok(_) => None,
@@ -89,9 +90,10 @@ impl<'a, R: Files<File = File> + Clock> ReplacedFile<'a, R> {
         }
     }
 
-    /// Returns the path of the new file, if a regular file that no run left is at this path.
-    /// Returns none if another run has locked that file, which is then not read. Also returns none
-    /// if the system reports an error, which then appears when the new file is created.
+    /// Returns the path of the new file, if a regular file is at this path and no interrupted
+    /// `rdump` left this file there. Returns none if another run has locked that file, which is
+    /// then not read. Also returns none if the system reports an error, which then appears when the
+    /// new file is created.
     ///
     /// Fails only if an allocation fails.
     pub fn find_unknown_new(&self) -> io::Result<Option<String>> {

@@ -8,12 +8,13 @@ use std::alloc::Global;
 use std::io::{self, ErrorKind};
 use std::marker::Model;
 
-/// A file that a restore writes: blocks at their places, or one after the other.
+/// A file to which a restore writes blocks, each at its place or one after the other.
 ///
 /// `holds` relates a file to its bytes, and `kept` to the bytes that are on the disk. If the bytes
 /// are unknown, each relates the file to nothing, and the clauses about bytes say nothing.
 pub trait RestoredFile {
-    // single: A file has at most one list of known bytes.
+    // single: At any moment, the contract of a type with this trait states at most one content for
+    // a file.
 
     ghost use Rattle.std.specs.Prelude.{ℕ, List};
 
@@ -28,39 +29,41 @@ pub trait RestoredFile {
     /// Fails with the system's error. A beginning of the bytes may have been written then.
     fn write_at(&mut self, bytes: &[u8], at: u64) -> io::Result<()>
         // Writes the bytes at the given offset, and changes no other byte of the file. If the
-        // offset is behind the old end of the file, zero bytes fill the gap. A call that fails has
-        // written a beginning of the bytes there, or nothing, and has changed nothing else.
+        // offset is beyond the old end of the file, zero bytes fill the gap. If the call fails, it
+        // has written a beginning of the bytes at the offset, or nothing. The failed call has
+        // changed nothing else.
         ensures { Steps holds self.old self.new (IsWrittenAt bytes.now at (is_ok result)) };
 
     /// Appends these bytes.
     ///
     /// Fails with the system's error. A beginning of the bytes may have been appended then.
     fn append(&mut self, bytes: &[u8]) -> io::Result<()>
-        // Adds the bytes to the end of the file. A call that fails has added a beginning of the
-        // bytes, or nothing, and has changed nothing else.
+        // Adds the bytes to the end of the file. If the call fails, it has added a beginning of the
+        // bytes, or nothing. The failed call has changed nothing else.
         ensures { Steps holds self.old self.new (IsAppended bytes.now (is_ok result)) };
 
     /// Removes all bytes of the file.
     ///
     /// Fails with the system's error. The file is unchanged then, or cleared.
     fn clear(&mut self) -> io::Result<()>
-        // Leaves the file without bytes. If the call fails, the file has either its old bytes or no
-        // bytes.
+        // After the call, the file is empty. If the call fails, the file is either unchanged or
+        // empty.
         ensures { Steps holds self.old self.new (IsCleared (is_ok result)) };
 
-    /// Cuts the file to `len` bytes, if it has more.
+    /// Cuts the file to `len` bytes, if the file is longer.
     ///
     /// Fails with the system's error. The file is unchanged then, or cut.
     fn cut(&mut self, len: u64) -> io::Result<()>
-        // The file keeps its first `len` bytes, or all its bytes if it has fewer. If the call
-        // fails, the file has either its old bytes or the first `len` bytes.
+        // The file keeps only its first `len` bytes. A shorter file is unchanged. If the call
+        // fails, the file is either unchanged or cut.
         ensures { Steps holds self.old self.new (IsCutTo len (is_ok result)) };
 
     /// Waits until all bytes of the file are on the disk.
     ///
     /// Fails with the system's error.
     fn sync(&mut self) -> io::Result<()>
-        // The bytes of the file are unchanged. If the call succeeds, these bytes are on the disk.
+        // The call does not change the bytes of the file. If the call succeeds, these bytes are on
+        // the disk.
         ensures same { Steps holds self.old self.new IsSame }
         ensures synced { IsOk result → (bytes : List ℕ) → holds self.new bytes → kept self.new bytes };
 
@@ -86,7 +89,7 @@ impl Model for MemoryFile {
 }
 
 impl MemoryFile {
-    /// Makes an empty file. Allocates nothing yet.
+    /// Makes an empty file in memory. Allocates nothing yet.
     pub fn new(alloc: Global) -> MemoryFile
         // The new file has no bytes.
         ensures { result ≡ [] }
@@ -96,7 +99,7 @@ impl MemoryFile {
         }
     }
 
-    /// Makes a file of these bytes.
+    /// Makes a file in memory that contains these bytes.
     pub fn from_bytes(bytes: Vec<u8>) -> MemoryFile
         // The new file has the given bytes.
         ensures { result ≡ bytes.items }
@@ -104,7 +107,7 @@ impl MemoryFile {
         MemoryFile { bytes }
     }
 
-    /// Returns the bytes.
+    /// Returns the bytes of the file.
     pub fn bytes(&self) -> &[u8]
         // Returns the file's bytes.
         ensures { result.now ≡ self.now }
@@ -112,7 +115,7 @@ impl MemoryFile {
         self.bytes.as_slice()
     }
 
-    /// Returns the bytes in a vector. Makes no copy.
+    /// Returns the bytes of the file in a vector. Makes no copy.
     pub fn into_bytes(self) -> Vec<u8>
         // Returns a vector with the file's bytes.
         ensures { result.items ≡ self }
@@ -123,16 +126,17 @@ impl MemoryFile {
 }
 
 impl RestoredFile for MemoryFile {
-    // write_at, append, clear, cut, call: Each call does to the bytes what the trait promises.
+    // write_at, append, clear, cut, call: Each call changes the bytes as the trait `RestoredFile`
+    // promises.
     //
-    // sync, same, synced: `sync` changes nothing. The bytes of a file in memory count as those on
-    // the disk.
+    // sync, same, synced: `sync` changes nothing. The contract treats the bytes of a file in memory
+    // as bytes on the disk.
     //
-    // write_at, append, same: A call that fails has changed nothing.
+    // write_at, append, same: If `write_at` or `append` fails, the file is unchanged.
     //
-    // write_at, append, memory: A call fails only with `OutOfMemory`.
+    // write_at, append, memory: If `write_at` or `append` fails, the error is `OutOfMemory`.
     //
-    // clear, cut, sync, done: These three calls never fail.
+    // clear, cut, sync, done: `clear`, `cut` and `sync` never fail.
 
     ghost use Rattle.std.proofs.Common.{sym, ◌∙◌};
 

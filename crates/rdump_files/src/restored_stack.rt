@@ -12,8 +12,8 @@ use crate::{FileSink, RestoredFile};
 use rdump_net::{AfterVolume, Peer, ReadFault, copy_volume};
 use std::alloc::Global;
 
-/// Reads `volumes` volumes of a drive's stack into a file, and moves each reel to the bin once its
-/// blocks are on the disk. Each volume is read over a connection of its own.
+/// Reads `volumes` volumes of a drive's stack into a file, and moves each reel to the bin after the
+/// reel's blocks are on the disk. Each volume is read over a connection of its own.
 ///
 /// It stops at the first volume that is not read whole, and fails as `copy_volume` does. At the end
 /// of a stack that is the refusal of the open with `ENXIO`. At a volume of another dump, or a first
@@ -33,17 +33,18 @@ pub fn restore_stack<P: Peer, F: RestoredFile>(
     sink: &mut FileSink<F>,
 ) -> Result<(), ReadFault>
     requires { IsLine device.now }
-    // Reads the given number of volumes, one after the other. Each read does what `copy_volume`
-    // promises with `AfterVolume::Offline`. If a read fails, the call reads no further volume, and
-    // returns why.
+    // Reads the given number of volumes, one after the other. Each read keeps the promises of
+    // `copy_volume` of `rdump_net`, called with `AfterVolume::Offline`. If a read fails, the call
+    // returns the error and reads no further volume.
     //
-    // Suppose that the sink has places, and that the peer's log and the bytes of the sink's file
-    // are known. Then each block that the sink accepted is written at its place in the file, in
-    // order. These are all blocks of the volumes that were read, and perhaps some blocks of a
-    // volume whose read failed. All these volumes are of one dump: the dump of the first label that
-    // the sink accepted. Zero bytes fill a gap between the old end of the file and a block. If the
-    // sink stopped at a block, a beginning of this block may be at its place. Nothing else of the
-    // file changes.
+    // The following promises have three premises. First premise: the sink is a sink with places.
+    // Second premise: the peer's contract says what passed over the connections. Third premise: the
+    // file's contract says which bytes the sink's file contained before the call. The sink writes
+    // each accepted block at its place in the file, in order. The sink has accepted all blocks of
+    // each volume whose read succeeded, and perhaps some blocks of a volume whose read failed. All
+    // accepted labels belong to the dump of the first accepted label. If a block begins beyond the
+    // old end of the file, zero bytes fill the gap. If the sink stopped at a block, the file can
+    // contain a beginning of this block at the block's place. Nothing else in the file changes.
     ensures { (earlier last : List SinkCall) × (whole : Bool)
         × IsStackRead (sink_kind P.tells (FileStep (restored_kind F.holds F.kept))) device.now volumes
         (sink_ends peer.old sink.old) (sink_ends peer.new sink.new) result earlier last whole

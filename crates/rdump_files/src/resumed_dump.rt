@@ -41,16 +41,17 @@ pub fn resume_dump<M: Medium + Drop, G: Gauge + Drop>(
     is_summed: bool,
 ) -> Result<Client<Summed<Shown<PayloadFile<M>, G>>>, ResumedDumpFault>
     requires { IsRunsPayload run.now payload }
-    // Returns a client with the run and the counts of the checkpoint. So the date and base date of
-    // this run come from the checkpoint too.
+    // Returns a client that has the run and the counts of the checkpoint. A count records a volume
+    // that was written whole. The date and the base date of the client's run also come from the
+    // checkpoint.
     ensures resumes { IfOk result (λ c. (c.at.run ≡ checkpoint.run) × (c.at.counts ≡ checkpoint.counts)) }
-    // The device, name, level, block size and number of blocks are the same in the client's run and
-    // in the given run.
+    // The client's run and the given run have the same device, name, level, block size and number
+    // of blocks.
     ensures same_dump { IfOk result (λ c. AreOfOneDump c.at.run run.now) }
-    // If the client's counts cover all blocks, the client is finished. Otherwise the client is
-    // ready.
+    // If the client's counts cover all blocks of the run, the client is in the stage `Finished`.
+    // Otherwise the client is in the stage `Ready`.
     ensures over { IfOk result (λ c. IsOver c.at.run c.at.counts c.at) }
-    // The client's source is the payload.
+    // The client takes its blocks from the payload.
     ensures source { IfOk result (λ c. c.source ≡ payload) }
     // The call fails only if the checkpoint belongs to another dump, or if an allocation fails.
     ensures refused { IfErr result (IsResumedDumpFault checkpoint.run run.now) }

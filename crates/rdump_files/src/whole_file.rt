@@ -26,23 +26,25 @@ pub trait WholeFile {
     ///
     /// Returns `FileFailed` if it cannot be read.
     fn read(&mut self, alloc: Global) -> Result<Option<Vec<u8>>, FileFailed>
-        // `WholeFile` is a trait of files that are read and replaced as a whole. Each type with
-        // this trait states for itself what a read returns: bytes, a failure, or that the file does
-        // not exist. `ReplacedFile`, the type for files of the system, states nothing.
-        // `ReplacedFile` writes a new text to a new file, and renames the new file to replace the
-        // old one. Tests show that `ReplacedFile` locks the new file before it reads the old one.
-        // `ReplacedFile` keeps the lock until the text is in place. Tests: `tests/updates.py`.
+        // `WholeFile` is a trait for files that are read and replaced as a whole. The contract of a
+        // type with this trait can say what a read returns: bytes, a failure, or that the file does
+        // not exist. The contract of `ReplacedFile`, the type for files in the file system, does
+        // not say what a read returns. `ReplacedFile` writes a new text to a new file, and then
+        // renames the new file to replace the old file. Tests show that `ReplacedFile` locks the
+        // new file before it reads the old file. `ReplacedFile` holds the lock until the new text
+        // is in place. Tests: `tests/updates.py`.
         ensures { gives self.old (plain_read result) self.new };
 
-    /// Puts this text in place of the whole file, which need not exist.
+    /// Replaces the whole file with this text. The file need not exist.
     ///
     /// Returns `FileFailed` if that fails; the file is then unchanged.
     fn replace(&mut self, text: &[u8]) -> Result<(), FileFailed>
-        // Each type with the trait `WholeFile` states for itself whether the text was put in place.
-        // `ReplacedFile` states nothing. Tests show that `ReplacedFile` syncs the new file before
-        // the rename, and the folder after the rename. Tests also show that a failed replacement
-        // leaves no new file. If another program has created a file under the name of the new file,
-        // that file stays. Tests: `what_takes_the_name_of_a_new_file` in `programs_tests`;
+        // The contract of a type with the trait `WholeFile` can say whether the text was put in
+        // place. The contract of `ReplacedFile` does not say whether the text was put in place.
+        // Tests show that `ReplacedFile` syncs the new file before the rename, and the folder after
+        // the rename. Tests also show that a failed replacement leaves no new file behind. If
+        // another program has created a file with the name of the new file, the file of that
+        // program stays. Tests: `what_takes_the_name_of_a_new_file` in `programs_tests`;
         // `tests/updates.py`.
         ensures { takes self.old text.now result self.new };
 }

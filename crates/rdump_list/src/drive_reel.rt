@@ -57,8 +57,8 @@ impl DriveEntries {
 }
 
 impl<'a, R: ListSystem, T: Write + Drop> DriveReel<'a, R, T> {
-    /// Makes one of which nothing was read. Its sum is computed if `is_summed`. `terminal` shows the
-    /// records, if there is one.
+    /// Makes one of which nothing was read. Its sum is computed if `is_summed`. `terminal` shows
+    /// the records, if there is one.
     pub(crate) fn new(rt: &'a R, is_summed: bool, terminal: Option<T>) -> Self {
         let mut progress = ListProgress::at(rt, terminal);
         if let Some(progress) = &mut progress {

@@ -1,10 +1,11 @@
-//! The command `rdump ls`: lists the contents of reels, and the volumes that the reels have of the
-//! dumps in a dumpdates file.
+//! The command `rdump ls` lists the contents of reels and, for each dump in a dumpdates file, the
+//! dump's volumes on these reels.
 //!
 //! `run_ls` is the whole command; it uses the runtime through `ListSystem`. It reads record files
 //! in place, and the first reel of a drive's stack over a connection. It writes to neither.
-//! `push_verdict` appends the verdict on a reel, and `is_whole` decides whether that is `whole`. With
-//! a sums file, `run_ls` also compares the SHA-256 of each whole reel with the lines of its volume.
+//! `push_verdict` appends the verdict on a reel, and `is_whole` decides whether that is `whole`.
+//! With a sums file, `run_ls` also compares the SHA-256 of each whole reel with the lines of its
+//! volume.
 #![tactic(auto)]
 
 mod drive;

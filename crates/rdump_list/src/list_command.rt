@@ -19,16 +19,16 @@ use std::io::{self, Write};
 use std::time::Duration;
 use sum_lines::Sums;
 
-/// Runs `rdump ls`: lists reels, one line each, sorted. If a dumpdates file is given, it prints an
-/// empty line and then one line for each of its dumps. Nothing is written to a reel. `terminal` is
-/// standard error, if that is a terminal: it shows how far the list is.
+/// Runs `rdump ls`: prints one line for each reel, in sorted order. If a dumpdates file is given,
+/// it prints an empty line and then one line for each of its dumps. Nothing is written to a reel.
+/// `terminal` is standard error, if that is a terminal: it shows how far the list is.
 ///
 /// Returns the exit status:
 ///
 /// - `Success` if there is a reel, all reels are whole, and no volume is missing. With a sums file,
 ///   the sum of each reel must also be equal to one in that file.
-/// - `StartupError` if a file cannot be read, the sums file is not valid, there is no session with the drive, an allocation
-///   fails, or a write fails.
+/// - `StartupError` if a file cannot be read, the sums file is not valid, there is no session with
+///   the drive, an allocation fails, or a write fails.
 /// - `Abnormal` otherwise.
 ///
 /// Errors are printed on standard error; out of memory is printed on standard output.

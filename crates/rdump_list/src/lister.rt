@@ -35,7 +35,8 @@ pub(crate) struct Lister<'a, R: ListSystem, W: Write + Drop> {
 
 impl<'a, R: ListSystem, W: Write + Drop> Lister<'a, R, W> {
     /// Makes a lister that has read nothing. It compares reels with `sums`, if given. `terminal`
-    /// shows how far it is, if there is one. It allocates 65,536 bytes. Fails if an allocation fails.
+    /// shows how far it is, if there is one. It allocates 65,536 bytes. Fails if an allocation
+    /// fails.
     pub(crate) fn new(
         rt: &'a R,
         sums: Option<&'a Sums>,
@@ -122,7 +123,8 @@ impl<'a, R: ListSystem, W: Write + Drop> Lister<'a, R, W> {
     }
 
     /// Returns what the plain file at this path contains, and what the comparison of its sum found.
-    /// Returns None if the system failed while it was read. Fails if it cannot be opened or is no plain file.
+    /// Returns None if the system failed while it was read. Fails if it cannot be opened or is no
+    /// plain file.
     fn contents_of(
         &mut self,
         path: &str,

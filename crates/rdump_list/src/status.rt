@@ -8,7 +8,7 @@ use exit_status::ExitStatus;
 /// and on whether everything is whole. A failure to read or print takes precedence.
 pub(crate) fn status_of(is_done: bool, is_whole: bool) -> ExitStatus
     // If something could not be read or printed, the status is `StartupError`. Otherwise the status
-    // is `Success` if everything is whole, and `Abnormal` if not.
+    // is `Success` if the argument `is_whole` is true, and `Abnormal` if the argument is false.
     ensures { result ≡ list_status is_done is_whole }
 {
     match (is_done, is_whole) {

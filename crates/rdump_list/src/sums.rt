@@ -10,8 +10,8 @@ use std::fs;
 use sum_lines::{SumVerdict, Sums, SumsFault};
 use volume_sum::EntryHasher;
 
-/// Reads the sums file at this path. If it cannot be read or is not valid, it prints why and returns
-/// None. Fails if an allocation fails.
+/// Reads the sums file at this path. If it cannot be read or is not valid, it prints why and
+/// returns None. Fails if an allocation fails.
 pub(crate) fn read_sums<R: ListSystem>(rt: &R, path: &str) -> Result<Option<Sums>, AllocError> {
     let bytes = match fs::read(rt, path) {
         Ok(bytes) => bytes,

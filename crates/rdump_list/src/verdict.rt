@@ -7,13 +7,13 @@ use itoa::Buffer;
 use reel_check::{Holding, ReelContents, Volume, VolumeEnd};
 use std::alloc::AllocError;
 
-/// Whether a reel is whole: a volume with one mark after its blocks, and no byte after the mark.
-/// The verdict on these reels, and on no others, is `whole`.
+/// Returns whether a reel is whole: a volume with one mark after its blocks, and no byte after the
+/// mark. The verdict on these reels, and on no others, is `whole`.
 pub fn is_whole(contents: &ReelContents) -> bool
-    // Returns true exactly if the reel is a volume with one mark after its blocks, and no byte
+    // Returns true if and only if the reel is a volume with one mark after its blocks, and no byte
     // follows the mark.
     ensures holds { IsTrue result ↔ IsWhole contents.now }
-    // The verdict on a reel is `whole` exactly if the call returns true.
+    // The verdict that `push_verdict` appends is `whole` if and only if `is_whole` returns true.
     ensures said { IsTrue result ↔ (verdict_of contents.now ≡ codes "whole") }
 {
     contents.tail == 0 && has_one_mark(&contents.holding)
@@ -29,9 +29,9 @@ pub fn is_whole(contents: &ReelContents) -> bool
 /// Fails if an allocation fails.
 pub fn push_verdict(text: &mut Vec<u8>, contents: &ReelContents) -> Result<(), AllocError>
     // Appends the verdict on a reel: `whole`, `empty`, `no mark: N whole blocks`, `more after the
-    // mark` or `not a volume of rdump`. If bytes follow the last readable entry, the call also
-    // appends `tail of N bytes`. In that case it leaves out the verdicts `whole` and `empty`. The
-    // call leaves an incomplete text only if an allocation fails.
+    // mark` or `not a volume of rdump`. If N bytes follow the last readable entry, `tail of N
+    // bytes` replaces the verdicts `whole` and `empty`, and follows any other verdict. The call
+    // appends an incomplete verdict only if an allocation fails.
     ensures { OnOk result (text.new.items ≡ text.old.items ++ verdict_of contents.now) }
 {
     if contents.tail == 0 {

@@ -1,4 +1,4 @@
-//! The command `rdump read`: reads volumes back into a file.
+//! The command `rdump read` reads volumes back into a file.
 //!
 //! `run_read` is the whole command. It reads one volume, or each volume of a stack, over one
 //! connection a volume, and prints each label. The file keeps its contents until a label or a block

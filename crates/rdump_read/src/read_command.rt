@@ -15,12 +15,12 @@ use rdump_system::{ClientSystem, report, report_failed};
 use std::io::Write;
 use sum_lines::Sums;
 
-/// Reads a volume back into a file, as `rdump read` does, and prints its label. `terminal` is
-/// standard error, if that is a terminal: it shows how far the read is.
+/// Reads a volume back into a file, as `rdump read` does, and prints the volume's label. `terminal`
+/// is standard error, if that is a terminal: it shows how far the read is.
 ///
-/// The sums file is read first, if one is given. Then the file is opened, and emptied once the label was read. A file that is created here and
-/// gets no label is removed. Standard error reports how many blocks were read, and whether the
-/// first record is not a label of `rdump`.
+/// The sums file is read first, if one is given. Then the file is opened, and emptied once the
+/// label was read. A file that is created here and gets no label is removed. Standard error reports
+/// how many blocks were read, and whether the first record is not a label of `rdump`.
 ///
 /// With `place`:
 ///
@@ -106,8 +106,8 @@ fn read_one<R: ClientSystem, T: Write + Drop>(
     }
 }
 
-/// Cuts the file to the length in `line`, if `line` has one, and then syncs the file. Returns the
-/// exit status.
+/// Cuts the file to the length in the arguments `line`, if they contain a length, and then syncs
+/// the file. Returns the exit status.
 pub(crate) fn finish_file<R: ClientSystem, T: Write + Drop>(
     rt: &R,
     line: &ReadLine<'_>,

@@ -29,8 +29,8 @@ pub(crate) struct ReadSink<'a, R: ClientSystem, T: Write + Drop> {
 }
 
 impl<'a, R: ClientSystem, T: Write + Drop> ReadSink<'a, R, T> {
-    /// Makes a sink for this file, whose blocks have places if `places`. Each volume is compared with
-    /// `sums`, if given.
+    /// Makes a sink for this file, whose blocks have places if `places`. Each volume is compared
+    /// with `sums`, if given.
     pub(crate) fn new(
         rt: &'a R,
         file: OutFile<'a, R>,

@@ -14,9 +14,9 @@ use sum_lines::{SumVerdict, Sums};
 use tape::{Medium, MediumFailed};
 use volume_sum::medium_sum;
 
-/// Reads a reel's medium, as `check_reel` does, and compares the SHA-256 of its bytes with the
-/// lines of the reel's volume. Returns what the reel holds, and what the comparison found. If the
-/// reel is not whole, nothing is compared.
+/// Reads a reel, as `check_reel` does, and compares the SHA-256 of the reel's bytes with the lines
+/// for the reel's volume in a sums file. Returns what the reel holds, and what the comparison
+/// found. If the reel is not whole, nothing is compared.
 ///
 /// The bytes of each record are read, in pieces as long as `room`, so that a read error of the disk
 /// is noticed. `room` must not be empty. The medium is not changed. Allocates nothing.
@@ -28,14 +28,18 @@ pub fn compare_reel<M: Medium>(
     sums: &Sums,
 ) -> Result<(ReelContents, Option<SumVerdict>), MediumFailed>
     requires { 0 < length room.old }
-    // If the medium's contract gives the bytes, the call returns what `check_reel` returns. There
-    // is a verdict exactly if the reel is a whole volume without a tail. It is the verdict of the
-    // lines on the SHA-256 of all bytes.
+    // The following promises hold if the medium's contract says which bytes the reel contains. If
+    // the call succeeds, it returns what `check_reel` returns. The call also returns a verdict if
+    // and only if the reel is a whole volume with one mark and no bytes after the mark. For the
+    // verdict, the call compares the SHA-256 of all bytes of the reel with the lines for the
+    // volume's label.
     ensures compared { (bytes : List ℕ) (entries : List PlainEntry) → M.holds medium.old bytes → SpellsReel bytes entries →
         IfOk result (λ found. IsContents found.0 bytes entries × IsReelCompared sums.now bytes found.0 found.1) }
-    // If the medium's contract gives the bytes, they stay as they were.
+    // If the medium's contract says which bytes the reel contains, the call does not change these
+    // bytes.
     ensures same { Steps M.holds medium.old medium.new (λ old new. new ≡ old) }
-    // If the call fails, the medium's count of failed calls has risen, or has its greatest value.
+    // If the call fails, the medium's count of failed calls has increased, or has its greatest
+    // value.
     ensures failed { OnErr result (HasRisen (M.failures medium.old) (M.failures medium.new)) }
     // If the medium cannot fail, the call succeeds.
     ensures able { OnErr result (M.can_fail medium.old) }

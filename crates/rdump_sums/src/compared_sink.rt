@@ -40,10 +40,11 @@ impl<S> Model for ComparedSink<S> {
 }
 
 impl<S: VolumeSink> ComparedSink<S> {
-    /// Makes a sink that passes volumes on to `sink`, and compares them with `sums`, if given.
+    /// Makes a sink that passes each volume on to `sink`. If `sums` is given, the new sink also
+    /// compares each volume with the lines of `sums`.
     pub fn new(sink: S, sums: Option<Sums>) -> ComparedSink<S>
-        // The new sink has the given inner sink and the given lines, both unchanged. It has no
-        // label and no verdict.
+        // The new sink contains the given inner sink and the given lines, both unchanged. The new
+        // sink has no label and no verdict.
         ensures { (result.sink ≡ sink) × (result.sums ≡ sums) × (result.label ≡ None) × (result.verdict ≡ None) }
     {
         ComparedSink {
@@ -55,40 +56,42 @@ impl<S: VolumeSink> ComparedSink<S> {
         }
     }
 
-    /// Returns the sink that the volumes are passed on to.
+    /// Returns the inner sink, which receives the volumes.
     pub fn sink(&self) -> &S
-        // Returns the inner sink. The types allow only this body, so there is no edit.
+        // Returns the inner sink. The types allow no other body, so no wrong body is tried.
         ensures { result.now ≡ self.now.sink }
     {
         &self.sink
     }
 
-    /// Returns the sink that the volumes are passed on to, so that the caller can change it.
+    /// Returns the inner sink, which the caller can then change.
     pub fn sink_mut(&mut self) -> &mut S
-        // Returns the inner sink. The types allow only this body, so there is no edit.
+        // Returns the inner sink. The types allow no other body, so no wrong body is tried.
         ensures value { result.now ≡ self.old.sink }
-        // Once the caller has given the sink back, this sink has it as the caller left it. Nothing
-        // else of this sink changes.
+        // When the borrow ends, the outer sink contains the inner sink as the caller left it.
+        // Nothing else in the outer sink changes.
         ensures* writes_back { sem 𝓛 (lends_sink S.row self.entry result) }
     {
         &mut self.sink
     }
 
-    /// Returns the inner sink as it is, and drops this one.
+    /// Returns the inner sink unchanged, and drops the outer sink.
     pub fn into_sink(self) -> S
     where
         S: Drop,
-        // Returns the inner sink unchanged. The types allow only this body, so there is no edit.
+        // Returns the inner sink unchanged. The types allow no other body, so no wrong body is
+        // tried.
         ensures { result ≡ self.sink }
     {
         let ComparedSink { sink, .. } = self;
         sink
     }
 
-    /// Returns what the comparison of the last volume found, once the sink was asked to complete.
-    /// None if there is no sums file, or if the volume has no label.
+    /// Returns the verdict on the volume that the sink received last, or None if the sink has not
+    /// compared this volume. The sink compares the volume when it is asked to complete the volume,
+    /// if there is a sums file and the volume has a label.
     pub fn verdict(&self) -> Option<SumVerdict>
-        // Returns the verdict of the last comparison, if any.
+        // Returns the sink's verdict, or None if the sink has no verdict.
         ensures { result ≡ self.now.verdict }
     {
         self.verdict

@@ -8,16 +8,17 @@ use dump_run::VolumeLabel;
 use sum_lines::SumLine;
 use volume_sum::Summed;
 
-/// Returns the line of a counted volume of the client's run, with the sum of the volume.
+/// Returns the line that a sums file gets for a counted volume of the client's run.
 ///
 /// The sum is known while the volume is the last one that the client has begun. Returns None if it
 /// is not known.
 pub fn sum_line_of<B: Blocks>(client: &Client<Summed<B>>, count: VolumeCount) -> Option<SumLine>
-    // The line has the label of the volume and the number of its blocks. It has the run's size of a
-    // block, or 0 if the volume has no blocks.
+    // The line contains the volume's label, the number of the volume's blocks, and the run's block
+    // size. If the volume has no blocks, the line contains 0 instead of the block size.
     ensures line { IfSome result (IsCountLine client.now.at.run count) }
-    // If the source's blocks are known, the sum in the line is the sum of the counted volume: its
-    // label, its blocks and one mark.
+    // The sum in the line is the SHA-256 of the record file with the volume's label, the volume's
+    // blocks and one mark. This promise holds if the source's contract says which blocks the source
+    // has.
     ensures sum { IfSome result (λ line. (payload : List (List ℕ)) → B.holds client.now.source payload →
         line.sum ≡ volume_sum client.now.at.run payload count.volume count.first count.count) }
 {

@@ -11,24 +11,27 @@ ghost use Rattle.rdump_sums.specs.ComparedVolume.{PassesOn, HasNotDiffered, volu
 use dump_run::one_label;
 use rdump_net::VolumeSink;
 
-/// The law of a sink that compares volumes: what a list of its calls does to the inner sink, and
-/// what is known once the sink has completed.
+/// A `ComparedSink` passes calls on to the inner sink, and never completes a volume with the
+/// verdict `Differs`.
 ///
 /// `rdump_net::copy_volume` takes a reel offline only if its sink completes.
 ///
 /// The function does nothing: its contract is a law of the definitions.
 pub fn compared_volume<S: VolumeSink>()
-    // The inner sink is given the same calls. If the comparing sink accepted all of them, so did
-    // the inner sink. If the comparing sink did not accept the last call, there are two cases. In
-    // the first, the inner sink did not accept it either. In the second, the last call is the
-    // question whether the volume is kept, and the sum differs. Then the inner sink accepted all
-    // calls before, and was not asked.
+    // The `ComparedSink` passes the calls that it receives on to the inner sink. If the
+    // `ComparedSink` accepted all calls, the inner sink also accepted all calls. If the
+    // `ComparedSink` did not accept the last call, there are two cases. In the first case, the
+    // inner sink did not accept the last call either. In the second case, the last call asked the
+    // `ComparedSink` to complete the volume, and the verdict is `Differs`. In this second case, the
+    // inner sink accepted all earlier calls, and was not asked to complete the volume.
     ensures passes { (s t : Compared S) (calls : List SinkCall) (whole : Bool) → Takes (ComparedStep S.takes) s t calls whole →
         PassesOn S.takes s t calls whole }
-    // Suppose that there is a sums file, and that the sink accepted a volume and completed. Then
-    // the sum of the volume's records and its mark is that of a line with the volume's label, or no
-    // line has this label. So `copy_volume` takes no other reel offline. The sink keeps this
-    // verdict.
+    // The following promises hold if there is a sums file and each record of the volume has 1 to
+    // 262,144 bytes. The `ComparedSink` completes an accepted volume with a label only in two
+    // cases. Either a line has the volume's label and the volume's sum, or no line has the volume's
+    // label. So if lines have the volume's label, but none of these lines has the volume's sum,
+    // `copy_volume` of `rdump_net` does not take the reel offline. If the `ComparedSink` completes
+    // an accepted volume with a label, the `ComparedSink` then has a verdict on this volume.
     ensures kept { (s t : Compared S) (lines : List PlainSumLine) (l : PlainLabel) (more : List (List ℕ)) → s.sums ≡ Some lines →
         IsLabel l → All IsRecord (label_record l ∷ more) → Takes (ComparedStep S.takes) s t (volume_calls l more) true →
         HasNotDiffered lines l (file_sum (volume_entries l more)) t }

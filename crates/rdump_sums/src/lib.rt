@@ -6,11 +6,20 @@
 //!
 //! # Contracts
 //!
-//! The *sum* of a volume is the SHA-256 of its record file: of the label, the blocks and one mark.
-//! A *sums file* has a line for each counted volume, with the sum and what the volume is. A *sink*
-//! receives a volume that is read, as in `rdump_net`: a label, then blocks, and then the mark that
-//! ends the volume. The sink *accepts* each of them, or it stops the read. After the mark the sink
-//! is asked to *complete*.
+//! The *sum* of a volume is the SHA-256 of its record file, which contains the label, the blocks
+//! and one mark. A *counted* volume was written whole by a dump. A *sums file* has one line for
+//! each counted volume. The line contains the sum, the label, the number of blocks and the size of
+//! a block.
+//!
+//! A *sink* receives a volume that is read from a reel (see `rdump_net`): first the label, then the
+//! blocks, then the mark that ends the volume. The sink *accepts* the label and each block, or it
+//! stops the read. After the mark the sink is asked to *complete* the volume: to confirm that the
+//! sink has kept the volume. A `ComparedSink` passes each volume on to an *inner* sink, and
+//! compares the volume's sum with the lines that have the volume's label.
+//!
+//! A *verdict* is the result of this comparison. The verdict is `Equal` if a line has the volume's
+//! label and sum. The verdict is `Differs` if lines have the label, but none of these lines has the
+//! sum. The verdict is `Unknown` if no line has the label.
 #![tactic(auto)]
 
 mod compared_reel;

@@ -19,9 +19,9 @@ pub enum EnterFault {
     Unwritten,
 }
 
-/// Enters a line in a sums file: reads the file, and replaces it with a text that has the line at
-/// its end. A file that does not exist is treated as empty. If the file has the line already, it
-/// stays.
+/// Enters a line in a sums file: reads the file, and replaces the file's text with a text that ends
+/// with the line. A file that does not exist is treated as empty. If the file has the line already,
+/// it stays.
 ///
 /// Returns `Unread` if the read fails, `Unwritten` if the replacement fails, and `Sums` if the file
 /// is not a sums file or an allocation fails. With `Unread` and `Sums` it does not try to replace
@@ -31,10 +31,11 @@ pub fn enter_sum<F: WholeFile>(
     file: &mut F,
     line: &SumLine,
 ) -> Result<(), EnterFault>
-    // Adds the line at the end of the lines of the file, and replaces the file with their text. A
-    // file that does not exist counts as empty. If the file has the line already, the call leaves
-    // the file alone. It also does so if the file cannot be read or is bad, or if an allocation
-    // fails. If the line is not in the file, the call returns why.
+    // Adds the new line after the lines of the file, and replaces the file with the text of all
+    // lines. A file that does not exist counts as empty. The call does not change the file if the
+    // file already has the line. The call also does not change the file if the file cannot be read,
+    // if the file is bad, or if an allocation fails. If the line could not be entered, the call
+    // returns the reason.
     ensures { IsSumEntered (whole_file F.gives F.takes) line.now file.old file.new result }
 {
     let Ok(bytes) = file.read(alloc) else {

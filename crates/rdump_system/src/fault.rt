@@ -64,7 +64,7 @@ pub fn report_failures<R: Eprint>(rt: &R, failures: u64, status: ExitStatus) -> 
     status
 }
 
-/// Prints why a file or a connection failed, and returns `status`.
+/// Prints the error of a file or a connection, and returns `status`.
 pub fn report_failed<R: Eprint>(
     rt: &R,
     what: &str,

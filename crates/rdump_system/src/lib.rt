@@ -1,5 +1,5 @@
-//! What the commands of `rdump` share: the part of the runtime that they use, and the messages for
-//! errors.
+//! The commands of `rdump` share this crate: the part of the runtime that the commands use, and the
+//! functions that print errors.
 //!
 //! `ClientSystem` is the part of the runtime that the commands use. `print_fault` and the functions
 //! `report` and `report_..` print on standard error what failed, and return the exit status.

@@ -24,20 +24,20 @@ use tape::{LENGTH_BYTES, Medium, MediumFailed, entry_size, next_length};
 ///
 /// Fails with `MediumFailed` if a call of the medium failed.
 pub fn check_reel<M: Medium>(medium: &mut M, room: &mut [u8]) -> Result<ReelContents, MediumFailed>
-    // If the medium's contract gives the bytes, the call returns the description of the reel's
-    // entries. The call also returns the number of records, the number of marks, the number of
-    // bytes, and the number of bytes after the last readable entry.
+    // If the medium's bytes are known, a successful check returns the description of the reel's
+    // entries. The check also returns how many records, marks and bytes the medium has, and how
+    // many bytes follow the last readable entry.
     ensures told { (bytes : List ℕ) (entries : List PlainEntry) → M.holds medium.old bytes → SpellsReel bytes entries →
         IfOk result (λ c. IsContents c bytes entries) }
-    // The bytes of the medium stay as they were.
+    // If the medium's bytes are known, the check does not change them.
     ensures same { Steps M.holds medium.old medium.new (λ old new. new ≡ old) }
-    // The check fails if and only if a call of the medium fails during the check.
+    // If the check fails, the medium's count of failed calls has risen, or has its greatest value.
     ensures failed { OnErr result (HasRisen (M.failures medium.old) (M.failures medium.new)) }
-    // If the medium cannot fail, the call succeeds.
+    // If the medium cannot fail, the check succeeds.
     ensures able { OnErr result (M.can_fail medium.old) }
-    // If the check succeeds, no call of the medium failed during the check.
+    // If the check succeeds, the medium's count of failed calls is unchanged.
     ensures quiet { OnOk result (M.failures medium.new ≡ M.failures medium.old) }
-    // If the medium can fail after the check, it could fail before.
+    // If the medium cannot fail before the check, the medium cannot fail after the check.
     ensures steady { M.can_fail medium.new → M.can_fail medium.old }
 {
     let bytes = medium.len()?;

@@ -13,39 +13,41 @@ ghost use Rattle.reel_check.specs.declared.holding.VolumeEnd.TheVariants.{OneMar
 
 use dump_run::one_label;
 
-/// The law that a list of entries has at most one description (`Holding`).
+/// A list of entries has at most one description (`Holding`).
 ///
 /// It does nothing: its contract is a law of the definitions.
 pub fn one_holding()
-    // A check can return at most one description of a list of entries.
+    // Two different descriptions (`Holding`) never describe the same list of entries.
     ensures { (h k : Holding) (entries : List PlainEntry) → IsHolding h entries → IsHolding k entries → h ≡ k }
 {
     one_label();
 }
 
-/// The law that the description (`Holding`) of a volume depends only on the label, the number and
-/// length of the blocks, and the end. The bytes of their blocks do not matter: a volume has no
+/// A volume's description (`Holding`) depends only on the label, the number and length of the
+/// blocks, and what follows the blocks. The bytes of the blocks do not matter: a volume has no
 /// checksum.
 ///
 /// It does nothing: its contract is a law of the definitions.
 pub fn one_volume()
-    // Suppose that two reels have the same label, the same number of blocks, blocks of the same
-    // length, and the same entries after the blocks. Then a check returns the same description for
-    // both reels, whatever bytes the blocks contain.
+    // Suppose that two reels have the same label, the same number of blocks, and blocks of the same
+    // length. Suppose also that both volumes end in the same way: without a mark, with one mark, or
+    // with a mark and more entries. Then both reels have the same description, whatever bytes the
+    // blocks contain.
     ensures { (label : PlainLabel) (count size : ℕ) (end : VolumeEnd) (entries others : List PlainEntry) (h k : Holding) →
         IsVolume label count size end entries → IsVolume label count size end others → IsHolding h entries → IsHolding k others → h ≡ k }
 {
     one_label();
 }
 
-/// The law that each counted reel holds a whole volume. The reel has the label of a volume of a
-/// run, blocks of the run's size, and one mark. The same is true without blocks.
+/// A check describes a volume as whole if a dump has written the whole volume and has counted it.
+/// The reel has the label of a volume of a run, blocks of the run's size, and one mark. The same is
+/// true without blocks.
 ///
 /// It does nothing: its contract is a law of the definitions.
 pub fn dumped_volume()
-    // If a dump has counted a reel, this reel has the label of a volume of a run, blocks of the
-    // run's size, one mark, and nothing else. A check describes the entries of this reel as a whole
-    // volume. If the volume has no blocks, the check describes it as whole too.
+    // Suppose that a reel has the label of a volume of a run, blocks of the run's block size, one
+    // mark, and nothing else. A check describes these entries as a whole volume, even if there are
+    // no blocks.
     ensures some { (run : PlainRun) (volume first : ℕ) (blocks : List (List ℕ)) → IsRun run → IsInRange 1 blocks_limit volume → first ≤ blocks_limit →
         All (λ block. length block ≡ run.block_bytes) blocks → blocks ≢ [] →
         IsVolume (label_of run volume first) (length blocks) run.block_bytes OneMark (Record (label run volume first) ∷ (map Record blocks ++ Mark ∷ [])) }

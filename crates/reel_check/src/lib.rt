@@ -9,16 +9,16 @@
 //!
 //! The *entries* of a reel are its records and marks. A check reads the entries of a reel and
 //! returns a description of one of three kinds. `Empty` means that the reel has no entries.
-//! `Volume` means that the reel has a label, and then blocks of one length. After the blocks come
-//! no further entries, one mark, or one mark and further entries. `Foreign` means that the reel has
-//! entries, but not those of a `Volume`.
+//! `Volume` means that the reel has a label, and then blocks of one length. After the blocks, the
+//! reel has no more entries, or one mark, or one mark and more entries. `Foreign` means that the
+//! reel has entries that do not form a `Volume`.
 //!
 //! A check describes a volume as *whole* if one mark, and nothing else, follows the blocks. A
 //! volume contains no checksum, and does not contain the number of its blocks. So a check cannot
 //! find out whether the blocks are the blocks that were dumped.
 //!
 //! A *tally* is a value of the type `ReelTally`. You add entries to a tally one by one, and the
-//! tally gives the description of these entries.
+//! tally returns the description of these entries.
 #![tactic(auto)]
 
 mod check;

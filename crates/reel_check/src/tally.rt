@@ -40,12 +40,13 @@ impl ReelTally {
         }
     }
 
-    /// Adds a record with the given bytes: at least 1 byte, and at most `rmt_wire::RECORD_LIMIT`.
+    /// Adds a record with the given bytes, at least 1 and at most 262,144
+    /// (`rmt_wire::RECORD_LIMIT`).
     ///
     /// If it is the first entry, it is read as a label. Otherwise only its length counts.
     pub fn record(&mut self, bytes: &[u8])
-        // Adds a record to the tally. If there are then fewer than 2^64 entries, the tally
-        // describes the earlier entries, followed by this record.
+        // Adds a record to the tally. If the tally then has fewer than 2^64 entries, the tally
+        // describes the earlier entries followed by the new record.
         ensures { (entries : List PlainEntry) → length entries + 1 < 2 ^ 64 → IsTally self.old entries →
             IsTally self.new (entries ++ Record bytes.now ∷ []) }
     {
@@ -54,10 +55,10 @@ impl ReelTally {
         self.records = self.records.saturating_add(1);
     }
 
-    /// Adds a mark.
+    /// Adds a mark to the tally.
     pub fn mark(&mut self)
-        // Adds a mark to the tally. If there are then fewer than 2^64 entries, the tally describes
-        // the earlier entries, followed by this mark.
+        // Adds a mark to the tally. If the tally then has fewer than 2^64 entries, the tally
+        // describes the earlier entries followed by the new mark.
         ensures { (entries : List PlainEntry) → length entries + 1 < 2 ^ 64 → IsTally self.old entries →
             IsTally self.new (entries ++ Mark ∷ []) }
     {
@@ -68,8 +69,8 @@ impl ReelTally {
 
     /// Returns the description of the entries that were added so far.
     pub fn holding(&self) -> &Holding
-        // Returns the description of the entries that were added. The types allow only this body,
-        // so there is no edit.
+        // Returns the description of the entries that were added. The types allow no other body, so
+        // no wrong body is tried.
         ensures { result.now ≡ self.now.holding }
     {
         &self.holding
@@ -93,7 +94,7 @@ impl ReelTally {
 
     /// Consumes the tally, and returns the description of the entries that were added to it.
     pub fn into_holding(self) -> Holding
-        // Consumes the tally, and returns the description of the entries that were added.
+        // Returns the description of the entries that were added to the tally.
         ensures { result ≡ self.holding }
     {
         self.holding

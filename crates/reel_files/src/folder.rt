@@ -79,7 +79,7 @@ impl<R: FolderSystem, L: Log + Drop> Model for FolderStacks<R, L> {
 }
 
 impl<R: FolderSystem> FolderStacks<R, NoLog> {
-    /// Returns stacks for 1 to `DRIVE_LIMIT` given drives. Each drive has a name. `bin` is the
+    /// Returns the stacks of 1 to `DRIVE_LIMIT` given drives. Each drive has a name. `bin` is the
     /// folder of the bin, and `capacity` is that of each reel in bytes. It reads no folder. If
     /// several drives have the same name, the first is used.
     ///
@@ -92,8 +92,8 @@ impl<R: FolderSystem> FolderStacks<R, NoLog> {
     ) -> Result<FolderStacks<R, NoLog>, AllocError>
         requires some { 1 ≤ length drives.now }
         requires few { length drives.now ≤ DRIVE_LIMIT }
-        // The content of the folders is not known. The new stacks have the given names and folders.
-        // No reel is latched, and no failure is counted.
+        // The drives of the new stacks have the given names and folders. No reel is latched, and no
+        // failure is counted. No contract says which files the folders contain.
         ensures drives { IfOk result (λ opened. opened
             ≡ folder_library (map (λ d. folder_row d.name.now d.folder.now false) drives.now) bin.now capacity 0) }
         ensures count { IfOk result (λ opened. length opened.rows ≡ length drives.now) }
@@ -103,7 +103,7 @@ impl<R: FolderSystem> FolderStacks<R, NoLog> {
 }
 
 impl<R: FolderSystem, L: Log + Drop> FolderStacks<R, L> {
-    /// Returns stacks that log what is done with their reels. Their log is `log`. All else is as in
+    /// Returns stacks that log what they do with their reels. Their log is `log`. All else is as in
     /// `open`.
     pub fn with_log(
         rt: R,
@@ -114,8 +114,9 @@ impl<R: FolderSystem, L: Log + Drop> FolderStacks<R, L> {
     ) -> Result<FolderStacks<R, L>, AllocError>
         requires some { 1 ≤ length drives.now }
         requires few { length drives.now ≤ DRIVE_LIMIT }
-        // For every log, the new stacks have the given names and folders. No reel is latched, and
-        // no failure is counted. `open` calls `with_log` with a log that keeps nothing.
+        // The drives of the new stacks have the given names and folders, whatever the log is. No
+        // reel is latched, and no failure is counted. `open` calls `with_log` with a log that keeps
+        // nothing.
         ensures drives { IfOk result (λ opened. opened
             ≡ folder_library (map (λ d. folder_row d.name.now d.folder.now false) drives.now) bin.now capacity 0) }
         ensures count { IfOk result (λ opened. length opened.rows ≡ length drives.now) }
@@ -132,7 +133,7 @@ impl<R: FolderSystem, L: Log + Drop> FolderStacks<R, L> {
         })
     }
 
-    /// Returns the first folder that is missing, is not a folder, cannot be read, or does not
+    /// Returns the first folder path that is missing, is not a folder, cannot be read, or does not
     /// permit new files. It checks the folders of the stacks in the order of the drives, then the
     /// bin's. If the user owns the folder, the owner's permission to write counts. For another
     /// user, that of the group or of others counts. For root, and for an unknown user, anybody's
@@ -147,8 +148,8 @@ impl<R: FolderSystem, L: Log + Drop> FolderStacks<R, L> {
     /// It changes nothing in the folders. If an allocation fails, the reason has the kind
     /// `OutOfMemory` and no error code of the system.
     pub fn find_fault(&self) -> Option<FolderFault<'_>>
-        // If `find_fault` returns a folder, it is the folder of a stack or the folder of the bin.
-        // Tests, not clauses, show which faults `find_fault` finds.
+        // If `find_fault` returns a folder, this folder is the folder of a stack or the folder of
+        // the bin. Only tests show which faults `find_fault` finds: no clause says this.
         ensures { IfSome result (λ fault. IsFolderOf self.now fault.folder.now) }
     {
         let mut seen = Vec::new(self.rt.alloc());
@@ -250,24 +251,27 @@ impl<R: FolderSystem, L: Log + Drop> FolderStacks<R, L> {
 }
 
 impl<R: FolderSystem, L: Log + Drop> Stacks for FolderStacks<R, L> {
-    // drive, below, named, found: `drive` returns the first drive with the given name.
+    // drive, below, named, found: `drive` returns the number of the first drive with the given
+    // name.
     //
-    // latch: A latch takes a reel only if no reel is latched at the drive (`IsFolderCall`). The
-    // latched reel is at its beginning, and has the capacity that was given to the stacks. The
-    // latched reel's `FileMedium` has counted no failed call and no cut to length 0. `is_written`
-    // of this medium returns false.
+    // latch: A latch takes a reel into a drive only if the drive has no latched reel (see
+    // `IsFolderCall`). The latched reel is at its beginning, and has the capacity that was given to
+    // the stacks. The latched reel's `FileMedium` has counted no failed call and no cut to length
+    // 0. The `FileMedium`'s `is_written` returns false.
     //
-    // latch: If a latch fails because the stack is empty or because an allocation failed, no
-    // failure is counted. Every other failed latch is a device fault and is counted.
+    // latch: A latch that fails with `NoReel` or `OutOfMemory` counts no failure. Every other
+    // failed latch returns `Device` and counts a device failure.
     //
-    // unlatch: After a reel is laid back on the stack, no reel is latched at the drive.
+    // unlatch: After `unlatch` has laid a reel back on the stack, no reel is latched at the drive.
     //
-    // offline: A move fails if no reel is latched. A move also fails if a sync of the reel's file
-    // has failed after the file's last cut to length 0. If a move succeeds, no reel is latched at
-    // the drive afterwards. If a move fails, the move hands the reel back. A failed move is counted
-    // as a device fault, unless it failed because the bin has a reel with the same name.
+    // offline: A move (a call of `offline`) fails if no reel is latched at the drive. A move also
+    // fails if a sync of the reel's file has failed after the file's last cut to length 0. If a
+    // move succeeds, no reel is latched at the drive afterwards. If a move fails, `offline` returns
+    // the reel to the caller. A move that fails because the bin has a reel with the same name
+    // (`NameTaken`) counts no failure. Every other failed move returns `Device` and counts a device
+    // failure.
     //
-    // failures: `failures` returns the count of device failures.
+    // failures: `failures` returns how many device failures were counted.
 
     ghost use Rattle.reel_files.specs.Folders.{IsFolderCall};
 

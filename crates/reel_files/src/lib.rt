@@ -7,10 +7,11 @@
 //! # Contracts
 //!
 //! The crate `drives` explains stacks, latches and the bin. The trait `MovableFile` stands for a
-//! file that can be synced and moved. The *steps* of a file are its syncs and moves, in order. A
-//! *cut* shortens a file to a given length. For every `MovableFile` whose steps are known, the
-//! contract of `take_offline` gives the order of sync and move. To move a reel, the call `offline`
-//! of `FolderStacks` calls `take_offline`.
+//! file that can be synced and moved. The *steps* of a file are its syncs and moves, in order. The
+//! steps of a file are *known* if the file's type specifies them. A *cut* shortens a file to a
+//! given length. To move a reel to the bin, the call `offline` of `FolderStacks` calls
+//! `take_offline`. If a file's steps are known, the contract of `take_offline` says in which order
+//! the file is synced and moved.
 #![tactic(auto)]
 
 mod folder;

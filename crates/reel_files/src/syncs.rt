@@ -35,21 +35,21 @@ pub trait MovableFile {
     /// Returns whether the file was written to or cut after it was opened. A write that failed
     /// counts too.
     fn is_written(&self) -> bool
-        // `is_written` returns whether the file was written to or cut, even if the write or the cut
-        // failed.
+        // `is_written` returns true if and only if a write or a cut of the file was tried. A write
+        // or a cut that failed counts too.
         ensures { result ≡ written self.now };
 
     /// Writes the file's cached data to the device.
     fn sync(&mut self) -> Result<(), Self::Refusal>
-        // If the file's steps are known, `sync` adds one step to them: a sync, with its result
-        // (success or failure). A sync does not change the count of cuts to length 0.
+        // If the file's steps are known, `sync` adds one step to them: a sync that succeeded, or a
+        // sync that failed. `sync` does not change the count of cuts to length 0.
         ensures step { Makes told self.old self.new (Sync (is_ok result) ∷ []) }
         ensures same { truncations self.new ≡ truncations self.old };
 
     /// Moves the file to another folder. The result describes where the file is then.
     fn rename(&mut self) -> Result<Self::Moved, Self::Refusal>
-        // If the file's steps are known, `rename` adds one step to them: a move, with its result
-        // (success or failure).
+        // If the file's steps are known, `rename` adds one step to them: a move that succeeded, or
+        // a move that failed.
         ensures { Makes told self.old self.new (Move (is_ok result) ∷ []) };
 }
 
@@ -79,10 +79,10 @@ impl<E: Copy> Model for Syncs<E> {
 }
 
 impl<E: Copy> Syncs<E> {
-    /// Returns a `Syncs` in which no failed sync is recorded.
+    /// Returns an empty `Syncs`, which is the record of a file's last failed sync.
     pub fn new() -> Syncs<E>
-        // The new `Syncs` (a record of a file's failed syncs) records no failed sync. The types
-        // allow only this body, so there is no edit.
+        // The new `Syncs` records no failed sync of a file. The types allow no other body, so no
+        // wrong body is tried.
         ensures { result ≡ None }
     {
         Syncs { failed: None }
@@ -95,12 +95,13 @@ impl<E: Copy> Syncs<E> {
     pub fn sync<F: MovableFile<Refusal = E>>(&mut self, file: &mut F) -> Result<(), E>
         // If an earlier sync failed after the file's last cut to length 0, `sync` fails too.
         ensures again { self.old ≡ Some (F.truncations file.old) → IsErr result }
-        // A failed sync is recorded with a number: how often the file was cut to length 0 before
-        // the sync. Nothing else is recorded.
+        // If `sync` fails, the `Syncs` records how many times the file was cut to length 0 before
+        // this call of `sync`. If `sync` succeeds, the `Syncs` is unchanged.
         ensures noted { MatchResult result (λ _. self.new ≡ self.old) (λ _. self.new ≡ Some (F.truncations file.old)) }
-        // If `sync` succeeds, the file made one step: a sync that succeeded. `sync` fails in two
-        // cases only. In the first case the file made one step: a sync that failed. In the second
-        // case an earlier sync failed after the last cut to length 0, and the file makes no step.
+        // If `sync` succeeds, the file made exactly one step: a sync that succeeded. A call of
+        // `sync` fails for one of two reasons. Either an earlier sync failed after the file's last
+        // cut to length 0, and the file made no step in this call. Or the file made exactly one
+        // step in this call: a sync that failed.
         ensures done { IfOk result (λ _. Makes F.told file.old file.new (Sync true ∷ [])) }
         ensures refused { OnErr result (Steps F.told file.old file.new (IsUnsynced (F.truncations file.old) self.old self.new)) }
         ensures same { F.truncations file.new ≡ F.truncations file.old }
@@ -124,8 +125,8 @@ impl<E: Copy> Syncs<E> {
     }
 }
 
-/// Takes a file offline: syncs it and then moves it. A file that was moved was synced after its
-/// last change.
+/// Takes a file offline: syncs the file and then moves it. A file that was moved was synced after
+/// its last change.
 ///
 /// Fails with the reason if the file cannot be synced, as in `Syncs::sync`, or cannot be moved. A
 /// file that cannot be synced is not moved.
@@ -133,14 +134,14 @@ pub fn take_offline<F: MovableFile>(
     file: &mut F,
     syncs: &mut Syncs<F::Refusal>,
 ) -> Result<F::Moved, F::Refusal>
-    // If `take_offline` succeeds, the file made exactly two steps: a sync that succeeded, and then
-    // a move. During the call, nothing else has access to the file. So the file was synced after
-    // its last change, and its name was moved after the sync.
+    // If `take_offline` succeeds, the file made exactly two steps: a successful sync, and then a
+    // successful move. During the call, no other code of the program has access to `file`. So the
+    // file was synced after the last change through `file`, and was moved after the sync.
     ensures done { IfOk result (λ _. Makes F.told file.old file.new (Sync true ∷ Move true ∷ [])) }
-    // `take_offline` fails only if the file could not be synced, or if the move failed after a sync
-    // that succeeded. After a failed sync nothing is moved.
+    // `take_offline` fails only if the file could not be synced, or if the move failed after a
+    // successful sync. After a failed sync the file is not moved.
     ensures refused { OnErr result (Steps F.told file.old file.new (IsLeft (F.truncations file.old) syncs.old syncs.new)) }
-    // After a failed sync every call of `take_offline` fails until the file is cut to length 0.
+    // After a failed sync, every call of `take_offline` fails until the file is cut to length 0.
     // Tests: `is_written_anew_after_a_failed_sync` in `reel_tests`.
     ensures again { syncs.old ≡ Some (F.truncations file.old) → IsErr result }
     ensures noted { MatchResult result (λ _. syncs.new ≡ syncs.old)
@@ -159,17 +160,17 @@ pub fn sync_at_close<F: MovableFile>(
     syncs: &mut Syncs<F::Refusal>,
 ) -> Result<bool, F::Refusal>
     // If the file's `is_written` returns true, `sync_at_close` syncs the file as `Syncs::sync`
-    // does. If `sync_at_close` succeeds, the file made one step: a sync that succeeded.
-    // `sync_at_close` fails only in the two cases in which `Syncs::sync` fails. In each case the
-    // file makes the same steps as in `Syncs::sync`.
+    // does. If the sync succeeds, the file made exactly one step: a sync that succeeded.
+    // `sync_at_close` fails only if `Syncs::sync` would fail. In a failed call of `sync_at_close`,
+    // the file makes the same steps as in a failed call of `Syncs::sync`.
     ensures written { F.written file.old ≡ true → MatchResult result
         (λ synced. (synced ≡ true) × Makes F.told file.old file.new (Sync true ∷ []))
         (λ _. Steps F.told file.old file.new (IsUnsynced (F.truncations file.old) syncs.old syncs.new)) }
-    // If the file's `is_written` returns false, `sync_at_close` leaves the file as it is and
+    // If the file's `is_written` returns false, `sync_at_close` leaves the file unchanged and
     // records nothing.
     ensures unwritten { F.written file.old ≡ false → (result ≡ Ok false) × (file.new ≡ file.old) × (syncs.new ≡ syncs.old) }
-    // Suppose that the file's `is_written` returns true, and that an earlier sync failed after the
-    // last cut to length 0. Then `sync_at_close` fails, as `Syncs::sync` does.
+    // If the file's `is_written` returns true, and an earlier sync failed after the file's last cut
+    // to length 0, `sync_at_close` fails.
     ensures again { F.written file.old ≡ true → syncs.old ≡ Some (F.truncations file.old) → IsErr result }
     // `sync_at_close` records a failed sync, as `Syncs::sync` does.
     ensures noted { MatchResult result (λ _. syncs.new ≡ syncs.old) (λ _. syncs.new ≡ Some (F.truncations file.old)) }

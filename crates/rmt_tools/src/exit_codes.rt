@@ -17,8 +17,8 @@ use rmt_wire::Counted;
 use std::alloc::Global;
 use std::io::{Read, Write};
 
-/// Makes a client write its run to a tape server, as `rdump_net::dump` does. Returns the exit
-/// status of `rdump dump`: 0 if the run is finished and every line was printed, else 3.
+/// Makes a client write the volumes of its run to a tape server, as `rdump_net::dump` does. Returns
+/// the exit status of `rdump dump`: 0 if the run is finished and every line was printed, else 3.
 pub fn dump<B: Blocks, P: Peer, R: Read, W: Write>(
     alloc: Global,
     client: &mut Client<B>,
@@ -26,7 +26,7 @@ pub fn dump<B: Blocks, P: Peer, R: Read, W: Write>(
     operator: &mut R,
     out: &mut Counted<W>,
 ) -> u8
-    // Does what `dump` of `rdump_net` promises, and returns the exit status as a number.
+    // The call keeps the promises of `rdump_net::dump`, and returns the exit status as a number.
     ensures talks { TalksOver B.holds FromAny P.tells client.old client.new peer.old peer.new }
     ensures printed { HasCode (IsDumped W.contents client.old.at.counts client.new.at out.old out.new) result }
 {
@@ -43,7 +43,8 @@ pub fn read_volume<P: Peer, F: Write, W: Write>(
     out: &mut Counted<W>,
 ) -> u8
     requires { IsLine device.now }
-    // Does what `read_volume` of `rdump_net` promises, and returns the exit status as a number.
+    // The call keeps the promises of `rdump_net::read_volume`, and returns the exit status as a
+    // number.
     ensures { HasCode (IsReadStatus (copy_kind P.tells F.contents W.contents) device.now
         (copy_ends peer.old file.old out.old) (copy_ends peer.new file.new out.new)) result }
 {
@@ -64,14 +65,14 @@ pub fn mt<P: Peer, W: Write>(
     requires device { IsLine device.now }
     requires op { op ≤ NUMBER_LIMIT }
     requires count { count ≤ NUMBER_LIMIT }
-    // Does what `mt` of `rdump_net` promises, and returns the exit status as a number.
+    // The call keeps the promises of `rdump_net::mt`, and returns the exit status as a number.
     ensures { HasCode (IsMt (stream_kind P.tells W.contents) device.now op count
         (stream_ends peer.old out.old) (stream_ends peer.new out.new)) result }
 {
     rdump_net::mt(alloc, peer, device, op, count, out).code()
 }
 
-/// Prints on `out` the output of `rdump dates` for a dumpdates file, as `rdump_files::dates` does.
+/// Prints on `out` what `rdump dates` prints for a dumpdates file, as `rdump_files::dates` does.
 /// Returns the exit status of `rdump dates`: 0 if the answer was printed, else 1.
 pub fn dates<W: Write>(
     alloc: Global,
@@ -79,7 +80,7 @@ pub fn dates<W: Write>(
     asked: Option<(&str, u8)>,
     out: &mut Counted<W>,
 ) -> u8
-    // Does what `dates` of `rdump_files` promises, and returns the exit status as a number.
+    // The call keeps the promises of `rdump_files::dates`, and returns the exit status as a number.
     ensures { HasCode (IsDates W.contents file.now (plain_asked asked.entry) out.old out.new) result }
 {
     rdump_files::dates(alloc, file, asked, out).code()
@@ -88,7 +89,8 @@ pub fn dates<W: Write>(
 /// Runs a schedule, as `rsim_schedule::schedule` does. Returns the exit status of `rsim`: 0 if all
 /// lines were run, 1 if a line is faulty, and 3 if an allocation or a write failed.
 pub fn schedule<W: Write>(alloc: Global, text: &[u8], out: &mut Counted<W>) -> u8
-    // Does what `schedule` of `rsim_schedule` promises, and returns the exit status as a number.
+    // The call keeps the promises of `rsim_schedule::schedule`, and returns the exit status as a
+    // number.
     ensures { HasCode (λ status. IsScheduled W.contents out.old status out.new) result }
 {
     rsim_schedule::schedule(alloc, text, out).code()

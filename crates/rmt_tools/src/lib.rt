@@ -1,11 +1,12 @@
-//! Exports most of the public items of the crates of `rmtd`, `rdump` and `rsim`. This crate's
+//! Re-exports most public items of the crates that make up `rmtd`, `rdump` and `rsim`. This crate's
 //! `dump`, `read_volume`, `mt`, `dates` and `schedule` return the number of their exit status. It
 //! adds a peer in memory, which tests use in place of a connection.
 //!
 //! # Contracts
 //!
-//! This crate exports names that other crates define for the programs. It adds `MemoryPeer`: a peer
-//! whose server and drives are in memory.
+//! A *peer* is the far end of a connection, and the peer's *log* lists what passed over the peer's
+//! connections, as in `rdump_net`. `MemoryPeer` is a peer that has a server and drives in memory.
+//! For each connection the peer has a *session*, which can have one drive open.
 #![tactic(auto)]
 
 mod exit_codes;

@@ -46,16 +46,16 @@ impl Model for MemoryPeer {
 }
 
 impl MemoryPeer {
-    /// Makes a peer with these drives, and no connection. `stacks` must have no more drives than
-    /// `holds`.
+    /// Makes a peer that has the given drives, and no connection yet. `stacks` must have no more
+    /// drives than `holds`.
     ///
     /// Returns None if an allocation fails, or if no number is left for a session.
     pub fn new(alloc: Global, drives: DriveTable<LocalHolds, ListStacks>) -> Option<MemoryPeer>
         requires { length drives.stacks.library.drives ≤ length drives.holds.numbers }
-        // The log of a new peer is empty.
+        // The log of the new peer is empty.
         ensures tells { IfSome result (λ p. IsLogOf p.log []) }
-        // Returns a peer with the given reels and holders, and with a session that has nothing
-        // open.
+        // The new peer has the stacks, the bin and the reels of the given drives. The call does not
+        // change who holds a drive. The new peer's session has no drive open.
         ensures made { IfSome result (λ p. IsMadeOf drives p) }
     {
         let far = FarEnd::new(alloc, drives)?;
@@ -67,20 +67,21 @@ impl MemoryPeer {
         })
     }
 
-    /// Returns the stacks and the bin of the peer, with their reels. For a reel that a session has
-    /// open, only its name is there.
+    /// Returns the stacks of the peer's drives, and the bin, with their reels. For a reel that a
+    /// session has open, only its name is there.
     pub fn stacks(&self) -> &ListStacks
-        // Returns the stacks and the bin of the peer. The types allow only this body, so there is
-        // no edit.
+        // Returns the stacks of the peer's drives, and the bin. The types allow no other body, so
+        // no wrong body is tried.
         ensures { result.now ≡ self.now.drives.stacks }
     {
         &self.far.drives.stacks
     }
 
-    /// Ends the session and returns the drives. Another peer can be made with them.
+    /// Ends the peer's session, and returns the peer's drives. Another peer can be made with them.
     pub fn into_drives(self) -> DriveTable<LocalHolds, ListStacks>
-        // Closes what the session had open, and returns the drives of the peer. There are at most
-        // as many drives as the table of holders has entries.
+        // If the session has a drive open, the call first closes this drive. In every case, the
+        // call returns the peer's drives, with the table that says who holds each drive. The table
+        // has at least as many entries as there are drives.
         ensures apart { IsTakenApart self result }
         ensures enough { length result.stacks.library.drives ≤ length result.holds.numbers }
     {
@@ -132,13 +133,14 @@ fn take_front(bytes: &mut Vec<u8>, into: &mut [u8]) -> usize
 
 impl Peer for MemoryPeer {
     // connect, told, send, receive, hang_up, log: The log contains each connection that was made,
-    // the bytes that were sent, and the bytes that were received. If a call notices that a
-    // connection ended, the log also contains this end. No clause says which call notices an end.
+    // the bytes that were sent, and the bytes that were received. If a call notices that the
+    // connection ended, the call adds the event `Ended` to the log. `hang_up` does not change the
+    // log. No clause says which call notices an end.
     //
-    // connect, fresh, cleared: After a connect, the session has nothing open. What the earlier
-    // session had open is closed.
+    // connect, fresh, cleared: If the session of the previous connection has a drive open,
+    // `connect` closes this drive. After `connect`, the peer's session has no drive open.
     //
-    // hang_up, closed: Closes what the session has open.
+    // hang_up, closed: If the peer's session has a drive open, `hang_up` closes this drive.
 
     ghost use Rattle.rmt_tools.specs.Telling.{IsLogOf};
 

@@ -69,23 +69,25 @@ pub fn server_words<'a>(
     arguments: &'a [&'a str],
 ) -> Result<ServerLine<'a>, LineFault>
     // A *line* (`ServerLine`) contains the parsed arguments. If the call returns a line, clap (the
-    // parser of arguments) accepts the arguments, and the line has the values that clap matched.
-    // The line says whether `--stdio` was given. Each text in the line is the text that was given.
-    // Each number in the line is the value of the digits that were given, and is at most
+    // argument parser) accepts the arguments. The line has the values that clap found in the
+    // arguments. The line says whether `--stdio` was given. The line has each given text unchanged.
+    // Each number that was given is in the line as the value of its digits, and is at most
     // 9223372036854775807. If no capacity is given, the capacity is 1,048,576. Exactly one of
     // `--stdio` and `--listen` was given.
     //
-    // Each argument that is not an option gives a drive of the line, in order. Each of these
-    // arguments is split at its first `=`. The text before the `=` is the device, and the text
-    // after the `=` is the folder. Each drive has a device of 1 to 255 bytes without a line feed,
-    // and a folder whose name is not empty (`KeepsDriveRules`). No two drives have the same device.
-    // There are at most 64 drives. If there is a drive, `--bin` was given.
+    // Each argument that is not an option describes one drive. The line has these drives in the
+    // order of the arguments. Each of these arguments is split at its first `=`. The text before
+    // the `=` is the device, and the text after the `=` is the folder. Each device has 1 to 255
+    // bytes and no line feed, and the name of each folder is not empty (`KeepsDriveRules`). No two
+    // drives have the same device. There are at most 64 drives. If there is a drive, `--bin` was
+    // given.
     //
-    // The limit for idle connections (`--idle`) is the given number of seconds. If the number is 0,
-    // or no number is given, there is no limit. If `--stdio` was given, `--idle` was not given.
+    // The line's limit for idle connections (`--idle`) is the given number of seconds. If the
+    // number is 0, or no number is given, there is no limit. `--idle` was not given together with
+    // `--stdio`.
     ensures line { IfOk result (IsLineOf (map (λ s. s.now) arguments.entry.now)) }
     // The call returns `BadWords` (the arguments are bad) in two cases only. Either clap refuses
-    // the arguments, or the values that clap matched break a rule of the clause `line`.
+    // the arguments, or the values that clap found break a rule of the clause `line`.
     ensures refused { IsErrOf result LineFault.BadWords → AreBadArguments (map (λ s. s.now) arguments.entry.now) }
 {
     match server_line(alloc, arguments) {
@@ -101,18 +103,18 @@ pub fn server_words<'a>(
 /// The error's kind is `OutOfMemory` if an allocation failed. If clap refuses the arguments, the
 /// kind is one with which clap refuses them.
 pub fn server_line<'a>(alloc: Global, arguments: &'a [&'a str]) -> Result<ServerLine<'a>, Error>
-    // Returns the line that `server_words` promises.
+    // If the call returns a line, the line is as the clause `line` of `server_words` promises.
     ensures line { IfOk result (IsLineOf (map (λ s. s.now) arguments.entry.now)) }
-    // The call returns an error of another kind than `OutOfMemory` in two cases only. Either clap
-    // refuses the arguments, or the values that clap matched break a rule of `server_words`. No
-    // clause says which text an error has.
+    // Suppose that the call returns an error whose kind is not `OutOfMemory`. Then clap refuses the
+    // arguments, or the values that clap found break a rule of the clause `line` of `server_words`.
+    // No clause says which text an error has.
     ensures refused { IfErr result (λ e. ¬ (kind_of e ≡ ErrorKind.OutOfMemory) → AreBadArguments (map (λ s. s.now) arguments.entry.now)) }
-    // The returned error is clap's help or version only if clap answers the arguments with its help
-    // or version.
+    // The call returns clap's help or version as the error only if the arguments ask for the help
+    // or the version.
     ensures shown { IfErr result (λ e. IsShown (kind_of e) → AskToBeShown (map (λ s. s.now) arguments.entry.now)) }
-    // Suppose that clap refuses the arguments, or answers them with its help or version. Then the
-    // returned error has either a kind that clap gives for these arguments, or the kind
-    // `OutOfMemory`.
+    // Suppose that clap refuses the arguments, or that the arguments ask for the help or the
+    // version. Then the returned error has the kind `OutOfMemory`, or a kind of error that clap
+    // returns for these arguments.
     ensures kinds { IfErr result (λ e. ¬ (faults_in (map (λ s. s.now) arguments.entry.now) ≡ [])
         → HasKind (faults_in (map (λ s. s.now) arguments.entry.now)) e) }
 {

@@ -15,7 +15,8 @@ use std::alloc::Global;
 use std::cell::Cell;
 use std::io::{Read, Write};
 
-/// Serves one pair of streams in a session at this seat, and returns the seat with the stacks.
+/// Serves one pair of streams in a session with the given seat, and returns the seat and the
+/// stacks.
 ///
 /// The seat must hold no drive, and holds none afterwards, however the streams end. The session has
 /// nothing open at first, and what it opens is closed at its end. If an allocation fails before the
@@ -34,11 +35,11 @@ pub fn serve_at<H: Holds + Drop, S: Stacks + Drop, I: Read, O: Write>(
     requires own { H.belongs drives.holds seat }
     requires idle { HoldsJust (H.shows seat) None }
     requires enough { S.drives drives.stacks ≤ H.drives drives.holds }
-    // If the seat holds no drive, a session serves the pair of streams, as the contract of `serve`
-    // in `rmt_server` says. When the session ends, the session closes what it opened. `serve_at`
-    // returns the seat and its stacks. The returned seat holds no drive and has the same number as
-    // before. Other seats hold the same drives as before. If an allocation failed before the first
-    // request was read, neither stream is touched.
+    // The caller must pass a seat that holds no drive. A session serves the pair of streams, as the
+    // contract of `serve` in `rmt_server` says. At the end, the session has no drive open.
+    // `serve_at` returns the seat and the stacks. The returned seat holds no drive and has the same
+    // number as before. Other seats hold the same drives as before. If an allocation fails before
+    // the first request is read, `serve_at` touches neither stream.
     ensures { GivesBack (kinds H.Holds S.Stacks S.Reel.Reel) I.Read O.Write (idle input.old output.old drives seat)
         (streams input.new output.new) result }
 {

@@ -14,10 +14,11 @@ use hold_table::{HoldSeat, HoldTable, SEAT_LIMIT};
 /// some are missing, no drive is held by a seat that was given back.
 pub fn close_table(table: HoldTable, seats: Vec<HoldSeat>) -> [u64; DRIVE_LIMIT]
     requires seats { All (λ s. IsSeatAt table s × HoldsJust s.view None) seats.items }
-    // For each drive, `close_table` returns the number of the seat that holds the drive, or 0. If
-    // all 32 seats are passed to `close_table`, each of these numbers is 0. If only some seats are
-    // passed, none of these numbers is the number of a passed seat. `main` of `rmtd` calls
-    // `close_table` with the seats that `serve_many` returned.
+    // `close_table` returns one number for each drive. A number above 0 is meant to be the number
+    // of the seat that holds the drive, but no clause says so. If the caller passes all 32 seats,
+    // each returned number is 0. If the caller passes only some seats, no returned number is the
+    // number of a passed seat. `main` of `rmtd` calls `close_table` with the seats that
+    // `serve_many` returned.
     ensures free { length seats.items ≡ SEAT_LIMIT → (drive : ℕ) → slice_index result drive ≡ 0 }
     ensures back { All (λ s. (drive : ℕ) → slice_index result drive ≢ s.view.number) seats.items }
 {

@@ -70,7 +70,7 @@ fn lasting(why: &io::Error) -> Option<u32>
 }
 
 impl<'a, C: Clock, L: Log + Drop> Connections<'a, C, L> {
-    /// Makes a `Connections`, which accepts the connections of this listener.
+    /// Makes a `Connections`, which accepts connections from the given listener.
     ///
     /// `clock` measures the pause after a failed accept. At most `left` connections come. A read or
     /// a write of a connection fails if it makes no progress for as long as `idle` says; None is no
@@ -82,13 +82,13 @@ impl<'a, C: Clock, L: Log + Drop> Connections<'a, C, L> {
         idle: Option<Duration>,
         log: L,
     ) -> Self
-        // The number of connections that may still come is the number that was given to `new`.
+        // The field `left` is the argument `left`: how many more connections are allowed.
         ensures left { result.left ≡ left }
-        // The limit for idle connections is the limit that was given to `new`. No clause says that
-        // a connection gets this limit.
+        // The field `idle` is the argument `idle`: the time limit for idle connections. No clause
+        // says that this limit is set on a connection.
         ensures idle { result.idle ≡ idle }
-        // The allowed number of failed accepts is the greatest `u64`. The listener is not marked as
-        // broken.
+        // The field `tries`, the number of failed accepts that are still allowed, is the greatest
+        // `u64`. The field `broken` is None: no error has broken the listener.
         ensures tries { result.tries ≡ 18446744073709551615 }
         ensures whole { result.broken ≡ None }
     {
@@ -105,10 +105,11 @@ impl<'a, C: Clock, L: Log + Drop> Connections<'a, C, L> {
         }
     }
 
-    /// Returns the exit status of a server that served these connections: `Ended` if all
+    /// Returns the exit status of a server that served these connections: `Ended` if all allowed
     /// connections have come, and otherwise `Failed`.
     pub fn status(&self) -> ExitStatus
-        // `status` returns `Ended` if all connections have come, and otherwise `Failed`.
+        // `status` returns `Ended` if all allowed connections have come (`left` is 0), and
+        // otherwise `Failed`.
         ensures { result ≡ if self.now.left == 0 then Ended else Failed }
     {
         if self.left == 0 {
@@ -127,8 +128,8 @@ impl<'a, C: Clock, L: Log + Drop> Connections<'a, C, L> {
         self.left > 0 && self.tries > 0 && self.broken.is_none()
     }
 
-    /// Accepts the next connection, with TCP_NODELAY and the limit of its waits set. Returns None if
-    /// none was accepted, or if an option could not be set.
+    /// Accepts the next connection, with TCP_NODELAY and the limit of its waits set. Returns None
+    /// if none was accepted, or if an option could not be set.
     fn accept(&mut self) -> Option<Stream<TcpStream>>
         requires left { 0 < self.old.left }
         requires tries { 0 < self.old.tries }
@@ -163,8 +164,8 @@ impl<'a, C: Clock, L: Log + Drop> Connections<'a, C, L> {
         }
     }
 
-    /// Counts and logs a connection, and sets TCP_NODELAY and the limit of its waits. Returns None if
-    /// that fails.
+    /// Counts and logs a connection, and sets TCP_NODELAY and the limit of its waits. Returns None
+    /// if that fails.
     fn take(&mut self, stream: Stream<TcpStream>, caller: Caller) -> Option<Stream<TcpStream>>
         requires { 0 < self.old.left }
         ensures left { self.new.left + 1 ≡ self.old.left }
@@ -213,11 +214,12 @@ impl<'a, C: Clock, L: Log + Drop> Connections<'a, C, L> {
 }
 
 impl<C: Clock, L: Log + Drop> Incoming for Connections<'_, C, L> {
-    // is_over: The connections of a listener are over in three cases. All of them have come. Or the
-    // listener can never accept again. Or the number of failed accepts has reached the greatest
-    // `u64`. A listener can never accept again after one of five errors of
-    // accept(2): EBADF, EFAULT, EINVAL, ENOTSOCK and EOPNOTSUPP. An accept that failed with another
-    // error does not count as a connection.
+    // is_over: `next` returns None (no further connection comes) only in one of three cases. First
+    // case: all allowed connections have come (`left` is 0). Second case: the listener can never
+    // accept again (`broken` is the listener's error). Third case: the allowed number of failed
+    // accepts is used up (`tries` is 0). A listener can never accept again after one of five errors
+    // of accept(2): EBADF, EFAULT, EINVAL, ENOTSOCK and EOPNOTSUPP. A failed accept does not count
+    // as a connection.
 
     type In = Stream<TcpStream>;
 

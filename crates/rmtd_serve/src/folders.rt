@@ -14,8 +14,8 @@ use reel_files::{FolderDrive, FolderStacks, FolderSystem, Log, NoLog};
 use rmtd_args::DriveArgument;
 use std::alloc::{AllocError, Global};
 
-/// Makes the stacks of these drives and the bin, in their folders. They have no log. Each reel has
-/// `capacity` bytes.
+/// Makes stacks of reels in folders: one folder for each of the given drives, and one for the bin.
+/// They have no log. Each reel has `capacity` bytes.
 ///
 /// There must be 1 to `DRIVE_LIMIT` drives. It reads no folder, and fails only if an allocation
 /// fails.
@@ -28,8 +28,7 @@ pub fn folder_stacks<R: FolderSystem>(
     requires some { 1 ≤ length arguments.now }
     requires few { length arguments.now ≤ DRIVE_LIMIT }
     // The stacks have the drives that the arguments name, in order. Each drive has the folder that
-    // its argument names. The stacks also have the given folder of the bin and the given capacity
-    // of a reel.
+    // its argument names. The bin has the given folder, and the reels have the given capacity.
     ensures named { IfOk result (λ s. s ≡ stacks_of arguments.now bin.now capacity) }
     ensures count { IfOk result (λ s. length s.rows ≡ length arguments.now) }
 {
@@ -72,8 +71,7 @@ fn folder_drives<'a>(
     Ok(drives)
 }
 
-/// Makes the stacks of these drives once for each seat of a table, in the order of the seats'
-/// numbers.
+/// Makes stacks with the given drives for each seat of a table, in the order of the seat numbers.
 ///
 /// All of them use the same folders, each independently. Each logs what it does to standard error,
 /// with the seat's number, in lines that begin as `start` says. There must be 1 to `DRIVE_LIMIT`
@@ -87,12 +85,12 @@ pub fn seat_stacks<R: FolderSystem + Eprint>(
 ) -> Result<Vec<FolderStacks<R, ErrorLog<R>>>, AllocError>
     requires some { 1 ≤ length arguments.now }
     requires few { length arguments.now ≤ DRIVE_LIMIT }
-    // `seat_stacks` returns the stacks of each of the 32 seats of a table.
+    // `seat_stacks` returns stacks for each of the 32 seats of a table.
     ensures count { IfOk result (λ all. length all.items ≡ SEAT_LIMIT) }
     // The stacks of each seat have as many drives as the arguments name.
     ensures drives { IfOk result (λ all. All (λ s. length s.rows ≡ length arguments.now) all.items) }
-    // The stacks of each seat are those that `folder_stacks` makes. So a drive has the same number
-    // and the same folder at every seat.
+    // For each seat, the stacks are equal to the stacks that `folder_stacks` makes from the same
+    // arguments. So a drive has the same number and the same folder in the stacks of every seat.
     ensures named { IfOk result (λ all. All (λ s. s ≡ stacks_of arguments.now bin.now capacity) all.items) }
 {
     let mut all = Vec::with_capacity(rt.alloc(), SEAT_LIMIT)?;

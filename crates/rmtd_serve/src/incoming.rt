@@ -32,13 +32,13 @@ pub trait Incoming {
         // `next` returns `None` only if all pairs of streams have come.
         ensures { result ≡ None → is_over self.new };
 
-    /// Returns the number of the pair of streams that `next` returned last, for log lines. No
+    /// Returns the number of the last pair of streams that `next` returned, for log lines. No
     /// contract speaks of it.
     fn number(&self) -> u64 {
         0
     }
 
-    /// Receives the reason for which the last returned pair of streams was dropped without being
-    /// served. No contract speaks of it.
+    /// Receives the reason why the server dropped the last pair of streams that `next` returned,
+    /// and did not serve the pair. No contract speaks of it.
     fn dropped(&self, _why: DropReason) {}
 }

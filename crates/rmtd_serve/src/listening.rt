@@ -15,8 +15,8 @@ use std::cell::Cell;
 use std::net::TcpStream;
 use std::rt::Clock;
 
-/// Serves connections one after the other, until all connections have come or their listener can
-/// never accept again. Returns the connections.
+/// Serves connections one after the other, until all allowed connections have come or the listener
+/// can never accept again. Returns the connections.
 ///
 /// Each connection finds the reels as the one before left them. A connection that ended within a
 /// request, or failed, counts too. The log has a line for the end of each.
@@ -24,15 +24,16 @@ pub fn serve_connections<'a, C: Clock, L: Log + Drop>(
     server: &mut MemoryServer,
     connections: Connections<'a, C, L>,
 ) -> Connections<'a, C, L>
-    // Each served connection finds the reels as the previous connection left them. The requests of
-    // each connection and their replies together are a run of serve steps. No clause is about the
-    // bytes of a connection.
+    // The reels are unchanged between one served connection and the next. For each connection, the
+    // requests and their replies form a sequence of serve steps: the protocol allows each reply and
+    // each effect. No clause says which bytes pass over a connection.
     ensures turns { ServedInTurn server.old server.new }
-    // `serve_connections` ends in three cases: all connections have come (`left`), the listener can
-    // never accept again (`broken`), or the allowed number of failed accepts is used up (`tries`).
-    // Only an accept changes `left`, `broken` and `tries`, and a failed accept lowers `tries` by
-    // one. Private clauses promise this of each accept. The crate `thread_tests` tests that each
-    // accept keeps this promise.
+    // When `serve_connections` returns, one of three cases holds. First case: all allowed
+    // connections have come (`left` is 0). Second case: the listener can never accept again
+    // (`broken` is the listener's error). Third case: the allowed number of failed accepts is used
+    // up (`tries` is 0). Only an accept changes `left`, `broken` and `tries`, and a failed accept
+    // lowers `tries` by one. Clauses of private calls promise how an accept changes these three
+    // fields. The crate `thread_tests` tests that each accept keeps the promises of these clauses.
     ensures over { AreOver result.left result.tries result.broken }
 {
     let mut connections = connections;

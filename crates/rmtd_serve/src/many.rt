@@ -109,8 +109,8 @@ where
     (incoming, idle_workers.into_inner().into_seats())
 }
 
-/// Serves each pair of streams in its own session and its own thread, at most `SEAT_LIMIT` pairs in
-/// parallel.
+/// Serves each pair of streams in its own session and its own thread, at most 32 (`SEAT_LIMIT`)
+/// pairs in parallel.
 ///
 /// It returns after the last pair has come and each thread has ended. It returns the source of the
 /// pairs, and the seats in any order. Each seat belongs to the table, and holds no drive. A seat
@@ -139,12 +139,12 @@ where
     S::Reel: Send,
     requires seats { (length seats.items ≡ SEAT_LIMIT) × All (λ s. IsSeatAt table.now s × HoldsJust s.view None) seats.items }
     requires stacks { (length stacks.items ≡ SEAT_LIMIT) × All (λ s. S.drives s ≤ table.now.words) stacks.items }
-    // `serve_many` serves pairs of streams in threads, and its use of threads is proved safe. The
-    // caller must pass 32 seats of one table, and stacks for each seat. The seats must hold no
-    // drive, and the stacks of a seat must have no more drives than the table. `serve_many` returns
-    // only after the last pair of streams has come.
+    // `serve_many` serves pairs of streams in threads, and this use of threads is proved safe. The
+    // caller must pass 32 seats of one table, and stacks for each seat. No passed seat may hold a
+    // drive. The stacks for a seat may have at most as many drives as the table has. `serve_many`
+    // returns only after the last pair of streams has come.
     ensures over { I.is_over result.0 }
-    // Each seat that `serve_many` returns belongs to the table and holds no drive.
+    // Each seat that `serve_many` returns belongs to the given table, and holds no drive.
     ensures seats { All (λ s. IsSeatAt table.now s × HoldsJust s.view None) result.1.items }
 {
     serve_at_table::<R, I, S, Brand>(rt, alloc, incoming, table, seats, stacks)

@@ -42,8 +42,8 @@ impl Model for MemoryServer {
 }
 
 impl MemoryServer {
-    /// Makes a server with one drive and one empty reel, which is named `reel` and has room for
-    /// `capacity` bytes. Fails only if an allocation fails.
+    /// Makes a server with one drive and one empty reel, which has room for `capacity` bytes. The
+    /// reel is named `reel`. Fails only if an allocation fails.
     pub fn new(alloc: Global, capacity: u64) -> Result<MemoryServer, AllocError>
         // The new server has one drive with one empty reel of the given capacity, and an empty bin.
         ensures { IfOk result (λ s. s ≡ (blank_session_view capacity).library) }
@@ -64,9 +64,10 @@ impl MemoryServer {
         input: &mut Counted<R>,
         output: &mut Counted<W>,
     ) -> Result<Served, SessionFault>
-        // Each stream finds the reels as the previous stream left them. The requests that were read
-        // and their replies together are a run of serve steps. In this run no device fails, and no
-        // drive is held by another seat. At the end of the stream, the server closes what is open.
+        // The reels are unchanged between one stream and the next. The requests that were read and
+        // their replies form a sequence of serve steps: the protocol allows each reply and each
+        // effect. In these steps no device fails, and no other seat holds a drive. At the end of
+        // the stream, the server closes the drive that the session has open, if any.
         //
         // If `serve` returns `Ok`, no read or write failed. If `serve` returns the error `Stream`,
         // this error names the stream that failed. If `serve` returns `OutOfMemory` or `NoSeat`,

@@ -68,8 +68,8 @@ pub enum Begun<R: FolderSystem + Eprint> {
     Serve(Listener, ListenerSetup<R>),
 }
 
-/// Reads the program's arguments and does what they ask, up to the point where connections are
-/// served in parallel.
+/// Reads the program's arguments and does what they ask, but leaves it to the caller to serve
+/// connections in parallel.
 ///
 /// If the arguments cannot be read, or if an allocation fails at the start, it prints that on
 /// standard error and the status is `Failed`. With `--stdio` the start lasts until the first
@@ -80,11 +80,11 @@ pub fn start<R: ServerSystem, I: Read, O: Write>(
     output: &mut Counted<O>,
 ) -> io::Result<Begun<R>>
     // Either `start` does what `begin` promises for some list of arguments, or `start` returns
-    // `Failed` and touches neither stream. No clause says that this list is the program's
-    // arguments.
+    // `Failed` and touches neither of the given streams. No clause says that the program was
+    // started with these arguments.
     ensures started { IfOk result (IsStarted (streams_kind I.remaining O.contents)
         (streams input.old output.old) (streams input.new output.new)) }
-    // If `start` returns an error, neither stream was touched.
+    // If `start` returns an error, neither of the given streams was touched.
     ensures failed { OnErr result (AreUntouched (streams input.old output.old) (streams input.new output.new)) }
 {
     match run_process(rt, input, output) {
@@ -143,9 +143,9 @@ fn lent(alloc: Global, arguments: &[String]) -> Result<Vec<&str>, AllocError> {
     Ok(lent)
 }
 
-/// Does what the arguments of `rmtd` ask, up to the point where connections are served in parallel.
-/// The first argument is the name of the program. The standard streams are `input` and `output`;
-/// messages are printed on those of the system.
+/// Does what the arguments of `rmtd` ask, but leaves it to the caller to serve connections in
+/// parallel. The first argument is the name of the program. The standard streams are `input` and
+/// `output`; messages are printed on those of the system.
 ///
 /// - With `--stdio` it serves the streams. The status says how they ended (`ExitStatus::of`).
 /// - With `--listen` and a drive in memory it serves connections one after the other. The status is
@@ -169,28 +169,28 @@ pub fn begin<R: ServerSystem, I: Read, O: Write>(
     input: &mut Counted<I>,
     output: &mut Counted<O>,
 ) -> io::Result<Begun<R>>
-    // If the arguments ask for standard input and output with a drive in memory, `begin` serves
-    // these streams as `run_stdio` promises. `begin` returns the status that `run_stdio` promises.
+    // With `--stdio` and a drive in memory, `begin` serves the given streams as `run_stdio`
+    // promises. `begin` returns the exit status that `run_stdio` promises.
     //
-    // If the arguments ask for standard input and output with drives in folders, `begin` serves
-    // these streams. `begin` answers each request that it read, once and in order, until the stream
-    // ends. `begin` returns the status that `ExitStatus::of` gives for this ending. No clause says
+    // With `--stdio` and drives in folders, `begin` serves the given streams. Until the stream
+    // ends, `begin` answers the requests that it has read: each exactly once, in order. `begin`
+    // returns the status that `ExitStatus::of` returns for this end of the stream. No clause says
     // which replies `begin` writes.
     //
-    // If the arguments ask for `--listen` with a drive in memory, `begin` returns `Ended` or
-    // `Failed`, and neither stream is touched. No clause says that connections were served.
+    // With `--listen` and a drive in memory, `begin` returns `Ended` or `Failed`, and touches
+    // neither stream. No clause says that connections were served.
     //
-    // If the arguments ask for `--listen` with drives in folders, `begin` returns the setup of the
-    // listener. The setup has the drives, the number of connections and the limit for idle
-    // connections that the arguments name. Neither stream is touched.
+    // With `--listen` and drives in folders, `begin` returns the setup of the listener
+    // (`ListenerSetup`). The setup has the drives, the number of connections and the limit for idle
+    // connections that the arguments name. `begin` touches neither stream.
     //
     // If the server cannot start, or the arguments are wrong, `begin` returns `Failed`. If the
-    // argument parser (clap) prints the help or the version, `begin` returns `Ended`. In all these
-    // cases neither stream is touched.
+    // argument parser (clap) prints the help or the version, `begin` returns `Ended`. In each of
+    // these cases `begin` touches neither stream.
     ensures begun { IfOk result
         (IsBegun (streams_kind I.remaining O.contents) (map (λ s. s.now) arguments.now)
         (streams input.old output.old) (streams input.new output.new)) }
-    // If `begin` returns an error, neither stream was touched.
+    // If `begin` returns an error, neither of the given streams was touched.
     ensures failed { OnErr result (AreUntouched (streams input.old output.old) (streams input.new output.new)) }
 {
     reserve_std_fds(rt);

@@ -20,12 +20,12 @@ pub enum ExitStatus {
 }
 
 impl ExitStatus {
-    /// Returns the exit status of `rmtd --stdio` for this ending of the stream.
+    /// Returns the exit status of `rmtd --stdio` for the given end of a stream.
     pub fn of(ending: Result<Served, SessionFault>) -> ExitStatus
         // The exit status is `Ended` if the stream ended between two requests, and `CutOff` if the
-        // stream ended inside a request. The exit status is `Malformed` if the bytes that arrived
-        // are not a request. The exit status is `Failed` if a read or a write failed, or if the
-        // server could not start.
+        // stream ended inside a request. The exit status is `Malformed` if bytes arrived that are
+        // not a request. The exit status is `Failed` if a read or a write failed, or if the server
+        // could not start.
         ensures { result ≡ exit_status ending }
     {
         match ending {

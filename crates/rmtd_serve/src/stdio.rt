@@ -20,11 +20,11 @@ pub fn run_stdio<R: Read, W: Write>(
     output: &mut Counted<W>,
     capacity: u64,
 ) -> u8
-    // The requests that were read from the input and the replies on the output together are a run
-    // of serve steps. The run starts with one empty reel. In this run no device fails, and no drive
-    // is held by another seat. `run_stdio` returns, as a number, the exit status that
-    // `ExitStatus::of` gives for the end of the stream. If the server could not start, neither
-    // stream was touched.
+    // The requests that were read from `input` and the replies on `output` form a sequence of serve
+    // steps: the protocol allows each reply and each effect. The first step starts with one empty
+    // reel. In these steps no device fails, and no other seat holds a drive. `run_stdio` returns
+    // the number of the exit status that `ExitStatus::of` returns for the end of the stream. If the
+    // server could not start, neither stream was touched.
     ensures { IsStdio (streams_kind R.remaining W.contents) capacity (streams input.old output.old) (streams input.new output.new) result }
 {
     ExitStatus::of(serve_alone(alloc, input, output, capacity)).code()

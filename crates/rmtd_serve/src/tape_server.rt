@@ -38,14 +38,14 @@ impl<S: Stacks + Drop> Model for TapeServer<S> {
 }
 
 impl<S: Stacks + Drop> TapeServer<S> {
-    /// Makes a server with these stacks. `drives` is the number of drives, 1 to `DRIVE_LIMIT`.
+    /// Makes a server with the given stacks. `drives` is the number of drives, 1 to `DRIVE_LIMIT`.
     /// Fails only if an allocation fails.
     pub fn new(alloc: Global, drives: usize, stacks: S) -> Result<TapeServer<S>, AllocError>
         requires some { 1 ≤ drives }
         requires few { drives ≤ DRIVE_LIMIT }
         requires enough { S.drives stacks ≤ drives }
         // The new server has the given stacks, unchanged. The invariant of `TapeServer` says that
-        // at the start, and between two streams, no session holds a drive of the server.
+        // no session holds a drive of the server at the start or between two streams.
         ensures { IfOk result (λ s. s ≡ stacks) }
     {
         let holds = LocalHolds::new(alloc, drives)?;
@@ -64,15 +64,16 @@ impl<S: Stacks + Drop> TapeServer<S> {
         input: &mut Counted<R>,
         output: &mut Counted<W>,
     ) -> Result<Served, SessionFault>
-        // Each stream is served in a new session. The session has nothing open before the stream
-        // and after it. Every drive is free when the session begins. So, if the contract of the
-        // stacks gives their content, no open finds a drive busy. `TapeServer::serve` keeps the
-        // promises of `rmt_server`'s `serve` for the stream. If the input or the output failed,
-        // `TapeServer::serve` returns `Stream` with the fault that `rmt_server`'s `serve` returned.
+        // Each stream is served in a new session. The session has no drive open before and after
+        // the stream. Every drive is free when the session begins. Suppose that the contract of the
+        // stacks says what the stacks contain. Then no request to open a drive finds the drive
+        // busy. `TapeServer::serve` keeps the promises of the call `serve` of `rmt_server` for the
+        // stream. If the input or the output failed, `TapeServer::serve` returns `Stream` with the
+        // fault that `serve` of `rmt_server` returned.
         //
         // `TapeServer::serve` returns `OutOfMemory` if an allocation failed before the first
-        // request was read. `TapeServer::serve` returns `NoSeat` if no number was left for a
-        // session. In both cases neither the stacks nor a stream is touched.
+        // request was read. `TapeServer::serve` returns `NoSeat` if no number is left for the seat
+        // of a new session. In both cases the stacks and both streams are untouched.
         ensures { IsServedAt (kinds of_holds S.Stacks S.Reel.Reel) (streams_kind R.remaining W.contents) self.old self.new
             (streams input.old output.old) (streams input.new output.new) result }
     {

@@ -1,14 +1,14 @@
-//! Runs schedules, which say what happens between a dump client, a tape server and strangers.
+//! Runs schedules: texts that list, line by line, what happens to a dump client and a tape server.
 //!
 //! `schedule` runs one in a world of its own and prints a report. `rsim` is the whole program, from
 //! its arguments to its exit status.
 //!
 //! # Contracts
 //!
-//! A *schedule* is a text with one command in each line. Most commands make one event happen in the
-//! world. The world has a dump client, a tape server and *strangers*: any other programs that
-//! connect to the server. The clauses below do not say which event a line makes, or at which line a
-//! schedule ends early. Tests check both.
+//! A *schedule* is a text with one command in each line. A schedule runs in a *world*: a dump
+//! client and a tape server in memory, and *strangers*, which are other programs that connect to
+//! the server. Most commands cause one event in the world. No clause says which event a command
+//! causes, or at which line a schedule ends early. Tests check both.
 #![tactic(auto)]
 
 mod arguments;

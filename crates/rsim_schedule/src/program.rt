@@ -12,8 +12,8 @@ use std::io::Write;
 use std::rt::Files;
 use std::{fs, io};
 
-/// Runs the program `rsim`: runs the schedule in the file that the arguments name. The call prints
-/// on `out` as `schedule` does. The first argument is the name of the program itself.
+/// Runs the program `rsim`, which runs the schedule in the file that the arguments name. The call
+/// prints on `out` as `schedule` does. The first argument is the name of the program itself.
 ///
 /// Returns the exit status of the schedule. If the arguments are wrong or the file cannot be read,
 /// it prints one line on standard error and returns `StartupError`. It does the same if parsing the
@@ -27,10 +27,10 @@ pub fn rsim<R: Files + Print + Eprint + AllocGlobal, W: Write>(
     arguments: &[String],
     out: &mut Counted<W>,
 ) -> io::Result<ExitStatus>
-    // No clause says which argument names the schedule's file, or what the file contains. If the
-    // call runs a schedule, it returns the status that `schedule` returns, and keeps the promises
-    // of `schedule`. If the call runs no schedule, it prints nothing on `out`, and the status is
-    // `Success` or `StartupError`.
+    // If the call runs a schedule, the call keeps the promises of `schedule`, and returns the
+    // status that `schedule` returns. If the call runs no schedule, it prints nothing on `out`, and
+    // returns `Success` or `StartupError`. No clause says which argument names the schedule's file,
+    // or what the file contains.
     ensures ended { IfOk result (λ status. IsRsim W.contents out.old status out.new) }
     // If the call fails, it prints nothing on `out`.
     ensures failed { OnErr result (out.new ≡ out.old) }

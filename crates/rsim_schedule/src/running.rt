@@ -28,24 +28,27 @@ use tape_world::World;
 /// Returns the exit status of `rsim`: `Success` if all lines were run, `StartupError` if a line is
 /// faulty, and `Abnormal` if an allocation or a write failed.
 pub fn schedule<W: Write>(alloc: Global, text: &[u8], out: &mut Counted<W>) -> ExitStatus
-    // The call has three outcomes. In the first outcome, all events are made. The call prints one
-    // line for each attempt that failed, then the report of the resulting world, and returns
-    // `Success`. There is a list of events that gives exactly these lines and this report. The
-    // events happen in a new world, and `good_drives` accepts the drives of this world. The report
-    // lists the reels with the lengths of their entries, the stacks, the bin, the counts, and
-    // dumpdates.
+    // The call has three outcomes. In the first outcome, the call returns `Success`. The call
+    // prints one line for each failed attempt to write a volume, and then a report of the world.
+    // There is a list of events that, in a new world, produces exactly these lines and this report.
+    // The function `good_drives` in `tape_world` returns true for the drives of the new world. So
+    // there are 1 to 64 drives, no two drives have the same name, and no two reels have the same
+    // name. For each reel, the report has one line, which lists the reel's marks and the lengths of
+    // its records. Further lines contain the stacks, the bin, the counted volumes, and the text of
+    // the dumpdates file.
     //
     // In the second outcome, the schedule ends early. The call first prints one line for each
-    // attempt that failed. There is a list of events that gives exactly these lines. The call then
-    // prints the reason, with the number of the line at which the schedule ended. The status is
-    // `StartupError` for a bad line or an event that is not possible. The status is `Abnormal` if
-    // an allocation fails.
+    // attempt that failed. There is a list of events that, in a new world, produces exactly these
+    // lines. The call then prints why the schedule ended early, with the number of the schedule's
+    // line at which it ended. The call returns `StartupError` if this line is bad, or if the event
+    // in this line is not possible. The call returns `Abnormal` if an allocation fails.
     //
-    // A private call prints why a schedule ended. It prints different words for each reason.
+    // The private call `print_halt` prints why a schedule ended early. Each reason has a text of
+    // its own.
     //
-    // In the third outcome, a write of the output fails. The call then prints nothing more. The
-    // text that was printed so far is a beginning of the text of the first or the second outcome.
-    // The status is `Abnormal`.
+    // In the third outcome, a write on `out` fails, and the call returns `Abnormal`. The call
+    // prints nothing after the failed write. The printed text is a beginning of a text that the
+    // call could print in the first or the second outcome.
     ensures { IsScheduled W.contents out.old result out.new }
 {
     let mut lines = ScheduleLines::new(text);

@@ -5,9 +5,10 @@
 //!
 //! # Contracts
 //!
-//! A socket has no contents that a contract describes. So the clauses of this crate say only what
-//! the traits `Read` and `Write` say: no call reads or writes more bytes than it was given room or
-//! bytes for. What the calls do at the system is tested from outside.
+//! No contract describes the contents of a socket. So the clauses of this crate say only what the
+//! traits `Read` and `Write` promise: no read returns more bytes than fit into the buffer, and no
+//! write accepts more bytes than it was given. Tests run the programs, and check what the calls do
+//! to the system's sockets.
 #![tactic(auto)]
 
 mod listener;

@@ -49,7 +49,7 @@ impl Display for Caller {
 }
 
 impl Listener {
-    /// Makes a listener at this address: a host and a port, or `unix:` and a path.
+    /// Makes a listener at the given address, which is a host and a port, or `unix:` and a path.
     ///
     /// At a path, the system makes a socket file. Its mode is 0777 without the bits of the umask.
     /// The file stays when the listener is dropped. If another server left its socket file at the
@@ -73,7 +73,7 @@ impl Listener {
         }
     }
 
-    /// Accepts the next connection, and returns it with its far end. It waits for a connection.
+    /// Waits for the next connection, and returns the connection and its far end, the `Caller`.
     /// Fails with the system's error.
     pub fn accept(&self) -> io::Result<(Stream<TcpStream>, Caller)> {
         match self {
@@ -89,8 +89,8 @@ impl Listener {
         }
     }
 
-    /// Returns the host and the port of the listener, or None if it listens at a path. Fails with
-    /// the system's error.
+    /// Returns the host and the port of the listener, or `None` if the listener is at a path. Fails
+    /// with the system's error.
     pub fn local_addr(&self) -> io::Result<Option<SocketAddr>> {
         match self {
             Listener::Tcp(listener) => Ok(Some(listener.local_addr()?)),
@@ -99,8 +99,8 @@ impl Listener {
     }
 }
 
-/// Makes a listener at this path. It replaces a socket file at which nobody listens. It has the lock
-/// of the folder meanwhile, so no other start takes the new file for one that was left.
+/// Makes a listener at this path. It replaces a socket file at which nobody listens. It has the
+/// lock of the folder meanwhile, so no other start takes the new file for one that was left.
 fn bind_path<R: Files<File = File> + Net + Clock>(rt: &R, path: &str) -> io::Result<UnixListener> {
     let _folder = locked_folder(rt, path)?;
     match UnixListener::bind(rt, path) {

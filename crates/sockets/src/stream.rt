@@ -19,8 +19,8 @@ pub enum Stream<S> {
     Unix(UnixStream),
 }
 
-/// Connects to the server at this address: a host and a port, or `unix:` and a path. The connection
-/// is made ready with `wait`.
+/// Connects to the server at the given address, which is a host and a port, or `unix:` and a path.
+/// The connection is made ready with `wait`.
 ///
 /// `wait` also limits how long each address of a host may take to answer; None is no limit. It does
 /// not limit the search for the addresses of a host, or the connection to a Unix socket.
@@ -65,8 +65,8 @@ fn connect_within<R: Net>(net: &R, address: &str, wait: Duration) -> io::Result<
 }
 
 impl<S: OpenStream> Stream<S> {
-    /// Has the connection send its bytes without delay (TCP_NODELAY), and limits each read and each
-    /// write to this time without progress. None sets no limit.
+    /// Sets `wait` as the timeout of each read and each write, and sets TCP_NODELAY if the
+    /// connection is over TCP. None sets no limit.
     ///
     /// The limit holds for each handle of the connection. Fails with the system's error, and if
     /// `wait` is no time at all.

@@ -27,16 +27,16 @@ const WORDS: [&[u8]; 8] = [
 /// The end of a line, without its line feed.
 const LAST_WORD: &[u8] = b" bytes";
 
-/// Whether these bytes have the form of what an interrupted run leaves in place of a whole sums
-/// file. The bytes may be empty, or whole lines as `push_sum_line` writes them, and perhaps a
-/// beginning of one more.
+/// Returns whether the bytes have the form of a sums file that an interrupted run did not finish.
+/// The bytes may be empty, or whole lines as `push_sum_line` writes them, and perhaps a beginning
+/// of one more.
 ///
 /// Fails only if an allocation fails.
 pub fn is_left_sums(alloc: Global, bytes: &[u8]) -> Result<bool, AllocError>
-    // If the call returns true, the bytes are the text of some good lines, followed by a rest. The
-    // rest can be empty. It consists of spaces and printable ASCII, without a line feed. Tests show
-    // that the rest has the form of the beginning of a line. Tests also show that the call returns true for each beginning of a text
-    // of lines. Test: `what_is_left_of_sums` in `dump_tests`.
+    // If the call returns true, the bytes are the text of good lines (perhaps none) and then a
+    // rest. The rest consists of spaces and printable ASCII, and can be empty. Tests show that the
+    // rest has the form of a prefix of a line. Tests also show that the call returns true for each
+    // prefix of a sums file. Test: `what_is_left_of_sums` in `dump_tests`.
     ensures { IfOk result (λ is_left. IsTrue is_left → IsLeftSums bytes.now) }
 {
     let (lines, rest) = bytes.split_at(lines_len(bytes));

@@ -1,5 +1,5 @@
-//! The lines of a sums file: the SHA-256 of each counted volume's record file, with the label and
-//! the size of the volume.
+//! The lines of a sums file: one line for each counted volume, with the SHA-256 of the volume's
+//! record file, the volume's label and its size.
 //!
 //! `SumLine` is one line. `push_sum_line` appends its text, and `push_volume` appends the part of
 //! it that describes the volume. `Sums` has the lines of a file: `Sums::read` reads them, and
@@ -8,9 +8,10 @@
 //!
 //! # Contracts
 //!
-//! A *good line* has a sum of 32 bytes, and a label and numbers within the limits of a volume. The
-//! text of a line ends with a line feed. A sums file is the text of good lines, one after the
-//! other. It may be empty.
+//! The *record file* of a volume contains the label, the blocks and one mark. A length of 4 bytes
+//! precedes and follows the label and each block. The mark takes 4 bytes. A *good line* has a sum
+//! of 32 bytes, and a label and numbers that are within their limits. The text of a line ends with
+//! a line feed. A sums file is the text of good lines, one after the other. The file may be empty.
 #![tactic(auto)]
 
 mod fault;

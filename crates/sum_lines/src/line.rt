@@ -35,14 +35,15 @@ impl Model for SumLine {
 }
 
 impl SumLine {
-    /// Makes a line of these parts. Returns None if a number breaks its limit.
+    /// Makes a line with the given values. Returns None if a number breaks its limit.
     ///
     /// There are at most `BLOCKS_LIMIT` blocks. If there are blocks, each has 1 to `RECORD_LIMIT`
     /// bytes. If there are none, their size is 0.
     pub fn new(sum: [u8; 32], label: VolumeLabel, blocks: u32, block_bytes: u32) -> Option<SumLine>
-        // Returns the line with the given parts.
+        // If the call returns a line, the line has the given values.
         ensures made { IfSome result (λ l. l ≡ plain_sum_line sum label blocks block_bytes) }
-        // Returns a line exactly if the number and the size of the blocks are within their limits.
+        // The call returns a line if and only if the number and the size of the blocks are within
+        // their limits.
         ensures limits { IsSome result ↔ IsSumLine (plain_sum_line sum label blocks block_bytes) }
     {
         if blocks > BLOCKS_LIMIT || !is_size_of(blocks, block_bytes) {
@@ -66,7 +67,7 @@ impl SumLine {
 
     /// Returns the label of the volume.
     pub fn label(&self) -> &VolumeLabel
-        // Returns the label in the line. The types allow only this body, so there is no edit.
+        // Returns the label in the line. The types allow no other body, so no wrong body is tried.
         ensures { result.now ≡ self.now.label }
     {
         &self.label
@@ -74,7 +75,7 @@ impl SumLine {
 
     /// Returns the number of blocks of the volume, at most `BLOCKS_LIMIT`.
     pub fn blocks(&self) -> u32
-        // Returns the number of blocks in the line, 2147483647 at most.
+        // Returns the number of blocks in the line, at most 2147483647.
         ensures told { result ≡ self.now.blocks }
         ensures limit { self.now.blocks ≤ blocks_limit }
     {
@@ -93,7 +94,8 @@ impl SumLine {
 
     /// Returns the size of the volume's record file in bytes.
     pub fn bytes(&self) -> u64
-        // Returns the size of the record file of a volume with these blocks, in bytes.
+        // Returns the size of the volume's record file in bytes, computed from the number and the
+        // size of the blocks.
         ensures { result ≡ file_bytes self.now.blocks self.now.block_bytes }
     {
         FRAME_BYTES + u64::from(self.blocks) * (u64::from(self.block_bytes) + LENGTHS)

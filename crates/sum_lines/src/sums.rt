@@ -33,15 +33,16 @@ impl Sums {
     ///
     /// Errors:
     /// - `BadLine(n)`: line `n` is the first that does not have its form or breaks a limit. The
-    ///   limits are those of `VolumeLabel::new` and `SumLine::new`. A line is also bad if it does not
-    ///   end with a line feed, or if its last number is not the size of the volume's record file.
+    ///   limits are those of `VolumeLabel::new` and `SumLine::new`. A line is also bad if it does
+    /// not   end with a line feed, or if its last number is not the size of the volume's record
+    /// file.
     /// - `OutOfMemory`: an allocation fails.
     pub fn read(alloc: Global, bytes: &[u8]) -> Result<Sums, SumsFault>
-        // Returns the lines of a sums file. Each line is within its limits. The given bytes are
-        // exactly the text of these lines.
+        // Returns the lines of a sums file. The values of each line are within their limits. The
+        // given bytes are exactly the text of these lines.
         ensures spelled { IfOk result (SpellsSums bytes.now) }
-        // `BadLine` has the number of the first bad line. The only other error is `OutOfMemory`. No
-        // clause says when the call returns `OutOfMemory`.
+        // `BadLine` contains the number of the first bad line. The only other error is
+        // `OutOfMemory`. No clause says when the call returns `OutOfMemory`.
         ensures refused { IfErr result (HasSumsFault bytes.now) }
     {
         let mut lines = Vec::new(alloc);
@@ -61,16 +62,16 @@ impl Sums {
 
     /// Returns the lines, in the order of the file.
     pub fn lines(&self) -> &[SumLine]
-        // Returns the lines. Each is within its limits.
+        // Returns the lines. The values of each line are within their limits.
         ensures told { result.now ≡ self.now }
         ensures limits { All IsSumLine self.now }
     {
         &self.lines
     }
 
-    /// Whether one of the lines is `line`: it has the same sum, label and numbers.
+    /// Returns whether the file has a line with the same sum, label and numbers as `line`.
     pub fn has(&self, line: &SumLine) -> bool
-        // Returns true exactly if the line is one of the lines.
+        // Returns true if and only if the given line equals one of the file's lines.
         ensures { IsTrue result ↔ Contains self.now line.now }
     {
         self.lines.iter().any(|own| own.is_same(line))
@@ -79,9 +80,9 @@ impl Sums {
     /// Compares the sum of a volume with the lines that have the volume's label. Two labels are the
     /// same if all six parts are.
     pub fn compare(&self, label: &VolumeLabel, sum: &[u8; 32]) -> SumVerdict
-        // Returns `Equal` if some line has the label and the sum. Returns `Differs` if some line has
-        // the label, but no line has the label and the sum. Returns `Unknown` if no line has the
-        // label.
+        // Returns `Equal` if some line has both the given label and the given sum. Returns
+        // `Differs` if some line has the label, but no line has both the label and the sum. Returns
+        // `Unknown` if no line has the label.
         ensures { IsVerdict self.now label.now sum.now result }
     {
         if knows_sum(&self.lines, label, sum) {

@@ -13,8 +13,8 @@ use std::alloc::AllocError;
 /// The length of a sum in hexadecimal digits.
 pub(crate) const SUM_DIGITS: usize = 64;
 
-/// Appends what a list of reels prints of a volume: the fields of its label, and the number and the
-/// size of its blocks.
+/// Appends the text that describes a volume in a list of reels: the fields of the label, and the
+/// number and the size of the blocks.
 ///
 /// Fails if an allocation fails. Part of the text may have been appended then.
 pub fn push_volume(
@@ -24,7 +24,7 @@ pub fn push_volume(
     block_bytes: u64,
 ) -> Result<(), AllocError>
     // Appends the name, the level, both dates, the volume's number, its first block, the number of
-    // blocks and the size of a block. If the call fails, no clause says what the text is.
+    // blocks and the size of a block. If the call fails, no clause says what `text` contains.
     ensures { OnOk result (text.new.items ≡ text.old.items ++ volume_text label.now blocks block_bytes) }
 {
     text.extend_from_slice(label.name().as_bytes())?;
@@ -39,12 +39,12 @@ pub fn push_volume(
     Ok(())
 }
 
-/// Appends the text of a line, with its line feed: the sum in lower hexadecimal digits, two spaces,
-/// the volume as `push_volume` appends it, and the size of the record file.
+/// Appends the text of a line: the sum in lower-case hexadecimal, two spaces, the volume (see
+/// `push_volume`), the size of the record file, and a line feed.
 ///
 /// Fails if an allocation fails. Part of the text may have been appended then.
 pub fn push_sum_line(text: &mut Vec<u8>, line: &SumLine) -> Result<(), AllocError>
-    // Appends the text of the line. If the call fails, no clause says what the text is.
+    // Appends the text of the line. If the call fails, no clause says what `text` contains.
     ensures { OnOk result (text.new.items ≡ text.old.items ++ sum_line line.now) }
 {
     push_hex(text, line.sum())?;

@@ -56,7 +56,7 @@ impl Model for Host {
 }
 
 impl Host {
-    /// Makes a server with these drives and no connection. `drives` is how many drives `stacks`
+    /// Makes a server with the given drives and no connection. `drives` is how many drives `stacks`
     /// has, from 1 to `drives::DRIVE_LIMIT`. No trouble may be set in `stacks`, and no reel may be
     /// latched.
     ///
@@ -89,7 +89,7 @@ impl Host {
     /// see has changed then.
     pub fn prepare(&mut self) -> Result<(), AllocError>
         // Prepares the server's side of the next connection, and allocates all the memory that this
-        // side needs. If the call fails, nothing changes.
+        // side needs. If `prepare` fails, nothing changes that a contract can see.
         ensures { MatchResult result (λ _. self.new ≡ hosted self.old.server true) (λ _. self.new ≡ self.old) }
     {
         self.reserve_seat();
@@ -122,8 +122,8 @@ impl Host {
     /// Admits the next connection, for which `prepare` made the server's side.
     pub fn admit(&mut self)
         requires { self.old.ready ≡ true }
-        // Admits the next connection: its server's side becomes live. The new session has nothing
-        // open, and no bytes wait to be read.
+        // `admit` makes the server's side of the next connection live. The connection's session has
+        // nothing open, and the connection's reader holds no bytes.
         ensures { self.new ≡ hosted (joined self.old.server) false }
     {
         if let Next::Whole(side) = mem::replace(&mut self.next, Next::Nothing) {
@@ -131,12 +131,12 @@ impl Host {
         }
     }
 
-    /// Returns the number of the connection that has this drive open, or 0 if no connection has the
-    /// drive open. Drives are numbered from 0.
+    /// Returns the number of the connection that has the given drive open, or 0 if no connection
+    /// has the drive open. Drives are numbered from 0.
     pub fn holder(&self, drive: usize) -> u64
         requires { drive < length self.now.server.holders }
-        // Returns the number of the connection whose session has the drive open, even if the
-        // drive's reel is in the bin. If no session has the drive open, the call returns 0. No two
+        // Returns the number of the connection whose session has the given drive open, even if the
+        // drive's reel is in the bin. If no session has the drive open, `holder` returns 0. No two
         // sessions have the same drive open.
         ensures holder { IsHolder self.now.server drive result }
         ensures once { IsHeldOnce self.now.server }
@@ -144,11 +144,11 @@ impl Host {
         self.drives.holds.number_at(drive)
     }
 
-    /// Returns how many bytes `push` can now take for this connection. Returns `None` if the
+    /// Returns how many bytes `push` can now take for the given connection. Returns `None` if the
     /// server's side is not live.
     pub fn room(&self, connection: usize) -> Option<usize>
-        // Returns how many more bytes a connection's reader has room for. If the server's side is
-        // not live, the call returns `None`.
+        // Returns how many more bytes the connection's reader has room for. If the server's side is
+        // not live, `room` returns `None`.
         ensures { HasRoom (side_at self.now.server.sides connection) result }
     {
         let side = find_side(&self.sides, connection)?;
@@ -158,8 +158,9 @@ impl Host {
     /// Takes bytes that a connection sent, and returns how many bytes were taken. Takes as many as
     /// the connection's reader has room for. Returns 0 if the server's side is not live.
     pub fn push(&mut self, connection: usize, bytes: &[u8]) -> usize
-        // Gives as many of the bytes to a connection's reader as the reader has room for. If the
-        // server's side is not live, the call gives no bytes.
+        // The connection's reader takes the given bytes in order, as many as the reader has room
+        // for. `push` returns how many bytes the reader took. If the server's side is not live,
+        // `push` takes no bytes and returns 0.
         ensures { IsPiecePushed self.old connection bytes.now (side_at self.old.server.sides connection) result self.new }
     {
         let Some(mut side) = take_side(&mut self.sides, connection) else {
@@ -187,23 +188,25 @@ impl Host {
         lost: bool,
     ) -> Turn
         requires room { vec_len back.old + READER_LIMIT ≤ vec_capacity back.old }
-        // Carries out one request. The request comes from the bytes that `Host::push` gave to the
-        // reader. If the request makes a device call, the caller of `serve` decides whether and how
-        // that device call fails. The law `troubled_serve` of `rmt_server` gives the reply, and the
-        // drives, the session and the holders after the request.
+        // Carries out one request of the connection. The request comes from the bytes that the
+        // connection's reader took (`Host::push`). If the request makes a device call, the argument
+        // `trouble` decides whether and how this device call fails. The law `troubled_serve` of
+        // `rmt_server` states the reply. The law also states how the request changes the drives,
+        // the session and the holders.
         //
         // Appends the reply to the buffer `back`, which must have spare room for 262,156 bytes. If
-        // the caller asks that the reply be lost, the call appends nothing.
+        // the argument `lost` is true, `serve` appends nothing.
         //
-        // After each call of `Host`, no injected fault (`Trouble`) is set. This is the invariant of
-        // `Host`.
+        // After each call of `Host`, no injected fault (`Trouble`) is set. The invariant of `Host`
+        // says so.
         //
-        // Returns the kind of the request, the kind of the reply, and the number in the reply. If
-        // the request is an open, the call also returns whether the open is for writing.
+        // Returns the kind of the request, the kind of the reply, and the number in the reply if
+        // there is one. If the request is an open, `serve` also returns whether the open is for
+        // writing.
         //
-        // Ends the server's side if the pushed bytes are not a request. If the pushed bytes are
-        // only the beginning of a request, the call does nothing. If the server's side is not live,
-        // the call does nothing.
+        // If the pushed bytes are not a request, `serve` ends the server's side. If the pushed
+        // bytes are only the beginning of a request, `serve` does nothing. If the server's side is
+        // not live, `serve` does nothing.
         ensures { ServesAt trouble lost self.old connection back.old.items result self.new back.new.items }
     {
         let turn = self.turn(connection, trouble, back, lost);
@@ -242,8 +245,9 @@ impl Host {
     /// makes the side no longer live. Does nothing if the side is not live. Connections are
     /// numbered from 1.
     pub fn end(&mut self, connection: usize)
-        // Ends the server's side of a connection. If the side is live, its session closes what it
-        // has open, the session's drive becomes free, and the side is no longer live.
+        // Ends the server's side of a connection. If the server's side is live, the session closes
+        // what it has open, and the session's drive has no holder any more. After the call, the
+        // server's side is not live.
         ensures { self.new ≡ hosted (ended self.old.server connection) self.old.ready }
     {
         one_holder::<ListStacks>();
@@ -264,8 +268,8 @@ impl Host {
         }
     }
 
-    /// Returns the number of the first drive with this name, counted from 0. Returns `None` if no
-    /// drive has this name.
+    /// Returns the number of the first drive with the given name, counted from 0. Returns `None` if
+    /// no drive has this name.
     pub fn drive(&self, name: &[u8]) -> Option<usize>
         // Returns the number of the first drive with the given name, or `None` if no drive has this
         // name.
@@ -277,8 +281,8 @@ impl Host {
     /// Returns the session of a connection, if the server's side is live. The number of the
     /// session's seat is that of the connection.
     pub fn session(&self, connection: usize) -> Option<&Session<LocalHolds, ListStacks>>
-        // Returns the session of a connection whose server's side is live. The session's seat has
-        // the number of the connection.
+        // If the server's side of the connection is live, `session` returns the connection's
+        // session. The seat of the session has the same number as the connection.
         ensures seen { option_map (λ s. session_seen s.opened) (option_copied result)
             ≡ option_map (λ s. s.session) (side_at self.now.server.sides connection) }
         ensures number { IfSome (option_copied result) (λ s. s.seat.number ≡ connection) }
@@ -288,7 +292,7 @@ impl Host {
     }
 
     /// Returns the reels of a drive's stack in order, beginning with the reel that is latched now
-    /// or next. Drives are numbered from 0.
+    /// or will be latched next. Drives are numbered from 0.
     pub fn stack(&self, drive: usize) -> &[ListedReel]
         requires { drive < length self.now.server.library.drives }
         // Returns the reels of a drive's stack.
@@ -305,30 +309,30 @@ impl Host {
         self.drives.stacks.bin()
     }
 
-    /// Returns the reel with this name, on a stack or in the bin. Returns `None` if the reel is
-    /// latched or does not exist.
+    /// Returns the reel with the given name, if this reel is on a stack or in the bin. Returns
+    /// `None` if the reel is latched or does not exist.
     pub fn reel(&self, name: &[u8]) -> Option<&TroubledReel>
-        // Returns the reel with the given name. If the reel is latched, or no reel has this name,
-        // the call returns `None`.
+        // Returns the reel with the given name. If the named reel is latched, or no reel has this
+        // name, `reel` returns `None`.
         ensures { option_map at_rest (option_copied result) ≡ reel_named name.now (slots_in self.now.server.library) }
     {
         self.drives.stacks.reel(name)
     }
 
-    /// Returns whether `arrange` can be called with these names. No reel of the drive may be
-    /// latched, which none is if the drive has no holder. Each name must be that of a reel of its
-    /// stack or of the bin, and none may occur twice. Drives are numbered from 0.
+    /// Returns whether `arrange` can be called with the given names of reels. No reel of the drive
+    /// may be latched, which none is if the drive has no holder. Each name must be that of a reel
+    /// of its stack or of the bin, and none may occur twice. Drives are numbered from 0.
     pub fn can_arrange(&self, drive: usize, names: &[&[u8]]) -> bool
         requires { drive < length self.now.server.library.drives }
-        // Returns whether the named reels can become the drive's stack. If a drive has no holder,
-        // no reel of this drive is latched.
+        // Returns whether the reels with the given names can become the given drive's stack. If the
+        // drive has no holder, no reel of this drive is latched.
         ensures may { result ≡ may_arrange self.now.server.library drive (map (λ n. n.now) names.now) }
         ensures free { IsHolder self.now.server drive 0 → latched_at self.now.server.library drive ≡ None }
     {
         self.drives.stacks.can_arrange(drive, names)
     }
 
-    /// Arranges the reels of a drive that has no holder, as an operator does. The stack becomes the
+    /// Replaces the stack of a drive that has no holder, as an operator does. The stack becomes the
     /// reels of these names, in that order. They leave the bin if they were there. The other reels
     /// of the stack are moved to the end of the bin, in their order. Each reel stays as it is.
     /// `can_arrange` must be true of the names.
@@ -338,8 +342,8 @@ impl Host {
         requires free { IsHolder self.old.server drive 0 }
         requires drive { drive < length self.old.server.library.drives }
         requires may { IsTrue (may_arrange self.old.server.library drive (map (λ n. n.now) names.now)) }
-        // Makes the named reels the whole stack of a drive that has no holder, as an operator does.
-        // The call fails only if an allocation fails.
+        // The reels with the given names become the whole stack of the given drive. `arrange` fails
+        // only if an allocation fails, and then changes nothing.
         ensures arranged { MatchResult result
             (λ _. self.new ≡ hosted (restacked self.old.server drive (map (λ n. n.now) names.now)) self.old.ready)
             (λ _. self.new ≡ self.old) }

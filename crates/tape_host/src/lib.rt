@@ -7,9 +7,12 @@
 //!
 //! # Contracts
 //!
-//! `tape_world` and `rsim` use this crate. `rmtd` does not. The *server's side* is the server's
-//! half of a connection. The server's side is *live* while the connection's session lasts. A reel
-//! is *latched* while a session has the reel open.
+//! The model `tape_world` and the simulator `rsim` use this crate. The server program `rmtd` does
+//! not. The *server's side* is the server's half of a connection: a session and a *reader*. The
+//! reader keeps the bytes that `push` takes until the server carries out the requests in these
+//! bytes. The server's side is *live* while the connection's session lasts. The *holder* of a drive
+//! is the connection whose session has the drive open. A reel is *latched* while a session has the
+//! reel open. The crate `drives` explains seats, stacks and the bin.
 #![tactic(auto)]
 
 mod host;

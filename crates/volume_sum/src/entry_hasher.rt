@@ -21,7 +21,7 @@ pub struct EntryHasher {
 impl EntryHasher {
     /// Makes a hasher that holds no entries.
     pub fn new() -> EntryHasher
-        // The hasher holds no entries.
+        // The new hasher holds no entries.
         ensures { HoldsEntries result [] }
     {
         EntryHasher {
@@ -29,10 +29,10 @@ impl EntryHasher {
         }
     }
 
-    /// Adds a record of these bytes, 1 to 262,144.
+    /// Adds a record with the given bytes, at least 1 and at most 262,144.
     pub fn record(&mut self, bytes: &[u8])
         requires { IsRecord bytes.now }
-        // Adds the record after the entries that the hasher holds.
+        // After the call, the hasher holds the earlier entries and then the record.
         ensures { (entries : List PlainEntry) → HoldsEntries self.old entries →
             HoldsEntries self.new (entries ++ Record bytes.now ∷ []) }
     {
@@ -42,9 +42,9 @@ impl EntryHasher {
         self.hasher.update(&length);
     }
 
-    /// Adds a mark.
+    /// Adds a mark to the hasher.
     pub fn mark(&mut self)
-        // Adds a mark after the entries that the hasher holds.
+        // After the call, the hasher holds the earlier entries and then a mark.
         ensures { (entries : List PlainEntry) → HoldsEntries self.old entries →
             HoldsEntries self.new (entries ++ Mark ∷ []) }
     {
@@ -62,7 +62,8 @@ impl EntryHasher {
 }
 
 impl Clone for EntryHasher {
-    // clone: A copy holds the same entries as the hasher. A copy never fails.
+    // clone: `clone` returns a hasher that holds the same entries as the original. `clone` never
+    // fails.
 
     ghost is_clone = { λ x y. y ≡ x };
 

@@ -9,16 +9,18 @@
 //! # Contracts
 //!
 //! The *entries* of a reel are its records and marks. A *record file* is the file in which the
-//! server keeps a reel. It has the entries in order. A record is written as its length, its bytes
-//! and its length again, and a mark as the length 0. A length has 4 bytes. docs/REELS.md describes
-//! record files.
+//! server keeps a reel. The record file has the reel's entries in order. A record is written as its
+//! length, its bytes and its length again. A mark is written as the length 0. Each length takes 4
+//! bytes. docs/REELS.md describes record files.
 //!
 //! The *sum* of entries is the SHA-256 of the record file that has these entries and nothing else.
-//! A hasher *holds* entries if the bytes that were added to it are those of this file. The sum of a *volume* is the sum
-//! of its label, one record for each of its blocks, and one mark.
+//! A hasher *holds* entries if the bytes that were added to the hasher are the record file of these
+//! entries. The sum of a *volume* is the sum of the volume's entries: its label, one record for
+//! each block, and one mark.
 //!
 //! A *run* is one dump of a file system. A *source* has the blocks that a run dumps. A *count*
-//! records one counted volume: the volume's number, its first block and its number of blocks.
+//! records a volume that was written whole: the volume's number, its first block and its number of
+//! blocks. This volume is the *counted* volume.
 #![tactic(auto)]
 
 mod entry_hasher;

@@ -18,9 +18,9 @@ use tape::{Medium, MediumFailed};
 /// Fails with `MediumFailed` if a call of the medium failed.
 pub fn medium_sum<M: Medium>(medium: &mut M, room: &mut [u8]) -> Result<[u8; 32], MediumFailed>
     requires { 0 < length room.old }
-    // If the medium's contract gives the bytes, the call returns their SHA-256.
+    // If the medium's bytes are known, a successful call returns the SHA-256 of these bytes.
     ensures hashed { (bytes : List ℕ) → M.holds medium.old bytes → IfOk result (λ sum. sum ≡ sha256 bytes) }
-    // If the medium's contract gives the bytes, they stay as they were.
+    // If the medium's bytes are known, the call does not change them.
     ensures same { Steps M.holds medium.old medium.new (λ old new. new ≡ old) }
     // If the call fails, the medium's count of failed calls has risen, or has its greatest value.
     ensures failed { OnErr result (HasRisen (M.failures medium.old) (M.failures medium.new)) }

@@ -32,11 +32,12 @@ impl<B: Blocks> Model for Summed<B> {
 }
 
 impl<B: Blocks> Summed<B> {
-    /// Makes a source of the blocks of `source`, which hashes them if `is_on` is true. Otherwise it
-    /// hashes nothing, and `sum` returns None.
+    /// Makes a source that has the blocks of `source` and, if `is_on` is true, hashes the blocks
+    /// that are read. Otherwise it hashes nothing, and `sum` returns None.
     pub fn new(source: B, is_on: bool) -> Summed<B>
-        // Contracts see only the given source, and no clause says what `is_on` does. Apart from
-        // `is_on`: The types allow only this body, so there is no edit.
+        // Contracts treat the new source as equal to the given source. No clause says what `is_on`
+        // does. The types allow no other body, so no wrong body is tried. The only exceptions are
+        // bodies that use `is_on` in another way: these bodies break no clause.
         ensures { result ≡ source }
     {
         Summed {
@@ -45,17 +46,17 @@ impl<B: Blocks> Summed<B> {
         }
     }
 
-    /// Returns the SHA-256 of the record file that has this counted volume of the run, and nothing
-    /// else. The file has the volume's label, its blocks and one mark.
+    /// Returns the SHA-256 of the record file that contains the given counted volume of the run,
+    /// and nothing else. The file has the volume's label, its blocks and one mark.
     ///
-    /// Returns None if the volume is not the volume that was begun last, if its blocks were not read
-    /// in order, or if more than one block was read after them. Also returns None if the source
-    /// hashes nothing.
+    /// Returns None if the volume is not the volume that was begun last, if its blocks were not
+    /// read in order, or if more than one block was read after them. Also returns None if the
+    /// source hashes nothing.
     pub fn sum(&self, run: &Run, count: VolumeCount) -> Option<[u8; 32]>
-        // Suppose that the source's contract gives the blocks. If the call returns a sum, this is
-        // the sum of the counted volume: its label, its blocks and one mark. No clause says when the
-        // call returns a sum. Tests show that it returns one for each counted volume of a dump. Test:
-        // `tests/sums.py`.
+        // Suppose that the source's blocks are known. Each sum that the call returns is the sum of
+        // the counted volume: of the volume's label, its blocks and one mark. No clause says when
+        // the call returns a sum. Tests show that the call returns a sum for each counted volume of
+        // a dump. Test: `tests/sums.py`.
         ensures { IfSome result (λ sum. (payload : List (List ℕ)) → B.holds self.now payload →
             sum ≡ volume_sum run.now payload count.volume count.first count.count) }
     {
@@ -65,8 +66,9 @@ impl<B: Blocks> Summed<B> {
 }
 
 impl<B: Blocks> Blocks for Summed<B> {
-    // begin_volume, read, failures: `Summed` wraps a source and hashes the blocks that are read.
-    // `Summed` promises everything that the wrapped source promises. No clause says what is hashed.
+    // begin_volume, read, failures: `Summed` wraps a source, and hashes the blocks that are read
+    // from this source. `Summed` promises everything that the wrapped source promises. No clause of
+    // these three calls says what is hashed.
 
     ghost holds = { B.holds };
 

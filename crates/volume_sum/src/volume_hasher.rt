@@ -10,8 +10,8 @@ use crate::EntryHasher;
 use dump_run::LABEL_BYTES;
 use tape::is_record;
 
-/// The hash of a volume: of its label, and of its blocks as far as they were read. A reel may refuse
-/// the last block that was read, so the hash without this block is kept too.
+/// The hash of a volume: of its label, and of its blocks as far as they were read. A reel may
+/// refuse the last block that was read, so the hash without this block is kept too.
 #[derive(Drop)]
 pub(crate) struct VolumeHasher {
     // Whether volumes are hashed.
@@ -60,8 +60,8 @@ impl VolumeHasher {
 
     /// Adds the block of this number, which has these bytes.
     ///
-    /// A block that is not the next one makes the hash unknown until the next volume begins. So does
-    /// a block that cannot be a record.
+    /// A block that is not the next one makes the hash unknown until the next volume begins. So
+    /// does a block that cannot be a record.
     pub(crate) fn add_block(&mut self, number: u32, bytes: &[u8])
         ensures { (payload : List (List ℕ)) → bytes.now ≡ get_or payload number [] →
             AreHashed self.old payload → AreHashed self.new payload }

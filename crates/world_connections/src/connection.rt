@@ -30,7 +30,7 @@ pub struct Connection {
 }
 
 impl Connection {
-    /// Makes a new connection, on which nothing was sent. `dump` is the attempt that made it, or
+    /// Makes a new connection, on which no bytes were sent. `dump` is the attempt that made it, or
     /// None if a stranger made it.
     pub fn new(alloc: Global, dump: Option<AttemptState>) -> Connection
         // Returns a connection with no bytes in transit. The connection is not cut, and the peer is
@@ -100,9 +100,9 @@ impl Connection {
     /// lost.
     pub fn send_request(&mut self, bytes: &[u8])
         requires { self.old.cut ≡ false → length bytes.now ≤ self.old.toward.spare }
-        // Sends a request of the client, and adds 1 to the attempt's number of sent requests. The
-        // bytes of the request are then in transit to the server. If the connection was cut, the
-        // bytes are lost.
+        // Sends a request of the client, and adds 1 to the number of requests that the attempt
+        // sent. The bytes of the request are then in transit to the server. If the connection was
+        // cut, the bytes are lost.
         ensures { plain_connection self.new ≡ sent_connection bytes.now (plain_connection self.old) }
     {
         if let Some(dump) = &mut self.dump {
@@ -115,10 +115,10 @@ impl Connection {
 
     /// Records what the server's side did in one turn. A fault ends the server's side.
     pub fn note_turn(&mut self, turn: Turn)
-        // Records one turn of the server's side. If the server carried out a request, the call adds
-        // 1 to the number of requests that were carried out for the attempt. If the request was a
-        // write, the call also records the reply. If the server found a fault in the bytes, the
-        // server's side ends.
+        // Records one turn of the server's side. If the server carried out a request of an attempt,
+        // the call adds 1 to the number of the attempt's requests that the server has carried out.
+        // If this request was to write a record or marks, the call also records the outcome of the
+        // write. If the server found a fault in the bytes, the server's side ends.
         ensures { plain_connection self.new ≡ noted_turn turn (plain_connection self.old) }
     {
         match turn {
@@ -133,7 +133,7 @@ impl Connection {
     }
 }
 
-/// Returns the connection with this number, if there is one.
+/// Returns the connection with the given number, if there is one.
 pub fn find(connections: &[Connection], connection: usize) -> Option<&Connection>
     // Returns the connection with the given number, counted from 1, or `None` if there is no such
     // connection.
@@ -150,7 +150,7 @@ fn at(connections: &[Connection], place: usize) -> Option<&Connection>
     connections.get(place)
 }
 
-/// Cuts the connection with this number, which must exist.
+/// Cuts the given connection, which must exist.
 pub fn cut(connections: &mut [Connection], connection: usize)
     requires first { 1 ≤ connection }
     requires last { connection ≤ length connections.old }
@@ -160,22 +160,22 @@ pub fn cut(connections: &mut [Connection], connection: usize)
     connections[connection - 1].cut = true;
 }
 
-/// Ends the server's side of the connection with this number, which must exist.
+/// Ends the server's side of the given connection, which must exist.
 pub fn end_here(connections: &mut [Connection], connection: usize)
     requires first { 1 ≤ connection }
     requires last { connection ≤ length connections.old }
-    // Ends the server's side of a connection. The connection is cut, and the bytes in transit to
-    // the server are lost.
+    // Ends the server's side of the given connection. The connection is cut, and the bytes in
+    // transit to the server are lost.
     ensures { map plain_connection connections.new ≡ changed without_server (map plain_connection connections.old) connection }
 {
     connections[connection - 1].end_here();
 }
 
-/// Removes the peer from the connection with this number, which must exist.
+/// Removes the peer from the given connection, which must exist.
 pub fn end_there(connections: &mut [Connection], connection: usize)
     requires first { 1 ≤ connection }
     requires last { connection ≤ length connections.old }
-    // Removes the peer from a connection, as `Connection::end_there` does.
+    // Removes the peer from the given connection, as `Connection::end_there` does.
     ensures { map plain_connection connections.new ≡ changed without_peer (map plain_connection connections.old) connection }
 {
     connections[connection - 1].end_there();
@@ -191,8 +191,7 @@ pub fn end_all_here(connections: &mut [Connection])
     }
 }
 
-/// Sends bytes to the server on the connection with this number, which must exist. After a cut they
-/// are lost.
+/// Sends bytes to the server on the given connection, which must exist. After a cut they are lost.
 ///
 /// Fails if an allocation fails. Nothing has changed then.
 pub fn send(
@@ -211,23 +210,23 @@ pub fn send(
     connections[connection - 1].send(bytes)
 }
 
-/// Removes the first `count` bytes in transit to the server, after these bytes arrived. The
+/// Removes the first `count` bytes in transit to the server, because these bytes have arrived. The
 /// connection with this number must exist.
 pub fn arrive(connections: &mut [Connection], connection: usize, count: usize)
     requires first { 1 ≤ connection }
     requires last { connection ≤ length connections.old }
-    // Removes the given number of bytes from the front of the bytes in transit to the server.
+    // Removes the first `count` bytes in transit to the server on the given connection.
     ensures { map plain_connection connections.new ≡ changed (arrived count) (map plain_connection connections.old) connection }
 {
     connections[connection - 1].toward.pass(count);
 }
 
-/// Removes the first `count` bytes in transit to the peer, after these bytes arrived. The
+/// Removes the first `count` bytes in transit to the peer, because these bytes have arrived. The
 /// connection with this number must exist.
 pub fn deliver_back(connections: &mut [Connection], connection: usize, count: usize)
     requires first { 1 ≤ connection }
     requires last { connection ≤ length connections.old }
-    // Removes the given number of bytes from the front of the bytes in transit to the peer.
+    // Removes the first `count` bytes in transit to the peer on the given connection.
     ensures { map plain_connection connections.new ≡ changed (deliver_back count) (map plain_connection connections.old) connection }
 {
     connections[connection - 1].back.pass(count);

@@ -58,7 +58,7 @@ impl Direction {
     pub fn reserve(&mut self, count: usize) -> Result<(), AllocError>
         // The bytes in transit stay as they are.
         ensures same { self.new.way ≡ self.old.way }
-        // If the call succeeds, the buffer has room for the requested number of further bytes.
+        // If the call succeeds, the buffer has room for `count` more bytes.
         ensures room { OnOk result (count ≤ self.new.spare) }
     {
         if self.start > self.bytes.len() / 2 {
@@ -121,8 +121,8 @@ impl Direction {
         lost: bool,
     ) -> Turn
         requires { READER_LIMIT ≤ self.old.spare }
-        // Lets the server's side take one turn, as `Host::serve` promises. The call appends the
-        // reply to the bytes in transit, unless the caller says that the reply is lost.
+        // Lets the server's side take one turn, with the effect that `Host::serve` promises. The
+        // call appends the reply to the bytes in transit, unless the argument `lost` is true.
         ensures { ServesAt trouble lost host.old connection self.old.way result host.new self.new.way }
     {
         host.serve(connection, trouble, &mut self.bytes, lost)

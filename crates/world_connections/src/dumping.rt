@@ -43,7 +43,7 @@ impl Model for AttemptState {
 }
 
 impl AttemptState {
-    /// Makes an attempt that has done nothing yet, with the given run, volume and first block.
+    /// Makes a new attempt with the given run, volume and first block.
     pub fn new(run: usize, volume: u32, first: u32) -> AttemptState
         // Returns an attempt with the given run, volume and first block. The attempt has done
         // nothing yet.

@@ -6,12 +6,13 @@
 //!
 //! # Contracts
 //!
-//! The crate models a connection between the server and a *peer*, which is the client or a
-//! stranger. Bytes that were sent and have not arrived are *in transit*. A `Direction` contains the
-//! bytes in transit in one direction of a connection. After a connection is *cut*, all bytes that
-//! are sent on it are lost. The server's half of a connection is the *server's side*. In one
-//! *turn*, the server's side carries out at most one request, or finds a fault in the bytes that
-//! arrived. `rsim` uses this crate through `tape_world`. `rmtd` and `rdump` do not use it.
+//! The crate models a connection between the server and a *peer*. A peer is the client or a
+//! *stranger*, which is any other program. Bytes that were sent and have not arrived are *in
+//! transit*. A `Direction` contains the bytes in transit in one direction of a connection. After a
+//! connection is *cut*, bytes that are sent on this connection are lost. The server's half of a
+//! connection is the *server's side*. In one *turn*, the server's side carries out at most one
+//! request, or finds a fault in the bytes that arrived. `rsim` uses this crate through
+//! `tape_world`. `rmtd` and `rdump` do not use this crate.
 #![tactic(auto)]
 
 mod connection;

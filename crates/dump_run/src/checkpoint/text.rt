@@ -63,7 +63,7 @@ pub fn push_checkpoint(
     counts: &[VolumeCount],
     out: &mut Vec<u8>,
 ) -> Result<(), AllocError>
-    // Appends the text of the run and its counts. If the call fails, it appends nothing.
+    // Appends the text of the run and the counts. If the call fails, it appends nothing.
     ensures appended { OnOk result (out.new.items ≡ out.old.items ++ checkpoint_text run.now counts.now) }
     ensures unchanged { OnErr result (out.new.items ≡ out.old.items) }
 {

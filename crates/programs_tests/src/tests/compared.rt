@@ -120,7 +120,8 @@ fn reel(alloc: Global, more: &[u8]) -> Result<Vec<u8>, AllocError> {
     Ok(bytes)
 }
 
-/// Compares the record file of the volume and `more` with a sums file. Returns None if a call fails.
+/// Compares the record file of the volume and `more` with a sums file. Returns None if a call
+/// fails.
 fn verdict(
     alloc: Global,
     text: &[u8],

@@ -57,7 +57,8 @@ fn is_restored(alloc: Global, reversed: bool) -> Result<bool, AllocError> {
     Ok(given && sink.file().bytes() == b"aaaabbbbcccccdef".as_slice())
 }
 
-/// Whether a file without bytes gets zero bytes before the block of a later volume, and is then cut.
+/// Whether a file without bytes gets zero bytes before the block of a later volume, and is then
+/// cut.
 fn is_cut(alloc: Global) -> Result<bool, AllocError> {
     let mut sink = sink(alloc, b"", true)?;
     let given = give(&mut sink, SECOND, SECOND_BLOCKS);

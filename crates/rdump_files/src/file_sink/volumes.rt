@@ -10,25 +10,27 @@ use rdump_net::{SinkStopped, Verdict, VolumeSink};
 use std::io::ErrorKind;
 
 impl<F: RestoredFile> VolumeSink for FileSink<F> {
-    // label: With places, the sink accepts the first record of a volume only if the record is a
-    // label of the dump that is restored. The first label that the sink accepts decides which dump
-    // this is. From an accepted label, the sink learns the number of the volume's first block. The
-    // file is unchanged, whatever the record is.
+    // label: A sink with places accepts the first record of a volume only if the record is a label
+    // of the dump that is restored. The first label that the sink accepts decides which dump is
+    // restored. The sink takes the number of the volume's first block from the accepted label.
+    // `label` never changes the file of a sink with places.
     //
-    // label: Without places, the sink accepts any first record, unless the file cannot be cleared.
-    // The sink clears the file only if it has accepted no label and no block before.
+    // label: If a sink without places has not yet accepted a label or a block, `label` clears the
+    // file. If the sink has already accepted a label or a block, the file is unchanged. A sink
+    // without places accepts any first record of a volume, unless the file cannot be cleared.
     //
-    // block: With places, the sink accepts a block only after a label, and only if the block has
-    // the length of the blocks before it. The sink writes the block at its place. The place is the
-    // offset `(first + number) * length`: the volume's first block plus the block's number, times
-    // the length of a block. If the write fails, a beginning of the block may be at its place, and
-    // nothing else of the file has changed.
+    // block: A sink with places accepts a block only after the sink has accepted the volume's
+    // label, and only if the block is as long as the earlier blocks. The sink writes the block at
+    // its place, which is the offset `(first + number) * length`. Here `first` is the number that
+    // the volume's first block has in the dump. `number` is the number that the block has in the
+    // volume, and `length` is the length of a block. If the write fails, the file can contain a
+    // beginning of the block at this place. Nothing else in the file has changed.
     //
-    // block: Without places, the sink appends each block to the file. If the call fails, it may
-    // have appended a beginning of the block.
+    // block: A sink without places appends each block to the file. If the call fails, it has
+    // appended a beginning of the block, or nothing.
     //
-    // complete: The sink completes only if the file is synced. Then the bytes of the file are on
-    // the disk. The bytes of the file are unchanged, whether or not the sink completes.
+    // complete: The sink completes a volume only after the sink has synced the file, so that the
+    // file's bytes are on the disk. `complete` never changes the bytes of the file.
     //
     // sizes: The sink counts each block that it accepts.
 

@@ -11,18 +11,22 @@ use tape::is_record;
 use volume_sum::EntryHasher;
 
 impl<S: VolumeSink> VolumeSink for ComparedSink<S> {
-    // label: The sink passes the first record on, and accepts it if the inner sink does. The sink
-    // then has no verdict. If there is a sums file, the sum begins with this record.
+    // label: The sink passes the first record on to the inner sink, and accepts the record if and
+    // only if the inner sink accepts the record. After the call the sink has no verdict. If there
+    // is a sums file and the record has 1 to 262,144 bytes, the sum begins with this record.
     //
-    // block: The sink passes the block on, and accepts it if the inner sink does. If there is a
-    // sums file, the sink adds the block to the sum.
+    // block: The sink passes the block on to the inner sink, and accepts the block if and only if
+    // the inner sink accepts the block. If there is a sums file and the block has 1 to 262,144
+    // bytes, the sink adds the block to the sum.
     //
-    // mark: The sink passes the mark on, and adds it to the sum.
+    // mark: The sink passes the mark on to the inner sink, and adds the mark to the sum.
     //
-    // complete: The sink compares the sum with the lines that have the volume's label. It has a
-    // verdict exactly if there is a sums file and the volume has a label. If the sum differs, the
-    // sink does not complete, and the inner sink is not asked. Otherwise the sink completes if the
-    // inner sink does.
+    // complete: The sink compares the sum with the lines that have the volume's label. After the
+    // call, the sink has a verdict if and only if there is a sums file and the volume has a label.
+    // If the verdict is `Differs`, the sink does not complete the volume, and does not ask the
+    // inner sink to complete the volume. Otherwise the sink asks the inner sink to complete the
+    // volume. In this case, the sink completes the volume if and only if the inner sink completes
+    // the volume.
 
     ghost takes = { ComparedStep S.takes };
 
