@@ -31,8 +31,7 @@ run: kit ## show a conversation with the server, turn by turn; if it is not buil
 try: kit ## compile a program without its proofs, as out/try/PROGRAM: make try PROGRAM=rdump
 	@python3 tests/unproved.py $(or $(PROGRAM),$(error make try needs a program: make try PROGRAM=rdump))
 
-# The programs that are tested are those that `rt ci` has just proved and built, where it left them. It is noted beside them that
-# they are proved, so that `make install` proves nothing again.
+# The programs that are tested are those that `rt ci` has just proved and built.
 test: kit ## the gate: each proof from nothing, each wrong body that has to be refused, then the built programs from outside; it ends with the minutes of each
 	rm -rf $(SERVER) $(CLIENT) $(SIMULATOR) out/build
 	python3 tests/promises.py
@@ -42,9 +41,7 @@ test: kit ## the gate: each proof from nothing, each wrong body that has to be r
 	python3 tests/links.py
 	python3 tests/test_further.py
 	python3 tests/test_promises.py
-	sum=$$(python3 tests/build.py --sum $(PROGRAMS)) && python3 tests/gate.py --minutes $(MINUTES) && python3 tests/build.py --proved $$sum $(PROGRAMS)
-	test -x $(SERVER) -a -x $(CLIENT) -a -x $(SIMULATOR) || $(MAKE) build
-	python3 tests/outside.py --minutes $(MINUTES) $(SERVER) $(CLIENT) $(SIMULATOR)
+	python3 tests/gate.py --minutes $(MINUTES)
 	@cat $(MINUTES)
 
 edits: kit ## try the further edits, wrong bodies that the prover has to refuse, many at once, as the gate does: make edits, or make edits CRATE=tape

@@ -3,16 +3,14 @@
 programs by `rt run`.
 
     build.py [--jobs N] [--tell] PROGRAM..
-    build.py --sum PROGRAM..
-    build.py --proved SUM PROGRAM..
 
 It says first how long it is likely to take, and then tells each crate as it is built. `rt` locks each crate below the one that it
 works in, so each runs in a tree of its own under out/build, which has links to the sources and libraries that it needs; what it built
 then goes to the crate's own out/, where `rt` finds it. `--tell` only says what there is to build, and how long it is likely to take.
 
-The gate leaves programs that it has proved, and no stamp by which `rt` would know them. So `--sum` prints one checksum of all that programs
-are built from, and `--proved SUM`, when the gate has passed, notes that sum and the program's own beside each program, if the sources are still
-those of SUM. A program with such a note, of the sources as they are and of its own bytes, is not built again.
+The gate leaves programs that it has proved, and no stamp by which `rt` would know them. So it notes beside each program the checksum of all that the
+program is built from, and the program's own (note_proved). A program with such a note, of the sources as they are and of its own bytes, is not built
+again.
 """
 
 from __future__ import annotations
@@ -346,17 +344,9 @@ def main() -> int:
     parser = argparse.ArgumentParser(description="Builds programs and what they stand on, side by side.")
     parser.add_argument("--jobs", type=int, default=len(os.sched_getaffinity(0)), help="how many processors it may use")
     parser.add_argument("--tell", action="store_true", help="only say what there is to build")
-    parser.add_argument("--sum", action="store_true", help="print the checksum of all that the programs are built from")
-    parser.add_argument("--proved", metavar="SUM", help="note that the gate has proved the programs from the sources of this checksum")
     parser.add_argument("program", nargs="+", help="a crate of crates.txt")
     words = parser.parse_args()
     crates = listed()
-    if words.sum:
-        print(sum_of_sources(crates, words.program))
-        return 0
-    if words.proved:
-        note_proved(crates, words.program, words.proved)
-        return 0
     programs = [it for it in words.program if not is_noted(crates, it)]
     needed = below(crates, programs)
     with locked({} if words.tell else needed):

@@ -1,13 +1,16 @@
 #!/usr/bin/env python3
-"""Runs the gate, `rt ci` with further.py beside it, and writes how long each crate's proof, tests and edits took.
+"""Runs the gate, and writes how long each crate's proof, tests and edits took, and each check from outside.
 
     gate.py [--minutes FILE]
 
-`rt ci` proves each crate and its tests, and tries the few edits of must-fail/ one by one. further.py tries all the others, many in a check, each
-crate's as soon as the crates below it are proved. This passes on what both print, and ends with the status of the one that fails, if any. `rt ci` tells no times, so every five seconds it is
-looked up which checks run, by the command lines of the processes below this one: a check of a crate (which `rt ci` builds in the same run), of its
-tests, or of edits that must fail, one or many. The minutes are those in which at least one such check of the crate ran, written as a table to FILE, or
-else printed.
+`rt ci` proves each crate and its tests, and tries the few edits of must-fail/ one by one. further.py runs beside it: it tries all the other edits, many
+in a check, each crate's as soon as the crates below it are proved. When `rt ci` has passed, the programs are proved and built where it left them. It is
+noted beside them that they are proved, so that `make install` proves nothing again, and outside.py checks them from outside while the last edits are
+tried. This passes on what all three print. It fails if one of them fails.
+
+`rt ci` tells no times, so every five seconds it is looked up which checks run, by the command lines of the processes below this one: a check of a crate
+(which `rt ci` builds in the same run), of its tests, or of edits that must fail, one or many. The minutes are those in which at least one such check of
+the crate ran, written as a table to FILE, or else printed.
 
 One check runs a processor, where memory holds as many. RT_JOBS=N has N run.
 """
@@ -18,15 +21,21 @@ import argparse
 import os
 import subprocess
 import sys
+import tempfile
 import threading
 import time
 from collections import defaultdict
 from contextlib import suppress
 from pathlib import Path
 
+import build
+
 KINDS = ("proof", "tests", "edits")
 
 FURTHER = Path(__file__).resolve().parent / "further.py"
+OUTSIDE = FURTHER.with_name("outside.py")
+# The programs that are checked from outside.
+PROGRAMS = ("rmtd", "rdump", "rsim")
 
 # How many bytes of memory are wanted for a check: the largest took 3.4 GB. `rt ci` by itself reckons with up to 7.7, and leaves processors idle.
 CHECK = 4_000_000_000
@@ -120,11 +129,24 @@ def table(seconds: dict[tuple[str, str], float], whole: float) -> str:
     return "\n".join(lines) + "\n"
 
 
-def run_both() -> int:
-    """Runs `rt ci`, and further.py beside it, which is given what `rt ci` prints. Returns the status of the one that fails, 0 if both pass."""
+def check_outside(minutes: Path) -> int:
+    """Checks the programs that `rt ci` left from outside, and writes the minutes of these checks to a file. Builds them first if they are not there."""
+    programs = [build.program_of(build.listed()[it]) for it in PROGRAMS]
+    if not all(it.is_file() for it in programs):
+        built = subprocess.run((sys.executable, build.__file__, *PROGRAMS), check=False).returncode
+        if built:
+            return built
+    return subprocess.run((sys.executable, str(OUTSIDE), "--minutes", str(minutes), *map(str, programs)), check=False).returncode
+
+
+def run_all(minutes: Path) -> int:
+    """Runs `rt ci`, and further.py beside it, which is given what `rt ci` prints. When `rt ci` has passed, checks the programs from outside. Returns the
+    status of the one that fails, 0 if all pass."""
     env = {"RT_JOBS": str(checks_at_once()), **os.environ}
     how = {"stdin": subprocess.DEVNULL, "stdout": subprocess.PIPE, "stderr": subprocess.STDOUT, "text": True, "errors": "replace"}
     words = (sys.executable, str(FURTHER), "--beside")
+    crates = build.listed()
+    sources = build.sum_of_sources(crates, list(PROGRAMS))
     with subprocess.Popen(("rt", "ci"), env=env, **how) as gate, subprocess.Popen(words, stdin=subprocess.PIPE, text=True) as edits:
         for line in gate.stdout:
             print(line, end="", flush=True)
@@ -133,21 +155,27 @@ def run_both() -> int:
                 edits.stdin.flush()
         with suppress(BrokenPipeError):
             edits.stdin.close()
-        return gate.wait() or edits.wait()
+        if status := gate.wait():
+            return status
+        build.note_proved(crates, list(PROGRAMS), sources)
+        status = check_outside(minutes)
+        return status or edits.wait()
 
 
 def main() -> int:
-    parser = argparse.ArgumentParser(description="Runs rt ci and further.py, and tells the minutes of each crate.")
+    parser = argparse.ArgumentParser(description="Runs rt ci, further.py and outside.py, and tells the minutes of each crate and check.")
     parser.add_argument("--minutes", type=Path, help="the file that the table is written to")
     asked = parser.parse_args()
     watch = Watch()
     watch.start()
     began = time.monotonic()
-    status = run_both()
-    whole = time.monotonic() - began
-    watch.done.set()
-    watch.join()
-    told = table(watch.seconds, whole)
+    with tempfile.TemporaryDirectory(prefix="gate-") as folder:
+        outside = Path(folder, "minutes")
+        status = run_all(outside)
+        whole = time.monotonic() - began
+        watch.done.set()
+        watch.join()
+        told = table(watch.seconds, whole) + (outside.read_text() if outside.is_file() else "")
     if asked.minutes:
         asked.minutes.parent.mkdir(parents=True, exist_ok=True)
         asked.minutes.write_text(told)
