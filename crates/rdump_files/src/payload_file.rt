@@ -76,7 +76,7 @@ impl<M: Medium> Blocks for PayloadFile<M> {
     // read, able, quiet: `read` fails if and only if the medium fails or returns fewer bytes than
     // `read` asks for. `read` does not fail if three premises hold. First premise: the medium
     // cannot fail. Second premise: the medium's contract says which bytes the medium contains.
-    // Third premise: the medium is as long as when the payload was opened.
+    // Third premise: the medium has the same length as when the payload was opened.
     //
     // counted, failures: `failures` returns how many calls of `read` have failed. Each failed call
     // adds 1 to this number, up to the greatest `u64`. A successful call does not change the
